@@ -1,0 +1,107 @@
+-- Where things stand in memory: the variables' lines, and behind them the lines of a log for each thread.
+use Rattle.std.specs.Prelude.{ℕ, zero, suc, ◌+◌, ◌-◌, ◌*◌, ◌/◌, ◌%◌, List, [], ◌∷◌, ◌++◌, take, drop, replicate, Bool, nat_lt, nat_le, ◌==◌, ◌&&◌, ◌||◌, if◌then◌else◌}
+use Rattle.std.specs.Int.{w64, from_le_bytes}
+use Rattle.ido_base.specs.declared.location.Shape.{Shape}
+
+-- bytes of a line
+abbrev pub line_bytes : ℕ
+line_bytes = 64
+
+-- the address of the first variable
+abbrev pub variables_base : ℕ
+variables_base = 0x1000_0000
+
+-- the address of the first thread's log
+abbrev pub logs_base : ℕ
+logs_base = 0x2000_0000
+
+-- the variables' lines, 0 to 1023
+abbrev pub variable_lines : ℕ
+variable_lines = 1024
+
+-- lines of a thread's log
+abbrev pub log_lines : ℕ
+log_lines = 16
+
+-- how many lines there are
+abbrev pub line_count : (threads : ℕ) → ℕ
+line_count threads = variable_lines + log_lines * threads
+
+-- how many words they have
+abbrev pub word_count : (threads : ℕ) → ℕ
+word_count threads = 8 * line_count threads
+
+-- each of the count bytes from the address on lies in a line of the variables, or each in a line of a log
+abbrev pub in_range : (threads address count : ℕ) → Bool
+in_range threads address count = (nat_le variables_base address && nat_le (address + count) (variables_base + line_bytes * variable_lines)) || (nat_le logs_base address && nat_le (address + count) (logs_base + line_bytes * log_lines * threads))
+
+-- an access of count bytes is aligned to its size
+abbrev pub aligned : (address count : ℕ) → Bool
+aligned address count = address % count == 0
+
+-- the number of the byte at an address that is in range, counted over all lines
+abbrev pub byte_number : (address : ℕ) → ℕ
+byte_number address = if nat_lt address logs_base then address - variables_base else line_bytes * variable_lines + (address - logs_base)
+
+-- ---- A thread's log: word 0 is the point; two banks of 32 words follow, at offsets 64 and 320
+
+-- the address of a thread's log
+abbrev pub log_of : (thread : ℕ) → ℕ
+log_of thread = logs_base + line_bytes * log_lines * thread
+
+-- the address of its point: 0 between sections, else a resume address plus the number of a bank
+abbrev pub point_at : (thread : ℕ) → ℕ
+point_at thread = log_of thread
+
+-- how far the second bank lies behind the first
+abbrev pub bank_bytes : ℕ
+bank_bytes = 256
+
+-- the address of a slot: slot 0 of a bank is the mask of the held locks, slot r is register r
+abbrev pub slot_at : (thread bank slot : ℕ) → ℕ
+slot_at thread bank slot = log_of thread + 64 + bank_bytes * bank + 8 * slot
+
+-- the number of the word at an address that is in range
+abbrev pub word_number : (address : ℕ) → ℕ
+word_number address = byte_number address / 8
+
+-- ---- Variables, in order of declaration, each at the next address aligned to its element's size
+
+-- the least multiple of the size from n on
+abbrev pub aligned_up : (n size : ℕ) → ℕ
+aligned_up n size = (n + size - 1) / size * size
+
+-- bytes behind the base at which a variable begins, where the ones before it end at n
+abbrev pub start_from : (n : ℕ) → List Shape → (variable : ℕ) → ℕ
+start_from n [] variable = n
+start_from n (s ∷ ss) zero = aligned_up n s.bytes
+start_from n (s ∷ ss) (suc variable) = start_from (aligned_up n s.bytes + s.bytes * s.length) ss variable
+
+-- bytes behind the base at which the last variable ends, where the ones before these end at n
+abbrev pub end_from : (n : ℕ) → List Shape → ℕ
+end_from n [] = n
+end_from n (s ∷ ss) = end_from (aligned_up n s.bytes + s.bytes * s.length) ss
+
+-- the address of an element of a variable
+abbrev pub variable_at : List Shape → (variable element : ℕ) → ℕ
+variable_at shapes variable element = variables_base + start_from 0 shapes variable + element_bytes shapes variable * element
+  where
+    element_bytes : List Shape → ℕ → ℕ
+    element_bytes [] v = 0
+    element_bytes (s ∷ ss) zero = s.bytes
+    element_bytes (s ∷ ss) (suc v) = element_bytes ss v
+
+-- ---- Contents of all words
+
+-- bytes as little-endian words, so many of them; zeros behind the last byte
+abbrev pub words_of_bytes : List ℕ → (count : ℕ) → List ℕ
+words_of_bytes bytes zero = []
+words_of_bytes bytes (suc count) = from_le_bytes w64 (take 8 bytes) ∷ words_of_bytes (drop 8 bytes) count
+
+-- all words at the start: the initial bytes of the variables, and zeros
+unfoldable pub initial_words : (threads : ℕ) → List ℕ → List ℕ
+initial_words threads bytes = words_of_bytes bytes (8 * variable_lines) ++ replicate (8 * log_lines * threads) 0
+
+-- all words, where so many words of the variables are given and behind them those of the logs
+unfoldable pub spread_words : (variable_words : ℕ) → List ℕ → List ℕ
+spread_words variable_words words = take variable_words words ++ replicate (8 * variable_lines - variable_words) 0 ++ drop variable_words words

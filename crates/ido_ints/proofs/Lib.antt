@@ -1,0 +1,10 @@
+pub mod Congruence
+pub mod Exact
+pub mod LiteralKinds
+pub mod Promotion
+pub mod Reduced
+pub mod RegisterBits
+pub mod RegisterValues
+pub mod Registers
+pub mod Results
+pub mod Rows

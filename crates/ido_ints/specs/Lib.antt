@@ -1,0 +1,5 @@
+pub mod Kinds
+pub mod Literals
+pub mod Operators
+pub mod Reduction
+pub mod Typed

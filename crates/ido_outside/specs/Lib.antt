@@ -1,0 +1,7 @@
+pub mod Causes
+pub mod MemSink
+pub mod MemSource
+pub mod Sink
+pub mod Source
+pub mod SureSink
+pub mod SureSource

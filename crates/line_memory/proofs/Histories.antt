@@ -1,0 +1,106 @@
+-- Histories only grow: what a queue stands for stays so through stores, write-backs and evictions.
+use Rattle.std.proofs.Common.{◌≡◌, ℕ, zero, suc, ◌+◌, ◌*◌, ◌/◌, ◌%◌, ◌<◌, List, [], ◌∷◌, length, get_or, set, eqb, cond, refl, sym, ◌∙◌, ap, subst, inl, inr, arith, length-append, length-set, get_or-set_same, get_or-set_other}
+use Rattle.std.proofs.lemmas.List.{get_or_append_left, set_past}
+use Rattle.std.proofs.lemmas.Bool.{cases_lt, cases_eq, cond_both}
+use Rattle.ido_base.specs.Words.{Word, Entry, word_of, word_at, last_position, with_value, written_back, stored, raised, drained, evicted_from, evicted}
+use Rattle.line_memory.specs.Cells.{Remembers}
+use Rattle.line_memory.specs.Queues.{SnapshotStands, QueueStands}
+use Rattle.line_memory.specs.declared.queue.Snapshot.{Snapshot}
+use Rattle.line_memory.specs.declared.queue.Queue.{Queue}
+
+-- every position of the word's history stays, with its value
+pub record WordGrows (old new : Word) : Type 0 where
+  pub within : (p : ℕ) → p < length old.values → p < length new.values
+  pub same : (p : ℕ) → p < length old.values → get_or new.values p 0 ≡ get_or old.values p 0
+
+-- of every word
+pub record Grows (old new : List Word) : Type 0 where
+  pub size : length new ≡ length old
+  pub each : (i : ℕ) → WordGrows (word_at old i) (word_at new i)
+
+WordGrows-refl : (word : Word) → WordGrows word word
+WordGrows-refl word = record { within = λ p h. h; same = λ p h. refl }
+
+WordGrows-trans : (a b c : Word) → WordGrows a b → WordGrows b c → WordGrows a c
+WordGrows-trans a b c g h = record { within = λ p l. h.within p (g.within p l); same = λ p l. h.same p (g.within p l) ∙ g.same p l }
+
+WordGrows-with_value : (word : Word) (n : ℕ) → WordGrows word (with_value word n)
+WordGrows-with_value word n = record {
+  within = λ p l. omega (arith, length-append word.values (n ∷ []));
+  same = λ p l. get_or_append_left word.values (n ∷ []) 0 p l;
+}
+
+WordGrows-written_back : (word : Word) (position : ℕ) → WordGrows word (written_back word position)
+WordGrows-written_back word position = record { within = λ p h. h; same = λ p h. refl }
+
+pub Grows-refl : (words : List Word) → Grows words words
+Grows-refl words = record { size = refl; each = λ i. WordGrows-refl (word_at words i) }
+
+pub Grows-trans : (a b c : List Word) → Grows a b → Grows b c → Grows a c
+Grows-trans a b c g h = record { size = h.size ∙ g.size; each = λ i. WordGrows-trans _ _ _ (g.each i) (h.each i) }
+
+-- a word that grew in its place
+Grows-set : (words : List Word) (at : ℕ) (word : Word) → WordGrows (word_at words at) word → Grows words (set words at word)
+Grows-set words at word g = record {
+  size = length-set words at word;
+  each = λ i. elim (cases_eq i at) [
+    | inl same ↦ elim (cases_lt at (length words)) [
+      | inl within ↦ subst (λ w. WordGrows (word_at words i) w) (sym (ap (λ j. get_or (set words at word) j (word_of 0)) same ∙ get_or-set_same words at word (word_of 0) within)) (subst (λ j. WordGrows (word_at words j) word) (sym same) g)
+      | inr past ↦ subst (λ ws. WordGrows (word_at words i) (word_at ws i)) (sym (set_past words at word past)) (WordGrows-refl (word_at words i))
+    ]
+    | inr other ↦ subst (λ w. WordGrows (word_at words i) w) (sym (get_or-set_other words at i word (word_of 0) other)) (WordGrows-refl (word_at words i))
+  ];
+}
+
+pub Grows-stored : (words : List Word) (number count value : ℕ) → Grows words (stored words number count value)
+Grows-stored words number count value = Grows-set words (number / 8) _ (WordGrows-with_value _ _)
+
+Grows-back : (words : List Word) (at position : ℕ) → Grows words (set words at (written_back (word_at words at) position))
+Grows-back words at position = Grows-set words at _ (WordGrows-written_back _ position)
+
+pub Grows-raised : (words : List Word) (at : ℕ) (positions : List ℕ) → Grows words (raised words at positions)
+Grows-raised words at [] = Grows-refl words
+Grows-raised words at (p ∷ ps) = Grows-trans _ _ _ (Grows-back words at p) (Grows-raised (set words at (written_back (word_at words at) p)) (at + 1) ps)
+
+pub Grows-drained : (words : List Word) (entry : Entry) → Grows words (drained words entry)
+Grows-drained words entry = Grows-raised words (8 * entry.line) entry.positions
+
+-- a word is evicted, or not
+abbrev pub evicted_at : List Word → (at mask : ℕ) → List Word
+evicted_at words at mask = cond (eqb (mask % 2) 1) (set words at (written_back (word_at words at) (last_position (word_at words at)))) words
+
+Grows-evicted_at : (words : List Word) (at mask : ℕ) → Grows words (evicted_at words at mask)
+Grows-evicted_at words at mask = cond_both (eqb (mask % 2) 1) (set words at (written_back (word_at words at) (last_position (word_at words at)))) words (λ ws. Grows words ws) (λ _. Grows-back words at (last_position (word_at words at))) (λ _. Grows-refl words)
+
+pub Grows-evicted_from : (words : List Word) (at mask count : ℕ) → Grows words (evicted_from words at mask count)
+Grows-evicted_from words at mask zero = Grows-refl words
+Grows-evicted_from words at mask (suc count) = Grows-trans _ _ _ (Grows-evicted_at words at mask) (Grows-evicted_from (evicted_at words at mask) (at + 1) (mask / 2) count)
+
+pub Grows-evicted : (words : List Word) (line mask : ℕ) → Grows words (evicted words line mask)
+Grows-evicted words line mask = Grows-evicted_from words (8 * line) mask 8
+
+pub Remembers-grows : (versions values : List ℕ) (at : ℕ) (old new : List Word) → Grows old new → Remembers versions values at old → Remembers versions values at new
+Remembers-grows versions values at old new g r = record {
+  within = λ k h. (g.each (at + k)).within _ (r.within k h);
+  same = λ k h. r.same k h ∙ sym ((g.each (at + k)).same _ (r.within k h));
+}
+
+pub SnapshotStands-grows : (snapshot : Snapshot) (entry : Entry) (old new : List Word) → Grows old new → SnapshotStands snapshot entry old → SnapshotStands snapshot entry new
+SnapshotStands-grows snapshot entry old new g s = record {
+  line = s.line;
+  exists = omega (arith, g.size, s.exists);
+  positions = s.positions;
+  kept = Remembers-grows _ _ _ old new g s.kept;
+}
+
+pub QueueStands-grows : (queue : Queue) (entries : List Entry) (old new : List Word) → Grows old new → QueueStands queue entries old → QueueStands queue entries new
+QueueStands-grows queue entries old new g q = record { size = q.size; each = λ i h. SnapshotStands-grows _ _ old new g (q.each i h) }
+
+pub QueueStands-stored : (queue : Queue) (entries : List Entry) (words : List Word) (number count value : ℕ) → QueueStands queue entries words → QueueStands queue entries (stored words number count value)
+QueueStands-stored queue entries words number count value q = QueueStands-grows queue entries words _ (Grows-stored words number count value) q
+
+pub QueueStands-drained : (queue : Queue) (entries : List Entry) (words : List Word) (entry : Entry) → QueueStands queue entries words → QueueStands queue entries (drained words entry)
+QueueStands-drained queue entries words entry q = QueueStands-grows queue entries words _ (Grows-drained words entry) q
+
+pub QueueStands-evicted : (queue : Queue) (entries : List Entry) (words : List Word) (line mask : ℕ) → QueueStands queue entries words → QueueStands queue entries (evicted words line mask)
+QueueStands-evicted queue entries words line mask q = QueueStands-grows queue entries words _ (Grows-evicted words line mask) q

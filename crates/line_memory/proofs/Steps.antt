@@ -1,0 +1,144 @@
+-- Steps of the loops over cells.
+use Rattle.std.proofs.Common.{◌≡◌, ℕ, zero, suc, ◌+◌, ◌*◌, ◌/◌, ◌%◌, ◌^◌, ◌<◌, ◌≤◌, List, [], ◌∷◌, length, get_or, take, drop, set, map, eqb, refl, sym, ◌∙◌, ap, subst, inl, inr, arith, add-one, length-set, length-take-le, length-drop, get_or-set_same, get_or-set_other, get_or-take, get_or-drop}
+use Rattle.std.proofs.lemmas.Bool.{cases_eq, eq-eqb, ne_eqb, cond-true, cond-false}
+use Rattle.std.proofs.lemmas.List.{get_or-map, ext_get_or, length-map}
+use Rattle.std.proofs.lemmas.Nat.{shr-shr}
+use Rattle.ido_base.specs.Words.{Word, word_of, word_at, written_back, last_position, raised, evicted_from, after_crash, entry_of, line_words}
+use Rattle.line_memory.specs.declared.cell.Cell.{Cell}
+use Rattle.line_memory.specs.Cells.{cell_of, cell_at, CellStands, CellsStand, Remembers}
+use Rattle.line_memory.specs.Queues.{SnapshotStands}
+use Rattle.line_memory.proofs.Histories.{Grows-raised, Remembers-grows, evicted_at}
+
+module _ (cells : List Cell) (words : List Word) where
+  -- a cell and its word change together
+  pub CellsStand-set : (stores i : ℕ) (cell : Cell) (word : Word) → CellsStand cells words stores → CellStands cell word stores → CellsStand (set cells i cell) (set words i word) stores
+  CellsStand-set stores i cell word s c = record {
+    size = length-set cells i cell ∙ s.size ∙ sym (length-set words i word);
+    each = λ j below. elim (cases_eq j i) [
+      | inl same ↦
+          let in_cells : i < length cells = omega (arith, length-set cells i cell, same, below) in
+          let in_words : i < length words = omega (arith, s.size) in
+          subst (λ k. CellStands (cell_at (set cells i cell) k) (word_at (set words i word) k) stores) (sym same) (rw (get_or-set_same cells i cell (cell_of 0) in_cells, get_or-set_same words i word (word_of 0) in_words) c)
+      | inr other ↦ rw (get_or-set_other cells i j cell (cell_of 0) other, get_or-set_other words i j word (word_of 0) other) (s.each j (omega (arith, length-set cells i cell, below)))
+    ];
+  }
+
+  -- there may be more stores
+  pub CellsStand-more : (stores more : ℕ) → stores ≤ more → CellsStand cells words stores → CellsStand cells words more
+  CellsStand-more stores more le s = record {
+    size = s.size;
+    each = λ i below. record {
+      live = (s.each i below).live;
+      version = (s.each i below).version;
+      durable = (s.each i below).durable;
+      durable_version = (s.each i below).durable_version;
+      order = (s.each i below).order;
+      counted = omega (arith, (s.each i below).counted, le);
+    };
+  }
+
+-- ---- Write-backs
+
+-- a word is written back to a position
+abbrev pub raised_at : List Word → (at position : ℕ) → List Word
+raised_at words at position = set words at (written_back (word_at words at) position)
+
+-- one position more
+raised-suc : (words : List Word) (at : ℕ) (positions : List ℕ) (k : ℕ) → k < length positions → raised words at (take (suc k) positions) ≡ raised_at (raised words at (take k positions)) (at + k) (get_or positions k 0)
+raised-suc words at [] k below = absurd (omega (arith, below))
+raised-suc words at (p ∷ ps) zero below = let e : at ≡ at + 0 = omega arith in ap (λ (i : ℕ). raised_at words i p) e
+raised-suc words at (p ∷ ps) (suc k) below =
+    let e : at + 1 + k ≡ at + suc k = omega arith in
+    raised-suc (raised_at words at p) (at + 1) ps k (omega (arith, below)) ∙ ap (λ (i : ℕ). raised_at (raised (raised_at words at p) (at + 1) (take k ps)) i (get_or ps k 0)) e
+
+module _ (cells : List Cell) (words : List Word) (stores at k : ℕ) where
+  pub raise_step : (versions values : List ℕ) (cell : Cell) → k < 8 → length versions ≡ 8 → at + k < length cells → Remembers versions values at words → CellsStand cells (raised words at (take k versions)) stores → ((word : Word) (n : ℕ) → CellStands (cell_at cells (at + k)) word n → get_or versions k 0 < length word.values → get_or values k 0 ≡ get_or word.values (get_or versions k 0) 0 → CellStands cell (written_back word (get_or versions k 0)) n) → CellsStand (set cells (at + k) cell) (raised words at (take (k + 1) versions)) stores
+  raise_step versions values cell below eight in_cells kept s f =
+      let so_far = raised words at (take k versions) in
+      let now = Remembers-grows versions values at words so_far (Grows-raised words at (take k versions)) kept in
+      let e : raised words at (take (suc k) versions) ≡ raised_at so_far (at + k) (get_or versions k 0) = raised-suc words at versions k (omega arith) in
+      rw (add-one) (rw e (CellsStand-set cells so_far stores (at + k) cell _ s (f (word_at so_far (at + k)) stores (s.each (at + k) in_cells) (now.within k below) (now.same k below))))
+
+-- ---- Evictions
+
+-- one word more
+evicted_from-suc : (words : List Word) (at mask count : ℕ) → evicted_from words at mask (suc count) ≡ evicted_at (evicted_from words at mask count) (at + count) (mask / 2 ^ count)
+evicted_from-suc words at mask zero =
+    let e : at ≡ at + 0 = omega arith in
+    let f : mask ≡ mask / 1 = omega arith in
+    ap (λ (i : ℕ). evicted_at words i mask) e ∙ ap (λ (m : ℕ). evicted_at words (at + 0) m) f
+evicted_from-suc words at mask (suc count) =
+    let e : at + 1 + count ≡ at + suc count = omega arith in
+    let g : 1 + count ≡ suc count = omega arith in
+    let f : mask / 2 / 2 ^ count ≡ mask / 2 ^ suc count = shr-shr mask 1 count ∙ ap (λ (n : ℕ). mask / 2 ^ n) g in
+    let so_far = evicted_from (evicted_at words at mask) (at + 1) (mask / 2) count in
+    evicted_from-suc (evicted_at words at mask) (at + 1) (mask / 2) count ∙ ap (λ (i : ℕ). evicted_at so_far i (mask / 2 / 2 ^ count)) e ∙ ap (λ (m : ℕ). evicted_at so_far (at + suc count) m) f
+
+module _ (cells : List Cell) (words : List Word) (stores at mask k : ℕ) where
+  pub evict_step : (cell : Cell) → at + k < length cells → mask / 2 ^ k % 2 ≡ 1 → CellsStand cells (evicted_from words at mask k) stores → ((word : Word) (n : ℕ) → CellStands (cell_at cells (at + k)) word n → CellStands cell (written_back word (last_position word)) n) → CellsStand (set cells (at + k) cell) (evicted_from words at mask (k + 1)) stores
+  evict_step cell in_cells chosen s f =
+      let so_far = evicted_from words at mask k in
+      let e : evicted_from words at mask (suc k) ≡ set so_far (at + k) (written_back (word_at so_far (at + k)) (last_position (word_at so_far (at + k)))) = evicted_from-suc words at mask k ∙ cond-true (eqb (mask / 2 ^ k % 2) 1) _ _ (eq-eqb _ 1 chosen) in
+      rw (add-one) (rw e (CellsStand-set cells so_far stores (at + k) cell _ s (f (word_at so_far (at + k)) stores (s.each (at + k) in_cells))))
+
+  pub skip_step : (mask / 2 ^ k % 2 ≡ 1 → ⊥) → CellsStand cells (evicted_from words at mask k) stores → CellsStand cells (evicted_from words at mask (k + 1)) stores
+  skip_step left s =
+      let so_far = evicted_from words at mask k in
+      let e : evicted_from words at mask (suc k) ≡ so_far = evicted_from-suc words at mask k ∙ cond-false (eqb (mask / 2 ^ k % 2) 1) _ _ (ne_eqb _ 1 left) in
+      rw (add-one) (rw e s)
+
+-- ---- Crashes
+
+word_at-crashed : (words : List Word) (i : ℕ) → word_at (map after_crash words) i ≡ after_crash (word_at words i)
+word_at-crashed [] i = refl
+word_at-crashed (w ∷ ws) zero = refl
+word_at-crashed (w ∷ ws) (suc i) = word_at-crashed ws i
+
+module _ (old cells : List Cell) (i : ℕ) where
+  pub crash_step : (cell : Cell) → i < length cells → length cells ≡ length old → ((j : ℕ) → i ≤ j → cell_at cells j ≡ cell_at old j) → ((words : List Word) (stores j : ℕ) → CellsStand old words stores → j < i → CellStands (cell_at cells j) (after_crash (word_at words j)) 0) → ((word : Word) (n : ℕ) → CellStands (cell_at cells i) word n → CellStands cell (after_crash word) 0) → (words : List Word) (stores j : ℕ) → CellsStand old words stores → j < i + 1 → CellStands (cell_at (set cells i cell) j) (after_crash (word_at words j)) 0
+  crash_step cell in_cells size kept before f words stores j s below = elim (cases_eq j i) [
+    | inl same ↦
+        let here : CellStands (cell_at cells i) (word_at words i) stores = subst (λ c. CellStands c (word_at words i) stores) (sym (kept i (omega arith))) (s.each i (omega arith)) in
+        subst (λ k. CellStands (cell_at (set cells i cell) k) (after_crash (word_at words k)) 0) (sym same) (rw (get_or-set_same cells i cell (cell_of 0) in_cells) (f (word_at words i) stores here))
+    | inr other ↦ rw (get_or-set_other cells i j cell (cell_of 0) other) (before words stores j s (omega (arith, other)))
+  ]
+
+  pub crash_keeps : (cell : Cell) → ((j : ℕ) → i ≤ j → cell_at cells j ≡ cell_at old j) → (j : ℕ) → i + 1 ≤ j → cell_at (set cells i cell) j ≡ cell_at old j
+  crash_keeps cell kept j above =
+      let other : j ≡ i → ⊥ = λ e. omega (arith, e, above) in
+      get_or-set_other cells i j cell (cell_of 0) other ∙ kept j (omega (arith, above))
+
+pub CellsStand-crashed : (old cells : List Cell) → length cells ≡ length old → ((words : List Word) (stores i : ℕ) → CellsStand old words stores → i < length cells → CellStands (cell_at cells i) (after_crash (word_at words i)) 0) → (words : List Word) (stores : ℕ) → CellsStand old words stores → CellsStand cells (map after_crash words) 0
+CellsStand-crashed old cells size f words stores s = record {
+  size = size ∙ s.size ∙ sym (length-map words after_crash);
+  each = λ i below. rw (word_at-crashed words i) (f words stores i s below);
+}
+
+-- ---- Snapshots
+
+module _ (cells : List Cell) (words : List Word) (stores line : ℕ) (versions values : List ℕ) (exists : 8 * line + 8 ≤ length cells) (s : CellsStand cells words stores) where
+  here : (k : ℕ) → k < 8 → CellStands (cell_at cells (8 * line + k)) (word_at words (8 * line + k)) stores
+  here k below = s.each (8 * line + k) (omega (arith, below, exists))
+
+  line_words-at : (k : ℕ) → k < 8 → get_or (map last_position (line_words words line)) k 0 ≡ last_position (word_at words (8 * line + k))
+  line_words-at k below =
+      let long : k < length (take 8 (drop (8 * line) words)) = omega (arith, length-take-le 8 (drop (8 * line) words) (omega (arith, length-drop (8 * line) words, exists, s.size)), below) in
+      get_or-map last_position (take 8 (drop (8 * line) words)) k (word_of 0) 0 long ∙ ap last_position (get_or-take 8 (drop (8 * line) words) k (word_of 0) below ∙ get_or-drop (8 * line) words k (word_of 0))
+
+  length-line_words : length (map last_position (line_words words line)) ≡ 8
+  length-line_words = length-map (line_words words line) last_position ∙ length-take-le 8 (drop (8 * line) words) (omega (arith, length-drop (8 * line) words, exists, s.size))
+
+  pub snapshot_stands : length versions ≡ 8 → ((k : ℕ) → k < 8 → get_or versions k 0 ≡ (cell_at cells (8 * line + k)).version) → ((k : ℕ) → k < 8 → get_or values k 0 ≡ (cell_at cells (8 * line + k)).live) → SnapshotStands (record { line = line; versions = versions; values = values }) (entry_of words line) words
+  snapshot_stands eight same_versions same_values = record {
+    line = refl;
+    exists = omega (arith, exists, s.size);
+    positions = ext_get_or 0 _ versions (length-line_words ∙ sym eight) (λ k below.
+        let in_line : k < 8 = omega (arith, below, length-line_words) in
+        line_words-at k in_line ∙ omega (arith, (here k in_line).version) ∙ sym (same_versions k in_line));
+    kept = record {
+      within = λ k below. omega (arith, same_versions k below, (here k below).version);
+      same = λ k below.
+          let position : last_position (word_at words (8 * line + k)) ≡ get_or versions k 0 = omega (arith, (here k below).version, same_versions k below) in
+          same_values k below ∙ (here k below).live ∙ ap (λ (p : ℕ). get_or (word_at words (8 * line + k)).values p 0) position;
+    };
+  }

@@ -1,0 +1,12 @@
+use Rattle.std.proofs.Common.{arith}
+use Rattle.line_memory.proofs.Steps.{crash_step, crash_keeps, CellsStand-crashed}
+use Rattle.line_memory.proofs.lines.crash_all.Goals as goal
+
+pub loop-cell-preserved : goal.loop-cell-preserved
+loop-cell-preserved c = record {
+  crashed = λ words stores j s below. crash_step c.args.cells.now c.loop-cell.cells c.loop-cell.cell-index c.crashed.result (omega arith) c.loop-cell.auto.cells c.loop-cell.invariant.kept c.loop-cell.invariant.crashed c.crashed.ensures words stores j s below;
+  kept = crash_keeps c.args.cells.now c.loop-cell.cells c.loop-cell.cell-index c.crashed.result c.loop-cell.invariant.kept;
+}
+
+pub returns : goal.returns
+returns c = CellsStand-crashed c.args.cells.now c.loop-cell.cells c.loop-cell.auto.cells (λ words stores i s below. c.loop-cell.invariant.crashed words stores i s (omega arith))

@@ -1,0 +1,7 @@
+use Rattle.std.proofs.Common.{arith}
+use Rattle.line_memory.proofs.Steps.{snapshot_stands}
+use Rattle.line_memory.proofs.lines.snapshot_of.Goals as goal
+
+pub returns : goal.returns
+returns c = λ words stores s.
+    snapshot_stands c.args.cells.now words stores c.args.line c.loop-k.versions c.loop-k.values c.requires s c.loop-k.invariant.eight_versions (λ k below. c.loop-k.invariant.versions k (omega arith)) (λ k below. c.loop-k.invariant.values k (omega arith))

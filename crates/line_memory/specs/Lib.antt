@@ -1,0 +1,4 @@
+pub mod Access
+pub mod Cells
+pub mod Queues
+pub mod Stands

@@ -1,0 +1,19 @@
+-- What a memory stands for.
+use Rattle.std.specs.Prelude.{◌≡◌, ℕ, List, length}
+use Rattle.ido_base.specs.Words.{Word}
+use Rattle.ido_base.specs.Layout.{word_count}
+use Rattle.line_memory.specs.Cells.{CellsStand}
+use Rattle.line_memory.specs.declared.memory.LineMemory.{LineMemory}
+
+-- for how many threads there are logs
+abbrev pub threads_of : LineMemory → ℕ
+threads_of memory = memory.threads
+
+-- how many stores there were since the start or the last crash
+abbrev pub stores_of : LineMemory → ℕ
+stores_of memory = memory.stores
+
+-- the memory has the words of so many threads, and each of its cells stands for its word
+pub record Stands (memory : LineMemory) (words : List Word) : Type 0 where
+  pub size : length words ≡ word_count (threads_of memory)
+  pub cells : CellsStand memory.cells.items words (stores_of memory)

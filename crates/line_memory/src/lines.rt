@@ -1,0 +1,77 @@
+//! Lines among the cells of a memory.
+ghost use Rattle.std.specs.Prelude.{◌≡◌, ℕ, ◌+◌, ◌*◌, ◌≤◌, List, length, map};
+ghost use Rattle.ido_base.specs.Words.{Word, Entry, entry_of, drained, raised, evicted_from, after_crash};
+ghost use Rattle.line_memory.specs.Cells.{CellsStand, Remembers};
+ghost use Rattle.line_memory.specs.Queues.{SnapshotStands};
+
+use crate::cell::Cell;
+use crate::queue::Snapshot;
+
+/// A line as it is now.
+pub fn snapshot_of(cells: &[Cell], line: u32) -> Snapshot
+    requires { 8 * line + 8 ≤ length cells.now }
+    ensures { (words : List Word) (stores : ℕ) → CellsStand cells.now words stores
+        → SnapshotStands result (entry_of words line) words }
+{
+    let base = 8 * line as usize;
+    let mut versions = [0; 8];
+    let mut values = [0; 8];
+    for k in 0..8 {
+        versions[k] = cells[base + k].version;
+        values[k] = cells[base + k].live;
+    }
+    Snapshot {
+        line,
+        versions,
+        values,
+    }
+}
+
+/// These versions of the eight words from the base on are written back.
+fn write_words_back(cells: &mut [Cell], base: usize, versions: &[u64; 8], values: &[u64; 8])
+    requires { base + 8 ≤ length cells.old }
+    ensures { (words : List Word) (stores : ℕ) → CellsStand cells.old words stores
+        → Remembers versions.now values.now base words
+        → CellsStand cells.new (raised words base versions.now) stores }
+{
+    for k in 0..8 {
+        cells[base + k] = cells[base + k].written_back(versions[k], values[k]);
+    }
+}
+
+/// A snapshot is written back, word by word, where the durable version is older. One of a line that isn't
+/// among the cells changes nothing.
+pub fn write_back(cells: &mut [Cell], snapshot: &Snapshot)
+    ensures { (words : List Word) (stores : ℕ) (entry : Entry) → CellsStand cells.old words stores
+        → SnapshotStands snapshot.now entry words
+        → CellsStand cells.new (drained words entry) stores }
+{
+    let base = 8 * snapshot.line as usize;
+    if base + 8 <= cells.len() {
+        write_words_back(cells, base, &snapshot.versions, &snapshot.values);
+    }
+}
+
+/// Of the eight words from the base on, those that the mask chooses are written back.
+pub fn evict_words(cells: &mut [Cell], base: usize, mask: u32)
+    requires { base + 8 ≤ length cells.old }
+    ensures { (words : List Word) (stores count : ℕ) → count ≡ 8
+        → CellsStand cells.old words stores
+        → CellsStand cells.new (evicted_from words base mask count) stores }
+{
+    for k in 0..8 {
+        if (mask >> k) % 2 == 1 {
+            cells[base + k] = cells[base + k].evicted();
+        }
+    }
+}
+
+/// Every word keeps its durable value alone.
+pub fn crash_all(cells: &mut [Cell])
+    ensures { (words : List Word) (stores : ℕ) → CellsStand cells.old words stores
+        → CellsStand cells.new (map after_crash words) 0 }
+{
+    for cell in cells.iter_mut() {
+        *cell = cell.crashed();
+    }
+}

@@ -1,0 +1,214 @@
+//! The memory of a machine.
+ghost use Rattle.std.specs.Prelude.{◌≡◌, ◌≤◌, vec_len};
+ghost use Rattle.ido_base.specs.Layout.{word_count};
+
+use crate::bytes::{self, LINE_BYTES, LOG_BYTES, LOGS_BASE, VARIABLE_BYTES, VARIABLES_BASE};
+use crate::cell::Cell;
+use crate::queue::Queue;
+use crate::{lines, making};
+use ido_base::memory::Memory;
+use std::alloc::Global;
+
+/// Words of the variables' lines.
+const VARIABLE_WORDS: usize = 8192;
+/// Words of the lines of a thread's log.
+const LOG_WORDS: usize = 128;
+
+/// All words of the variables and of the logs of at most 8 threads, as one flat array.
+#[derive(Debug, Drop)]
+pub struct LineMemory {
+    cells: Vec<Cell>,
+    threads: u32,
+    stores: u64,
+    ghost sized: { vec_len cells ≡ word_count threads },
+    ghost few_threads: { threads ≤ 8 },
+}
+
+impl LineMemory {
+    ghost use Rattle.std.specs.Prelude.{◌≡◌, ℕ, ◌+◌, ◌*◌, ◌/◌, ◌%◌, ◌^◌, ◌<◌, ◌≤◌, List, [], ◌∷◌, ◌++◌, length, map, IfOk, IsTrue};
+    ghost use Rattle.ido_base.specs.Words.{Word, Entry, word_of, word_at, live_value, durable_value, loaded, stored, entry_of, drained, evicted, crashed};
+    ghost use Rattle.ido_base.specs.Layout.{in_range as is_in_range, aligned, byte_number, line_bytes, line_count, initial_words, spread_words};
+    ghost use Rattle.line_memory.specs.Access.{is_width};
+    ghost use Rattle.line_memory.specs.Queues.{queue_length, QueueStands};
+    ghost use Rattle.line_memory.specs.declared.queue.Queue.{Queue};
+    ghost use Rattle.line_memory.specs.Stands.{Stands, threads_of, stores_of};
+
+    /// The memory at the start of a machine: the initial bytes of the variables, and zeros.
+    pub fn new(alloc: Global, vars: &[u8], threads: u32) -> Result<LineMemory, Memory>
+        requires few_bytes { length vars.now ≤ 65536 }
+        requires few_threads { threads ≤ 8 }
+        ensures stands { IfOk result (λ memory. Stands memory (map word_of (initial_words threads vars.now))) }
+        ensures logs { IfOk result (λ memory. threads_of memory ≡ threads) }
+        ensures stores { IfOk result (λ memory. stores_of memory ≡ 0) }
+    {
+        let mut cells = Vec::with_capacity(alloc, VARIABLE_WORDS + LOG_WORDS * threads as usize)?;
+        making::push_bytes(&mut cells, vars, VARIABLE_WORDS)?;
+        making::push_zeros(&mut cells, LOG_WORDS * threads as usize)?;
+        Ok(LineMemory {
+            cells,
+            threads,
+            stores: 0,
+        })
+    }
+
+    /// The memory that has these words: those of so many bytes of variables, and behind them those of the
+    /// logs. All other words are 0.
+    pub fn of_words(
+        alloc: Global,
+        vars: u32,
+        threads: u32,
+        words: &[u64],
+    ) -> Result<LineMemory, Memory>
+        requires whole_words { vars % 8 ≡ 0 }
+        requires few_bytes { vars ≤ 65536 }
+        requires few_threads { threads ≤ 8 }
+        requires count { length words.now ≡ vars / 8 + 128 * threads }
+        ensures stands { IfOk result (λ memory. Stands memory (map word_of (spread_words (vars / 8) words.now))) }
+        ensures logs { IfOk result (λ memory. threads_of memory ≡ threads) }
+        ensures stores { IfOk result (λ memory. stores_of memory ≡ 0) }
+    {
+        let variable_words = vars as usize / 8;
+        let mut cells = Vec::with_capacity(alloc, VARIABLE_WORDS + LOG_WORDS * threads as usize)?;
+        making::push_words(&mut cells, &words[..variable_words])?;
+        making::push_zeros(&mut cells, VARIABLE_WORDS - variable_words)?;
+        making::push_words(&mut cells, &words[variable_words..])?;
+        Ok(LineMemory {
+            cells,
+            threads,
+            stores: 0,
+        })
+    }
+
+    /// Each of the bytes from the address on lies in a line of the variables, or each in a line of a log.
+    pub fn in_range(&self, address: u64, bytes: u32) -> bool
+        ensures { result ≡ is_in_range (threads_of self.now) address bytes }
+    {
+        let count = u64::from(bytes);
+        bytes::is_within(address, count, VARIABLES_BASE, VARIABLE_BYTES)
+            || bytes::is_within(
+                address,
+                count,
+                LOGS_BASE,
+                LOG_BYTES * u64::from(self.threads),
+            )
+    }
+
+    /// The line that has the byte at the address.
+    pub fn line_of(&self, address: u64) -> u32
+        requires { IsTrue (is_in_range (threads_of self.now) address 1) }
+        ensures line { result ≡ byte_number address / line_bytes }
+        ensures exists { result < line_count (threads_of self.now) }
+    {
+        (bytes::byte_number(address) / LINE_BYTES) as u32
+    }
+
+    /// What so many bytes from the address on hold, little-endian.
+    pub fn load(&self, address: u64, bytes: u32) -> u64
+        requires width { IsTrue (is_width bytes) }
+        requires in_range { IsTrue (is_in_range (threads_of self.now) address bytes) }
+        requires aligned { IsTrue (aligned address bytes) }
+        ensures value { (words : List Word) → Stands self.now words
+            → result ≡ loaded words (byte_number address) bytes }
+        ensures bound { result < 2 ^ (8 * bytes) }
+    {
+        let number = bytes::byte_number(address);
+        let cell = self.cells[(number / 8) as usize];
+        bytes::part(cell.live, (number % 8) as u32, bytes)
+    }
+
+    /// Stores the low bytes of a value, so many, from the address on.
+    pub fn store(&mut self, address: u64, bytes: u32, value: u64)
+        requires width { IsTrue (is_width bytes) }
+        requires in_range { IsTrue (is_in_range (threads_of self.old) address bytes) }
+        requires aligned { IsTrue (aligned address bytes) }
+        requires room { stores_of self.old < 2 ^ 63 }
+        ensures stands { (words : List Word) → Stands self.old words
+            → Stands self.new (stored words (byte_number address) bytes value) }
+        ensures logs { threads_of self.new ≡ threads_of self.old }
+        ensures stores { stores_of self.new ≡ stores_of self.old + 1 }
+
+        // Histories only grow, so every queue stands for what it stood for.
+        ensures queues { (any : Queue) (entries : List Entry) (words : List Word)
+            → QueueStands any entries words
+            → QueueStands any entries (stored words (byte_number address) bytes value) }
+    {
+        let number = bytes::byte_number(address);
+        let at = (number / 8) as usize;
+        let cell = self.cells[at];
+        let word = bytes::with_part(cell.live, (number % 8) as u32, bytes, value);
+        self.cells[at] = cell.stored(word);
+        self.stores += 1;
+    }
+
+    /// Queues the line as it is now.
+    pub fn clean(&self, queue: &mut Queue, line: u32)
+        requires exists { line < line_count (threads_of self.now) }
+        requires room { queue_length queue.old < 16 }
+        ensures stands { (words : List Word) (entries : List Entry) → Stands self.now words
+            → QueueStands queue.old entries words
+            → QueueStands queue.new (entries ++ entry_of words line ∷ []) words }
+        ensures length { queue_length queue.new ≡ queue_length queue.old + 1 }
+    {
+        queue.push(lines::snapshot_of(&self.cells, line));
+    }
+
+    /// Writes the oldest entry back: each of its words where the durable version is older.
+    pub fn drain(&mut self, queue: &mut Queue)
+        requires { 0 < queue_length queue.old }
+        ensures stands { (words : List Word) (e : Entry) (es : List Entry) → Stands self.old words
+            → QueueStands queue.old (e ∷ es) words
+            → Stands self.new (drained words e) × QueueStands queue.new es (drained words e) }
+        ensures length { queue_length queue.new + 1 ≡ queue_length queue.old }
+        ensures logs { threads_of self.new ≡ threads_of self.old }
+        ensures stores { stores_of self.new ≡ stores_of self.old }
+        ensures queues { (any : Queue) (entries : List Entry) (words : List Word) (e : Entry)
+            → QueueStands any entries words → QueueStands any entries (drained words e) }
+    {
+        lines::write_back(&mut self.cells, queue.oldest());
+        queue.pop();
+    }
+
+    /// Writes back the words of a line that the mask chooses, bit i the i-th.
+    pub fn evict(&mut self, line: u32, mask: u32)
+        requires exists { line < line_count (threads_of self.old) }
+        requires mask { mask ≤ 255 }
+        ensures stands { (words : List Word) → Stands self.old words
+            → Stands self.new (evicted words line mask) }
+        ensures logs { threads_of self.new ≡ threads_of self.old }
+        ensures stores { stores_of self.new ≡ stores_of self.old }
+        ensures queues { (any : Queue) (entries : List Entry) (words : List Word)
+            → QueueStands any entries words → QueueStands any entries (evicted words line mask) }
+    {
+        lines::evict_words(&mut self.cells, 8 * line as usize, mask);
+    }
+
+    /// Every word keeps its durable value alone.
+    pub fn crash(&mut self)
+        ensures stands { (words : List Word) → Stands self.old words → Stands self.new (crashed words) }
+        ensures logs { threads_of self.new ≡ threads_of self.old }
+        ensures stores { stores_of self.new ≡ 0 }
+    {
+        lines::crash_all(&mut self.cells);
+        self.stores = 0;
+    }
+
+    /// The value that a crash would leave in a word of a line.
+    pub fn durable_word(&self, line: u32, word: u32) -> u64
+        requires exists { line < line_count (threads_of self.now) }
+        requires word { word < 8 }
+        ensures { (words : List Word) → Stands self.now words
+            → result ≡ durable_value (word_at words (8 * line + word)) }
+    {
+        self.cells[8 * line as usize + word as usize].durable
+    }
+
+    /// The newest value of a word of a line.
+    pub fn live_word(&self, line: u32, word: u32) -> u64
+        requires exists { line < line_count (threads_of self.now) }
+        requires word { word < 8 }
+        ensures { (words : List Word) → Stands self.now words
+            → result ≡ live_value (word_at words (8 * line + word)) }
+    {
+        self.cells[8 * line as usize + word as usize].live
+    }
+}

@@ -1,0 +1,93 @@
+//! What a hart has cleaned and not yet written back.
+ghost use Rattle.std.specs.Prelude.{◌<◌, ◌≤◌};
+
+/// A line as it was when it was cleaned: of each of its words the version and the value.
+#[derive(Clone, Copy, Debug, PartialEq, Eq, Drop)]
+pub struct Snapshot {
+    pub line: u32,
+    pub versions: [u64; 8],
+    pub values: [u64; 8],
+}
+
+/// A queue of at most 16 cleaned lines, the oldest first.
+#[derive(Debug, Drop)]
+pub struct Queue {
+    ring: [Snapshot; 16],
+    head: u32,
+    count: u32,
+    ghost in_ring: { head < 16 },
+    ghost within: { count ≤ 16 },
+}
+
+impl Queue {
+    ghost use Rattle.std.specs.Prelude.{◌≡◌, ℕ, ◌+◌, ◌<◌, ◌≤◌, ◌==◌, List, []};
+    ghost use Rattle.ido_base.specs.Words.{Word};
+    ghost use Rattle.line_memory.specs.Queues.{queue_length, queued, QueueStands};
+
+    /// A queue with no entry.
+    pub fn new() -> Queue
+        ensures stands { (words : List Word) → QueueStands result [] words }
+        ensures length { queue_length result ≡ 0 }
+    {
+        let none = Snapshot {
+            line: 0,
+            versions: [0; 8],
+            values: [0; 8],
+        };
+        Queue {
+            ring: [none; 16],
+            head: 0,
+            count: 0,
+        }
+    }
+
+    pub fn is_empty(&self) -> bool
+        ensures { result ≡ (queue_length self.now == 0) }
+    {
+        self.count == 0
+    }
+
+    /// All entries are lost.
+    pub fn clear(&mut self)
+        ensures stands { (words : List Word) → QueueStands self.new [] words }
+        ensures length { queue_length self.new ≡ 0 }
+    {
+        self.count = 0;
+    }
+
+    pub(crate) fn is_full(&self) -> bool
+        ensures full { result ≡ (queue_length self.now == 16) }
+        ensures within { queue_length self.now ≤ 16 }
+    {
+        self.count == 16
+    }
+
+    /// The snapshot is the newest entry.
+    pub(crate) fn push(&mut self, snapshot: Snapshot)
+        requires { queue_length self.old < 16 }
+        ensures length { queue_length self.new ≡ queue_length self.old + 1 }
+        ensures last { queued self.new (queue_length self.old) ≡ snapshot }
+        ensures kept { (i : ℕ) → i < queue_length self.old → queued self.new i ≡ queued self.old i }
+    {
+        let at = (self.head + self.count) % 16;
+        self.ring[at as usize] = snapshot;
+        self.count += 1;
+    }
+
+    pub(crate) fn oldest(&self) -> &Snapshot
+        requires { 0 < queue_length self.now }
+        ensures { result.now ≡ queued self.now 0 }
+    {
+        &self.ring[self.head as usize]
+    }
+
+    /// The oldest entry leaves.
+    pub(crate) fn pop(&mut self)
+        requires { 0 < queue_length self.old }
+        ensures length { queue_length self.new + 1 ≡ queue_length self.old }
+        ensures rest { (i : ℕ) → i < queue_length self.new → queued self.new i ≡ queued self.old (i + 1) }
+    {
+        self.head = (self.head + 1) % 16;
+        self.count -= 1;
+    }
+}

@@ -1,0 +1,131 @@
+//! The table of lock holders.
+ghost use Rattle.std.specs.Prelude.{◌≡◌, ◌<◌, ◌%◌, ◌==◌, ◌&&◌, not, ℕ, Option, Some, None, length, replicate, slice_get, slice_set, IfOk, IfSome, IsTrue, ◌↔◌};
+ghost use Rattle.std.specs.Bool.{OnTrue, OnFalse};
+ghost use Rattle.ido_base.specs.Locks.{is_held_by, least_held, holds_none, missing_from};
+
+use ido_base::memory::Memory;
+use std::alloc::Global;
+use std::marker::Model;
+
+/// Of each lock the hart that holds it, or none. Harts are any numbers.
+#[derive(Debug, Drop)]
+pub struct LockTable {
+    holders: Vec<Option<u32>>,
+}
+
+impl Model for LockTable {
+    ghost use Rattle.std.specs.Prelude.{ℕ, ◌<◌, ◌^◌, List, Option, length};
+
+    ghost Value = { List (Option ℕ) };
+
+    ghost view = { λ t. t.holders.items };
+
+    ghost invariant = { λ t. length t.holders.items < 2 ^ 32 };
+}
+
+/// The hart holds the lock of this holder.
+fn is_held(holder: Option<u32>, hart: u32) -> bool
+    ensures { result ≡ is_held_by hart holder }
+{
+    match holder {
+        None => false,
+        Some(other) => hart == other,
+    }
+}
+
+/// The lowest bit of the mask is set, and the hart doesn't hold the lock of this holder.
+fn is_missing(mask: u64, holder: Option<u32>, hart: u32) -> bool
+    ensures { result ≡ ((mask % 2 == 1) && not (is_held_by hart holder)) }
+{
+    mask % 2 == 1 && !is_held(holder, hart)
+}
+
+impl LockTable {
+    /// A table of so many locks, all free.
+    pub fn new(alloc: Global, locks: u32) -> Result<LockTable, Memory>
+        ensures { IfOk result (λ table. table ≡ replicate locks None) }
+    {
+        let holders: Vec<Option<u32>> = vec![in alloc; None; locks as usize]?;
+        Ok(LockTable { holders })
+    }
+
+    /// How many locks there are.
+    pub fn locks(&self) -> u32
+        ensures { result ≡ length self.now }
+    {
+        self.holders.len() as u32
+    }
+
+    /// The hart that holds the lock.
+    pub fn held_by(&self, lock: u32) -> Option<u32>
+        requires { lock < length self.now }
+        ensures { slice_get self.now lock ≡ Some result }
+    {
+        self.holders[lock as usize]
+    }
+
+    /// Gives the lock to the hart if it is free: false exactly where it has a holder, this hart or another.
+    pub fn try_take(&mut self, hart: u32, lock: u32) -> bool
+        requires { lock < length self.old }
+        ensures free { IsTrue result ↔ (slice_get self.old lock ≡ Some None) }
+        ensures taken { OnTrue result (self.new ≡ slice_set self.old lock (Some hart)) }
+        ensures kept { OnFalse result (self.new ≡ self.old) }
+    {
+        if self.holders[lock as usize].is_some() {
+            return false;
+        }
+        self.holders[lock as usize] = Some(hart);
+        true
+    }
+
+    /// Frees the lock, whoever holds it.
+    pub fn give(&mut self, lock: u32)
+        requires { lock < length self.old }
+        ensures { self.new ≡ slice_set self.old lock None }
+    {
+        self.holders[lock as usize] = None;
+    }
+
+    /// Frees all locks.
+    pub fn clear(&mut self)
+        ensures { self.new ≡ replicate (length self.old) None }
+    {
+        self.holders.fill(None);
+    }
+
+    /// The least lock that the hart holds.
+    pub fn least_held(&self, hart: u32) -> Option<u32>
+        ensures value { result ≡ least_held self.now hart }
+        ensures within { IfSome result (λ lock. lock < length self.now) }
+    {
+        for (lock, holder) in self.holders.iter().enumerate() {
+            if is_held(*holder, hart) {
+                return Some(lock as u32);
+            }
+        }
+        None
+    }
+
+    /// The hart holds no lock.
+    pub fn holds_none(&self, hart: u32) -> bool
+        ensures { result ≡ holds_none self.now hart }
+    {
+        self.least_held(hart).is_none()
+    }
+
+    /// The least lock of the mask (bit i stands for lock i) that the hart doesn't hold. Bits without a lock
+    /// don't count.
+    pub fn least_missing(&self, mask: u64, hart: u32) -> Option<u32>
+        ensures value { result ≡ missing_from 0 self.now mask hart }
+        ensures within { IfSome result (λ lock. lock < length self.now) }
+    {
+        let mut rest = mask;
+        for (lock, holder) in self.holders.iter().enumerate() {
+            if is_missing(rest, *holder, hart) {
+                return Some(lock as u32);
+            }
+            rest /= 2;
+        }
+        None
+    }
+}

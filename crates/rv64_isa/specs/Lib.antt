@@ -1,0 +1,7 @@
+pub mod Arithmetic
+pub mod Formats
+pub mod Rows
+pub mod Programs
+pub mod Machine
+pub mod Schedule
+pub mod Signed

@@ -1,0 +1,210 @@
+-- What a run of the machine means for the source: which steps of it were begun, and which are kept.
+use Rattle.std.specs.Prelude.{ℕ, zero, suc, ◌+◌, List, [], ◌∷◌, ◌++◌, length, slice_get, slice_index_or, slice_set, Option, Some, None, Bool, true, false, not, nat_lt, nat_le, ◌==◌, ◌&&◌, if◌then◌else◌, replicate, filter, sum_by}
+use Rattle.std.specs.List.{list_any}
+use Rattle.ido_base.specs.declared.event.Event.{Event}
+use Rattle.ido_base.specs.declared.event.Event.TheVariants.{Step, Evict, Crash}
+use Rattle.ido_base.specs.declared.event.Reply.{Reply}
+use Rattle.ido_base.specs.declared.event.Reply.TheVariants.{Moved, Drained, Waits, Barrier, Still, Stuck, Device}
+use Rattle.ido_base.specs.Words.{Word, word_at, last_position}
+use Rattle.ido_base.specs.Layout.{word_number, point_at}
+use Rattle.ido_base.specs.Locks.{holds_none}
+use Rattle.rv64_isa.specs.declared.object.Slot.{Slot}
+use Rattle.rv64_isa.specs.declared.object.Slot.TheVariants.{Row}
+use Rattle.rv64_isa.specs.declared.phase.Phase.{Phase}
+use Rattle.rv64_isa.specs.declared.phase.Phase.TheVariants.{Take, Wait, Resume, Run, Done, Ended}
+use Rattle.rv64_isa.specs.Rows.{Effect, GoesOn, Loads, Stores, Cleans, Fences, Calls, row}
+use Rattle.rv64_isa.specs.Programs.{fetched}
+use Rattle.rv64_isa.specs.Machine.{Hart, World, after_event, reply_to, durable_point, live_at}
+
+-- ---- What a step of a hart does
+
+abbrev pub has_moved : Reply → Bool
+has_moved Moved = true
+has_moved Drained = false
+has_moved (Waits lock holder) = false
+has_moved (Barrier hart) = false
+has_moved Still = false
+has_moved (Stuck cause) = false
+has_moved Device = false
+
+abbrev pub is_running : Phase → Bool
+is_running Run = true
+is_running Take = false
+is_running Wait = false
+is_running Resume = false
+is_running Done = false
+is_running Ended = false
+
+-- the hart, where it executes instructions and its step now completes one
+abbrev pub completing : List (List Slot) → World → (h : ℕ) → Option Hart
+completing program w h = elim (slice_get w.harts h) [
+  | Some hart ↦ if is_running hart.phase && has_moved (reply_to program w (Step h)) then Some hart else None
+  | None ↦ None
+]
+
+-- the effect of the instruction at a hart's pc
+abbrev pub effect_at : List (List Slot) → (h : ℕ) → Hart → Option Effect
+effect_at program h hart = elim (fetched program h hart.pc) [
+  | Some (Row instr) ↦ Some (row instr hart.registers hart.pc)
+  | _ ↦ None
+]
+
+-- the step now completes an instruction of hart h whose effect is such
+abbrev pub completes : (Effect → Bool) → List (List Slot) → World → Event → (h : ℕ) → Bool
+completes test program w (Step g) h = (g == h) && elim (completing program w h) [
+  | None ↦ false
+  | Some hart ↦ elim (effect_at program h hart) [
+    | None ↦ false
+    | Some effect ↦ test effect
+  ]
+]
+completes test program w (Evict line mask) h = false
+completes test program w Crash h = false
+
+-- stores into the word of the thread's point
+abbrev pub is_point_store : (thread : ℕ) → Effect → Bool
+is_point_store thread (Stores address bytes value) = word_number address == word_number (point_at thread)
+is_point_store thread (GoesOn registers pc) = false
+is_point_store thread (Loads address bytes signed register) = false
+is_point_store thread (Cleans address) = false
+is_point_store thread Fences = false
+is_point_store thread Calls = false
+
+abbrev pub is_fence : Effect → Bool
+is_fence Fences = true
+is_fence (GoesOn registers pc) = false
+is_fence (Loads address bytes signed register) = false
+is_fence (Stores address bytes value) = false
+is_fence (Cleans address) = false
+is_fence Calls = false
+
+-- the event now stores the hart's point
+abbrev pub stores_point : List (List Slot) → World → Event → (h : ℕ) → Bool
+stores_point program w event h = completes (is_point_store h) program w event h
+
+-- the event now finishes a fence of the hart
+abbrev pub finishes_fence : List (List Slot) → World → Event → (h : ℕ) → Bool
+finishes_fence program w event h = completes is_fence program w event h
+
+-- ---- Begun and kept steps. The marks of a thread are the addresses of the instructions that begin a step of the source
+
+-- steps that are bound to a point's store: they are kept once the point's word is durable up to that position
+pub record Bound : Type 0 where
+  pub position : ℕ
+  pub steps : ℕ
+
+pub record HartSteps : Type 0 where
+  -- begun since the hart's last store of its point
+  pub free : ℕ
+  -- the oldest first
+  pub bound : List Bound
+
+pub record Steps : Type 0 where
+  -- a number of a hart for each mark passed
+  pub begun : List ℕ
+  pub kept : List ℕ
+  -- those begun since the start or the last crash and not kept, in their order
+  pub pending : List ℕ
+  pub harts : List HartSteps
+
+abbrev pub no_steps : HartSteps
+no_steps = record { free = 0; bound = [] }
+
+abbrev pub hart_steps : Steps → (h : ℕ) → HartSteps
+hart_steps s h = slice_index_or s.harts h no_steps
+
+abbrev pub is_mark : List (List ℕ) → (thread pc : ℕ) → Bool
+is_mark marks thread pc = list_any (λ mark. mark == pc) (slice_index_or marks thread [])
+
+-- the step passes a mark of hart h
+abbrev pub passes_mark : List (List ℕ) → List (List Slot) → World → (h : ℕ) → Bool
+passes_mark marks program w h = elim (completing program w h) [
+  | Some hart ↦ is_mark marks h hart.pc
+  | None ↦ false
+]
+
+abbrev pub with_begun : (h : ℕ) → Steps → Steps
+with_begun h s = record s {
+  begun = s.begun ++ h ∷ [];
+  pending = s.pending ++ h ∷ [];
+  harts = slice_set s.harts h (record (hart_steps s h) { free = (hart_steps s h).free + 1 });
+}
+
+-- the steps begun before a point's store and not yet kept are bound to it
+abbrev pub with_bound : (h position : ℕ) → Steps → Steps
+with_bound h position s = record s {
+  harts = slice_set s.harts h (record { free = 0; bound = (hart_steps s h).bound ++ record { position = position; steps = (hart_steps s h).free } ∷ [] });
+}
+
+-- the list without the first so many occurrences of a number
+abbrev pub without : (h count : ℕ) → List ℕ → List ℕ
+without h count [] = []
+without h zero (x ∷ xs) = x ∷ xs
+without h (suc count) (x ∷ xs) = if x == h then without h count xs else x ∷ without h (suc count) xs
+
+-- steps that are bound to positions up to the durable one
+abbrev pub durable_steps : (durable : ℕ) → List Bound → ℕ
+durable_steps durable bound = sum_by (λ b. if nat_le b.position durable then b.steps else 0) bound
+
+-- where the point of hart h has become durable, the steps bound to it are kept
+abbrev pub with_kept : List Word → (h : ℕ) → Steps → Steps
+with_kept words h s =
+    let durable = (word_at words (word_number (point_at h))).durable in
+    let count = durable_steps durable (hart_steps s h).bound in
+    record s {
+      kept = s.kept ++ replicate count h;
+      pending = without h count s.pending;
+      harts = slice_set s.harts h (record { free = (hart_steps s h).free; bound = filter (λ b. nat_lt durable b.position) (hart_steps s h).bound });
+    }
+
+-- the same of the first so many harts
+abbrev pub with_all_kept : List Word → (count : ℕ) → Steps → Steps
+with_all_kept words zero s = s
+with_all_kept words (suc h) s = with_kept words h (with_all_kept words h s)
+
+-- what a step of hart h begins and binds
+abbrev pub with_step : List (List ℕ) → List (List Slot) → World → (h : ℕ) → Steps → Steps
+with_step marks program w h s =
+    let started = if passes_mark marks program w h then with_begun h s else s in
+    if stores_point program w (Step h) h then with_bound h (last_position (word_at (after_event program w (Step h)).words (word_number (point_at h)))) started else started
+
+-- the steps after an event
+unfoldable pub steps_after : List (List ℕ) → List (List Slot) → World → Event → Steps → Steps
+steps_after marks program w (Step h) s = with_all_kept (after_event program w (Step h)).words (length s.harts) (with_step marks program w h s)
+steps_after marks program w (Evict line mask) s = with_all_kept (after_event program w (Evict line mask)).words (length s.harts) s
+steps_after marks program w Crash s = record s { pending = []; harts = replicate (length s.harts) no_steps }
+
+-- the same after events
+abbrev pub steps_along : List (List ℕ) → List (List Slot) → World → List Event → Steps → Steps
+steps_along marks program w [] s = s
+steps_along marks program w (event ∷ events) s = steps_along marks program (after_event program w event) events (steps_after marks program w event s)
+
+-- before any event, with a schedule that is kept already
+abbrev pub first_steps : (threads : ℕ) → (kept : List ℕ) → Steps
+first_steps threads kept = record { begun = []; kept = kept; pending = []; harts = replicate threads no_steps }
+
+-- ---- Settled states, and releases
+
+-- the hart holds nothing, and its live and durable points are 0
+abbrev pub is_settled_hart : World → (h : ℕ) → Bool
+is_settled_hart w h = holds_none w.holders h && ((durable_point w.words h == 0) && (live_at w.words (point_at h) == 0))
+
+-- so are the first so many harts
+abbrev pub are_settled : World → (count : ℕ) → Bool
+are_settled w zero = true
+are_settled w (suc h) = are_settled w h && is_settled_hart w h
+
+-- each hart stands between sections
+abbrev pub is_settled : World → Bool
+is_settled w = are_settled w (length w.harts)
+
+-- the event is a release that leaves hart h with nothing
+abbrev pub releases_last : List (List Slot) → World → Event → (h : ℕ) → Bool
+releases_last program w (Step g) h = (g == h) && (not (holds_none w.holders h) && holds_none (after_event program w (Step h)).holders h)
+releases_last program w (Evict line mask) h = false
+releases_last program w Crash h = false
+
+-- how many releases among the events left hart h with nothing
+abbrev pub released_count : List (List Slot) → World → List Event → (h : ℕ) → ℕ
+released_count program w [] h = 0
+released_count program w (event ∷ events) h = (if releases_last program w event h then 1 else 0) + released_count program (after_event program w event) events h

@@ -1,0 +1,104 @@
+//! Compiled programs.
+ghost use Rattle.std.specs.Prelude.{◌≡◌};
+ghost use Rattle.rv64_isa.specs.Programs.{slot_of, slot_word};
+
+use crate::field::Register;
+use crate::instr::{Condition, Instr};
+use crate::word::{decode, encode};
+
+/// A compiled program. Threads, mutexes, initial bytes and words are within the limits of an object: at most
+/// 8 threads of 1 to 65,536 words, 64 mutexes, and 65,536 bytes, a multiple of 8.
+#[derive(Debug, PartialEq, Eq, Drop)]
+pub struct Object {
+    /// The code words of each thread. Any word may stand here, also one that is no instruction.
+    pub code: Vec<Vec<u32>>,
+    /// The initial bytes of the variables.
+    pub initial: Vec<u8>,
+    /// The number of mutexes.
+    pub mutexes: u32,
+}
+
+/// What a machine keeps of a code word: its instruction, or the word where it has none.
+#[derive(Clone, Copy, Debug, PartialEq, Eq, Drop)]
+pub enum Slot {
+    Row(Instr),
+    NoRow(u32),
+}
+
+impl Slot {
+    /// What a machine keeps of this word.
+    pub fn of_word(word: u32) -> Self
+        ensures slot { result ≡ slot_of word }
+        ensures word { slot_word result ≡ word }
+    {
+        match decode(word) {
+            Some(instr) => Slot::Row(instr),
+            None => Slot::NoRow(word),
+        }
+    }
+
+    /// The word that this is kept of.
+    pub fn word(self) -> u32
+        ensures { result ≡ slot_word self }
+    {
+        match self {
+            Slot::Row(instr) => encode(instr),
+            Slot::NoRow(word) => word,
+        }
+    }
+}
+
+/// Addresses in the code of one thread.
+#[derive(Debug, PartialEq, Eq, Drop)]
+pub struct ThreadMarks {
+    /// Of each node in its order, the instruction that begins its step when it is executed.
+    pub nodes: Vec<u64>,
+    /// Where recovery may resume, ascending.
+    pub resumes: Vec<u64>,
+}
+
+/// Addresses in the code of each thread.
+#[derive(Debug, PartialEq, Eq, Drop)]
+pub struct Marks {
+    pub threads: Vec<ThreadMarks>,
+}
+
+/// A place in the code of one thread, before it has an address.
+#[derive(Clone, Copy, Debug, PartialEq, Eq, Drop)]
+pub struct Label(pub u32);
+
+/// A part of a thread's code, before it is linked.
+#[derive(Clone, Copy, Debug, PartialEq, Eq, Drop)]
+pub enum CodeItem {
+    /// An instruction that stands as it is.
+    Instruction(Instr),
+    /// A branch to a label, near or far.
+    BranchTo {
+        condition: Condition,
+        rs1: Register,
+        rs2: Register,
+        to: Label,
+    },
+    /// A jump to a label, near or far; `rd` gets the address behind it.
+    JumpTo {
+        rd: Register,
+        to: Label,
+    },
+    /// The label stands before the next instruction.
+    Here(Label),
+    /// The next instruction is the mark of the next node.
+    MarkNext,
+    /// Recovery may resume at the next instruction.
+    ResumeNext,
+}
+
+/// The code of a program, before it is linked.
+#[derive(Debug, PartialEq, Eq, Drop)]
+pub struct Code {
+    /// The parts of each thread's code.
+    pub threads: Vec<Vec<CodeItem>>,
+    /// The initial bytes of the variables.
+    pub initial: Vec<u8>,
+    /// The number of mutexes.
+    pub mutexes: u32,
+}
