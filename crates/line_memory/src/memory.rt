@@ -26,7 +26,7 @@ pub struct LineMemory {
 
 impl LineMemory {
     ghost use Rattle.std.specs.Prelude.{◌≡◌, ℕ, ◌+◌, ◌*◌, ◌/◌, ◌%◌, ◌^◌, ◌<◌, ◌≤◌, List, [], ◌∷◌, ◌++◌, length, map, IfOk, IsTrue};
-    ghost use Rattle.ido_base.specs.Words.{Word, Entry, word_of, word_at, live_value, durable_value, loaded, stored, entry_of, drained, evicted, crashed};
+    ghost use Rattle.ido_base.specs.Words.{Word, Entry, word_of, word_at, last_position, live_value, durable_value, loaded, stored, entry_of, drained, evicted, crashed};
     ghost use Rattle.ido_base.specs.Layout.{in_range as is_in_range, aligned, byte_number, line_bytes, line_count, initial_words, spread_words};
     ghost use Rattle.line_memory.specs.Access.{is_width};
     ghost use Rattle.line_memory.specs.Queues.{queue_length, QueueStands};
@@ -210,5 +210,25 @@ impl LineMemory {
             → result ≡ live_value (word_at words (8 * line + word)) }
     {
         self.cells[8 * line as usize + word as usize].live
+    }
+
+    /// How many values a word of a line has had since the start or the last crash, less one: where its newest
+    /// value stands among them.
+    pub fn last_position(&self, line: u32, word: u32) -> u64
+        requires exists { line < line_count (threads_of self.now) }
+        requires word { word < 8 }
+        ensures { (words : List Word) → Stands self.now words → result ≡ last_position (word_at words (8 * line + word)) }
+    {
+        self.cells[8 * line as usize + word as usize].version
+    }
+
+    /// Where the durable value of a word of a line stands among the values that it has had since the start or
+    /// the last crash.
+    pub fn durable_position(&self, line: u32, word: u32) -> u64
+        requires exists { line < line_count (threads_of self.now) }
+        requires word { word < 8 }
+        ensures { (words : List Word) → Stands self.now words → result ≡ (word_at words (8 * line + word)).durable }
+    {
+        self.cells[8 * line as usize + word as usize].durable_version
     }
 }

@@ -1,0 +1,77 @@
+//! ECALL: locks, and the end of a hart.
+ghost use Rattle.std.specs.Prelude.{◌≡◌, ◌⊎◌, ℕ, List, Option, length, slice_get};
+ghost use Rattle.ido_base.specs.Locks.{is_held_by, least_held};
+ghost use Rattle.line_memory.specs.declared.memory.LineMemory.{LineMemory};
+ghost use Rattle.rv64_isa.specs.declared.phase.Phase.{Phase};
+ghost use Rattle.rv64_isa.specs.declared.phase.Phase.TheVariants.{Ended};
+ghost use Rattle.rv64_isa.specs.Rows.{Effect, Calls};
+ghost use Rattle.rv64_isa.specs.Machine.{acquired, released, ended, applied};
+ghost use Rattle.hart_core.specs.Steps.{Parts, IsStep};
+
+use crate::hart::Hart;
+use ido_base::event::{Cause, Reply};
+use lock_table::LockTable;
+use rv64_isa::phase::Phase;
+
+/// Takes a lock, or waits for its holder.
+fn acquire(number: u32, lock: u64, hart: &mut Hart, locks: &mut LockTable) -> Reply
+    ensures step { (phase : Phase) (memory : LineMemory) → IsStep (λ w model. acquired w number model lock (slice_get w.holders lock)) number (record { phase = phase; hart = hart.old; memory = memory; locks = locks.old }) (record { phase = phase; hart = hart.new; memory = memory; locks = locks.new }) result }
+    ensures locks { length locks.new ≡ length locks.old }
+{
+    if lock >= u64::from(locks.locks()) {
+        return Reply::Stuck(Cause::NoLock { lock });
+    }
+    let lock = lock as u32;
+    if let Some(holder) = locks.held_by(lock) {
+        return Reply::Waits { lock, holder };
+    }
+    let _ = locks.try_take(number, lock);
+    hart.go_on();
+    Reply::Moved
+}
+
+/// Releases a lock that the hart holds.
+fn release(number: u32, lock: u64, hart: &mut Hart, locks: &mut LockTable) -> Reply
+    ensures step { (phase : Phase) (memory : LineMemory) → IsStep (λ w model. released w number model lock (slice_get w.holders lock)) number (record { phase = phase; hart = hart.old; memory = memory; locks = locks.old }) (record { phase = phase; hart = hart.new; memory = memory; locks = locks.new }) result }
+    ensures locks { length locks.new ≡ length locks.old }
+{
+    if lock >= u64::from(locks.locks()) {
+        return Reply::Stuck(Cause::NoLock { lock });
+    }
+    if locks.held_by(lock as u32) != Some(number) {
+        return Reply::Stuck(Cause::NotHeld { lock });
+    }
+    locks.give(lock as u32);
+    hart.go_on();
+    Reply::Moved
+}
+
+/// Ends the hart, unless it holds a lock.
+fn end(number: u32, phase: &mut Phase, hart: &mut Hart, locks: &LockTable) -> Reply
+    ensures step { (memory : LineMemory) → IsStep (λ w model. ended w number model (least_held w.holders number)) number (record { phase = phase.old; hart = hart.old; memory = memory; locks = locks.now }) (record { phase = phase.new; hart = hart.new; memory = memory; locks = locks.now }) result }
+    ensures phase { (phase.new ≡ phase.old) ⊎ (phase.new ≡ Ended) }
+{
+    if let Some(lock) = locks.least_held(number) {
+        return Reply::Stuck(Cause::EndHolding {
+            lock: u64::from(lock),
+        });
+    }
+    *phase = Phase::Ended;
+    hart.go_on();
+    Reply::Moved
+}
+
+/// What an ECALL asks for: x17 says what, x10 of which lock.
+pub(crate) fn call(number: u32, phase: &mut Phase, hart: &mut Hart, locks: &mut LockTable) -> Reply
+    ensures step { (memory : LineMemory) → IsStep (λ w model. applied w number model Calls) number (record { phase = phase.old; hart = hart.old; memory = memory; locks = locks.old }) (record { phase = phase.new; hart = hart.new; memory = memory; locks = locks.new }) result }
+    ensures phase { (phase.new ≡ phase.old) ⊎ (phase.new ≡ Ended) }
+    ensures locks { length locks.new ≡ length locks.old }
+{
+    let lock = hart.registers[10];
+    match hart.registers[17] {
+        1 => acquire(number, lock, hart, locks),
+        2 => release(number, lock, hart, locks),
+        3 => end(number, phase, hart, locks),
+        asked => Reply::Stuck(Cause::NoCall { number: asked }),
+    }
+}

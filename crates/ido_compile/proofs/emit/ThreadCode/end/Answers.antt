@@ -1,0 +1,13 @@
+use Rattle.std.proofs.Common.{refl, arith}
+use Rattle.ido_compile.proofs.ThreadCodes.{pushed, length_more, length-end, none_more}
+use Rattle.ido_compile.proofs.emit.ThreadCode.end.Goals as goal
+
+pub returns-clause-added : goal.returns-clause-added
+returns-clause-added c = λ thread mask. record {
+  code = c.in_ok-emit_end.ensures thread mask;
+  nodes = pushed _ _ refl c.in_ok-push.ensures.items (omega (arith, c.next_address-start.ensures));
+  resumes = none_more _ _ refl;
+}
+
+pub returns-clause-length : goal.returns-clause-length
+returns-clause-length c = length_more _ _ _ _ (c.in_ok-emit_end.ensures 0 0) (length-end 0 0)

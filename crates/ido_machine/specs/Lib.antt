@@ -1,0 +1,3 @@
+pub mod Harts
+pub mod Machines
+pub mod Parts

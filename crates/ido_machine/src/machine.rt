@@ -1,0 +1,167 @@
+//! The machine.
+ghost use Rattle.std.specs.Prelude.{◌≡◌, ◌≤◌, length, vec_len};
+ghost use Rattle.line_memory.specs.Stands.{threads_of, stores_of};
+
+use crate::harts::{self, PhasedHart};
+use hart_core::program::Program;
+use ido_base::event::{Event, Reply};
+use ido_base::memory::Memory;
+use line_memory::memory::LineMemory;
+use lock_table::LockTable;
+use rv64_isa::object::Object;
+use rv64_isa::phase::Phase;
+use std::alloc::Global;
+
+/// A machine that runs an object, one event at a time.
+#[derive(Debug, Drop)]
+pub struct Machine {
+    program: Program,
+    harts: Vec<PhasedHart>,
+    memory: LineMemory,
+    locks: LockTable,
+    events: u64,
+    ghost sized: { vec_len harts ≡ length program },
+    ghost few_threads: { length program ≤ 8 },
+    ghost logged: { threads_of memory ≡ length program },
+    ghost counted: { stores_of memory ≤ events },
+}
+
+impl Machine {
+    ghost use Rattle.std.specs.Prelude.{◌≡◌, ℕ, ◌+◌, ◌*◌, ◌^◌, ◌<◌, ◌≤◌, List, length, not, slice_get, Some, IfOk};
+    ghost use Rattle.ido_base.specs.Words.{word_at, evicted, last_position, live_value, durable_value};
+    ghost use Rattle.ido_base.specs.declared.event.Reply.TheVariants.{Device};
+    ghost use Rattle.ido_base.specs.Layout.{line_count};
+    ghost use Rattle.ido_base.specs.Locks.{holds_none};
+    ghost use Rattle.rv64_isa.specs.Programs.{program_of};
+    ghost use Rattle.rv64_isa.specs.Machine.{Hart as HartModel, World, IsValidEvent, stepped, happens, machine_start};
+    ghost use Rattle.hart_core.specs.Objects.{IsWithinLimits};
+    ghost use Rattle.ido_machine.specs.Parts.{IsRunning};
+    ghost use Rattle.ido_machine.specs.Machines.{program_in, events_of, MachineStands, IsAfter, IsNoCrash};
+
+    /// The machine of an object at its start.
+    pub fn start(alloc: Global, object: &Object) -> Result<Machine, Memory>
+        requires { IsWithinLimits object.now }
+        ensures stands { IfOk result (λ machine. MachineStands machine (machine_start object.now)) }
+        ensures running { IfOk result (λ machine. IsRunning (machine_start object.now)) }
+        ensures program { IfOk result (λ machine. program_in machine ≡ program_of object.now) }
+        ensures events { IfOk result (λ machine. events_of machine ≡ 0) }
+    {
+        let program = Program::of(alloc, object)?;
+        let memory = LineMemory::new(alloc, &object.initial, program.threads())?;
+        let locks = LockTable::new(alloc, object.mutexes)?;
+        let harts = harts::fresh(alloc, &program)?;
+        Ok(Machine {
+            program,
+            harts,
+            memory,
+            locks,
+            events: 0,
+        })
+    }
+
+    /// Makes an event: a step of a hart, or an eviction.
+    pub fn event(&mut self, event: Event) -> Reply
+        requires valid { IsValidEvent (length (program_in self.old)) event }
+        requires no_crash { IsNoCrash event }
+        requires room { events_of self.old < 2 ^ 63 }
+        ensures world { (w : World) → MachineStands self.old w → IsRunning w → IsAfter self.new result (happens (program_in self.old) w event) }
+        ensures program { program_in self.new ≡ program_in self.old }
+        ensures events { events_of self.new ≡ events_of self.old + 1 }
+    {
+        match event {
+            Event::Step(hart) => self.step(hart),
+            Event::Evict(line, mask) => self.evict(line, mask),
+            Event::Crash => unreachable!(),
+        }
+    }
+
+    fn step(&mut self, hart: u32) -> Reply
+        requires exists { hart < length (program_in self.old) }
+        requires room { events_of self.old < 2 ^ 63 }
+        ensures world { (w : World) → MachineStands self.old w → IsRunning w → IsAfter self.new result (stepped (program_in self.old) w hart (slice_get w.harts hart)) }
+        ensures program { program_in self.new ≡ program_in self.old }
+        ensures events { events_of self.new ≡ events_of self.old + 1 }
+    {
+        let reply = harts::step_one(
+            hart,
+            &self.program,
+            &mut self.harts,
+            &mut self.memory,
+            &mut self.locks,
+        );
+        self.events += 1;
+        reply
+    }
+
+    fn evict(&mut self, line: u32, mask: u32) -> Reply
+        requires exists { line < line_count (length (program_in self.old)) }
+        requires mask { mask ≤ 255 }
+        requires room { events_of self.old < 2 ^ 63 }
+        ensures world { (w : World) → MachineStands self.old w → IsRunning w → IsAfter self.new result (record w { words = evicted w.words line mask }, Device) }
+        ensures program { program_in self.new ≡ program_in self.old }
+        ensures events { events_of self.new ≡ events_of self.old + 1 }
+    {
+        self.memory.evict(line, mask);
+        self.events += 1;
+        Reply::Device
+    }
+
+    /// The phase of a hart.
+    pub fn phase(&self, hart: u32) -> Phase
+        requires { hart < length (program_in self.now) }
+        ensures { (w : World) (model : HartModel) → MachineStands self.now w → slice_get w.harts hart ≡ Some model → result ≡ model.phase }
+    {
+        self.harts[hart as usize].phase
+    }
+
+    /// The address of the instruction that a hart executes next.
+    pub fn pc(&self, hart: u32) -> u64
+        requires { hart < length (program_in self.now) }
+        ensures { (w : World) (model : HartModel) → MachineStands self.now w → slice_get w.harts hart ≡ Some model → result ≡ model.pc }
+    {
+        self.harts[hart as usize].hart.pc
+    }
+
+    /// The hart holds a lock.
+    pub fn holds(&self, hart: u32) -> bool
+        ensures { (w : World) → MachineStands self.now w → result ≡ not (holds_none w.holders hart) }
+    {
+        !self.locks.holds_none(hart)
+    }
+
+    /// The newest value of a word of a line.
+    pub fn live_word(&self, line: u32, word: u32) -> u64
+        requires exists { line < line_count (length (program_in self.now)) }
+        requires word { word < 8 }
+        ensures { (w : World) → MachineStands self.now w → result ≡ live_value (word_at w.words (8 * line + word)) }
+    {
+        self.memory.live_word(line, word)
+    }
+
+    /// The value that a crash would leave in a word of a line.
+    pub fn durable_word(&self, line: u32, word: u32) -> u64
+        requires exists { line < line_count (length (program_in self.now)) }
+        requires word { word < 8 }
+        ensures { (w : World) → MachineStands self.now w → result ≡ durable_value (word_at w.words (8 * line + word)) }
+    {
+        self.memory.durable_word(line, word)
+    }
+
+    /// How many values a word of a line has had, less one: where its newest value stands among them.
+    pub fn last_position(&self, line: u32, word: u32) -> u64
+        requires exists { line < line_count (length (program_in self.now)) }
+        requires word { word < 8 }
+        ensures { (w : World) → MachineStands self.now w → result ≡ last_position (word_at w.words (8 * line + word)) }
+    {
+        self.memory.last_position(line, word)
+    }
+
+    /// Where the durable value of a word of a line stands among the values that it has had.
+    pub fn durable_position(&self, line: u32, word: u32) -> u64
+        requires exists { line < line_count (length (program_in self.now)) }
+        requires word { word < 8 }
+        ensures { (w : World) → MachineStands self.now w → result ≡ (word_at w.words (8 * line + word)).durable }
+    {
+        self.memory.durable_position(line, word)
+    }
+}
