@@ -4,3 +4,5 @@
 
 mod harts;
 pub mod machine;
+#[cfg(test)]
+mod tests;

@@ -59,6 +59,13 @@ impl Machine {
         })
     }
 
+    /// The number of harts.
+    pub fn harts(&self) -> u32
+        ensures { result ≡ length (program_in self.now) }
+    {
+        self.program.threads()
+    }
+
     /// Makes an event: a step of a hart, or an eviction.
     pub fn event(&mut self, event: Event) -> Reply
         requires valid { IsValidEvent (length (program_in self.old)) event }

@@ -1,0 +1,38 @@
+//! Machine events a second: one hart that loops over a store, a load, a clean and a fence.
+#![tactic(auto)]
+
+use ido_base::event::Event;
+use ido_machine::machine::Machine;
+use rv64_isa::object::Object;
+use std::io;
+
+/// lui x5, 0x10000; then, for ever: addi x6, x6, 1; sd x6, 0(x5); ld x7, 0(x5); cbo.clean (x5);
+/// fence rw, rw; jal x0, -20.
+const CODE: [u32; 7] = [
+    0x1000_02b7,
+    0x0013_0313,
+    0x0062_b023,
+    0x0002_b383,
+    0x0012_a00f,
+    0x0330_000f,
+    0xfedf_f06f,
+];
+
+const EVENTS: u64 = 40_000_000;
+
+fn main(rt: HostRuntime) -> io::Result<()> {
+    let alloc = rt.alloc();
+    let object = Object {
+        code: vec![in alloc; CODE.to_vec(alloc)?]?,
+        initial: vec![in alloc; 0; 8]?,
+        mutexes: 1,
+    };
+    let Ok(mut machine) = Machine::start(alloc, &object) else {
+        return Ok(());
+    };
+    for _ in 0..EVENTS {
+        let _ = machine.event(Event::Step(0));
+    }
+    println!(rt; "{}", machine.live_word(0, 0))?;
+    Ok(())
+}
