@@ -1,0 +1,12 @@
+mod Worked
+pub mod InputSteps
+pub mod ScriptLines
+pub mod Numerals
+pub mod Schedules
+pub mod Points
+pub mod Sights
+pub mod Turns
+pub mod Reported
+pub mod Plays
+pub mod TrackerLemmas
+pub mod Tops

@@ -1,0 +1,81 @@
+-- What a run of the top call comes to.
+use Rattle.std.proofs.Common.{◌≡◌, ℕ, ◌+◌, ◌<◌, ◌≤◌, ◌⊎◌, List, [], length, replicate, Some, None, Bool, true, false, if◌then◌else◌, refl, sym, ap, subst, arith, IfSome, inl, inr}
+use Rattle.std.specs.declared.option.Option.{Option}
+use Rattle.std.proofs.lemmas.List.{length-replicate}
+use Rattle.std.specs.Prelude.{codes}
+use Rattle.rv64_isa.specs.Machine.{machine}
+use Rattle.rv64_isa.specs.Schedule.{is_settled}
+use Rattle.ido_cli.specs.declared.play.Said.{Said}
+use Rattle.ido_cli.specs.Answers.{is_accepted, IsPastLimits, AnswerToParts, of_no_form, played, AnswerToInput, past_limits, within_limits, Answer, wrong_words, taken_words, IsAnswer, IsAnswered, Outside, answered, sink_failed, most_bytes, most_source_bytes, steps_of_first}
+use Rattle.ido_cli.specs.Inputs.{source_of, rest_of}
+use Rattle.ido_cli.specs.Deliveries.{IsSaidToInput, IsDelivered, whole, broken}
+
+-- ---- Inputs within the limits
+
+pub answer_within : (input source script : List ℕ) (status : ℕ) (output : List ℕ) → source ≡ source_of input → script ≡ rest_of input → length input ≤ most_bytes → length source ≤ most_source_bytes → AnswerToParts source script status output → AnswerToInput input status output
+answer_within input source script status output s r few few_of_source parts =
+    let with_source : AnswerToParts (source_of input) script status output = subst (λ (x : List ℕ). AnswerToParts x script status output) s parts in
+    within_limits (not_past s few few_of_source) (subst (λ (x : List ℕ). AnswerToParts (source_of input) x status output) r with_source)
+  where
+    not_past : source ≡ source_of input → length input ≤ most_bytes → length source ≤ most_source_bytes → IsPastLimits input → ⊥
+    not_past same few few_of_source (inl long) = omega (arith, few, long)
+    not_past same few few_of_source (inr long) = omega (arith, few_of_source, long, ap length same)
+
+-- ---- Inputs that the source may not tell
+
+some_longer : (n : ℕ) → (input : List ℕ) × (n < length input)
+some_longer n = (replicate (n + 1) 0, omega (arith, length-replicate {A = ℕ} (n + 1) 0))
+
+pub said_to_long_input : (left : Option (List ℕ)) (said : Said) → IfSome left (λ bytes. most_bytes < length bytes) → said.status ≡ 6 → said.output.items ≡ codes "refused limit\n" → IsSaidToInput left said
+said_to_long_input (Some bytes) said long status output = record { input = bytes; told = refl; answer = past_limits (inl long) (status, output) }
+said_to_long_input None said long status output =
+    let some : (input : List ℕ) × (most_bytes < length input) = some_longer most_bytes in
+    record { input = some.0; told = tt; answer = past_limits (inl some.1) (status, output) }
+
+told_some : (left : Option (List ℕ)) → (input : List ℕ) × IfSome left (λ bytes. input ≡ bytes)
+told_some (Some bytes) = (bytes, refl)
+told_some None = ([], tt)
+
+pub answer_to_wrong_words : (words : List (List ℕ)) (left : Option (List ℕ)) (status : ℕ) (output : List ℕ) → is_accepted words ≡ false → status ≡ 2 → output ≡ codes "refused words\n" → IsAnswer words left status output
+answer_to_wrong_words words left status output wrong status_is output_is =
+    let some : (input : List ℕ) × IfSome left (λ bytes. input ≡ bytes) = told_some left in
+    record { input = some.0; told = some.1; answer = wrong_words wrong (status_is, output_is) }
+
+pub answer_to_taken_words : (words : List (List ℕ)) (left : Option (List ℕ)) (said : Said) → is_accepted words ≡ true → IsSaidToInput left said → IsAnswer words left said.status said.output.items
+answer_to_taken_words words left said taken s = record { input = s.input; told = s.told; answer = taken_words taken s.answer }
+
+-- ---- Statuses of answers
+
+settled_or_not : (b : Bool) (status : ℕ) → status ≡ (if b then 0 else 3) → (status ≡ 0) ⊎ (status ≡ 3)
+settled_or_not true status e = inl e
+settled_or_not false status e = inr e
+
+not_four_or_seven : (status n : ℕ) → status ≡ n → (n < 4) ⊎ (n ≡ 6) → (status ≡ 4) ⊎ (status ≡ 7) → ⊥
+not_four_or_seven status n e small h = omega arith
+
+of_parts : (source script : List ℕ) (status : ℕ) (output : List ℕ) → AnswerToParts source script status output → (status ≡ 4) ⊎ (status ≡ 7) → ⊥
+of_parts source script status output (of_no_form other refused) h = not_four_or_seven status 6 refused.0 (inr refl) h
+of_parts source script status output (played form steps is p) h =
+    elim (settled_or_not (is_settled (machine p.object (steps_of_first steps))) status p.status_is) [
+      | inl e ↦ not_four_or_seven status 0 e (inl (omega arith)) h
+      | inr e ↦ not_four_or_seven status 3 e (inl (omega arith)) h
+    ]
+
+of_input : (input : List ℕ) (status : ℕ) (output : List ℕ) → AnswerToInput input status output → (status ≡ 4) ⊎ (status ≡ 7) → ⊥
+of_input input status output (past_limits past refused) h = not_four_or_seven status 6 refused.0 (inr refl) h
+of_input input status output (within_limits within parts) h = of_parts _ _ status output parts h
+
+of_answer : (words : List (List ℕ)) (input : List ℕ) (status : ℕ) (output : List ℕ) → Answer words input status output → (status ≡ 4) ⊎ (status ≡ 7) → ⊥
+of_answer words input status output (wrong_words wrong refused) h = not_four_or_seven status 2 refused.0 (inl (omega arith)) h
+of_answer words input status output (taken_words taken answer) h = of_input input status output answer h
+
+-- ---- What was delivered
+
+pub answered_by_delivery : (words : List (List ℕ)) (o : Outside) (said : Said) (status : ℕ) → IsAnswer words o.left said.status said.output.items → IsDelivered said o.written_before o.written o.sink_faults_before o.sink_faults status → IsAnswered words o status
+answered_by_delivery words o said status answer (whole e added) = answered said.output.items (subst (λ (s : ℕ). IsAnswer words o.left s said.output.items) (sym e) answer) added
+answered_by_delivery words o said status answer (broken e rose added) = sink_failed said.output.items said.status e rose answer added
+
+pub delivered_something : (words : List (List ℕ)) (left : Option (List ℕ)) (said : Said) (before after : Option (List ℕ)) (faults_before faults status : ℕ) → IsAnswer words left said.status said.output.items → IsDelivered said before after faults_before faults status → (status ≡ 4) ⊎ (status ≡ 7) → ⊥
+delivered_something words left said before after faults_before faults status answer (whole e added) h =
+    of_answer words answer.input said.status said.output.items answer.answer (subst (λ (s : ℕ). (s ≡ 4) ⊎ (s ≡ 7)) e h)
+delivered_something words left said before after faults_before faults status answer (broken e rose added) h = omega (arith, e, h)

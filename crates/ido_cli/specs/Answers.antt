@@ -1,0 +1,112 @@
+-- What the program answers: a status and the bytes that it writes.
+use Rattle.std.specs.Prelude.{◌≡◌, ◌⊎◌, ℕ, ◌<◌, List, [], ◌∷◌, ◌++◌, length, replicate, Option, Some, Bool, true, false, nat_eq, if◌then◌else◌, IsTrue, codes, IfSome}
+use Rattle.std.specs.Cmp.Lexicographic.{pointwise}
+use Rattle.ido_base.specs.declared.event.Event.{Event}
+use Rattle.ido_base.specs.declared.event.Event.TheVariants.{Step}
+use Rattle.ido_outside.specs.Causes.{Rose}
+use Rattle.ido_outside.specs.Sink.{Adds, AddsFront}
+use Rattle.rv64_isa.specs.declared.object.Object.{Object}
+use Rattle.rv64_isa.specs.Machine.{machine, machine_start}
+use Rattle.rv64_isa.specs.Schedule.{is_settled}
+use Rattle.ido_compile.specs.Source.{after_from, runs_from, is_between}
+use Rattle.ido_compile.specs.Form.{Form, IsForm, start_state}
+use Rattle.ido_compile.specs.Compilation.{Compilation, compared, steps_of as steps_compared}
+use Rattle.ido_cli.specs.Inputs.{source_of, rest_of}
+use Rattle.ido_cli.specs.Scripts.{steps_of}
+use Rattle.ido_cli.specs.Reports.{line, report, source_report}
+
+-- the words of the command line, the program's name first, that the program takes
+abbrev pub is_accepted : (words : List (List ℕ)) → Bool
+is_accepted (name ∷ command ∷ []) = pointwise nat_eq command (codes "play")
+is_accepted [] = false
+is_accepted (name ∷ []) = false
+is_accepted (name ∷ command ∷ next ∷ more) = false
+
+-- bytes that are read
+abbrev pub most_bytes : ℕ
+most_bytes = 67108864
+
+-- bytes of a source text
+abbrev pub most_source_bytes : ℕ
+most_source_bytes = 1048576
+
+abbrev pub IsPastLimits : (input : List ℕ) → Type 0
+IsPastLimits input = (most_bytes < length input) ⊎ (most_source_bytes < length (source_of input))
+
+-- the source is of the form, and the script asks for so many steps
+pub record IsOfForm (source script : List ℕ) (form : Form) (steps : ℕ) : Type 0 where
+  pub spelled : IsForm source form
+  pub asked : steps_of script ≡ Some steps
+
+-- ---- `play`
+
+-- a status and an output: `refused` and what is refused
+abbrev pub Refuses : (refused status : ℕ) → (what output : List ℕ) → Type 0
+Refuses refused status what output = (status ≡ refused) × (output ≡ line (codes "refused " ++ what))
+
+-- steps of hart 0
+abbrev pub steps_of_first : (count : ℕ) → List Event
+steps_of_first count = replicate count (Step 0)
+
+-- a schedule by which the source itself runs, from its start and with no crash, until its thread stands between sections;
+-- the output is the report of that run
+pub record IsSourceRun (form : Form) (output : List ℕ) : Type 0 where
+  pub schedule : List ℕ
+  pub runs : IsTrue (runs_from (start_state form) schedule)
+  pub between : IsTrue (is_between (after_from (start_state form) schedule) 0)
+  pub output_is : output ≡ source_report (form.variable ∷ []) (start_state form) schedule
+
+-- the report of the machine of a compilation of the form after the steps; the status says whether it is settled, and where
+-- it is, the report is that of a run of the source
+pub record IsPlayed (form : Form) (steps status : ℕ) (output : List ℕ) : Type 0 where
+  pub object : Object
+  pub marks : List (List ℕ)
+  pub compilation : Compilation form object marks
+  pub status_is : status ≡ (if is_settled (machine object (steps_of_first steps)) then 0 else 3)
+  pub output_is : output ≡ report (form.variable ∷ []) (start_state form) (machine object (steps_of_first steps)) (steps_compared (compared form object marks) (machine_start object) (steps_of_first steps)).kept
+  pub settled : status ≡ 0 → IsSourceRun form output
+
+-- what a source and a script are answered: status and output
+pub data AnswerToParts (source script : List ℕ) (status : ℕ) (output : List ℕ) : Type 0 where
+  of_no_form : ((form : Form) (steps : ℕ) → IsOfForm source script form steps → ⊥) → Refuses 6 status (codes "form") output → AnswerToParts source script status output
+  played : (form : Form) (steps : ℕ) → IsOfForm source script form steps → IsPlayed form steps status output → AnswerToParts source script status output
+
+-- what an input of `play` is answered
+pub data AnswerToInput (input : List ℕ) (status : ℕ) (output : List ℕ) : Type 0 where
+  past_limits : IsPastLimits input → Refuses 6 status (codes "limit") output → AnswerToInput input status output
+  within_limits : (IsPastLimits input → ⊥) → AnswerToParts (source_of input) (rest_of input) status output → AnswerToInput input status output
+
+-- what words and an input are answered
+pub data Answer (words : List (List ℕ)) (input : List ℕ) (status : ℕ) (output : List ℕ) : Type 0 where
+  -- words that aren't taken, whatever the input is
+  wrong_words : is_accepted words ≡ false → Refuses 2 status (codes "words") output → Answer words input status output
+  taken_words : is_accepted words ≡ true → AnswerToInput input status output → Answer words input status output
+
+-- ---- A run of the top call
+
+-- what the outside tells before and after a run: the bytes left before, those written, and the counts of faults
+pub record Outside : Type 0 where
+  pub left : Option (List ℕ)
+  pub written_before : Option (List ℕ)
+  pub written : Option (List ℕ)
+  pub source_faults_before : ℕ
+  pub source_faults : ℕ
+  pub sink_faults_before : ℕ
+  pub sink_faults : ℕ
+
+-- the answer to an input, which is what was left where the source tells it
+pub record IsAnswer (words : List (List ℕ)) (left : Option (List ℕ)) (status : ℕ) (output : List ℕ) : Type 0 where
+  pub input : List ℕ
+  pub told : IfSome left (λ bytes. input ≡ bytes)
+  pub answer : Answer words input status output
+
+-- the status of a run, and what it wrote
+pub data IsAnswered (words : List (List ℕ)) (o : Outside) (status : ℕ) : Type 0 where
+  -- the answer, and all of it
+  answered : (output : List ℕ) → IsAnswer words o.left status output → Adds o.written_before o.written output → IsAnswered words o status
+  -- the source failed, and nothing was written
+  source_failed : status ≡ 4 → Rose o.source_faults_before o.source_faults → Adds o.written_before o.written [] → IsAnswered words o status
+  -- the sink failed, and a front of the answer was written
+  sink_failed : (output : List ℕ) (answer : ℕ) → status ≡ 5 → Rose o.sink_faults_before o.sink_faults → IsAnswer words o.left answer output → AddsFront o.written_before o.written output → IsAnswered words o status
+  -- want of memory, and nothing was written
+  no_memory : status ≡ 7 → Adds o.written_before o.written [] → IsAnswered words o status

@@ -1,0 +1,178 @@
+//! The top calls.
+ghost use Rattle.std.specs.Prelude.{◌≡◌, ◌⊎◌, map, string_bytes, false, IfOk, IsErrOf, IsSome, IfSome};
+ghost use Rattle.ido_outside.specs.Causes.{Rose};
+ghost use Rattle.ido_cli.specs.Answers.{is_accepted, IsAnswer, IsAnswered};
+ghost use Rattle.ido_cli.specs.Deliveries.{IsSaidToInput, IsDelivered};
+
+use crate::answer::{answer, refused};
+use crate::play::Said;
+use ido_base::memory::Memory;
+use ido_outside::{Failed, Gate, InFault, Sink, Source, read_all, write_all};
+use std::alloc::Global;
+use std::sync::Wait;
+use std::thread::Threads;
+
+/// Bytes that are read.
+const MOST_BYTES: u64 = 67_108_864;
+
+/// Why nothing is said.
+#[derive(Debug, Drop)]
+enum Unsaid {
+    /// The source failed.
+    Failed,
+    /// An allocation was refused.
+    Memory,
+}
+
+impl From<Memory> for Unsaid {
+    ghost use Rattle.ido_cli.specs.declared.top.Unsaid.TheVariants.{Memory as Unremembered};
+
+    ghost from_gives = { λ _ e. e ≡ Unremembered };
+
+    fn from(_: Memory) -> Self {
+        Unsaid::Memory
+    }
+}
+
+/// The program takes these words, its name first.
+fn accepts(words: &[String]) -> bool
+    ensures { result ≡ is_accepted (map string_bytes words.now) }
+{
+    match words {
+        [_, command] => command.as_str() == "play",
+        _ => false,
+    }
+}
+
+/// What is said to the input of `play`.
+fn say_to_input<S: Source>(alloc: Global, input: &mut S) -> Result<Said, Unsaid>
+    ensures said { IfOk result (λ said. IsSaidToInput (S.left input.old) said) }
+    ensures failed { IsErrOf result Unsaid.Failed → Rose (S.faults input.old) (S.faults input.new) }
+{
+    match read_all(alloc, input, MOST_BYTES) {
+        Ok(bytes) => {
+            let said = answer(alloc, &bytes)?;
+            Ok(said)
+        }
+        Err(InFault::TooLong) => {
+            let said = refused(alloc, 6, b"refused limit\n")?;
+            Ok(said)
+        }
+        Err(InFault::Failed) => Err(Unsaid::Failed),
+        Err(InFault::Memory) => Err(Unsaid::Memory),
+    }
+}
+
+/// What is said to the words and the input, of which nothing is read where the words aren't taken.
+fn say_to<S: Source>(alloc: Global, words: &[String], input: &mut S) -> Result<Said, Unsaid>
+    ensures said { IfOk result (λ said.
+        IsAnswer (map string_bytes words.now) (S.left input.old) said.status said.output.items) }
+    ensures failed { IsErrOf result Unsaid.Failed → Rose (S.faults input.old) (S.faults input.new) }
+    ensures unread { is_accepted (map string_bytes words.now) ≡ false → input.new ≡ input.old }
+{
+    if accepts(words) {
+        let said = say_to_input(alloc, input)?;
+        Ok(said)
+    } else {
+        let said = refused(alloc, 2, b"refused words\n")?;
+        Ok(said)
+    }
+}
+
+/// Writes what is said, and answers the status.
+fn deliver<K: Sink>(said: &Said, output: &mut K) -> u8
+    ensures { IsDelivered said.now (K.written output.old) (K.written output.new) (K.faults output.old) (K.faults output.new) result }
+{
+    match write_all(output, &said.output) {
+        Ok(()) => said.status,
+        Err(Failed) => 5,
+    }
+}
+
+/// The status of a run, which writes what is said.
+fn serve<S: Source, K: Sink>(alloc: Global, words: &[String], input: &mut S, output: &mut K) -> u8
+    ensures answered { IsAnswered (map string_bytes words.now) (record {
+      left = S.left input.old;
+      written_before = K.written output.old;
+      written = K.written output.new;
+      source_faults_before = S.faults input.old;
+      source_faults = S.faults input.new;
+      sink_faults_before = K.faults output.old;
+      sink_faults = K.faults output.new;
+    }) result }
+    ensures unread { is_accepted (map string_bytes words.now) ≡ false → input.new ≡ input.old }
+    ensures unwritten { (result ≡ 4) ⊎ (result ≡ 7) → output.new ≡ output.old }
+{
+    match say_to(alloc, words, input) {
+        Ok(said) => deliver(&said, output),
+        Err(Unsaid::Failed) => 4,
+        Err(Unsaid::Memory) => 7,
+    }
+}
+
+/// Answers words, the program's name first, and an input: writes the output, and answers the
+/// status. It takes no runtime, and does whole every command that needs no threads; today that is
+/// every one, and `None` never comes.
+///
+/// The input is read to its end, or to one byte past its limit, before anything is said of it, and
+/// the whole output is made before its first byte is written.
+pub fn alone<S: Source, K: Sink>(
+    alloc: Global,
+    words: &[String],
+    input: &mut S,
+    output: &mut K,
+) -> Option<u8>
+    ensures whole { IsSome result }
+
+    // The status and what was written are the answer, or say what was wanting.
+    ensures answered { IfSome result (λ status. IsAnswered (map string_bytes words.now) (record {
+      left = S.left input.old;
+      written_before = K.written output.old;
+      written = K.written output.new;
+      source_faults_before = S.faults input.old;
+      source_faults = S.faults input.new;
+      sink_faults_before = K.faults output.old;
+      sink_faults = K.faults output.new;
+    }) status) }
+
+    // For words that aren't taken the source isn't touched.
+    ensures unread { is_accepted (map string_bytes words.now) ≡ false → input.new ≡ input.old }
+
+    // At status 4 and 7 the sink isn't touched.
+    ensures unwritten { IfSome result (λ status. (status ≡ 4) ⊎ (status ≡ 7) → output.new ≡ output.old) }
+{
+    Some(serve(alloc, words, input, output))
+}
+
+/// Answers words, the program's name first, and an input: writes the output, and answers the
+/// status. Commands that need threads are to be done here; there is none yet.
+pub fn ido<R: Threads + Wait + Sync, S: Source, K: Sink, G: Gate + Sync>(
+    rt: &R,
+    alloc: Global,
+    words: &[String],
+    input: &mut S,
+    output: &mut K,
+    gate: &G,
+) -> u8
+    // The status and what was written are the answer, or say what was wanting.
+    ensures answered { IsAnswered (map string_bytes words.now) (record {
+      left = S.left input.old;
+      written_before = K.written output.old;
+      written = K.written output.new;
+      source_faults_before = S.faults input.old;
+      source_faults = S.faults input.new;
+      sink_faults_before = K.faults output.old;
+      sink_faults = K.faults output.new;
+    }) result }
+
+    // For words that aren't taken the source isn't touched.
+    ensures unread { is_accepted (map string_bytes words.now) ≡ false → input.new ≡ input.old }
+
+    // At status 4 and 7 the sink isn't touched.
+    ensures unwritten { (result ≡ 4) ⊎ (result ≡ 7) → output.new ≡ output.old }
+{
+    match alone(alloc, words, input, output) {
+        Some(status) => status,
+        None => unreachable!(),
+    }
+}
