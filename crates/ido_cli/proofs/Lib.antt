@@ -2,7 +2,6 @@ mod Worked
 pub mod InputSteps
 pub mod ScriptLines
 pub mod Numerals
-pub mod Schedules
 pub mod Points
 pub mod Sights
 pub mod Turns

@@ -1,5 +1,5 @@
 -- A compiled object is within the limits of the machine, and a run from its start is what is said of it.
-use Rattle.std.proofs.Common.{◌≡◌, ℕ, zero, suc, ◌%◌, ◌≤◌, List, [], ◌∷◌, ◌++◌, length, map, slice_index_or, ℤ, Bool, true, false, refl, sym, ap, subst, ◌∙◌, arith, All, if◌then◌else◌, Vec, Global, rules}
+use Rattle.std.proofs.Common.{◌≡◌, ℕ, zero, suc, ◌%◌, ◌≤◌, List, [], ◌∷◌, length, map, slice_index_or, ℤ, Bool, true, false, refl, sym, ap, subst, ◌∙◌, arith, All, if◌then◌else◌, Vec, Global, rules}
 use Rattle.std.proofs.lemmas.List.{length-map}
 use Rattle.std.proofs.lemmas.List.Sums.{count_by-le-length}
 use Rattle.std.proofs.lemmas.List.Elements.{All-cons}
@@ -21,7 +21,9 @@ use Rattle.ido_compile.specs.Compilation.{Compilation, compared, node_marks, is_
 use Rattle.ido_cli.specs.declared.tracker.Tracker.{Tracker}
 use Rattle.ido_cli.specs.declared.play.Said.{Said}
 use Rattle.ido_cli.specs.Steps.{IsAt}
-use Rattle.ido_cli.specs.Reports.{report, settled_report, source_report, variable_lines, ended_lines, schedule_line}
+use Rattle.run_scripts.specs.Reports.{report}
+use Rattle.ido_cli.specs.Reports.{machine_state, source_state, variables_of, ended_of}
+use Rattle.ido_cli.proofs.Reported.{settled_none}
 use Rattle.ido_cli.specs.Sayings.{IsReported}
 use Rattle.ido_cli.specs.Answers.{IsPlayed, IsSourceRun, steps_of_first}
 
@@ -85,17 +87,17 @@ settled_by_status : (b : Bool) (status : ℕ) → status ≡ (if b then 0 else 3
 settled_by_status true status e f = refl
 settled_by_status false status e f = absurd (omega (arith, e, f))
 
-report_of_settled : (names : List (List ℕ)) (f : Form) (w : World) (kept : List ℕ) → is_settled w ≡ true
+state_of_settled : (names : List (List ℕ)) (f : Form) (w : World) (kept : List ℕ) → is_settled w ≡ true
     → durable_variables w.words (length names) ≡ (after_from (start_state f) kept).variables
-    → report names (start_state f) w kept ≡ source_report names (start_state f) kept
-unfolding report settled_report source_report
-report_of_settled names f w kept e same =
-    rw e (ap (λ (values : List ℤ). variable_lines names values ++ ended_lines (start_state f) kept (0 ∷ []) ++ schedule_line kept) same)
+    → machine_state names (start_state f) w kept ≡ source_state names (start_state f) kept
+unfolding machine_state source_state
+state_of_settled names f w kept e same =
+    rw (settled_none w e) (ap (λ (values : List ℤ). record { unsettled = []; variables = variables_of names values; ended = ended_of (start_state f) kept; schedule = kept }) same)
 
 -- where the machine is settled, its report is that of the source's run of the kept schedule
 is_source_run : (f : Form) (object : Object) (marks : List (List ℕ)) (steps status : ℕ) (output : List ℕ) → Compilation f object marks
     → status ≡ (if is_settled (machine object (steps_of_first steps)) then 0 else 3)
-    → output ≡ report (f.variable ∷ []) (start_state f) (machine object (steps_of_first steps)) (steps_compared (compared f object marks) (machine_start object) (steps_of_first steps)).kept
+    → output ≡ report (machine_state (f.variable ∷ []) (start_state f) (machine object (steps_of_first steps)) (steps_compared (compared f object marks) (machine_start object) (steps_of_first steps)).kept)
     → status ≡ 0 → IsSourceRun f output
 is_source_run f object marks steps status output c status_is output_is zeroed =
     let events : List Event = steps_of_first steps in
@@ -107,7 +109,7 @@ is_source_run f object marks steps status output c status_is output_is zeroed =
       schedule = kept;
       runs = resumed.runs;
       between = resumed.between settled 0 (omega (arith, one_thread f object marks c));
-      output_is = output_is ∙ report_of_settled (f.variable ∷ []) f w kept settled (resumed.variables settled);
+      output_is = output_is ∙ ap report (state_of_settled (f.variable ∷ []) f w kept settled (resumed.variables settled));
     }
 
 pub is_played : (f : Form) (object : Object) (marks : Marks) (nodes name : List ℕ) (steps : ℕ) (m : Machine) (t : Tracker) (said : Said)
@@ -121,8 +123,8 @@ is_played f object marks nodes name steps m t said compilation same named at rep
     let start : Steps = first_steps (length (program_of object)) [] in
     let kept : t.kept.items ≡ (steps_along (node_marks marks) (program_of object) (machine_start object) (steps_of_first steps) start).kept =
     sym at.steps.kept ∙ ap (λ (all : List (List ℕ)). (steps_along all (program_of object) (machine_start object) (steps_of_first steps) start).kept) (sym same) in
-    let output : said.output.items ≡ report (f.variable ∷ []) (start_state f) w (steps_along (node_marks marks) (program_of object) (machine_start object) (steps_of_first steps) start).kept =
-    told.output ∙ ap (λ (k : List ℕ). report (name ∷ []) (start_state f) w k) kept ∙ ap (λ (n : List ℕ). report (n ∷ []) (start_state f) w (steps_along (node_marks marks) (program_of object) (machine_start object) (steps_of_first steps) start).kept) named in
+    let output : said.output.items ≡ report (machine_state (f.variable ∷ []) (start_state f) w (steps_along (node_marks marks) (program_of object) (machine_start object) (steps_of_first steps) start).kept) =
+    told.output ∙ ap (λ (k : List ℕ). report (machine_state (name ∷ []) (start_state f) w k)) kept ∙ ap (λ (n : List ℕ). report (machine_state (n ∷ []) (start_state f) w (steps_along (node_marks marks) (program_of object) (machine_start object) (steps_of_first steps) start).kept)) named in
     record {
       object = object;
       marks = node_marks marks;

@@ -1,19 +1,14 @@
 -- The parts of a report of one thread.
-use Rattle.std.proofs.Common.{◌≡◌, ℕ, zero, suc, ◌<◌, ◌≤◌, List, [], ◌∷◌, ◌++◌, length, Bool, true, false, ◌==◌, refl, sym, ap, ◌∙◌, arith}
+use Rattle.std.proofs.Common.{◌≡◌, ℕ, zero, suc, ◌+◌, ◌<◌, ◌≤◌, List, [], ◌∷◌, length, filter, not, Bool, true, false, ◌==◌, ◌&&◌, refl, sym, ◌∙◌, arith}
 use Rattle.std.specs.List.{prefix_len}
-use Rattle.std.proofs.lemmas.Bool.{eqb-true}
-use Rattle.std.proofs.lemmas.List.{append-nil}
-use Rattle.rv64_isa.specs.Machine.{World}
-use Rattle.rv64_isa.specs.Schedule.{is_settled, is_settled_hart}
+use Rattle.std.proofs.lemmas.Bool.{eqb-true, eqb-false}
+use Rattle.rv64_isa.specs.Machine.{World, numbers_from}
+use Rattle.rv64_isa.specs.Schedule.{is_settled, is_settled_hart, are_settled}
 use Rattle.ido_machine.specs.declared.machine.Machine.{Machine}
 use Rattle.ido_machine.specs.Machines.{MachineStands, program_in}
 use Rattle.ido_compile.specs.Source.{ended_from}
 use Rattle.ido_compile.specs.Form.{Form, start_state}
-use Rattle.std.specs.Int.{w64, cast_signed}
-use Rattle.ido_base.specs.Words.{word_at, durable_value}
-use Rattle.ido_cli.specs.Reports.{variable_line, ended_line, schedule_line, settled_report, unsettled_line, unsettled_harts, report}
-use Rattle.ido_cli.specs.Sayings.{IsReported}
-use Rattle.ido_cli.specs.declared.play.Said.{Said}
+use Rattle.ido_cli.specs.Reports.{unsettled_harts}
 
 one_hart : (m : Machine) (w : World) → length (program_in m) ≡ 1 → MachineStands m w → length w.harts ≡ 1
 one_hart m w one stands = omega (arith, stands.standing.count, m.sized)
@@ -56,26 +51,32 @@ ended_by_fewer f (zero ∷ zero ∷ zero ∷ []) few = refl
 ended_by_fewer f (zero ∷ zero ∷ zero ∷ suc t ∷ ts) few = refl
 ended_by_fewer f (zero ∷ zero ∷ zero ∷ zero ∷ ts) few = absurd (omega (arith, few))
 
--- ---- The report
+-- ---- The harts that aren't settled
 
-pub settled_report_of : (f : Form) (name : List ℕ) (w : World) (kept : List ℕ) (sections : ℕ) → sections ≡ ended_from (start_state f) kept 0
-    → variable_line name (cast_signed w64 (durable_value (word_at w.words 0))) ++ ended_line 0 sections ++ schedule_line kept ≡ settled_report (name ∷ []) (start_state f) w kept
-unfolding settled_report
-settled_report_of f name w kept sections e =
-    let variable = variable_line name (cast_signed w64 (durable_value (word_at w.words 0))) in
-    rw (e, append-nil variable, append-nil (ended_line 0 (ended_from (start_state f) kept 0))) refl
+both_true : (a b : Bool) → (a && b) ≡ true → (a ≡ true) × (b ≡ true)
+both_true true b e = (refl, e)
+both_true false b e = absurd (cc e)
 
--- where it isn't settled, hart 0 is the one that isn't
-pub unsettled_report_of : (m : Machine) (f : Form) (name : List ℕ) (w : World) (kept : List ℕ) → length (program_in m) ≡ 1 → MachineStands m w → is_settled w ≡ false → unsettled_line (0 ∷ []) ≡ report (name ∷ []) (start_state f) w kept
-unfolding report
-unsettled_report_of m f name w kept one stands e =
+settled_below : (w : World) (n k : ℕ) → are_settled w n ≡ true → k < n → is_settled_hart w k ≡ true
+settled_below w zero k e below = absurd (omega (arith, below))
+settled_below w (suc n) k e below = by_test (k == n) refl (settled_below w n k parts.0) parts.1
+  where
+    parts : (are_settled w n ≡ true) × (is_settled_hart w n ≡ true)
+    parts = both_true (are_settled w n) (is_settled_hart w n) e
+
+    by_test : (b : Bool) → (k == n) ≡ b → (k < n → is_settled_hart w k ≡ true) → is_settled_hart w n ≡ true → is_settled_hart w k ≡ true
+    by_test true same before last = rw (eqb-true k n same) last
+    by_test false other before last = before (omega (arith, below, eqb-false k n other))
+
+none_from : (w : World) (first n : ℕ) → ((k : ℕ) → k < first + n → is_settled_hart w k ≡ true) → filter (λ h. not (is_settled_hart w h)) (numbers_from first n) ≡ []
+none_from w first zero all = refl
+none_from w first (suc n) all =
+    rw (filter, all first (omega arith)) (none_from w (first + 1) n (λ k below. all k (omega (arith, below))))
+
+pub settled_none : (w : World) → is_settled w ≡ true → unsettled_harts w ≡ []
+settled_none w e = none_from w 0 (length w.harts) (λ k below. settled_below w (length w.harts) k e (omega (arith, below)))
+
+pub unsettled_first : (m : Machine) (w : World) → length (program_in m) ≡ 1 → MachineStands m w → is_settled w ≡ false → unsettled_harts w ≡ 0 ∷ []
+unsettled_first m w one stands e =
     let hart : is_settled_hart w 0 ≡ false = sym (settled_is m w one stands) ∙ e in
-    let only : unsettled_harts w ≡ 0 ∷ [] = rw (one_hart m w one stands, hart) refl in
-    rw e (ap unsettled_line (sym only))
-
-pub settled_is_reported : (f : Form) (name : List ℕ) (w : World) (kept : List ℕ) (said : Said) → is_settled w ≡ true → said.status ≡ 0 → said.output.items ≡ settled_report (name ∷ []) (start_state f) w kept → IsReported (name ∷ []) (start_state f) w kept said
-unfolding report
-settled_is_reported f name w kept said e status output = record { status = rw e status; output = rw e output }
-
-pub unsettled_is_reported : (m : Machine) (f : Form) (name : List ℕ) (w : World) (kept : List ℕ) (said : Said) → length (program_in m) ≡ 1 → MachineStands m w → is_settled w ≡ false → said.status ≡ 3 → said.output.items ≡ unsettled_line (0 ∷ []) → IsReported (name ∷ []) (start_state f) w kept said
-unsettled_is_reported m f name w kept said one stands e status output = record { status = rw e status; output = output ∙ unsettled_report_of m f name w kept one stands e }
+    rw (one_hart m w one stands, hart) refl

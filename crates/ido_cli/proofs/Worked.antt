@@ -1,9 +1,7 @@
 -- What the definitions compute.
-use Rattle.std.specs.Prelude.{◌≡◌, [], ◌∷◌, Some, None, true, false, refl, codes, pos, negsuc}
-use Rattle.std.specs.Fmt.{digits}
+use Rattle.std.specs.Prelude.{◌≡◌, [], ◌∷◌, Some, None, true, false, refl, codes}
 use Rattle.ido_cli.specs.Inputs.{source_of, rest_of, behind_mark}
 use Rattle.ido_cli.specs.Scripts.{steps_of}
-use Rattle.ido_cli.specs.Reports.{variable_line, variable_lines, ended_line, schedule_line, run_text, hart_text, unsettled_line}
 use Rattle.ido_cli.specs.Answers.{is_accepted}
 
 -- ---- Inputs
@@ -89,28 +87,6 @@ no_count = refl
 other_word : steps_of (codes "c\n") ≡ None
 unfolding steps_of
 other_word = refl
-
--- ---- Reports
-
-variables_by_line : variable_lines (codes "x" ∷ codes "y_1" ∷ []) (pos 6 ∷ negsuc 9 ∷ []) ≡ codes "x = 6\ny_1 = -10\n"
-unfolding variable_line digits
-variables_by_line = refl
-
-ended_by_thread : ended_line 1 20 ≡ codes "ended 1 20\n"
-unfolding ended_line digits
-ended_by_thread = refl
-
-runs_are_merged : schedule_line (0 ∷ 0 ∷ 1 ∷ 0 ∷ 1 ∷ 1 ∷ 1 ∷ []) ≡ codes "schedule 0*2 1*1 0*1 1*3\n"
-unfolding schedule_line run_text digits
-runs_are_merged = refl
-
-empty_schedule : schedule_line [] ≡ codes "schedule\n"
-unfolding schedule_line
-empty_schedule = refl
-
-unsettled_harts_by_number : unsettled_line (0 ∷ 12 ∷ []) ≡ codes "unsettled 0 12\n"
-unfolding unsettled_line hart_text digits
-unsettled_harts_by_number = refl
 
 -- ---- Words
 

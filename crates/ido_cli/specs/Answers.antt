@@ -13,7 +13,8 @@ use Rattle.ido_compile.specs.Form.{Form, IsForm, start_state}
 use Rattle.ido_compile.specs.Compilation.{Compilation, compared, steps_of as steps_compared}
 use Rattle.ido_cli.specs.Inputs.{source_of, rest_of}
 use Rattle.ido_cli.specs.Scripts.{steps_of}
-use Rattle.ido_cli.specs.Reports.{line, report, source_report}
+use Rattle.run_scripts.specs.Reports.{line, report}
+use Rattle.ido_cli.specs.Reports.{machine_state, source_state}
 
 -- the words of the command line, the program's name first, that the program takes
 abbrev pub is_accepted : (words : List (List ℕ)) → Bool
@@ -54,7 +55,7 @@ pub record IsSourceRun (form : Form) (output : List ℕ) : Type 0 where
   pub schedule : List ℕ
   pub runs : IsTrue (runs_from (start_state form) schedule)
   pub between : IsTrue (is_between (after_from (start_state form) schedule) 0)
-  pub output_is : output ≡ source_report (form.variable ∷ []) (start_state form) schedule
+  pub output_is : output ≡ report (source_state (form.variable ∷ []) (start_state form) schedule)
 
 -- the report of the machine of a compilation of the form after the steps; the status says whether it is settled, and where
 -- it is, the report is that of a run of the source
@@ -63,7 +64,7 @@ pub record IsPlayed (form : Form) (steps status : ℕ) (output : List ℕ) : Typ
   pub marks : List (List ℕ)
   pub compilation : Compilation form object marks
   pub status_is : status ≡ (if is_settled (machine object (steps_of_first steps)) then 0 else 3)
-  pub output_is : output ≡ report (form.variable ∷ []) (start_state form) (machine object (steps_of_first steps)) (steps_compared (compared form object marks) (machine_start object) (steps_of_first steps)).kept
+  pub output_is : output ≡ report (machine_state (form.variable ∷ []) (start_state form) (machine object (steps_of_first steps)) (steps_compared (compared form object marks) (machine_start object) (steps_of_first steps)).kept)
   pub settled : status ≡ 0 → IsSourceRun form output
 
 -- what a source and a script are answered: status and output

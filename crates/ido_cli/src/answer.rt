@@ -33,7 +33,12 @@ fn play(alloc: Global, compiled: &Compiled, steps: u64) -> Result<Said, Memory>
         &compiled.marks.threads[0].nodes,
         steps,
     )?;
-    let said = say(alloc, &compiled.form.variable, &machine, &tracker.kept)?;
+    let said = say(
+        alloc,
+        &compiled.form.variable,
+        &machine,
+        tracker.into_kept(),
+    )?;
     Ok(said)
 }
 

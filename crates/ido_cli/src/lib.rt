@@ -4,7 +4,6 @@
 mod answer;
 mod input;
 mod play;
-mod report;
 mod run;
 mod script;
 mod top;

@@ -1,16 +1,19 @@
 //! What is said of a run.
-ghost use Rattle.std.specs.Prelude.{◌≡◌, ◌∷◌, [], ◌<◌, ◌≤◌, length, IfOk, if◌then◌else◌, replicate};
+ghost use Rattle.std.specs.Prelude.{◌≡◌, ◌∷◌, [], length, IfOk, ◌==◌};
+ghost use Rattle.std.specs.List.{prefix_len};
 ghost use Rattle.rv64_isa.specs.Machine.{World};
 ghost use Rattle.rv64_isa.specs.Schedule.{is_settled};
 ghost use Rattle.ido_machine.specs.Machines.{MachineStands, program_in};
 ghost use Rattle.ido_compile.specs.Source.{ended_from};
 ghost use Rattle.ido_compile.specs.Form.{Form, start_state, form_of};
-ghost use Rattle.ido_cli.specs.Reports.{report, settled_report, unsettled_line};
+ghost use Rattle.ido_compile.specs.Compilation.{durable_variables};
+ghost use Rattle.run_scripts.specs.ReportViews.{variable_of, state_of};
+ghost use Rattle.ido_cli.specs.Reports.{machine_state, unsettled_harts, variables_of};
 ghost use Rattle.ido_cli.specs.Sayings.{IsReported};
 
-use crate::report::{put_ended, put_schedule, put_unsettled, put_variable, run_length};
 use ido_base::memory::Memory;
 use ido_machine::machine::Machine;
+use run_scripts::report::{Reported, Variable, report};
 use std::alloc::Global;
 
 /// The line of hart 0's point, which is its word 0.
@@ -33,56 +36,77 @@ fn is_settled(machine: &Machine) -> bool
         && machine.live_word(POINT_LINE, 0) == 0
 }
 
+/// How many steps of thread 0 a schedule begins with.
+fn first_steps(schedule: &[u32]) -> usize
+    ensures { result ≡ prefix_len (λ t. t == 0) schedule.now }
+{
+    schedule.iter().take_while(|t| **t == 0).count()
+}
+
 /// How many sections of the thread of a form have ended by a schedule.
 fn ended(schedule: &[u32]) -> u64
     ensures { (f : Form) → result ≡ ended_from (start_state f) schedule.now 0 }
 {
-    if run_length(schedule, 0) < 4 { 0 } else { 1 }
+    if first_steps(schedule) < 4 { 0 } else { 1 }
 }
 
-/// The report of a settled machine.
-fn report_settled(
+/// The harts that aren't settled.
+fn unsettled(alloc: Global, machine: &Machine) -> Result<Vec<u32>, Memory>
+    requires { length (program_in machine.now) ≡ 1 }
+    ensures { IfOk result (λ harts. (w : World) → MachineStands machine.now w → harts.items ≡ unsettled_harts w) }
+{
+    if is_settled(machine) {
+        Ok(Vec::new(alloc))
+    } else {
+        let harts = vec![in alloc; 0]?;
+        Ok(harts)
+    }
+}
+
+/// The variable, with its durable value.
+fn variable(alloc: Global, name: &[u8], machine: &Machine) -> Result<Variable, Memory>
+    requires { length (program_in machine.now) ≡ 1 }
+    ensures { IfOk result (λ x. (w : World) → MachineStands machine.now w →
+        variable_of x ∷ [] ≡ variables_of (name.now ∷ []) (durable_variables w.words 1)) }
+{
+    let name = name.to_vec(alloc)?;
+    let number = i128::from(machine.durable_word(0, 0).cast_signed());
+    let elements = vec![in alloc; number]?;
+    Ok(Variable { name, elements })
+}
+
+/// What is reported of a machine.
+#[tactic(auto, unfolding(crate::specs::Reports::machine_state))]
+fn reported(
     alloc: Global,
     name: &[u8],
     machine: &Machine,
-    kept: &[u32],
-) -> Result<Vec<u8>, Memory>
+    kept: Vec<u32>,
+) -> Result<Reported, Memory>
     requires { length (program_in machine.now) ≡ 1 }
-    ensures { IfOk result (λ output. (f : Form) (w : World) → MachineStands machine.now w →
-        output.items ≡ settled_report (name.now ∷ []) (start_state f) w kept.now) }
+    ensures { IfOk result (λ state. (f : Form) (w : World) → MachineStands machine.now w →
+        state_of state ≡ machine_state (name.now ∷ []) (start_state f) w kept.items) }
 {
-    let mut output = Vec::new(alloc);
-    put_variable(
-        alloc,
-        &mut output,
-        name,
-        machine.durable_word(0, 0).cast_signed(),
-    )?;
-    put_ended(alloc, &mut output, 0, ended(kept))?;
-    put_schedule(alloc, &mut output, kept)?;
-    Ok(output)
-}
-
-/// The report of one that isn't.
-fn report_unsettled(alloc: Global) -> Result<Vec<u8>, Memory>
-    ensures { IfOk result (λ output. output.items ≡ unsettled_line (0 ∷ [])) }
-{
-    let mut output = Vec::new(alloc);
-    put_unsettled(alloc, &mut output, &[0])?;
-    Ok(output)
+    let unsettled = unsettled(alloc, machine)?;
+    let variable = variable(alloc, name, machine)?;
+    let variables = vec![in alloc; variable]?;
+    let ended = vec![in alloc; ended(&kept)]?;
+    Ok(Reported {
+        unsettled,
+        variables,
+        ended,
+        schedule: kept,
+    })
 }
 
 /// What is said of a machine.
-pub fn say(alloc: Global, name: &[u8], machine: &Machine, kept: &[u32]) -> Result<Said, Memory>
+pub fn say(alloc: Global, name: &[u8], machine: &Machine, kept: Vec<u32>) -> Result<Said, Memory>
     requires { length (program_in machine.now) ≡ 1 }
     ensures { IfOk result (λ said. (f : Form) (w : World) → MachineStands machine.now w →
-        IsReported (name.now ∷ []) (start_state f) w kept.now said) }
+        IsReported (name.now ∷ []) (start_state f) w kept.items said) }
 {
-    if is_settled(machine) {
-        let output = report_settled(alloc, name, machine, kept)?;
-        Ok(Said { status: 0, output })
-    } else {
-        let output = report_unsettled(alloc)?;
-        Ok(Said { status: 3, output })
-    }
+    let state = reported(alloc, name, machine, kept)?;
+    let output = report(alloc, &state)?;
+    let status = if is_settled(machine) { 0 } else { 3 };
+    Ok(Said { status, output })
 }

@@ -129,4 +129,11 @@ impl Tracker {
         drop_durable(&mut self.bound, durable);
         Ok(())
     }
+
+    /// The kept schedule.
+    pub fn into_kept(self) -> Vec<u32>
+        ensures { result.items ≡ self.kept.items }
+    {
+        self.kept
+    }
 }

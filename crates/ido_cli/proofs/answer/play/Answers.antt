@@ -32,4 +32,4 @@ returns c =
     subst (λ (p : List (List Slot)). IsAt m t (after_events p start (replicate steps (Step 0))) (steps_along (nodes ∷ []) p start (replicate steps (Step 0)) (first_steps (length (program_of object)) []))) c.in_ok-machine.ensures.program
     (c.in_ok-run.ensures.at start (first_steps (length (program_of object)) []) first) in
     is_played f object marks nodes name steps m t c.in_ok-said.said c.requires.compilation same c.deref-2.ensures.value at
-    (λ w stands. subst (λ (k : List ℕ). IsReported (name ∷ []) (start_state f) w k c.in_ok-said.said) c.deref-3.ensures.value (c.in_ok-said.ensures f w stands))
+    (λ w stands. subst (λ (k : List ℕ). IsReported (name ∷ []) (start_state f) w k c.in_ok-said.said) c.into_kept.ensures (c.in_ok-said.ensures f w stands))

@@ -1,0 +1,58 @@
+-- Expressions whose names are resolved and whose kinds are fixed, as contracts see them.
+use Rattle.std.specs.Prelude.{ℕ}
+use Rattle.ido_base.specs.declared.place.Place.{Place}
+use Rattle.ido_ints.specs.declared.kinds.Kind.{Kind}
+use Rattle.ido_ints.specs.declared.operators.Unary as u
+use Rattle.ido_ints.specs.declared.operators.Binary as b
+use Rattle.ido_ints.specs.Typed.{Typed}
+use Rattle.c_tree.specs.declared.expr.Expr as e
+use Rattle.c_tree.specs.declared.expr.Placed as placed
+use Rattle.c_tree.specs.declared.expr.Target as target
+use Rattle.c_tree.specs.declared.expr.Target.TheVariants as targets
+
+pub data Expr : Type 0 where
+  Constant : (value : Typed) → Expr
+  Local : (local : ℕ) → Kind → Expr
+  -- a persistent variable that is no array, and the place of its name
+  Variable : (place : Place) → (variable : ℕ) → Kind → Expr
+  -- an element of an array, and the places of its name and of the index's first token
+  Element : (place : Place) → (variable : ℕ) → Kind → (index_place : Place) → (index : Expr) → Expr
+  Unary : u.Unary → (operand : Expr) → Expr
+  Cast : Kind → (operand : Expr) → Expr
+  -- a conversion that isn't written
+  Converted : Kind → (operand : Expr) → Expr
+  Binary : b.Binary → (left right : Expr) → Expr
+  -- the value that is chosen is converted to the kind
+  Conditional : Kind → (condition chosen otherwise : Expr) → Expr
+
+-- an expression and the place of its first token
+pub record Placed : Type 0 where
+  pub place : Place
+  pub expr : Expr
+
+-- what is assigned; places are those of names
+pub data Target : Type 0 where
+  ToLocal : (local : ℕ) → Kind → Target
+  ToVariable : (place : Place) → (variable : ℕ) → Kind → Target
+  ToElement : (place : Place) → (variable : ℕ) → Kind → (index : Placed) → Target
+
+-- ---- What the types of `expr` stand for
+
+abbrev pub expr_of : e.Expr → Expr
+expr_of (e.Constant value) = Constant value
+expr_of (e.Local local kind) = Local local kind
+expr_of (e.Variable place variable kind) = Variable place variable kind
+expr_of (e.Element' place variable kind index_place _ index) = Element place variable kind index_place (expr_of index)
+expr_of (e.Unary' operator _ operand) = Unary operator (expr_of operand)
+expr_of (e.Cast' kind _ operand) = Cast kind (expr_of operand)
+expr_of (e.Converted' kind _ operand) = Converted kind (expr_of operand)
+expr_of (e.Binary' operator _ left _ right) = Binary operator (expr_of left) (expr_of right)
+expr_of (e.Conditional' kind _ condition _ chosen _ otherwise) = Conditional kind (expr_of condition) (expr_of chosen) (expr_of otherwise)
+
+abbrev pub placed_of : placed.Placed → Placed
+placed_of x = record { place = x.place; expr = expr_of x.expr }
+
+abbrev pub target_of : target.Target → Target
+target_of (targets.Local local kind) = ToLocal local kind
+target_of (targets.Variable place variable kind) = ToVariable place variable kind
+target_of (targets.Element place variable kind index) = ToElement place variable kind (placed_of index)

@@ -1,0 +1,217 @@
+-- The grammar of the source language: which tokens spell which tree. Each production stands at the tree that it makes.
+use Rattle.std.specs.Prelude.{◌≡◌, ℕ, ◌+◌, ◌≤◌, List, [], ◌∷◌, Option, Some, None, Bool, true, false, Contains}
+use Rattle.ido_ints.specs.declared.kinds.Kind.{Kind}
+use Rattle.ido_ints.specs.declared.kinds.Kind.TheVariants as kind
+use Rattle.ido_ints.specs.declared.operators.Unary.{Unary}
+use Rattle.ido_ints.specs.declared.operators.Unary.TheVariants as unary
+use Rattle.ido_ints.specs.declared.operators.Binary.{Binary}
+use Rattle.ido_ints.specs.declared.operators.Binary.TheVariants as binary
+use Rattle.c_tree.specs.Tokens.{Token}
+use Rattle.c_tree.specs.declared.token.Keyword.{Keyword}
+use Rattle.c_tree.specs.declared.token.Keyword.TheVariants as k
+use Rattle.c_tree.specs.declared.token.Punctuator.{Punctuator}
+use Rattle.c_tree.specs.declared.token.Punctuator.TheVariants as p
+use Rattle.c_tree.specs.Trees as t
+use Rattle.c_tree.specs.Languages.{empty, never, provided, ◌⋅◌, ◌or◌, starting_at, word, word_at, mark, mark_at, number, number_at, name, words, all_of, some_of, list_of, maybe}
+
+-- ---- Types
+
+-- the words that a kind may be written with (C11 6.7.2, paragraph 2)
+abbrev pub spellings : Kind → List (List Keyword)
+spellings kind.Char = (k.Char ∷ []) ∷ []
+spellings kind.UnsignedChar = (k.Unsigned ∷ k.Char ∷ []) ∷ []
+spellings kind.SignedChar = (k.Signed ∷ k.Char ∷ []) ∷ []
+spellings kind.Short = (k.Short ∷ []) ∷ (k.Short ∷ k.Int ∷ []) ∷ (k.Signed ∷ k.Short ∷ []) ∷ (k.Signed ∷ k.Short ∷ k.Int ∷ []) ∷ []
+spellings kind.UnsignedShort = (k.Unsigned ∷ k.Short ∷ []) ∷ (k.Unsigned ∷ k.Short ∷ k.Int ∷ []) ∷ []
+spellings kind.Int = (k.Int ∷ []) ∷ (k.Signed ∷ []) ∷ (k.Signed ∷ k.Int ∷ []) ∷ []
+spellings kind.UnsignedInt = (k.Unsigned ∷ []) ∷ (k.Unsigned ∷ k.Int ∷ []) ∷ []
+spellings kind.Long = (k.Long ∷ []) ∷ (k.Long ∷ k.Int ∷ []) ∷ (k.Signed ∷ k.Long ∷ []) ∷ (k.Signed ∷ k.Long ∷ k.Int ∷ []) ∷ []
+spellings kind.UnsignedLong = (k.Unsigned ∷ k.Long ∷ []) ∷ (k.Unsigned ∷ k.Long ∷ k.Int ∷ []) ∷ []
+
+abbrev pub type : Kind → List Token → Type 0
+type x ts = (ks : List Keyword) × Contains (spellings x) ks × words ks ts
+
+-- ---- Expressions (C11 6.5)
+
+-- how tightly an operator binds: from `||` to `*`
+abbrev pub strength : Binary → ℕ
+strength binary.LogicalOr = 1
+strength binary.LogicalAnd = 2
+strength binary.Or = 3
+strength binary.Xor = 4
+strength binary.And = 5
+strength binary.Equal = 6
+strength binary.NotEqual = 6
+strength binary.Less = 7
+strength binary.Greater = 7
+strength binary.LessEqual = 7
+strength binary.GreaterEqual = 7
+strength binary.ShiftLeft = 8
+strength binary.ShiftRight = 8
+strength binary.Add = 9
+strength binary.Sub = 9
+strength binary.Mul = 10
+strength binary.Div = 10
+strength binary.Rem = 10
+
+-- operands that no operator with two operands may part
+abbrev pub strongest : ℕ
+strongest = 11
+
+abbrev pub unary_mark : Unary → Punctuator
+unary_mark unary.Plus = p.Binary binary.Add
+unary_mark unary.Minus = p.Binary binary.Sub
+unary_mark unary.Complement = p.Complement
+unary_mark unary.Not = p.Not
+
+-- an expression whose operators, outside brackets, bind at least so tightly: 0 for any expression
+abbrev pub expression_from : t.Expression → ℕ → List Token → Type 0
+expression_from (t.Number place value) n = number_at place value
+expression_from (t.Named x) n = name x
+expression_from (t.Element array index) n = name array ⋅ mark p.OpenBracket ⋅ expression_from index 0 ⋅ mark p.CloseBracket
+expression_from (t.Parenthesised place inner) n = mark_at place p.OpenParenthesis ⋅ expression_from inner 0 ⋅ mark p.CloseParenthesis
+expression_from (t.Unary place operator operand) n = mark_at place (unary_mark operator) ⋅ expression_from operand strongest
+expression_from (t.Cast place x operand) n = mark_at place p.OpenParenthesis ⋅ type x ⋅ mark p.CloseParenthesis ⋅ expression_from operand strongest
+expression_from (t.Binary operator left right) n =
+    provided (n ≤ strength operator) (expression_from left (strength operator) ⋅ mark (p.Binary operator) ⋅ expression_from right (strength operator + 1))
+expression_from (t.Conditional condition then otherwise) n =
+    provided (n ≡ 0) (expression_from condition 1 ⋅ mark p.Question ⋅ expression_from then 0 ⋅ mark p.Colon ⋅ expression_from otherwise 0)
+
+abbrev pub expression : t.Expression → List Token → Type 0
+expression x = expression_from x 0
+
+-- ---- Assignments and calls
+
+abbrev pub index : Option t.Expression → List Token → Type 0
+index None = empty
+index (Some x) = mark p.OpenBracket ⋅ expression x ⋅ mark p.CloseBracket
+
+abbrev pub target : t.Target → List Token → Type 0
+target x = name x.name ⋅ index x.index
+
+abbrev pub changed : t.Target → t.Change → List Token → Type 0
+changed x (t.Set value) = target x ⋅ mark p.Assign ⋅ expression value
+changed x (t.Update operator value) = target x ⋅ mark (p.Update operator) ⋅ expression value
+changed x t.Increment = target x ⋅ mark p.Increment or mark p.Increment ⋅ target x
+changed x t.Decrement = target x ⋅ mark p.Decrement or mark p.Decrement ⋅ target x
+
+abbrev pub assignment : t.Assignment → List Token → Type 0
+assignment x = starting_at x.place (changed x.target x.change)
+
+abbrev pub call : t.Call → List Token → Type 0
+call x = name x.function ⋅ mark p.OpenParenthesis ⋅ list_of expression x.arguments ⋅ mark p.CloseParenthesis
+
+-- ---- Statements
+
+abbrev pub initial : t.Initial → List Token → Type 0
+initial t.Absent = empty
+initial (t.Value x) = mark p.Assign ⋅ expression x
+initial (t.Result x) = mark p.Assign ⋅ call x
+
+abbrev pub declaration : t.Declaration → List Token → Type 0
+declaration x = starting_at x.place (type x.kind ⋅ name x.name ⋅ initial x.initial)
+
+-- the first part of a `for` makes no call
+abbrev pub initial_of_first : t.Initial → List Token → Type 0
+initial_of_first t.Absent = empty
+initial_of_first (t.Value x) = mark p.Assign ⋅ expression x
+initial_of_first (t.Result x) = never
+
+abbrev pub first : t.First → List Token → Type 0
+first t.NoFirst = empty
+first (t.Declared x) = starting_at x.place (type x.kind ⋅ name x.name ⋅ initial_of_first x.initial)
+first (t.Assigned x) = assignment x
+
+-- `(condition)`
+abbrev pub condition : t.Expression → List Token → Type 0
+condition x = mark p.OpenParenthesis ⋅ expression x ⋅ mark p.CloseParenthesis
+
+abbrev mutual
+  pub statement : t.Statement → List Token → Type 0
+  statement (t.BlockOf x) = block x
+  statement (t.Empty place) = mark_at place p.Semicolon
+  statement (t.Declare x) = declaration x ⋅ mark p.Semicolon
+  statement (t.Assign x) = assignment x ⋅ mark p.Semicolon
+  statement (t.AssignResult x c) = target x ⋅ mark p.Assign ⋅ call c ⋅ mark p.Semicolon
+  statement (t.CallOnly c) = call c ⋅ mark p.Semicolon
+  statement (t.If place arms otherwise) = starting_at place (arms_of arms) ⋅ otherwise_of otherwise
+  statement (t.While place x inside) = word_at place k.While ⋅ condition x ⋅ block inside
+  statement (t.Do place inside x) = word_at place k.Do ⋅ block inside ⋅ word k.While ⋅ condition x ⋅ mark p.Semicolon
+  statement (t.For place start x last inside) =
+      word_at place k.For ⋅ mark p.OpenParenthesis ⋅ first start ⋅ mark p.Semicolon ⋅ maybe expression x ⋅ mark p.Semicolon ⋅ maybe assignment last ⋅ mark p.CloseParenthesis ⋅ block inside
+  statement (t.Lock place mutex) = word_at place k.Lock ⋅ mark p.OpenParenthesis ⋅ name mutex ⋅ mark p.CloseParenthesis ⋅ mark p.Semicolon
+  statement (t.Unlock place mutex) = word_at place k.Unlock ⋅ mark p.OpenParenthesis ⋅ name mutex ⋅ mark p.CloseParenthesis ⋅ mark p.Semicolon
+
+  pub block : t.Block → List Token → Type 0
+  block (t.Braced opening inside closing) = mark_at opening p.OpenBrace ⋅ statements inside ⋅ mark_at closing p.CloseBrace
+
+  pub statements : t.Statements → List Token → Type 0
+  statements t.no_statement = empty
+  statements (t.statement_and x rest) = statement x ⋅ statements rest
+
+  -- `if`, and then `else if`
+  pub arms_of : t.Arms → List Token → Type 0
+  arms_of t.no_arm = never
+  arms_of (t.arm_and x inside rest) = word k.If ⋅ condition x ⋅ block inside ⋅ more_arms_of rest
+
+  pub more_arms_of : t.Arms → List Token → Type 0
+  more_arms_of t.no_arm = empty
+  more_arms_of (t.arm_and x inside rest) = word k.Else ⋅ word k.If ⋅ condition x ⋅ block inside ⋅ more_arms_of rest
+
+  pub otherwise_of : t.Otherwise → List Token → Type 0
+  otherwise_of t.Nothing = empty
+  otherwise_of (t.Else inside) = word k.Else ⋅ block inside
+
+-- ---- Items
+
+abbrev pub returned : t.Return → List Token → Type 0
+returned x = word_at x.place k.Return ⋅ maybe expression x.value ⋅ mark p.Semicolon
+
+abbrev pub body : t.Body → List Token → Type 0
+body x = mark_at x.opening p.OpenBrace ⋅ statements x.statements ⋅ maybe returned x.returned ⋅ mark_at x.closing p.CloseBrace
+
+abbrev pub parameter : t.Parameter → List Token → Type 0
+parameter x = type x.kind ⋅ name x.name
+
+-- none at all may be written as `void`
+abbrev pub parameters : List t.Parameter → List Token → Type 0
+parameters [] = empty or word k.Void
+parameters (x ∷ xs) = some_of parameter (x ∷ xs)
+
+abbrev pub result : Option Kind → List Token → Type 0
+result None = word k.Void
+result (Some x) = type x
+
+abbrev pub function : t.Function → List Token → Type 0
+function x = result x.kind ⋅ name x.name ⋅ mark p.OpenParenthesis ⋅ parameters x.parameters ⋅ mark p.CloseParenthesis ⋅ body x.body
+
+abbrev pub sign : (negative : Bool) → List Token → Type 0
+sign true = mark (p.Binary binary.Sub)
+sign false = empty
+
+abbrev pub signed : t.Signed → List Token → Type 0
+signed x = starting_at x.place (sign x.negative ⋅ number x.value)
+
+abbrev pub initialiser : t.Initialiser → List Token → Type 0
+initialiser (t.Single x) = signed x
+initialiser (t.InBraces place xs) = mark_at place p.OpenBrace ⋅ some_of signed xs ⋅ (empty or mark p.Comma) ⋅ mark p.CloseBrace
+
+abbrev pub length_of : t.Length → List Token → Type 0
+length_of x = mark p.OpenBracket ⋅ number_at x.place x.value ⋅ mark p.CloseBracket
+
+abbrev pub assigned : t.Initialiser → List Token → Type 0
+assigned x = mark p.Assign ⋅ initialiser x
+
+abbrev pub persistent : t.Persistent → List Token → Type 0
+persistent x = word k.Persistent ⋅ mark p.OpenParenthesis ⋅ name x.guard ⋅ mark p.CloseParenthesis ⋅ type x.kind ⋅ name x.name ⋅ maybe length_of x.length ⋅ maybe assigned x.initialiser ⋅ mark p.Semicolon
+
+abbrev pub item : t.Item → List Token → Type 0
+item (t.MutexItem x) = word k.Mutex ⋅ name x ⋅ mark p.Semicolon
+item (t.PersistentItem x) = persistent x
+item (t.ThreadItem x) = word k.Thread ⋅ name x.name ⋅ block x.block
+item (t.FunctionItem x) = function x
+
+-- a whole program: one item at least
+abbrev pub program : List t.Item → List Token → Type 0
+program [] = never
+program (x ∷ xs) = item x ⋅ all_of item xs

@@ -1,0 +1,114 @@
+-- A program whose names are resolved and whose kinds are fixed, as contracts see it.
+use Rattle.std.specs.Prelude.{ℕ, List, [], ◌∷◌, map, Option, ℤ}
+use Rattle.std.specs.Option.{option_map}
+use Rattle.ido_base.specs.declared.place.Place.{Place}
+use Rattle.ido_ints.specs.declared.kinds.Kind.{Kind}
+use Rattle.c_tree.specs.Trees.{Name}
+use Rattle.c_tree.specs.Exprs.{Placed, Target, placed_of, target_of}
+use Rattle.c_tree.specs.Views.{name_of}
+use Rattle.c_tree.specs.declared.program.Variable as variable
+use Rattle.c_tree.specs.declared.program.Statement as p
+use Rattle.c_tree.specs.declared.program.Arm as arm
+use Rattle.c_tree.specs.declared.program.Returned as returned
+use Rattle.c_tree.specs.declared.program.Function as function
+use Rattle.c_tree.specs.declared.program.Thread as thread
+use Rattle.c_tree.specs.declared.program.Program as program
+
+pub record Variable : Type 0 where
+  pub name : Name
+  -- the number of the mutex that guards it
+  pub guard : ℕ
+  pub kind : Kind
+  -- elements of an array; none where it is no array
+  pub length : Option ℕ
+  -- a number for each element
+  pub initial : List ℤ
+
+mutual
+  pub data Statement : Type 0 where
+    Assign : (place : Place) → Target → (value : Placed) → Statement
+    -- a call by the name at `name`, and the assignment of its result
+    Call : (place : Place) → (name : Place) → (function : ℕ) → (arguments : List Placed) → (result : Option Target) → Statement
+    If : (place : Place) → Arms → (otherwise : Statements) → Statement
+    While : (place : Place) → (condition : Placed) → (body : Statements) → Statement
+    Do : (place : Place) → (body : Statements) → (condition : Placed) → Statement
+    Lock : (place : Place) → (mutex : ℕ) → Statement
+    Unlock : (place : Place) → (mutex : ℕ) → Statement
+
+  pub data Statements : Type 0 where
+    no_statement : Statements
+    statement_and : Statement → Statements → Statements
+
+  -- conditions, each with what is done where it isn't 0
+  pub data Arms : Type 0 where
+    no_arm : Arms
+    arm_and : (condition : Placed) → (body : Statements) → Arms → Arms
+
+-- what a function gives
+pub record Returned : Type 0 where
+  pub kind : Kind
+  pub value : Placed
+
+pub record Function : Type 0 where
+  pub name : Name
+  -- how many of its locals, the first ones, are its parameters
+  pub parameters : ℕ
+  pub locals : List Kind
+  pub body : Statements
+  pub result : Option Returned
+
+pub record Thread : Type 0 where
+  pub name : Name
+  pub locals : List Kind
+  pub body : Statements
+  -- the place of its closing brace
+  pub closing : Place
+
+pub record Program : Type 0 where
+  pub mutexes : List Name
+  pub variables : List Variable
+  pub functions : List Function
+  pub threads : List Thread
+
+-- ---- What the types of `program` stand for
+
+abbrev pub variable_of : variable.Variable → Variable
+variable_of x = record { name = name_of x.name; guard = x.guard; kind = x.kind; length = x.length; initial = x.initial.items }
+
+abbrev mutual
+  pub statement_of : p.Statement → Statement
+  statement_of (p.Assign place target value) = Assign place (target_of target) (placed_of value)
+  statement_of (p.Call place name function arguments result) = Call place name function (map placed_of arguments.items) (option_map target_of result)
+  statement_of (p.If' place _ arms _ otherwise) = If place (arms_of arms) (row_of otherwise)
+  statement_of (p.While' place condition _ body) = While place (placed_of condition) (row_of body)
+  statement_of (p.Do' place _ body condition) = Do place (row_of body) (placed_of condition)
+  statement_of (p.Lock place mutex) = Lock place mutex
+  statement_of (p.Unlock place mutex) = Unlock place mutex
+
+  pub row_of : {m : _} → p.Row_of-Statement m → Statements
+  row_of p.end_of-Statement = no_statement
+  row_of (p.more_of-Statement x rest) = statement_and (statement_of x) (row_of rest)
+
+  pub arms_of : {m : _} → p.Row_of-Arm m → Arms
+  arms_of p.end_of-Arm = no_arm
+  arms_of (p.more_of-Arm condition _ body rest) = arm_and (placed_of condition) (row_of body) (arms_of rest)
+
+abbrev pub statements_of : List p.Statement → Statements
+statements_of [] = no_statement
+statements_of (x ∷ xs) = statement_and (statement_of x) (statements_of xs)
+
+abbrev pub arms_list_of : List arm.Arm → Arms
+arms_list_of [] = no_arm
+arms_list_of (x ∷ xs) = arm_and (placed_of x.condition) (statements_of x.body.items) (arms_list_of xs)
+
+abbrev pub returned_of : returned.Returned → Returned
+returned_of x = record { kind = x.kind; value = placed_of x.value }
+
+abbrev pub function_of : function.Function → Function
+function_of x = record { name = name_of x.name; parameters = x.parameters; locals = x.locals.items; body = statements_of x.body.items; result = option_map returned_of x.result }
+
+abbrev pub thread_of : thread.Thread → Thread
+thread_of x = record { name = name_of x.name; locals = x.locals.items; body = statements_of x.body.items; closing = x.closing }
+
+abbrev pub program_of : program.Program → Program
+program_of x = record { mutexes = map name_of x.mutexes.items; variables = map variable_of x.variables.items; functions = map function_of x.functions.items; threads = map thread_of x.threads.items }

@@ -1,0 +1,249 @@
+-- The rules of names and kinds, and the first that a tree breaks.
+use Rattle.std.specs.Prelude.{◌≡◌, ◌⊎◌, ℕ, zero, suc, ◌+◌, ◌*◌, ◌<◌, ◌≤◌, List, [], ◌∷◌, ◌++◌, length, Contains, Option, Some, None, Bool, true, false, not, ◌||◌, nat_lt, ◌==◌, is_some, if◌then◌else◌, flat_map}
+use Rattle.std.specs.List.{list_any}
+use Rattle.ido_base.specs.declared.place.Place.{Place}
+use Rattle.ido_base.specs.Layout.{aligned_up}
+use Rattle.ido_ints.specs.Kinds.{bytes_of}
+use Rattle.c_tree.specs.declared.rule.Rule as r
+use Rattle.c_tree.specs.declared.rule.Rule.TheVariants as rule
+use Rattle.c_tree.specs.Scanning.{Fault}
+use Rattle.c_tree.specs.Trees as t
+use Rattle.c_tree.specs.Names as n
+use Rattle.c_tree.specs.Typing as made
+
+abbrev pub broken : r.Rule → Place → List Fault
+broken found place = record { rule = found; place = place } ∷ []
+
+abbrev pub broken_if : Bool → r.Rule → Place → List Fault
+broken_if b found place = if b then broken found place else []
+
+-- ---- Declarations
+
+-- a second declaration of a name that the scope has
+abbrev pub twice : (own : List (List ℕ)) → t.Name → List Fault
+twice own x = broken_if (list_any (n.same_name x.text) own) rule.Twice x.place
+
+abbrev pub twice_from : (before : List (List ℕ)) → List n.Global → List Fault
+twice_from before [] = []
+twice_from before (g ∷ gs) = twice before g.name ++ twice_from (g.name.text ∷ before) gs
+
+-- the names behind the first so many
+abbrev pub past : r.Rule → (most : ℕ) → List t.Name → List Fault
+past found most [] = []
+past found zero (x ∷ xs) = broken found x.place
+past found (suc most) (x ∷ xs) = past found most xs
+
+abbrev pub most_threads : ℕ
+most_threads = 8
+
+abbrev pub most_mutexes : ℕ
+most_mutexes = 64
+
+abbrev pub most_variable_bytes : ℕ
+most_variable_bytes = 65536
+
+abbrev pub most_elements : ℕ
+most_elements = 4096
+
+abbrev pub thread_names : List t.Item → List t.Name
+thread_names xs = flat_map (λ x. elim x [ t.ThreadItem y ↦ y.name ∷ [] | _ ↦ [] ]) xs
+
+abbrev pub mutex_names : List t.Item → List t.Name
+mutex_names xs = flat_map (λ x. elim x [ t.MutexItem y ↦ y ∷ [] | _ ↦ [] ]) xs
+
+-- where a variable ends, if the one before it ends at n
+abbrev pub end_behind : (n : ℕ) → t.Persistent → ℕ
+end_behind n x = aligned_up n (bytes_of x.kind) + bytes_of x.kind * made.element_count x.length
+
+-- the first variable that ends too late
+abbrev pub too_many_bytes : (n : ℕ) → List t.Item → List Fault
+too_many_bytes n [] = []
+too_many_bytes n (t.PersistentItem x ∷ xs) =
+    if nat_lt most_variable_bytes (end_behind n x) then broken rule.Bytes x.name.place else too_many_bytes (end_behind n x) xs
+too_many_bytes n (t.MutexItem x ∷ xs) = too_many_bytes n xs
+too_many_bytes n (t.ThreadItem x ∷ xs) = too_many_bytes n xs
+too_many_bytes n (t.FunctionItem x ∷ xs) = too_many_bytes n xs
+
+-- ---- Variables
+
+abbrev pub length_faults : Option t.Length → List Fault
+length_faults None = []
+length_faults (Some x) = let elements = made.length_number x in broken_if (elements == 0 || nat_lt most_elements elements) rule.Length x.place
+
+-- the first number behind so many
+abbrev pub numbers_past : (count : ℕ) → List t.Signed → List Fault
+numbers_past count [] = []
+numbers_past zero (x ∷ xs) = broken rule.Count x.place
+numbers_past (suc count) (x ∷ xs) = numbers_past count xs
+
+-- an array has its numbers in braces
+abbrev pub initialiser_faults : Option t.Length → Option t.Initialiser → List Fault
+initialiser_faults size None = []
+initialiser_faults size (Some (t.Single x)) = broken_if (is_some size) rule.WrongSort x.place
+initialiser_faults size (Some (t.InBraces place xs)) = numbers_past (made.element_count size) xs
+
+module _ (gs : List n.Global) where
+  -- ---- Uses of names
+
+  -- a local or a variable, with an index exactly where it is an array
+  abbrev pub use_faults : n.Scope → t.Name → (indexed : Bool) → List Fault
+  use_faults s x indexed = elim (n.meaning gs s x.text) [
+    | n.IsUnknown ↦ broken rule.Unknown x.place
+    | n.IsLocal l ↦ broken_if indexed rule.WrongSort x.place
+    | n.IsGlobal (n.Variable number kind is_array) ↦ broken_if (if is_array then not indexed else indexed) rule.WrongSort x.place
+    | _ ↦ broken rule.WrongSort x.place
+  ]
+
+  abbrev pub mutex_faults : n.Scope → t.Name → List Fault
+  mutex_faults s x = elim (n.meaning gs s x.text) [
+    | n.IsUnknown ↦ broken rule.Unknown x.place
+    | n.IsGlobal (n.Mutex number) ↦ []
+    | _ ↦ broken rule.WrongSort x.place
+  ]
+
+  abbrev pub expression_faults : n.Scope → t.Expression → List Fault
+  expression_faults s (t.Number place value) = []
+  expression_faults s (t.Named x) = use_faults s x false
+  expression_faults s (t.Element array index) = use_faults s array true ++ expression_faults s index
+  expression_faults s (t.Parenthesised place inner) = expression_faults s inner
+  expression_faults s (t.Unary place operator operand) = expression_faults s operand
+  expression_faults s (t.Cast place kind operand) = expression_faults s operand
+  expression_faults s (t.Binary operator left right) = expression_faults s left ++ expression_faults s right
+  expression_faults s (t.Conditional condition chosen otherwise) = expression_faults s condition ++ expression_faults s chosen ++ expression_faults s otherwise
+
+  abbrev pub maybe_faults : n.Scope → Option t.Expression → List Fault
+  maybe_faults s None = []
+  maybe_faults s (Some x) = expression_faults s x
+
+  abbrev pub target_faults : n.Scope → t.Target → List Fault
+  target_faults s x = use_faults s x.name (is_some x.index) ++ maybe_faults s x.index
+
+  abbrev pub change_faults : n.Scope → t.Change → List Fault
+  change_faults s (t.Set value) = expression_faults s value
+  change_faults s (t.Update operator value) = expression_faults s value
+  change_faults s t.Increment = []
+  change_faults s t.Decrement = []
+
+  abbrev pub assignment_faults : n.Scope → t.Assignment → List Fault
+  assignment_faults s x = target_faults s x.target ++ change_faults s x.change
+
+  -- a function, with a result exactly where one is assigned, and with as many arguments as parameters
+  abbrev pub function_faults : n.Scope → t.Name → (assigned : Bool) → (arguments : ℕ) → List Fault
+  function_faults s x assigned arguments = elim (n.meaning gs s x.text) [
+    | n.IsUnknown ↦ broken rule.Unknown x.place
+    | n.IsGlobal (n.Function number gives parameters) ↦
+        broken_if (if is_some gives then not assigned else assigned) rule.WrongSort x.place ++ broken_if (not (arguments == length parameters)) rule.Count x.place
+    | _ ↦ broken rule.WrongSort x.place
+  ]
+
+  abbrev pub call_faults : n.Scope → t.Call → (assigned : Bool) → List Fault
+  call_faults s x assigned = function_faults s x.function assigned (length x.arguments) ++ flat_map (expression_faults s) x.arguments
+
+  abbrev pub declaration_faults : n.Scope → t.Declaration → List Fault
+  declaration_faults s x = twice s.own x.name ++ elim x.initial [
+    | t.Absent ↦ []
+    | t.Value value ↦ expression_faults s value
+    | t.Result c ↦ call_faults s c true
+  ]
+
+  -- ---- Statements, each in the scope where it stands
+
+  abbrev pub first_faults : n.Scope → t.First → List Fault
+  first_faults s t.NoFirst = []
+  first_faults s (t.Declared x) = declaration_faults s x
+  first_faults s (t.Assigned x) = assignment_faults s x
+
+  abbrev pub last_faults : n.Scope → Option t.Assignment → List Fault
+  last_faults s None = []
+  last_faults s (Some x) = assignment_faults s x
+
+  -- the scope behind a statement
+  abbrev pub behind : n.Scope → t.Statement → n.Scope
+  behind s x = (made.statement gs s x).scope
+
+  abbrev mutual
+    pub statement_faults : n.Scope → t.Statement → List Fault
+    statement_faults s (t.BlockOf x) = block_faults s x
+    statement_faults s (t.Empty place) = []
+    statement_faults s (t.Declare x) = declaration_faults s x
+    statement_faults s (t.Assign x) = assignment_faults s x
+    statement_faults s (t.AssignResult x c) = target_faults s x ++ call_faults s c true
+    statement_faults s (t.CallOnly c) = call_faults s c false
+    statement_faults s (t.If place arms otherwise) = arms_faults s arms ++ otherwise_faults s otherwise
+    statement_faults s (t.While place x body) = expression_faults s x ++ block_faults s body
+    statement_faults s (t.Do place body x) = block_faults s body ++ expression_faults s x
+    statement_faults s (t.For place start x last body) =
+        first_faults (n.entered s) start ++ (let f = (made.first_at gs place (n.entered s) start).scope in maybe_faults f x ++ last_faults f last ++ block_faults f body)
+    statement_faults s (t.Lock place mutex) = mutex_faults s mutex
+    statement_faults s (t.Unlock place mutex) = mutex_faults s mutex
+
+    pub block_faults : n.Scope → t.Block → List Fault
+    block_faults s (t.Braced opening xs closing) = statements_faults (n.entered s) xs
+
+    pub statements_faults : n.Scope → t.Statements → List Fault
+    statements_faults s t.no_statement = []
+    statements_faults s (t.statement_and x xs) = statement_faults s x ++ statements_faults (behind s x) xs
+
+    pub arms_faults : n.Scope → t.Arms → List Fault
+    arms_faults s t.no_arm = []
+    arms_faults s (t.arm_and x body arms) = expression_faults s x ++ block_faults s body ++ arms_faults s arms
+
+    pub otherwise_faults : n.Scope → t.Otherwise → List Fault
+    otherwise_faults s t.Nothing = []
+    otherwise_faults s (t.Else body) = block_faults s body
+
+  -- ---- Items
+
+  abbrev pub parameters_faults : n.Scope → List t.Parameter → List Fault
+  parameters_faults s [] = []
+  parameters_faults s (x ∷ xs) = twice s.own x.name ++ parameters_faults (n.declared s x.name.text x.kind) xs
+
+  -- the function returns a value exactly where it has a result
+  abbrev pub returns_value : Option t.Return → Bool
+  returns_value None = false
+  returns_value (Some x) = is_some x.value
+
+  abbrev pub return_faults : t.Function → List Fault
+  return_faults x = broken_if (if is_some x.kind then not (returns_value x.body.returned) else returns_value x.body.returned) rule.Return x.name.place
+
+  abbrev pub returned_faults : n.Scope → Option t.Return → List Fault
+  returned_faults s None = []
+  returned_faults s (Some x) = maybe_faults s x.value
+
+  abbrev pub item_faults : t.Item → List Fault
+  item_faults (t.MutexItem x) = []
+  item_faults (t.PersistentItem x) = mutex_faults n.no_locals x.guard ++ length_faults x.length ++ initialiser_faults x.length x.initialiser
+  item_faults (t.ThreadItem x) = statements_faults n.no_locals (made.body_of x.block)
+  item_faults (t.FunctionItem x) =
+      let s = made.with_parameters n.no_locals x.parameters in
+      parameters_faults n.no_locals x.parameters ++ statements_faults s x.body.statements ++ returned_faults (made.statements gs s x.body.statements).scope x.body.returned ++ return_faults x
+
+-- ---- The first rule that a tree breaks
+
+-- all places where a rule of names and kinds is broken
+unfoldable pub type_faults : List t.Item → List Fault
+type_faults xs =
+    twice_from [] (n.globals_of xs) ++ past rule.Threads most_threads (thread_names xs) ++ past rule.Mutexes most_mutexes (mutex_names xs) ++ too_many_bytes 0 xs
+    ++ flat_map (item_faults (n.globals_of xs)) xs
+
+-- rules at one place, in the order in which they are told
+abbrev pub order_of : r.Rule → ℕ
+order_of rule.Unknown = 0
+order_of rule.Twice = 1
+order_of rule.WrongSort = 2
+order_of rule.Count = 3
+order_of rule.Return = 4
+order_of rule.Threads = 5
+order_of rule.Mutexes = 6
+order_of rule.Bytes = 7
+order_of rule.Length = 8
+order_of _ = 9
+
+-- the one stands before the other, or they are as good as one
+abbrev pub IsNotAfter : Fault → Fault → Type 0
+IsNotAfter f g = (f.place.0 < g.place.0) ⊎ ((f.place ≡ g.place) × (order_of f.rule ≤ order_of g.rule))
+
+-- the first of the faults by their places
+pub record IsFirst (faults : List Fault) (f : Fault) : Type 0 where
+  pub found : Contains faults f
+  pub first : (g : Fault) → Contains faults g → IsNotAfter f g

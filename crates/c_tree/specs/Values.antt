@@ -1,0 +1,25 @@
+-- The value of an expression (C11 6.5), from the numbers of locals and variables.
+use Rattle.std.specs.Prelude.{ℕ, List, [], slice_index_or, if◌then◌else◌, ℤ, pos, unsigned_abs}
+use Rattle.ido_ints.specs.Typed.{Typed, typed, converted}
+use Rattle.ido_ints.specs.Operators.{is_zero, unary_of, binary_of}
+use Rattle.c_tree.specs.Exprs as e
+
+-- the number of an element of a variable; one that is no array has one element
+abbrev pub element_number : (variables : List (List ℤ)) → (variable element : ℕ) → ℤ
+element_number variables variable element = slice_index_or (slice_index_or variables variable []) element (pos 0)
+
+-- the element that an index names
+abbrev pub element_at : Typed → ℕ
+element_at index = unsigned_abs index.number
+
+abbrev pub value : (locals : List ℤ) → (variables : List (List ℤ)) → e.Expr → Typed
+value ls vs (e.Constant x) = x
+value ls vs (e.Local local kind) = typed kind (slice_index_or ls local (pos 0))
+value ls vs (e.Variable place variable kind) = typed kind (element_number vs variable 0)
+value ls vs (e.Element place variable kind index_place index) = typed kind (element_number vs variable (element_at (value ls vs index)))
+value ls vs (e.Unary operator operand) = unary_of operator (value ls vs operand)
+value ls vs (e.Cast kind operand) = converted (value ls vs operand) kind
+value ls vs (e.Converted kind operand) = converted (value ls vs operand) kind
+value ls vs (e.Binary operator left right) = binary_of operator (value ls vs left) (value ls vs right)
+value ls vs (e.Conditional kind condition chosen otherwise) =
+    converted (if is_zero (value ls vs condition).number then value ls vs otherwise else value ls vs chosen) kind

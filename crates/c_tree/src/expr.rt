@@ -1,0 +1,89 @@
+//! Expressions whose names are resolved and whose kinds are fixed.
+use ido_base::place::Place;
+use ido_ints::{Binary, Kind, Unary, Value};
+
+/// An expression. It has no side effects.
+#[derive(Drop)]
+pub enum Expr {
+    /// A number.
+    Constant {
+        value: Value,
+    },
+    /// A local, by its number.
+    Local {
+        local: u32,
+        kind: Kind,
+    },
+    /// A persistent variable that is no array; the place is that of its name.
+    Variable {
+        place: Place,
+        variable: u32,
+        kind: Kind,
+    },
+    /// An element of a persistent array. The places are those of its name and of the index's first token.
+    Element {
+        place: Place,
+        variable: u32,
+        kind: Kind,
+        index_place: Place,
+        index: Box<Expr>,
+    },
+    /// An operator with one operand.
+    Unary {
+        operator: Unary,
+        operand: Box<Expr>,
+    },
+    /// A cast, as it is written.
+    Cast {
+        kind: Kind,
+        operand: Box<Expr>,
+    },
+    /// A conversion that isn't written: it is no node of a price.
+    Converted {
+        kind: Kind,
+        operand: Box<Expr>,
+    },
+    /// An operator with two operands.
+    Binary {
+        operator: Binary,
+        left: Box<Expr>,
+        right: Box<Expr>,
+    },
+    /// `condition ? then : otherwise`, whose value is converted to the kind.
+    Conditional {
+        kind: Kind,
+        condition: Box<Expr>,
+        then: Box<Expr>,
+        otherwise: Box<Expr>,
+    },
+}
+
+/// An expression with the place of its first token.
+#[derive(Drop)]
+pub struct Placed {
+    pub place: Place,
+    pub expr: Expr,
+}
+
+/// What is assigned.
+#[derive(Drop)]
+pub enum Target {
+    /// A local, by its number.
+    Local {
+        local: u32,
+        kind: Kind,
+    },
+    /// A persistent variable that is no array; the place is that of its name.
+    Variable {
+        place: Place,
+        variable: u32,
+        kind: Kind,
+    },
+    /// An element of a persistent array; the place is that of its name.
+    Element {
+        place: Place,
+        variable: u32,
+        kind: Kind,
+        index: Placed,
+    },
+}

@@ -1,0 +1,73 @@
+//! The flat form: threads with their calls replaced and their locals numbered a thread at a time.
+use crate::expr::{Placed, Target};
+use crate::program::Variable;
+use crate::tree::Name;
+use ido_base::place::Place;
+use ido_ints::Kind;
+
+/// A statement. Each place is that of its first token.
+#[cycle(flat)]
+#[derive(Drop)]
+pub enum Statement {
+    /// The target takes the value, converted to its kind.
+    Assign {
+        place: Place,
+        target: Target,
+        value: Placed,
+    },
+    /// The first arm whose condition isn't 0, else the last part.
+    If {
+        place: Place,
+        arms: Vec<Arm>,
+        otherwise: Vec<Statement>,
+    },
+    /// The body while the condition isn't 0.
+    While {
+        place: Place,
+        condition: Placed,
+        body: Vec<Statement>,
+    },
+    /// The body, and again while the condition isn't 0.
+    Do {
+        place: Place,
+        body: Vec<Statement>,
+        condition: Placed,
+    },
+    /// Takes a mutex, by its number.
+    Lock {
+        place: Place,
+        mutex: u32,
+    },
+    /// Gives a mutex back, by its number.
+    Unlock {
+        place: Place,
+        mutex: u32,
+    },
+}
+
+/// A condition and what is done where it isn't 0.
+#[cycle(flat)]
+#[derive(Drop)]
+pub struct Arm {
+    pub condition: Placed,
+    pub body: Vec<Statement>,
+}
+
+/// A thread.
+#[derive(Drop)]
+pub struct Thread {
+    pub name: Name,
+    /// The kinds of its locals, by their numbers.
+    pub locals: Vec<Kind>,
+    pub body: Vec<Statement>,
+    /// The place of its closing brace.
+    pub closing: Place,
+}
+
+/// A program without calls.
+#[derive(Drop)]
+pub struct Flat {
+    pub mutexes: Vec<Name>,
+    pub variables: Vec<Variable>,
+    pub threads: Vec<Thread>,
+}

@@ -1,0 +1,12 @@
+//! The source language: what was read, and what the later phases make of it.
+#![tactic(auto)]
+
+pub mod expr;
+pub mod flat;
+pub mod price;
+pub mod program;
+pub mod rule;
+#[cfg(test)]
+mod tests;
+pub mod token;
+pub mod tree;

@@ -1,0 +1,115 @@
+//! Programs whose names are resolved and whose kinds are fixed.
+use crate::expr::{Placed, Target};
+use crate::tree::Name;
+use ido_base::place::Place;
+use ido_ints::Kind;
+
+/// A persistent variable.
+#[derive(Drop)]
+pub struct Variable {
+    pub name: Name,
+    /// The number of the mutex that guards it.
+    pub guard: u32,
+    /// The kind of its elements.
+    pub kind: Kind,
+    /// How many elements an array has; none where it is no array.
+    pub length: Option<u32>,
+    /// The numbers that its elements begin with, one for each element.
+    pub initial: Vec<i128>,
+}
+
+/// A statement. Each place is that of its first token.
+#[cycle(program)]
+#[derive(Drop)]
+pub enum Statement {
+    /// The target takes the value, converted to its kind.
+    Assign {
+        place: Place,
+        target: Target,
+        value: Placed,
+    },
+    /// A call, and the assignment of its result. The name is at `name`.
+    Call {
+        place: Place,
+        name: Place,
+        function: u32,
+        arguments: Vec<Placed>,
+        result: Option<Target>,
+    },
+    /// The first arm whose condition isn't 0, else the last part.
+    If {
+        place: Place,
+        arms: Vec<Arm>,
+        otherwise: Vec<Statement>,
+    },
+    /// The body while the condition isn't 0.
+    While {
+        place: Place,
+        condition: Placed,
+        body: Vec<Statement>,
+    },
+    /// The body, and again while the condition isn't 0.
+    Do {
+        place: Place,
+        body: Vec<Statement>,
+        condition: Placed,
+    },
+    /// Takes a mutex, by its number.
+    Lock {
+        place: Place,
+        mutex: u32,
+    },
+    /// Gives a mutex back, by its number.
+    Unlock {
+        place: Place,
+        mutex: u32,
+    },
+}
+
+/// A condition and what is done where it isn't 0.
+#[cycle(program)]
+#[derive(Drop)]
+pub struct Arm {
+    pub condition: Placed,
+    pub body: Vec<Statement>,
+}
+
+/// A function.
+#[derive(Drop)]
+pub struct Function {
+    pub name: Name,
+    /// How many parameters it has: its first locals.
+    pub parameters: u32,
+    /// The kinds of its locals, by their numbers.
+    pub locals: Vec<Kind>,
+    pub body: Vec<Statement>,
+    /// The kind and the value of its result; none where it has no result.
+    pub result: Option<Returned>,
+}
+
+/// What a function gives.
+#[derive(Drop)]
+pub struct Returned {
+    pub kind: Kind,
+    pub value: Placed,
+}
+
+/// A thread.
+#[derive(Drop)]
+pub struct Thread {
+    pub name: Name,
+    /// The kinds of its locals, by their numbers.
+    pub locals: Vec<Kind>,
+    pub body: Vec<Statement>,
+    /// The place of its closing brace.
+    pub closing: Place,
+}
+
+/// A program.
+#[derive(Drop)]
+pub struct Program {
+    pub mutexes: Vec<Name>,
+    pub variables: Vec<Variable>,
+    pub functions: Vec<Function>,
+    pub threads: Vec<Thread>,
+}

@@ -1,0 +1,271 @@
+//! What was read, with places.
+use ido_base::place::Place;
+use ido_ints::{Binary, Kind, Unary, Value};
+
+/// A name as it stands somewhere.
+#[derive(Drop)]
+pub struct Name {
+    /// Its bytes.
+    pub text: Vec<u8>,
+    /// Where it begins.
+    pub place: Place,
+}
+
+/// An expression. Each place is that of its first token.
+#[derive(Drop)]
+pub enum Expression {
+    Number {
+        place: Place,
+        value: Value,
+    },
+    Named {
+        name: Name,
+    },
+    /// `name[index]`
+    Element {
+        array: Name,
+        index: Box<Expression>,
+    },
+    /// `(inner)`
+    Parenthesised {
+        place: Place,
+        inner: Box<Expression>,
+    },
+    Unary {
+        place: Place,
+        operator: Unary,
+        operand: Box<Expression>,
+    },
+    /// `(kind)operand`
+    Cast {
+        place: Place,
+        kind: Kind,
+        operand: Box<Expression>,
+    },
+    Binary {
+        operator: Binary,
+        left: Box<Expression>,
+        right: Box<Expression>,
+    },
+    /// `condition ? then : otherwise`
+    Conditional {
+        condition: Box<Expression>,
+        then: Box<Expression>,
+        otherwise: Box<Expression>,
+    },
+}
+
+/// What is assigned: a name, or an element of an array.
+#[derive(Drop)]
+pub struct Target {
+    pub name: Name,
+    pub index: Option<Expression>,
+}
+
+/// How an assignment changes its target.
+#[derive(Drop)]
+pub enum Change {
+    /// `= value`
+    Set { value: Expression },
+    /// `operator= value`
+    Update { operator: Binary, value: Expression },
+    /// `++`
+    Increment,
+    /// `--`
+    Decrement,
+}
+
+/// An assignment. Its place is that of its first token.
+#[derive(Drop)]
+pub struct Assignment {
+    pub place: Place,
+    pub target: Target,
+    pub change: Change,
+}
+
+/// `function(arguments)`
+#[derive(Drop)]
+pub struct Call {
+    pub function: Name,
+    pub arguments: Vec<Expression>,
+}
+
+/// What a local begins with.
+#[derive(Drop)]
+pub enum Initial {
+    /// Nothing is written: it begins as 0.
+    Absent,
+    Expression(Expression),
+    Call(Call),
+}
+
+/// `kind name = initial`
+#[derive(Drop)]
+pub struct Declaration {
+    pub place: Place,
+    pub kind: Kind,
+    pub name: Name,
+    pub initial: Initial,
+}
+
+/// The first part of a `for`.
+#[derive(Drop)]
+pub enum First {
+    Absent,
+    Declaration(Declaration),
+    Assignment(Assignment),
+}
+
+/// Statements in braces.
+#[cycle(statements)]
+#[derive(Drop)]
+pub struct Block {
+    pub opening: Place,
+    pub statements: Vec<Statement>,
+    pub closing: Place,
+}
+
+/// `if (condition) block`, also behind an `else`.
+#[cycle(statements)]
+#[derive(Drop)]
+pub struct Arm {
+    pub condition: Expression,
+    pub block: Block,
+}
+
+/// A statement. Each place is that of its first token.
+#[cycle(statements)]
+#[derive(Drop)]
+pub enum Statement {
+    Block(Block),
+    Empty {
+        place: Place,
+    },
+    Declaration(Declaration),
+    Assignment(Assignment),
+    /// `target = call;`
+    CallAssignment {
+        target: Target,
+        call: Call,
+    },
+    Call(Call),
+    If {
+        place: Place,
+        arms: Vec<Arm>,
+        otherwise: Option<Block>,
+    },
+    While {
+        place: Place,
+        condition: Expression,
+        block: Block,
+    },
+    Do {
+        place: Place,
+        block: Block,
+        condition: Expression,
+    },
+    For {
+        place: Place,
+        first: First,
+        condition: Option<Expression>,
+        last: Option<Assignment>,
+        block: Block,
+    },
+    Lock {
+        place: Place,
+        mutex: Name,
+    },
+    Unlock {
+        place: Place,
+        mutex: Name,
+    },
+}
+
+/// `return value;`
+#[derive(Drop)]
+pub struct Return {
+    pub place: Place,
+    pub value: Option<Expression>,
+}
+
+/// The body of a function.
+#[derive(Drop)]
+pub struct Body {
+    pub opening: Place,
+    pub statements: Vec<Statement>,
+    pub returned: Option<Return>,
+    pub closing: Place,
+}
+
+/// A parameter of a function.
+#[derive(Drop)]
+pub struct Parameter {
+    pub kind: Kind,
+    pub name: Name,
+}
+
+/// A function; `void` is no kind.
+#[derive(Drop)]
+pub struct Function {
+    pub kind: Option<Kind>,
+    pub name: Name,
+    pub parameters: Vec<Parameter>,
+    pub body: Body,
+}
+
+/// A number of an initialiser, perhaps with a `-` before it. Its place is that of its first token.
+#[derive(Drop)]
+pub struct Signed {
+    pub place: Place,
+    pub negative: bool,
+    pub value: Value,
+}
+
+/// What a persistent variable begins with.
+#[derive(Drop)]
+pub enum Initialiser {
+    /// A number without braces.
+    Single(Signed),
+    /// Numbers in braces, and the place of the opening brace.
+    Braced { place: Place, numbers: Vec<Signed> },
+}
+
+/// The length of an array.
+#[derive(Drop)]
+pub struct Length {
+    pub place: Place,
+    pub value: Value,
+}
+
+/// `persistent(guard) kind name[length] = initialiser;`
+#[derive(Drop)]
+pub struct Persistent {
+    pub guard: Name,
+    pub kind: Kind,
+    pub name: Name,
+    pub length: Option<Length>,
+    pub initialiser: Option<Initialiser>,
+}
+
+/// `thread name block`
+#[derive(Drop)]
+pub struct Thread {
+    pub name: Name,
+    pub block: Block,
+}
+
+/// A part of a program.
+#[derive(Drop)]
+pub enum Item {
+    /// `mutex name;`
+    Mutex(Name),
+    Persistent(Persistent),
+    Thread(Thread),
+    Function(Function),
+}
+
+/// A text, as it was read.
+#[derive(Drop)]
+pub struct Tree {
+    pub items: Vec<Item>,
+}

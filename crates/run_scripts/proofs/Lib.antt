@@ -1,0 +1,5 @@
+mod Gaps
+mod Numbers
+mod Runs
+mod Steps
+mod Worked

@@ -1,0 +1,37 @@
+use Rattle.std.proofs.Common.{◌≡◌, ◌+◌, ◌++◌, ◌∷◌, ℕ, List, subst, length, drop, replicate, sym, ◌∙◌, ap, arith, length-append}
+use Rattle.std.proofs.lemmas.List.{length-replicate}
+use Rattle.run_scripts.specs.Schedules.{Word, read, words_at, steps_from, before_steps}
+use Rattle.run_scripts.specs.WordLengths.{behind_steps}
+use Rattle.run_scripts.proofs.Steps.{behind_none, goes_on}
+use Rattle.run_scripts.proofs.schedule.read_schedule.Goals as goal
+
+pub loop-at-init : goal.loop-at-init
+unfolding read
+loop-at-init c =
+    let none = c.new-steps.ensures.items in
+    let words = words_at c.first_run-at.result (drop c.first_run-at.result c.args.text.now) in (
+      c.first_run-at.ensures.runs ∙ sym (behind_none (steps_from 0 words)) ∙ sym (ap (λ s. behind_steps s (steps_from (length s) words)) none),
+      c.first_run-at.ensures.bound,
+      c.first_run-at.ensures.word,
+      omega (arith, ap length none),
+    )
+
+pub loop-at-preserved : goal.loop-at-preserved
+loop-at-preserved c =
+    let text = c.args.text.now in
+    let done = c.loop-at.steps.items in
+    let new = c.push_run.new.steps.items in
+    let run = c.in_ok-run.run' in
+    let at = c.loop-at.at in
+    let next = c.next_word-at.result in
+    let added : new ≡ done ++ replicate run.count run.thread = c.in_ok-push_run.ensures in
+    let w : Word = record { place = at; bytes = c.word_at-word.result.now } in
+    let Runs : ℕ → Type 0 = λ n. (ws : List Word) → steps_from n (w ∷ ws) ≡ before_steps run.thread run.count (steps_from (n + run.count) ws) in
+    let count : c.len.result ≡ length done = omega (arith, c.len.ensures, c.loop-at.steps.ok.0) in
+    let longer : length new ≡ length done + run.count = ap length added ∙ length-append done (replicate run.count run.thread) ∙ ap (λ n. length done + n) (length-replicate run.count run.thread) in (
+      goes_on text done new (read text) at run.thread run.count (at + length c.word_at-word.result.now) next w
+          c.loop-at.invariant.0 c.word_at-word.ensures.word (subst Runs count c.in_ok-run.ensures.run) c.next_word-at.ensures.words added longer,
+      c.next_word-at.ensures.bound,
+      c.next_word-at.ensures.word,
+      omega (arith, longer, count, c.in_ok-run.ensures.bound),
+    )

@@ -1,0 +1,4 @@
+pub mod Reports
+pub mod ReportViews
+pub mod Schedules
+pub mod WordLengths

@@ -1,0 +1,107 @@
+-- A schedule as it is written: `schedule 0*4 1*2`, the first word being optional.
+use Rattle.std.specs.Prelude.{ℕ, ◌+◌, List, [], ◌∷◌, ◌++◌, length, replicate, Bool, true, false, not, nat_eq, nat_lt, ◌==◌, ◌&&◌, ◌||◌, if◌then◌else◌, codes}
+use Rattle.std.specs.List.{list_all, before_first, after_first}
+use Rattle.std.specs.Cmp.Lexicographic.{pointwise}
+use Rattle.std.specs.Str.Parse.{digits_value}
+use Rattle.ido_base.specs.Places.{line_feed}
+
+-- ---- Words
+
+-- a word and where its first byte stands
+pub record Word : Type 0 where
+  pub place : ℕ
+  pub bytes : List ℕ
+
+-- a space, an LF, or a CR with an LF behind it
+abbrev pub begins_gap : List ℕ → Bool
+begins_gap [] = true
+begins_gap (c ∷ []) = c == 32 || c == line_feed
+begins_gap (c ∷ d ∷ cs) = c == 32 || c == line_feed || (c == 13 && d == line_feed)
+
+-- a byte before words: it begins a word of its own where a gap follows it
+abbrev pub with_byte : (place byte : ℕ) → (gap_follows : Bool) → List Word → List Word
+with_byte place c true ws = record { place = place; bytes = c ∷ [] } ∷ ws
+with_byte place c false [] = record { place = place; bytes = c ∷ [] } ∷ []
+with_byte place c false (w ∷ ws) = record { place = place; bytes = c ∷ w.bytes } ∷ ws
+
+-- the words of a text that stands at a place
+abbrev pub words_at : (place : ℕ) → List ℕ → List Word
+words_at place [] = []
+words_at place (c ∷ cs) = if begins_gap (c ∷ cs) then words_at (place + 1) cs else with_byte place c (begins_gap cs) (words_at (place + 1) cs)
+
+-- ---- What a word says
+
+-- a fault of a schedule
+pub data Fault : Type 0 where
+  -- a word of another form
+  BadWord : (place : ℕ) → Fault
+  -- a number that is too great
+  BadNumber : (place : ℕ) → Fault
+  -- the word by which there are too many steps
+  TooMany : (place : ℕ) → Fault
+
+-- the steps of a schedule, or its first fault
+pub data Read : Type 0 where
+  Steps : List ℕ → Read
+  Refused : Fault → Read
+
+-- numbers are below this
+abbrev pub number_limit : ℕ
+number_limit = 4294967296
+
+-- steps that a schedule may have
+abbrev pub most_steps : ℕ
+most_steps = 4000000
+
+abbrev pub is_digit : (byte : ℕ) → Bool
+is_digit c = nat_lt 47 c && nat_lt c 58
+
+-- there is a byte, and each is a decimal digit
+abbrev pub is_numeral : List ℕ → Bool
+is_numeral bytes = nat_lt 0 (length bytes) && list_all is_digit bytes
+
+abbrev pub is_star : (byte : ℕ) → Bool
+is_star c = c == 42
+
+-- before and behind the first `*`
+abbrev pub thread_text : List ℕ → List ℕ
+thread_text bytes = before_first is_star bytes
+
+abbrev pub count_text : List ℕ → List ℕ
+count_text bytes = after_first is_star bytes
+
+-- `T*N`, N at least 1
+abbrev pub is_run : List ℕ → Bool
+is_run bytes = is_numeral (thread_text bytes) && is_numeral (count_text bytes) && nat_lt 0 (digits_value 10 (count_text bytes))
+
+abbrev pub thread_number : List ℕ → ℕ
+thread_number bytes = digits_value 10 (thread_text bytes)
+
+abbrev pub count_number : List ℕ → ℕ
+count_number bytes = digits_value 10 (count_text bytes)
+
+-- where the count begins
+abbrev pub count_place : Word → ℕ
+count_place w = w.place + length (thread_text w.bytes) + 1
+
+abbrev pub before_steps : (thread count : ℕ) → Read → Read
+before_steps thread count (Steps ts) = Steps (replicate count thread ++ ts)
+before_steps thread count (Refused fault) = Refused fault
+
+-- behind so many steps
+abbrev pub steps_from : (done : ℕ) → List Word → Read
+steps_from done [] = Steps []
+steps_from done (w ∷ ws) =
+    if not (is_run w.bytes) then Refused (BadWord w.place)
+    else if not (nat_lt (thread_number w.bytes) number_limit) then Refused (BadNumber w.place)
+    else if not (nat_lt (count_number w.bytes) number_limit) then Refused (BadNumber (count_place w))
+    else if nat_lt most_steps (done + count_number w.bytes) then Refused (TooMany w.place)
+    else before_steps (thread_number w.bytes) (count_number w.bytes) (steps_from (done + count_number w.bytes) ws)
+
+-- the first word may be `schedule`
+abbrev pub steps_of_words : List Word → Read
+steps_of_words [] = Steps []
+steps_of_words (w ∷ ws) = if pointwise nat_eq w.bytes (codes "schedule") then steps_from 0 ws else steps_from 0 (w ∷ ws)
+
+unfoldable pub read : List ℕ → Read
+read text = steps_of_words (words_at 0 text)

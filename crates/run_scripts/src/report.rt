@@ -1,0 +1,210 @@
+//! Reports.
+ghost use Rattle.std.specs.Prelude.{◌≡◌, ◌+◌, ◌<◌, ◌≤◌, ◌^◌, ◌∷◌, ◌++◌, [], length, map, OnOk, IfOk, IfSome, IfNone, ◌==◌, flat_map};
+ghost use Rattle.std.specs.List.{prefix_len};
+ghost use Rattle.run_scripts.specs.Reports.{element_text, variable_line, ended_line, ended_lines, run_text, runs_of, schedule_line, hart_text, unsettled_line, settled_report, report};
+ghost use Rattle.run_scripts.specs.ReportViews.{variable_of, state_of};
+
+use ido_base::memory::Memory;
+use std::alloc::Global;
+
+/// A variable as it is reported: its name, and the number of each element.
+#[derive(Debug, Drop)]
+pub struct Variable {
+    pub name: Vec<u8>,
+    pub elements: Vec<i128>,
+}
+
+/// A state as it is reported.
+#[derive(Debug, Drop)]
+pub struct Reported {
+    /// The harts, or the threads, that aren't settled, ascending.
+    pub unsettled: Vec<u32>,
+    /// The variables, in order of declaration.
+    pub variables: Vec<Variable>,
+    /// How many sections of each thread have ended.
+    pub ended: Vec<u64>,
+    /// The schedule: the number of the thread of each step.
+    pub schedule: Vec<u32>,
+}
+
+// Adds bytes.
+fn put(report: &mut Vec<u8>, bytes: &[u8]) -> Result<(), Memory>
+    ensures { OnOk result (report.new.items ≡ report.old.items ++ bytes.now) }
+{
+    report.extend_from_slice(bytes)?;
+    Ok(())
+}
+
+// Adds ` 6`.
+#[tactic(auto, unfolding(crate::specs::Reports::element_text))]
+fn put_element(alloc: Global, report: &mut Vec<u8>, number: i128) -> Result<(), Memory>
+    ensures { OnOk result (report.new.items ≡ report.old.items ++ element_text number) }
+{
+    let text = format!(in alloc; " {number}")?;
+    put(report, text.as_bytes())
+}
+
+// Adds ` 1 2 3`.
+fn put_elements(alloc: Global, report: &mut Vec<u8>, numbers: &[i128]) -> Result<(), Memory>
+    ensures { OnOk result (report.new.items ≡ report.old.items ++ flat_map element_text numbers.now) }
+{
+    for number in numbers {
+        put_element(alloc, report, *number)?;
+    }
+    Ok(())
+}
+
+// Adds the line `x = 6` of a variable.
+#[tactic(auto, unfolding(crate::specs::Reports::variable_line))]
+fn put_variable(alloc: Global, report: &mut Vec<u8>, variable: &Variable) -> Result<(), Memory>
+    ensures { OnOk result (report.new.items ≡ report.old.items ++ variable_line (variable_of variable.now)) }
+{
+    put(report, &variable.name)?;
+    put(report, b" =")?;
+    put_elements(alloc, report, &variable.elements)?;
+    put(report, b"\n")
+}
+
+// Adds the lines of variables.
+fn put_variables(alloc: Global, report: &mut Vec<u8>, variables: &[Variable]) -> Result<(), Memory>
+    ensures { OnOk result (report.new.items ≡ report.old.items ++ flat_map variable_line (map variable_of variables.now)) }
+{
+    for variable in variables {
+        put_variable(alloc, report, variable)?;
+    }
+    Ok(())
+}
+
+// Adds the line `ended T N` of a thread.
+#[tactic(auto, unfolding(crate::specs::Reports::ended_line))]
+fn put_ended(
+    alloc: Global,
+    report: &mut Vec<u8>,
+    thread: usize,
+    sections: u64,
+) -> Result<(), Memory>
+    ensures { OnOk result (report.new.items ≡ report.old.items ++ ended_line thread sections) }
+{
+    let text = format!(in alloc; "ended {thread} {sections}\n")?;
+    put(report, text.as_bytes())
+}
+
+// Adds a line for each thread.
+fn put_all_ended(alloc: Global, report: &mut Vec<u8>, ended: &[u64]) -> Result<(), Memory>
+    ensures { OnOk result (report.new.items ≡ report.old.items ++ ended_lines 0 ended.now) }
+{
+    for (thread, sections) in ended.iter().enumerate() {
+        put_ended(alloc, report, thread, *sections)?;
+    }
+    Ok(())
+}
+
+// How many numbers at the front are this one.
+fn run_length(schedule: &[u32], thread: u32) -> usize
+    ensures value { result ≡ prefix_len (λ t. t == thread) schedule.now }
+    ensures bound { result ≤ length schedule.now }
+{
+    schedule.iter().take_while(|t| **t == thread).count()
+}
+
+// The first of the longest runs of a schedule, its thread and its steps, and what stands behind it.
+fn first_run(schedule: &[u32]) -> Option<(u32, usize, &[u32])>
+    ensures none { IfNone result (runs_of schedule.now ≡ []) }
+    ensures some { IfSome result (λ r. runs_of schedule.now ≡ record { thread = r.0; steps = r.1 } ∷ runs_of r.2.now) }
+    ensures shorter { IfSome result (λ r. length r.2.now < length schedule.now) }
+{
+    let [thread, behind @ ..] = schedule else {
+        return None;
+    };
+    let more = run_length(behind, *thread);
+    let (_, rest) = behind.split_at(more);
+    Some((*thread, more + 1, rest))
+}
+
+// Adds ` T*N`.
+#[tactic(auto, unfolding(crate::specs::Reports::run_text))]
+fn put_run(alloc: Global, report: &mut Vec<u8>, thread: u32, steps: usize) -> Result<(), Memory>
+    ensures { OnOk result (report.new.items ≡ report.old.items ++ run_text (record { thread = thread; steps = steps })) }
+{
+    let text = format!(in alloc; " {thread}*{steps}")?;
+    put(report, text.as_bytes())
+}
+
+// Adds ` T*N` for each longest run of a schedule.
+fn put_runs(alloc: Global, report: &mut Vec<u8>, schedule: &[u32]) -> Result<(), Memory>
+    ensures { OnOk result (report.new.items ≡ report.old.items ++ flat_map run_text (runs_of schedule.now)) }
+{
+    let mut rest = schedule;
+    while let Some((thread, steps, behind)) = first_run(rest) {
+        put_run(alloc, report, thread, steps)?;
+        rest = behind;
+    }
+    Ok(())
+}
+
+// Adds the line of a schedule.
+#[tactic(auto, unfolding(crate::specs::Reports::schedule_line))]
+fn put_schedule(alloc: Global, report: &mut Vec<u8>, schedule: &[u32]) -> Result<(), Memory>
+    ensures { OnOk result (report.new.items ≡ report.old.items ++ schedule_line schedule.now) }
+{
+    put(report, b"schedule")?;
+    put_runs(alloc, report, schedule)?;
+    put(report, b"\n")
+}
+
+// Adds ` H`.
+#[tactic(auto, unfolding(crate::specs::Reports::hart_text))]
+fn put_hart(alloc: Global, report: &mut Vec<u8>, hart: u32) -> Result<(), Memory>
+    ensures { OnOk result (report.new.items ≡ report.old.items ++ hart_text hart) }
+{
+    let text = format!(in alloc; " {hart}")?;
+    put(report, text.as_bytes())
+}
+
+// Adds ` H` for each hart.
+fn put_harts(alloc: Global, report: &mut Vec<u8>, harts: &[u32]) -> Result<(), Memory>
+    ensures { OnOk result (report.new.items ≡ report.old.items ++ flat_map hart_text harts.now) }
+{
+    for hart in harts {
+        put_hart(alloc, report, *hart)?;
+    }
+    Ok(())
+}
+
+// The line `unsettled H ..`.
+#[tactic(auto, unfolding(crate::specs::Reports::unsettled_line))]
+fn unsettled_line(alloc: Global, harts: &[u32]) -> Result<Vec<u8>, Memory>
+    ensures { IfOk result (λ output. output.items ≡ unsettled_line harts.now) }
+{
+    let mut output = Vec::new(alloc);
+    put(&mut output, b"unsettled")?;
+    put_harts(alloc, &mut output, harts)?;
+    put(&mut output, b"\n")?;
+    Ok(output)
+}
+
+// The report of a settled state.
+#[tactic(auto, unfolding(crate::specs::Reports::settled_report))]
+fn settled_report(alloc: Global, state: &Reported) -> Result<Vec<u8>, Memory>
+    ensures { IfOk result (λ output. output.items ≡ settled_report (state_of state.now)) }
+{
+    let mut output = Vec::new(alloc);
+    put_variables(alloc, &mut output, &state.variables)?;
+    put_all_ended(alloc, &mut output, &state.ended)?;
+    put_schedule(alloc, &mut output, &state.schedule)?;
+    Ok(output)
+}
+
+/// The report of a state: a line for each variable, as `x = 6` or `a = 1 2 3`, a line `ended T N` for
+/// each thread, and the line of the schedule with its longest runs, as `schedule 0*4 1*2`; or, where a
+/// hart isn't settled, the line `unsettled H ..` alone. Each line ends with LF.
+#[tactic(auto, unfolding(crate::specs::Reports::report))]
+pub fn report(alloc: Global, state: &Reported) -> Result<Vec<u8>, Memory>
+    ensures { IfOk result (λ output. output.items ≡ report (state_of state.now)) }
+{
+    if state.unsettled.is_empty() {
+        settled_report(alloc, state)
+    } else {
+        unsettled_line(alloc, &state.unsettled)
+    }
+}
