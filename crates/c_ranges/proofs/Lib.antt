@@ -1,0 +1,11 @@
+pub mod Exact
+pub mod Faults
+pub mod Firsts
+pub mod Fitting
+pub mod Foreseen
+pub mod HeldRanges
+pub mod Multiples
+pub mod Operations
+pub mod Products
+pub mod Reductions
+pub mod Within

@@ -1,0 +1,7 @@
+use Rattle.std.proofs.Common.{◌≡◌, take}
+use Rattle.c_ranges.specs.Faults.{variables_of, functions_indexes, first_fault}
+use Rattle.c_ranges.proofs.indexes.of_functions.Given as goal
+
+-- what was found in the functions before
+abbrev pub invariant-loop-function : goal.invariant-loop-function
+invariant-loop-function l = l.first ≡ first_fault (variables_of l.variables) (functions_indexes (take l.function-index l.functions))

@@ -1,0 +1,24 @@
+-- What a `Range` stands for, and the bounds that it keeps.
+use Rattle.std.specs.Prelude.{◌⊎◌, ℤ, ◌≤ℤ◌, ◌*ℤ◌, FitsSigned}
+use Rattle.std.specs.Int.{w128}
+use Rattle.ido_ints.specs.declared.kinds.Kind.{Kind}
+use Rattle.ido_ints.specs.Kinds.{least_of, greatest_of}
+use Rattle.c_tree.specs.Ranges.{Interval, interval}
+use Rattle.c_ranges.specs.declared.interval.Range.{Range}
+
+abbrev pub interval_of : Range → Interval
+interval_of r = interval r.lo r.hi
+
+-- some numbers, all of which the kind holds
+pub record HeldBy (k : Kind) (r : Range) : Type 0 where
+  pub from_least : least_of k ≤ℤ r.lo
+  pub ordered : r.lo ≤ℤ r.hi
+  pub to_greatest : r.hi ≤ℤ greatest_of k
+
+-- 128 bits don't hold the number
+abbrev pub IsWide : ℤ → Type 0
+IsWide z = ¬ FitsSigned w128 z
+
+-- nor a product of ends
+abbrev pub HasWideCorner : Interval → Interval → Type 0
+HasWideCorner i j = (IsWide (i.lo *ℤ j.lo) ⊎ IsWide (i.lo *ℤ j.hi)) ⊎ (IsWide (i.hi *ℤ j.lo) ⊎ IsWide (i.hi *ℤ j.hi))

@@ -1,0 +1,38 @@
+-- What ranges are for: values lie in them, and an index that fits names an element.
+use Rattle.std.specs.Prelude.{◌≡◌, ◌<◌, List, Contains, slice_index_or, ℤ, pos, ◌≤ℤ◌}
+use Rattle.ido_ints.specs.Kinds.{Holds}
+use Rattle.c_tree.specs.Exprs as e
+use Rattle.c_tree.specs.Programs as p
+use Rattle.c_tree.specs.Values.{value, element_number, element_at}
+use Rattle.c_tree.specs.Typing.{kind_of}
+use Rattle.c_tree.specs.Ranges.{Within, Index, range_of, program_indexes, elements_of, AllFit}
+
+-- each local, variable and element that the expression names has a number that its kind holds
+abbrev pub AllHeld : (locals : List ℤ) (variables : List (List ℤ)) → e.Expr → Type 0
+AllHeld ls vs (e.Constant x) = Unit {0}
+AllHeld ls vs (e.Local local kind) = Holds kind (slice_index_or ls local (pos 0))
+AllHeld ls vs (e.Variable place variable kind) = Holds kind (element_number vs variable 0)
+AllHeld ls vs (e.Element place variable kind index_place index) = Holds kind (element_number vs variable (element_at (value ls vs index))) × AllHeld ls vs index
+AllHeld ls vs (e.Unary operator operand) = AllHeld ls vs operand
+AllHeld ls vs (e.Cast kind operand) = AllHeld ls vs operand
+AllHeld ls vs (e.Converted kind operand) = AllHeld ls vs operand
+AllHeld ls vs (e.Binary operator left right) = AllHeld ls vs left × AllHeld ls vs right
+AllHeld ls vs (e.Conditional kind condition chosen otherwise) = AllHeld ls vs condition × AllHeld ls vs chosen × AllHeld ls vs otherwise
+
+-- the value is one of those that were foreseen
+pub record IsForeseen (ls : List ℤ) (vs : List (List ℤ)) (x : e.Expr) : Type 0 where
+  pub kind : (value ls vs x).kind ≡ kind_of x
+  pub within : Within (range_of x) (value ls vs x).number
+
+-- every value of an expression lies in its range, and is of its kind
+abbrev pub RangesHold : Type 0
+RangesHold = (ls : List ℤ) (vs : List (List ℤ)) (x : e.Expr) → AllHeld ls vs x → IsForeseen ls vs x
+
+-- the index's value is the number of an element
+pub record NamesElement (x : p.Program) (ls : List ℤ) (vs : List (List ℤ)) (i : Index) : Type 0 where
+  pub from_zero : pos 0 ≤ℤ (value ls vs i.expr).number
+  pub below : element_at (value ls vs i.expr) < elements_of x.variables i.variable
+
+-- where all indexes of a program fit, each names an element, whatever locals and variables hold
+abbrev pub IndexesNameElements : Type 0
+IndexesNameElements = (x : p.Program) → AllFit x → (i : Index) → Contains (program_indexes x) i → (ls : List ℤ) (vs : List (List ℤ)) → AllHeld ls vs i.expr → NamesElement x ls vs i

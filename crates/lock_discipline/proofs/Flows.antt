@@ -1,0 +1,202 @@
+-- What the flow computes is what the discipline says.
+use Rattle.std.proofs.Common.{◌≡◌, ◌⊎◌, inl, inr, ℕ, zero, suc, ◌+◌, List, [], ◌∷◌, ◌++◌, length, replicate, slice_get, Some, refl, sym, ap, ap₂, ◌∙◌, subst, arith, length-append, zero-add, suc-add, add-zero}
+use Rattle.std.proofs.lemmas.List.{length-replicate}
+use Rattle.ido_base.specs.declared.place.Place.{Place}
+use Rattle.c_tree.specs.Exprs as e
+use Rattle.c_tree.specs.Programs.{Variable}
+use Rattle.c_tree.specs.Flats as f
+use Rattle.c_tree.specs.Locking.{Held, none_held, Keeps, KeepAll, KeepArms, assign, choose, repeat, again, lock, unlock, no_more, then, no_more_arms, arm, IsDisciplined}
+use Rattle.lock_discipline.specs.Steps.{assign_steps, steps, steps_of_all, steps_of_arms, HeldIn, HeldInAll, HeldInArms, evaluate, store_variable, store_element, in_arms, in_otherwise, test_first, in_while, in_do, test_last, take, give, in_first, in_rest, test_arm, in_arm, in_other_arms, HeldBefore, in_body, at_end, AreSetsOf}
+use Rattle.lock_discipline.specs.Flow.{behind, behind_all, sets_in, sets_in_all, sets_in_arms, thread_sets}
+
+-- ---- A set for each step
+
+mutual
+  length-sets_in : (s : f.Statement) (h : Held) → length (sets_in h s) ≡ steps s
+  length-sets_in (f.Assign place target value) h = length-replicate (assign_steps target) h
+  length-sets_in (f.If place arms otherwise) h = length-append (sets_in_arms h arms) (sets_in_all h otherwise) ∙ ap₂ ◌+◌ (length-sets_in_arms arms h) (length-sets_in_all otherwise h)
+  length-sets_in (f.While place condition body) h = ap suc (length-sets_in_all body h)
+  length-sets_in (f.Do place body condition) h = length-append (sets_in_all h body) (behind_all h body ∷ []) ∙ ap (λ n. n + 1) (length-sets_in_all body h)
+  length-sets_in (f.Lock place mutex) h = refl
+  length-sets_in (f.Unlock place mutex) h = refl
+
+  length-sets_in_all : (ss : f.Statements) (h : Held) → length (sets_in_all h ss) ≡ steps_of_all ss
+  length-sets_in_all f.no_statement h = refl
+  length-sets_in_all (f.statement_and x rest) h = length-append (sets_in h x) (sets_in_all (behind h x) rest) ∙ ap₂ ◌+◌ (length-sets_in x h) (length-sets_in_all rest (behind h x))
+
+  length-sets_in_arms : (arms : f.Arms) (h : Held) → length (sets_in_arms h arms) ≡ steps_of_arms arms
+  length-sets_in_arms f.no_arm h = refl
+  length-sets_in_arms (f.arm_and condition body rest) h =
+      ap suc (length-append (sets_in_all h body) (sets_in_arms h rest) ∙ ap₂ ◌+◌ (length-sets_in_all body h) (length-sets_in_arms rest h))
+
+-- ---- The set at a place of two lists
+
+at_left : {X : Type 0} (xs ys : List X) (n : ℕ) (k : X) → slice_get xs n ≡ Some k → slice_get (xs ++ ys) n ≡ Some k
+at_left [] ys n k p = absurd (cc)
+at_left (x ∷ xs) ys zero k p = p
+at_left (x ∷ xs) ys (suc n) k p = at_left xs ys n k p
+
+at_behind : {X : Type 0} (xs ys : List X) (n : ℕ) → slice_get (xs ++ ys) (length xs + n) ≡ slice_get ys n
+at_behind [] ys n = ap (slice_get ys) (zero-add n)
+at_behind (x ∷ xs) ys n = ap (slice_get (x ∷ xs ++ ys)) (suc-add (length xs) n) ∙ at_behind xs ys n
+
+at_right : {X : Type 0} (xs ys : List X) (m n : ℕ) → length xs ≡ m → slice_get (xs ++ ys) (m + n) ≡ slice_get ys n
+at_right xs ys m n l = ap (λ (i : ℕ). slice_get (xs ++ ys) (i + n)) (sym l) ∙ at_behind xs ys n
+
+at_either : {X : Type 0} (xs ys : List X) (n : ℕ) (k : X) → slice_get (xs ++ ys) n ≡ Some k → (slice_get xs n ≡ Some k) ⊎ ((m : ℕ) × (n ≡ length xs + m) × (slice_get ys m ≡ Some k))
+at_either [] ys n k p = inr (n, omega arith, p)
+at_either (x ∷ xs) ys zero k p = inl p
+at_either (x ∷ xs) ys (suc n) k p = elim (at_either xs ys n k p) [
+  | inl q ↦ inl q
+  | inr q ↦ inr (q.0, omega (arith, q.1), q.2)
+]
+
+same_some : {X : Type 0} (x y : X) → Some x ≡ Some y → x ≡ y
+same_some x y p = cc
+
+module _ (vs : List Variable) where
+  -- ---- Behind a part that keeps the discipline
+
+  mutual
+    pub behind_is : {h after : Held} {s : f.Statement} → Keeps vs h s after → behind h s ≡ after
+    behind_is (assign place target value g) = refl
+    behind_is (choose place arms otherwise p q) = behind_all_is q
+    behind_is (repeat place condition body g p) = refl
+    behind_is (again place body condition p g) = refl
+    behind_is (lock place mutex free) = refl
+    behind_is (unlock place mutex held) = refl
+
+    pub behind_all_is : {h after : Held} {ss : f.Statements} → KeepAll vs h ss after → behind_all h ss ≡ after
+    behind_all_is no_more = refl
+    behind_all_is (then x rest p q) = ap (λ k. behind_all k rest) (behind_is p) ∙ behind_all_is q
+
+  -- ---- A set before a step is the one at its place
+
+  first_step : (target : e.Target) (h : Held) → slice_get (replicate (assign_steps target) h) 0 ≡ Some h
+  first_step (e.ToLocal local kind) h = refl
+  first_step (e.ToVariable name variable kind) h = refl
+  first_step (e.ToElement name variable kind index) h = refl
+
+  mutual
+    held_at : {h k : Held} {s : f.Statement} {n : ℕ} → HeldIn vs h s n k → slice_get (sets_in h s) n ≡ Some k
+    held_at (evaluate {h = h} place target value) = first_step target h
+    held_at (store_variable place name variable kind value) = refl
+    held_at (store_element place name variable kind index value) = refl
+    held_at (in_arms {h = h} {k = k} {n = n} place arms otherwise p) = at_left (sets_in_arms h arms) (sets_in_all h otherwise) n k (held_at_arms p)
+    held_at (in_otherwise {h = h} {k = k} {n = n} place arms otherwise p) =
+        at_right (sets_in_arms h arms) (sets_in_all h otherwise) (steps_of_arms arms) n (length-sets_in_arms arms h) ∙ held_at_all p
+    held_at (test_first place condition body) = refl
+    held_at (in_while place condition body p) = held_at_all p
+    held_at (in_do {h = h} {k = k} {n = n} place body condition p) = at_left (sets_in_all h body) (behind_all h body ∷ []) n k (held_at_all p)
+    held_at (test_last {h = h} place body condition p) =
+        ap (slice_get (sets_in_all h body ++ behind_all h body ∷ [])) (sym (add-zero (steps_of_all body)))
+        ∙ at_right (sets_in_all h body) (behind_all h body ∷ []) (steps_of_all body) 0 (length-sets_in_all body h) ∙ ap Some (behind_all_is p)
+    held_at (take place mutex) = refl
+    held_at (give place mutex) = refl
+
+    held_at_all : {h k : Held} {ss : f.Statements} {n : ℕ} → HeldInAll vs h ss n k → slice_get (sets_in_all h ss) n ≡ Some k
+    held_at_all (in_first {h = h} {k = k} {n = n} x rest p) = at_left (sets_in h x) (sets_in_all (behind h x) rest) n k (held_at p)
+    held_at_all (in_rest {h = h} {n = n} x rest p q) =
+        at_right (sets_in h x) (sets_in_all (behind h x) rest) (steps x) n (length-sets_in x h)
+        ∙ ap (λ (b : Held). slice_get (sets_in_all b rest) n) (behind_is p) ∙ held_at_all q
+
+    held_at_arms : {h k : Held} {arms : f.Arms} {n : ℕ} → HeldInArms vs h arms n k → slice_get (sets_in_arms h arms) n ≡ Some k
+    held_at_arms (test_arm condition body rest) = refl
+    held_at_arms (in_arm {h = h} {k = k} {n = n} condition body rest p) = at_left (sets_in_all h body) (sets_in_arms h rest) n k (held_at_all p)
+    held_at_arms (in_other_arms {h = h} {n = n} condition body rest p) =
+        at_right (sets_in_all h body) (sets_in_arms h rest) (steps_of_all body) n (length-sets_in_all body h) ∙ held_at_arms p
+
+  -- ---- The set at a step's place is held before it
+
+  at_assign : (place : Place) (target : e.Target) (value : e.Placed) (h : Held) (n : ℕ) (k : Held) → slice_get (replicate (assign_steps target) h) n ≡ Some k → HeldIn vs h (f.Assign place target value) n k
+  at_assign place (e.ToLocal local kind) value h zero k p = subst (λ x. HeldIn vs h (f.Assign place (e.ToLocal local kind) value) 0 x) (same_some h k p) (evaluate place _ value)
+  at_assign place (e.ToLocal local kind) value h (suc n) k p = absurd (cc)
+  at_assign place (e.ToVariable name variable kind) value h zero k p = subst (λ x. HeldIn vs h (f.Assign place (e.ToVariable name variable kind) value) 0 x) (same_some h k p) (evaluate place _ value)
+  at_assign place (e.ToVariable name variable kind) value h (suc zero) k p = subst (λ x. HeldIn vs h (f.Assign place (e.ToVariable name variable kind) value) 1 x) (same_some h k p) (store_variable place name variable kind value)
+  at_assign place (e.ToVariable name variable kind) value h (suc (suc n)) k p = absurd (cc)
+  at_assign place (e.ToElement name variable kind index) value h zero k p = subst (λ x. HeldIn vs h (f.Assign place (e.ToElement name variable kind index) value) 0 x) (same_some h k p) (evaluate place _ value)
+  at_assign place (e.ToElement name variable kind index) value h (suc zero) k p = subst (λ x. HeldIn vs h (f.Assign place (e.ToElement name variable kind index) value) 1 x) (same_some h k p) (store_element place name variable kind index value)
+  at_assign place (e.ToElement name variable kind index) value h (suc (suc n)) k p = absurd (cc)
+
+  -- the one set of a list
+  at_single : {X : Type 0} (x k : X) (n : ℕ) → slice_get (x ∷ []) n ≡ Some k → (n ≡ 0) × (x ≡ k)
+  at_single x k zero p = (refl, same_some x k p)
+  at_single x k (suc n) p = absurd (cc)
+
+  mutual
+    at_held : {h after : Held} {s : f.Statement} → Keeps vs h s after → (n : ℕ) (k : Held) → slice_get (sets_in h s) n ≡ Some k → HeldIn vs h s n k
+    at_held (assign {h = h} place target value g) n k e = at_assign place target value h n k e
+    at_held (choose {h = h} place arms otherwise p q) n k e = elim (at_either (sets_in_arms h arms) (sets_in_all h otherwise) n k e) [
+      | inl here ↦ in_arms place arms otherwise (at_held_arms p n k here)
+      | inr there ↦ subst (λ i. HeldIn vs h (f.If place arms otherwise) i k) (ap (λ m. m + there.0) (sym (length-sets_in_arms arms h)) ∙ sym there.1) (in_otherwise place arms otherwise (at_held_all q there.0 k there.2))
+    ]
+    at_held (repeat {h = h} place condition body g p) zero k e = subst (λ x. HeldIn vs h (f.While place condition body) 0 x) (same_some h k e) (test_first place condition body)
+    at_held (repeat {h = h} place condition body g p) (suc n) k e = in_while place condition body (at_held_all p n k e)
+    at_held (again {h = h} place body condition p g) n k e = elim (at_either (sets_in_all h body) (behind_all h body ∷ []) n k e) [
+      | inl here ↦ in_do place body condition (at_held_all p n k here)
+      | inr there ↦
+          let one = at_single (behind_all h body) k there.0 there.2 in
+          let place_of : steps_of_all body ≡ n = omega (arith, one.0, there.1, length-sets_in_all body h) in
+          subst (λ i. HeldIn vs h (f.Do place body condition) i k) place_of
+          (test_last place body condition (subst (λ x. KeepAll vs h body x) (sym (behind_all_is p) ∙ one.1) p))
+    ]
+    at_held (lock {h = h} place mutex free) n k e =
+        let one = at_single h k n e in
+        subst (λ x. HeldIn vs h (f.Lock place mutex) n x) one.1 (subst (λ i. HeldIn vs h (f.Lock place mutex) i h) (sym one.0) (take place mutex))
+    at_held (unlock {h = h} place mutex held) n k e =
+        let one = at_single h k n e in
+        subst (λ x. HeldIn vs h (f.Unlock place mutex) n x) one.1 (subst (λ i. HeldIn vs h (f.Unlock place mutex) i h) (sym one.0) (give place mutex))
+
+    at_held_all : {h after : Held} {ss : f.Statements} → KeepAll vs h ss after → (n : ℕ) (k : Held) → slice_get (sets_in_all h ss) n ≡ Some k → HeldInAll vs h ss n k
+    at_held_all no_more n k e = absurd (cc)
+    at_held_all (then {h = h} {between = between} x rest p q) n k e = elim (at_either (sets_in h x) (sets_in_all (behind h x) rest) n k e) [
+      | inl here ↦ in_first x rest (at_held p n k here)
+      | inr there ↦
+          let later = subst (λ b. slice_get (sets_in_all b rest) there.0 ≡ Some k) (behind_is p) there.2 in
+          subst (λ i. HeldInAll vs h (f.statement_and x rest) i k) (ap (λ m. m + there.0) (sym (length-sets_in x h)) ∙ sym there.1) (in_rest x rest p (at_held_all q there.0 k later))
+    ]
+
+    at_held_arms : {h after : Held} {arms : f.Arms} → KeepArms vs h arms after → (n : ℕ) (k : Held) → slice_get (sets_in_arms h arms) n ≡ Some k → HeldInArms vs h arms n k
+    at_held_arms no_more_arms n k e = absurd (cc)
+    at_held_arms (arm {h = h} condition body rest g p q) zero k e = subst (λ x. HeldInArms vs h (f.arm_and condition body rest) 0 x) (same_some h k e) (test_arm condition body rest)
+    at_held_arms (arm {h = h} condition body rest g p q) (suc n) k e = elim (at_either (sets_in_all h body) (sets_in_arms h rest) n k e) [
+      | inl here ↦ in_arm condition body rest (at_held_all p n k here)
+      | inr there ↦ subst (λ i. HeldInArms vs h (f.arm_and condition body rest) (suc i) k) (ap (λ m. m + there.0) (sym (length-sets_in_all body h)) ∙ sym there.1) (in_other_arms condition body rest (at_held_arms q there.0 k there.2))
+    ]
+
+-- ---- Threads
+
+last_of_body : (x : f.Flat) (t : f.Thread) → IsDisciplined x t → (n : ℕ) (k : Held) → n ≡ steps_of_all t.body → behind_all (none_held (length x.mutexes)) t.body ≡ k → HeldBefore x t n k
+last_of_body x t p n k i e =
+    subst (λ j. HeldBefore x t j k) (sym i) (at_end (subst (λ h. KeepAll x.variables (none_held (length x.mutexes)) t.body h) (sym (behind_all_is x.variables p) ∙ e) p))
+
+held_before : (x : f.Flat) (t : f.Thread) → IsDisciplined x t → (n : ℕ) (k : Held) → slice_get (thread_sets (length x.mutexes) t) n ≡ Some k → HeldBefore x t n k
+held_before x t p n k e =
+    let first = none_held (length x.mutexes) in
+    let sets = sets_in_all first t.body in
+    let last = behind_all first t.body in
+    elim (at_either sets (last ∷ []) n k e) [
+      | inl here ↦ in_body (at_held_all x.variables p n k here)
+      | inr there ↦
+          let one = at_single x.variables last k there.0 there.2 in
+          last_of_body x t p n k (omega (arith, one.0, there.1, length-sets_in_all t.body first)) one.1
+    ]
+
+before_held : (x : f.Flat) (t : f.Thread) {n : ℕ} {k : Held} → HeldBefore x t n k → slice_get (thread_sets (length x.mutexes) t) n ≡ Some k
+before_held x t (in_body {k = k} {n = n} p) = at_left (sets_in_all (none_held (length x.mutexes)) t.body) (behind_all (none_held (length x.mutexes)) t.body ∷ []) n k (held_at_all x.variables p)
+before_held x t (at_end p) =
+    let first = none_held (length x.mutexes) in
+    let sets = sets_in_all first t.body in
+    let last = behind_all first t.body in
+    ap (slice_get (sets ++ last ∷ [])) (sym (add-zero (steps_of_all t.body))) ∙ at_right sets (last ∷ []) (steps_of_all t.body) 0 (length-sets_in_all t.body first) ∙ ap Some (behind_all_is x.variables p)
+
+pub thread_sets_are : (x : f.Flat) (t : f.Thread) → IsDisciplined x t → AreSetsOf x t (thread_sets (length x.mutexes) t)
+thread_sets_are x t p =
+    let first = none_held (length x.mutexes) in
+    let sets = sets_in_all first t.body in
+    let last = behind_all first t.body in
+    record {
+      disciplined = p;
+      each_step = length-append sets (last ∷ []) ∙ ap (λ (n : ℕ). n + 1) (length-sets_in_all t.body first);
+      exactly = λ n k. (held_before x t p n k, λ h. before_held x t h);
+    }

@@ -1,0 +1,164 @@
+-- When sets of held mutexes are the same.
+use Rattle.std.proofs.Common.{◌≡◌, ℕ, zero, suc, ◌<◌, ◌⊎◌, inl, inr, Bool, true, false, not, cond, ◌&&◌, ◌||◌, List, [], ◌∷◌, ◌++◌, length, Option, Some, None, find, refl, sym, ap, ap₂, ◌∙◌, subst, arith, ext_get_or}
+use Rattle.std.specs.List.{list_any, list_all}
+use Rattle.std.specs.Option.{option_or}
+use Rattle.std.proofs.lemmas.List.{length-replicate}
+use Rattle.std.proofs.lemmas.List.Folds.{find-append}
+use Rattle.lock_discipline.specs.Masks.{differ}
+use Rattle.c_tree.specs.Locking.{Held, holds, numbers_below, is_in_some, is_in_all, least_difference, none_held}
+
+-- ---- The first number that passes a test
+
+none_found : (p : ℕ → Bool) (xs : List ℕ) → ((x : ℕ) → p x ≡ false) → find p xs ≡ None
+none_found p [] h = refl
+none_found p (x ∷ xs) h = rw (h x) (none_found p xs h)
+
+none_of_both : (o : Option ℕ) (b : Bool) (n : ℕ) → option_or o (cond b (Some n) None) ≡ None → (o ≡ None) × (b ≡ false)
+none_of_both None true n e = absurd (cc)
+none_of_both None false n e = (refl, refl)
+none_of_both (Some x) b n e = absurd (cc)
+
+below_or_last : (k n : ℕ) → k < suc n → (k < n) ⊎ (n ≡ k)
+below_or_last k n h = grind arith
+
+pub at_none : (p : ℕ → Bool) (n : ℕ) → find p (numbers_below n) ≡ None → (k : ℕ) → k < n → p k ≡ false
+at_none p zero e k h = absurd (omega arith)
+at_none p (suc n) e k h =
+    let both = none_of_both (find p (numbers_below n)) (p n) n (sym (find-append p (numbers_below n) (n ∷ [])) ∙ e) in
+    elim (below_or_last k n h) [ inl lt ↦ at_none p n both.0 k lt | inr is ↦ subst (λ j. p j ≡ false) is both.1 ]
+
+-- ---- Lists of sets
+
+-- each set is this one
+abbrev pub AllAre : Held → List Held → Type 0
+AllAre h [] = Unit {0}
+AllAre h (x ∷ xs) = (x ≡ h) × AllAre h xs
+
+-- each set speaks of so many mutexes
+abbrev pub AllLong : ℕ → List Held → Type 0
+AllLong n [] = Unit {0}
+AllLong n (x ∷ xs) = (length x ≡ n) × AllLong n xs
+
+abbrev AgreeAt : Bool → ℕ → List Held → Type 0
+AgreeAt b k [] = Unit {0}
+AgreeAt b k (x ∷ xs) = (holds x k ≡ b) × AgreeAt b k xs
+
+pub AllAre-append : (h : Held) (xs ys : List Held) → AllAre h xs → AllAre h ys → AllAre h (xs ++ ys)
+AllAre-append h [] ys p q = q
+AllAre-append h (x ∷ xs) ys p q = (p.0, AllAre-append h xs ys p.1 q)
+
+pub AllAre-left : (h : Held) (xs ys : List Held) → AllAre h (xs ++ ys) → AllAre h xs
+AllAre-left h [] ys p = tt
+AllAre-left h (x ∷ xs) ys p = (p.0, AllAre-left h xs ys p.1)
+
+pub AllAre-right : (h : Held) (xs ys : List Held) → AllAre h (xs ++ ys) → AllAre h ys
+AllAre-right h [] ys p = p
+AllAre-right h (x ∷ xs) ys p = AllAre-right h xs ys p.1
+
+pub AllLong-append : (n : ℕ) (xs ys : List Held) → AllLong n xs → AllLong n ys → AllLong n (xs ++ ys)
+AllLong-append n [] ys p q = q
+AllLong-append n (x ∷ xs) ys p q = (p.0, AllLong-append n xs ys p.1 q)
+
+-- ---- No difference
+
+agree_where_same : (h : Held) (k : ℕ) (xs : List Held) → AllAre h xs → AgreeAt (holds h k) k xs
+agree_where_same h k [] p = tt
+agree_where_same h k (x ∷ xs) p = (ap (λ (y : Held). holds y k) p.0, agree_where_same h k xs p.1)
+
+any_same : (b : Bool) (k : ℕ) (xs : List Held) → AgreeAt b k xs → (b || list_any (λ x. holds x k) xs) ≡ b
+any_same true k xs p = refl
+any_same false k [] p = refl
+any_same false k (x ∷ xs) p = rw p.0 (any_same false k xs p.1)
+
+all_same : (b : Bool) (k : ℕ) (xs : List Held) → AgreeAt b k xs → (b && list_all (λ x. holds x k) xs) ≡ b
+all_same false k xs p = refl
+all_same true k [] p = refl
+all_same true k (x ∷ xs) p = rw p.0 (all_same true k xs p.1)
+
+not_both : (b : Bool) → (b && not b) ≡ false
+not_both true = refl
+not_both false = refl
+
+pub no_difference : (n : ℕ) (h : Held) (xs : List Held) → AllAre h xs → least_difference n (h ∷ xs) ≡ None
+no_difference n h xs e = none_found _ (numbers_below n) (λ k.
+    let same = agree_where_same h k xs e in
+    rw (any_same (holds h k) k xs same, all_same (holds h k) k xs same) (not_both (holds h k)))
+
+or_false : (a b : Bool) → (a || b) ≡ false → (a ≡ false) × (b ≡ false)
+or_false true b e = absurd (cc)
+or_false false b e = (refl, e)
+
+and_true : (a b : Bool) → (a && b) ≡ true → (a ≡ true) × (b ≡ true)
+and_true true b e = (refl, e)
+and_true false b e = absurd (cc)
+
+none_holds : (k : ℕ) (xs : List Held) → list_any (λ x. holds x k) xs ≡ false → AgreeAt false k xs
+none_holds k [] e = tt
+none_holds k (x ∷ xs) e = let both = or_false (holds x k) (list_any (λ x. holds x k) xs) e in (both.0, none_holds k xs both.1)
+
+all_hold : (k : ℕ) (xs : List Held) → list_all (λ x. holds x k) xs ≡ true → AgreeAt true k xs
+all_hold k [] e = tt
+all_hold k (x ∷ xs) e = let both = and_true (holds x k) (list_all (λ x. holds x k) xs) e in (both.0, all_hold k xs both.1)
+
+agree : (b some all : Bool) → ((b || some) && not (b && all)) ≡ false → ((b ≡ true) × (all ≡ true)) ⊎ ((b ≡ false) × (some ≡ false))
+agree true some true e = inl (refl, refl)
+agree true some false e = absurd (cc)
+agree false true all e = absurd (cc)
+agree false false all e = inr (refl, refl)
+
+agree_at : (h : Held) (xs : List Held) (k : ℕ) → (is_in_some (h ∷ xs) k && not (is_in_all (h ∷ xs) k)) ≡ false → AgreeAt (holds h k) k xs
+agree_at h xs k e = elim (agree (holds h k) (list_any (λ x. holds x k) xs) (list_all (λ x. holds x k) xs) e) [
+  | inl both ↦ rw both.0 (all_hold k xs both.1)
+  | inr both ↦ rw both.0 (none_holds k xs both.1)
+]
+
+all_are : (n : ℕ) (h : Held) (xs : List Held) → length h ≡ n → AllLong n xs → ((k : ℕ) → k < n → AgreeAt (holds h k) k xs) → AllAre h xs
+all_are n h [] l ls e = tt
+all_are n h (x ∷ xs) l ls e =
+    (ext_get_or false x h (ls.0 ∙ sym l) (λ k lt. (e k (subst (λ m. k < m) ls.0 lt)).0), all_are n h xs l ls.1 (λ k lt. (e k lt).1))
+
+pub same_where_none : (n : ℕ) (h : Held) (xs : List Held) → length h ≡ n → AllLong n xs → least_difference n (h ∷ xs) ≡ None → AllAre h xs
+same_where_none n h xs l ls e = all_are n h xs l ls (λ k lt. agree_at h xs k (at_none _ n e k lt))
+
+-- ---- No mutex
+
+none_held-holds : (n k : ℕ) → holds (none_held n) k ≡ false
+none_held-holds zero k = refl
+none_held-holds (suc n) zero = refl
+none_held-holds (suc n) (suc k) = none_held-holds n k
+
+pub none_held-found : (n : ℕ) → find (λ m. holds (none_held n) m) (numbers_below n) ≡ None
+none_held-found n = none_found _ (numbers_below n) (none_held-holds n)
+
+pub none_held-where_none : (n : ℕ) (h : Held) → length h ≡ n → find (λ m. holds h m) (numbers_below n) ≡ None → h ≡ none_held n
+none_held-where_none n h l e =
+    ext_get_or false h (none_held n) (l ∙ sym (length-replicate n false))
+    (λ k lt. at_none _ n e k (subst (λ m. k < m) l lt) ∙ sym (none_held-holds n k))
+
+-- ---- The mutexes in which some set differs from the first
+
+not_and : (a b : Bool) → (not a || not b) ≡ not (a && b)
+not_and true b = refl
+not_and false b = refl
+
+some_not : (k : ℕ) (xs : List Held) → list_any (λ x. not (holds x k)) xs ≡ not (list_all (λ x. holds x k) xs)
+some_not k [] = refl
+some_not k (x ∷ xs) = ap (λ (b : Bool). not (holds x k) || b) (some_not k xs) ∙ not_and (holds x k) (list_all (λ x. holds x k) xs)
+
+and_truth : (a : Bool) → a ≡ (a && true)
+and_truth true = refl
+and_truth false = refl
+
+any_differ : (b : Bool) (k : ℕ) (xs : List Held) → list_any (λ x. differ b (holds x k)) xs ≡ ((b || list_any (λ x. holds x k) xs) && not (b && list_all (λ x. holds x k) xs))
+any_differ true k xs = some_not k xs
+any_differ false k xs = and_truth (list_any (λ x. holds x k) xs)
+
+pub same_found : (p q : ℕ → Bool) (xs : List ℕ) → ((x : ℕ) → p x ≡ q x) → find p xs ≡ find q xs
+same_found p q [] h = refl
+same_found p q (x ∷ xs) h = ap₂ (λ (b : Bool) (o : Option ℕ). cond b (Some x) o) (h x) (same_found p q xs h)
+
+pub differing_found : (h d : Held) (xs : List Held) → length d ≡ length h → ((m : ℕ) → holds d m ≡ list_any (λ x. differ (holds h m) (holds x m)) xs) →
+    find (λ m. holds d m) (numbers_below (length d)) ≡ least_difference (length h) (h ∷ xs)
+differing_found h d xs l e =
+    ap (λ (n : ℕ). find (λ m. holds d m) (numbers_below n)) l
+    ∙ same_found (λ m. holds d m) (λ m. is_in_some (h ∷ xs) m && not (is_in_all (h ∷ xs) m)) (numbers_below (length h)) (λ m. e m ∙ any_differ (holds h m) m xs)

@@ -1,0 +1,42 @@
+use Rattle.std.proofs.Common.{◌≡◌, ◌<◌, ◌∙◌, List, length, map, get_or, Some, ap, arith}
+use Rattle.c_tree.specs.declared.flat.Thread.{Thread}
+use Rattle.std.proofs.lemmas.Result.{err_from_is_err_and}
+use Rattle.c_tree.specs.Flats.{flat_of, thread_of}
+use Rattle.c_tree.specs.Programs.{variable_of}
+use Rattle.c_tree.specs.Locking.{Broken, walk_thread, lock_fault}
+use Rattle.lock_discipline.specs.Faults.{fault_of}
+use Rattle.lock_discipline.proofs.Refusals.{same_fault}
+use Rattle.lock_discipline.proofs.Threads.{thread_breaks, thread_keeps, no_thread_breaks, next_row, all_rows}
+use Rattle.lock_discipline.proofs.held.check.Goals as goal
+
+pub returns-in_err-walk_thread-clause-refuses : goal.returns-in_err-walk_thread-clause-refuses
+returns-in_err-walk_thread-clause-refuses c =
+    let q = err_from_is_err_and c.from_residual.result c.from_residual.ensures.1 in
+    let x = c.args.flat.now in
+    let t = c.thread-item.result in
+    let count : c.len-mutexes.result ≡ length x.mutexes.items = omega (arith, c.len-mutexes.ensures, x.mutexes.ok.0) in
+    let item = c.thread-item.is ∙ ap (λ (xs : List Thread). get_or xs c.loop-thread.thread-index t) c.deref-thread-items.ensures.value in
+    let within : c.loop-thread.thread-index < length x.threads.items = omega arith in
+    rw (q.1, q.2) (same_fault (fault_of c.in_err-walk_thread.field-0.0)
+    (λ fault. walk_thread (map variable_of c.deref.result.now) c.len-mutexes.result (thread_of t) ≡ Broken fault)
+    (λ fault. lock_fault (flat_of x) ≡ Some fault)
+    (thread_breaks x c.loop-thread.thread-index t c.deref.result.now c.len-mutexes.result c.deref.ensures.value count within item c.loop-thread.invariant.walk)
+    c.in_err-walk_thread.ensures.walk)
+
+pub loop-thread-preserved : goal.loop-thread-preserved
+loop-thread-preserved c =
+    let x = c.args.flat.now in
+    let t = c.thread-item.result in
+    let count : c.len-mutexes.result ≡ length x.mutexes.items = omega (arith, c.len-mutexes.ensures, x.mutexes.ok.0) in
+    let item = c.thread-item.is ∙ ap (λ (xs : List Thread). get_or xs c.loop-thread.thread-index t) c.deref-thread-items.ensures.value in
+    let within : c.loop-thread.thread-index < length x.threads.items = omega arith in
+    record {
+      walk = thread_keeps x c.loop-thread.thread-index t c.deref.result.now c.len-mutexes.result c.deref.ensures.value count within item c.loop-thread.invariant.walk c.in_ok-walk_thread.ensures.walk;
+      sets = next_row x c.loop-thread.thread-index t c.len-mutexes.result c.in_ok-walk_thread.field-0 _ _ count within item c.in_ok-push.ensures.items c.in_ok-walk_thread.ensures.sets c.loop-thread.invariant.sets;
+    }
+
+pub returns-clause-accepts : goal.returns-clause-accepts
+returns-clause-accepts c = no_thread_breaks c.args.flat.now c.loop-thread.thread-index (omega arith) c.loop-thread.invariant.walk
+
+pub returns-clause-sets : goal.returns-clause-sets
+returns-clause-sets c = all_rows c.args.flat.now c.loop-thread.thread-index c.loop-thread.threads.items (omega arith) c.loop-thread.invariant.walk c.loop-thread.invariant.sets

@@ -1,0 +1,25 @@
+use Rattle.std.proofs.Common.{◌∙◌, ap, sym, set, true, arith, length-set}
+use Rattle.std.proofs.lemmas.List.{set_past}
+use Rattle.c_tree.specs.Locking.{Held}
+use Rattle.lock_discipline.specs.Masks.{held_of, length-held_of}
+use Rattle.lock_discipline.proofs.Bits.{mask_with, mask_below, held_of_same}
+use Rattle.lock_discipline.proofs.set.MutexSet.with.Goals as goal
+
+pub invariant_of-result-2 : goal.invariant_of-result-2
+invariant_of-result-2 c =
+    let s = c.self.inside in
+    let m = c.args.mutex in
+    (c.self.invariant.0, mask_below s.mutexes _ (set (held_of s.mutexes s.mask) m true) (length-set (held_of s.mutexes s.mask) m true ∙ length-held_of s.mutexes s.mask) (mask_with s.mutexes s.mask m (omega arith) c.self.invariant.0 c.self.invariant.1))
+
+pub returns : goal.returns
+returns c =
+    let s = c.self.inside in
+    let m = c.args.mutex in
+    held_of_same s.mutexes _ (set (held_of s.mutexes s.mask) m true) (length-set (held_of s.mutexes s.mask) m true ∙ length-held_of s.mutexes s.mask) (mask_with s.mutexes s.mask m (omega arith) c.self.invariant.0 c.self.invariant.1)
+    ∙ ap (λ (h : Held). set h m true) c.self.view_is
+
+pub returns-then-mutex-self : goal.returns-then-mutex-self
+returns-then-mutex-self c =
+    let s = c.self.inside in
+    let m = c.args.mutex in
+    sym (set_past (held_of s.mutexes s.mask) m true (omega (arith, length-held_of s.mutexes s.mask))) ∙ ap (λ (h : Held). set h m true) c.self.view_is

@@ -1,0 +1,73 @@
+//! The check of a flat form.
+ghost use Rattle.std.specs.Prelude.{◌≡◌, ◌<◌, ◌≤◌, [], None, Some, length, slice_index_or, IfOk, IfErr, IfSome};
+ghost use Rattle.c_tree.specs.Flats.{flat_of};
+ghost use Rattle.c_tree.specs.Locking.{lock_fault};
+ghost use Rattle.lock_discipline.specs.Faults.{fault_of};
+ghost use Rattle.lock_discipline.specs.Masks.{mask_of};
+ghost use Rattle.lock_discipline.specs.Steps.{AreAllSetsOf};
+
+use crate::error::LockError;
+use crate::set::MutexSet;
+use crate::walk::walk_thread;
+use c_tree::flat::Flat;
+use std::alloc::Global;
+use std::marker::Model;
+
+/// The mutexes that are held before each step of each thread.
+#[derive(Debug, Drop)]
+pub struct Held {
+    threads: Vec<Vec<MutexSet>>,
+}
+
+impl Model for Held {
+    ghost use Rattle.std.specs.Prelude.{Bool, List, map};
+
+    ghost Value = { List (List (List Bool)) };
+
+    ghost view = { λ h. map (λ sets. sets.items) h.threads.items };
+}
+
+impl Held {
+    /// How many threads there are.
+    pub fn threads(&self) -> usize
+        ensures { result ≡ length self.now }
+    {
+        self.threads.len()
+    }
+
+    /// How many steps a thread has.
+    pub fn steps(&self, thread: u32) -> usize
+        requires { thread < length self.now }
+        ensures { result ≡ length (slice_index_or self.now thread []) }
+    {
+        self.threads[thread as usize].len()
+    }
+
+    /// The mutexes that are held before the step of this number: bit i is set where mutex i is held.
+    pub fn held(&self, thread: u32, step: u32) -> u64
+        requires thread { thread < length self.now }
+        requires step { step < length (slice_index_or self.now thread []) }
+        ensures { result ≡ mask_of (slice_index_or (slice_index_or self.now thread []) step []) }
+    {
+        let sets = &self.threads[thread as usize];
+        let set = sets[step as usize];
+        set.mask()
+    }
+}
+
+/// Walks through the threads in order, each from its beginning, to the first fault: a variable that is used while
+/// its mutex isn't held, a mutex that is locked while it is held or unlocked while it isn't, paths that meet with
+/// different mutexes held, or a thread that ends with one held.
+pub fn check(alloc: Global, flat: &Flat) -> Result<Held, LockError>
+    requires { length flat.now.mutexes.items ≤ 64 }
+    ensures accepts { IfOk result (λ _. lock_fault (flat_of flat.now) ≡ None) }
+    ensures refuses { IfErr result (λ error. IfSome (fault_of error) (λ fault. lock_fault (flat_of flat.now) ≡ Some fault)) }
+    ensures sets { IfOk result (λ held. AreAllSetsOf (flat_of flat.now) held) }
+{
+    let mutexes = flat.mutexes.len() as u32;
+    let mut threads = Vec::new(alloc);
+    for thread in &flat.threads {
+        threads.push(walk_thread(alloc, &flat.variables, mutexes, thread)?)?;
+    }
+    Ok(Held { threads })
+}

@@ -1,0 +1,14 @@
+//! The lock discipline: the first fault of a flat form, or the mutexes that are held before each step.
+#![tactic(auto)]
+
+mod error;
+mod held;
+pub mod laws;
+mod set;
+#[cfg(test)]
+mod tests;
+mod uses;
+mod walk;
+
+pub use error::LockError;
+pub use held::{Held, check};

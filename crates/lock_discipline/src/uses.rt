@@ -1,0 +1,110 @@
+//! The variables that a step uses, each under its mutex.
+ghost use Rattle.std.specs.Prelude.{◌≡◌, [], ◌∷◌, length, map, MatchResult};
+ghost use Rattle.c_tree.specs.Programs.{variable_of};
+ghost use Rattle.c_tree.specs.Exprs.{expr_of, target_of};
+ghost use Rattle.c_tree.specs.Locking.{Behind, guard_of, walk_uses, expr_uses, target_uses};
+ghost use Rattle.lock_discipline.specs.Faults.{Refuses};
+ghost use Rattle.lock_discipline.specs.Uses.{use_of};
+
+use crate::error::LockError;
+use crate::set::MutexSet;
+use c_tree::expr::{Expr, Target};
+use c_tree::program::Variable;
+use ido_base::place::Place;
+
+/// The mutex that guards the variable; mutex 0 where there is no such variable.
+fn guard_of(variables: &[Variable], variable: u32) -> u32
+    ensures { result ≡ guard_of (map variable_of variables.now) variable }
+{
+    match variables.get(variable as usize) {
+        Some(found) => found.guard,
+        None => 0,
+    }
+}
+
+/// The use of a variable whose name stands at the place.
+fn check_use(
+    variables: &[Variable],
+    held: MutexSet,
+    variable: u32,
+    place: Place,
+) -> Result<(), LockError>
+    ensures { let w = walk_uses (map variable_of variables.now) (length held) held (use_of variable place ∷ []) in
+        MatchResult result (λ _. w ≡ Behind held) (Refuses w) }
+{
+    let mutex = guard_of(variables, variable);
+    if held.holds(mutex) {
+        Ok(())
+    } else {
+        Err(LockError::Unheld { place, mutex })
+    }
+}
+
+/// The uses in an expression, from left to right.
+pub fn check_expr(variables: &[Variable], held: MutexSet, expr: &Expr) -> Result<(), LockError>
+    ensures { let w = walk_uses (map variable_of variables.now) (length held) held (expr_uses (expr_of expr.now)) in
+        MatchResult result (λ _. w ≡ Behind held) (Refuses w) }
+{
+    match expr {
+        Expr::Constant { .. } | Expr::Local { .. } => Ok(()),
+        Expr::Variable {
+            place,
+            variable,
+            ..
+        } => check_use(variables, held, *variable, *place),
+        Expr::Element {
+            place,
+            variable,
+            index,
+            ..
+        } => {
+            check_use(variables, held, *variable, *place)?;
+            check_expr(variables, held, index)
+        }
+        Expr::Unary { operand, .. }
+        | Expr::Cast { operand, .. }
+        | Expr::Converted { operand, .. } => check_expr(variables, held, operand),
+        Expr::Binary { left, right, .. } => {
+            check_expr(variables, held, left)?;
+            check_expr(variables, held, right)
+        }
+        Expr::Conditional {
+            condition,
+            then,
+            otherwise,
+            ..
+        } => {
+            check_expr(variables, held, condition)?;
+            check_expr(variables, held, then)?;
+            check_expr(variables, held, otherwise)
+        }
+    }
+}
+
+/// The uses in a target.
+pub fn check_target(
+    variables: &[Variable],
+    held: MutexSet,
+    target: &Target,
+) -> Result<(), LockError>
+    ensures { let w = walk_uses (map variable_of variables.now) (length held) held (target_uses (target_of target.now)) in
+        MatchResult result (λ _. w ≡ Behind held) (Refuses w) }
+{
+    match target {
+        Target::Local { .. } => Ok(()),
+        Target::Variable {
+            place,
+            variable,
+            ..
+        } => check_use(variables, held, *variable, *place),
+        Target::Element {
+            place,
+            variable,
+            index,
+            ..
+        } => {
+            check_use(variables, held, *variable, *place)?;
+            check_expr(variables, held, &index.expr)
+        }
+    }
+}

@@ -1,0 +1,189 @@
+//! The walk through a thread, with the mutexes that are held before each of its steps.
+ghost use Rattle.std.specs.Prelude.{◌≡◌, ◌≤◌, ◌++◌, [], ◌∷◌, List, length, map, MatchResult, IfOk};
+ghost use Rattle.std.specs.List.{All};
+ghost use Rattle.c_tree.specs.Programs.{variable_of};
+ghost use Rattle.c_tree.specs.Flats.{statement_of, statements_of, arms_list_of, thread_of};
+ghost use Rattle.c_tree.specs.Locking.{Held, Walked, Behind, least_difference, join, walk, walk_all, walk_arms, walk_thread};
+ghost use Rattle.lock_discipline.specs.Faults.{Refuses, RefusesAny};
+ghost use Rattle.lock_discipline.specs.Flow.{sets_in, sets_in_all, sets_in_arms, thread_sets};
+
+use crate::error::LockError;
+use crate::set::MutexSet;
+use crate::uses::{check_expr, check_target};
+use c_tree::expr::Target;
+use c_tree::flat::{Arm, Statement, Thread};
+use c_tree::program::Variable;
+use ido_base::place::Place;
+use std::alloc::Global;
+
+/// The least mutex that one of the sets holds and another doesn't.
+fn least_difference(first: MutexSet, others: &[MutexSet]) -> Option<u32>
+    requires { All (λ h. length h ≡ length first) others.now }
+    ensures { result ≡ least_difference (length first) (first ∷ others.now) }
+{
+    let mut differing = first.emptied();
+    for other in others {
+        differing = differing.with_differences(first, *other);
+    }
+    differing.least()
+}
+
+/// Paths meet at a statement, each with its set.
+fn join(place: Place, first: MutexSet, others: &[MutexSet]) -> Result<(), LockError>
+    requires { All (λ h. length h ≡ length first) others.now }
+    ensures { let w = join [] (length first) place first others.now in
+        MatchResult result (λ _. w ≡ Behind first) (Refuses w) }
+{
+    match least_difference(first, others) {
+        Some(mutex) => Err(LockError::Join { place, mutex }),
+        None => Ok(()),
+    }
+}
+
+/// A statement: the set behind it. Its steps' sets go behind the others.
+#[cycle(walk)]
+fn walk_statement(
+    alloc: Global,
+    variables: &[Variable],
+    held: MutexSet,
+    statement: &Statement,
+    sets: &mut Vec<MutexSet>,
+) -> Result<MutexSet, LockError>
+    ensures walk { let w = walk (map variable_of variables.now) (length held) held (statement_of statement.now) in
+        MatchResult result (λ after. w ≡ Behind after) (Refuses w) }
+    ensures sets { IfOk result (λ _. sets.new.items ≡ sets.old.items ++ sets_in held (statement_of statement.now)) }
+{
+    match statement {
+        Statement::Assign { target, value, .. } => {
+            sets.push(held)?;
+            check_expr(variables, held, &value.expr)?;
+            check_target(variables, held, target)?;
+            match target {
+                Target::Local { .. } => {}
+                // the store is a step of its own
+                Target::Variable { .. } | Target::Element { .. } => sets.push(held)?,
+            }
+            Ok(held)
+        }
+        Statement::If {
+            place,
+            arms,
+            otherwise,
+        } => {
+            let ends = walk_arms(alloc, variables, held, arms, sets)?;
+            let end = walk_statements(alloc, variables, held, otherwise, sets)?;
+            join(*place, end, &ends)?;
+            Ok(end)
+        }
+        Statement::While {
+            place,
+            condition,
+            body,
+        } => {
+            sets.push(held)?;
+            check_expr(variables, held, &condition.expr)?;
+            let end = walk_statements(alloc, variables, held, body, sets)?;
+            join(*place, held, &[end])?;
+            Ok(held)
+        }
+        Statement::Do {
+            place,
+            body,
+            condition,
+        } => {
+            let after = walk_statements(alloc, variables, held, body, sets)?;
+            sets.push(after)?;
+            check_expr(variables, after, &condition.expr)?;
+            join(*place, held, &[after])?;
+            Ok(held)
+        }
+        Statement::Lock { place, mutex } => {
+            if held.holds(*mutex) {
+                return Err(LockError::Again {
+                    place: *place,
+                    mutex: *mutex,
+                });
+            }
+            sets.push(held)?;
+            Ok(held.with(*mutex))
+        }
+        Statement::Unlock { place, mutex } => {
+            if !held.holds(*mutex) {
+                return Err(LockError::NotHeld {
+                    place: *place,
+                    mutex: *mutex,
+                });
+            }
+            sets.push(held)?;
+            Ok(held.without(*mutex))
+        }
+    }
+}
+
+/// Statements in order.
+#[cycle(walk)]
+fn walk_statements(
+    alloc: Global,
+    variables: &[Variable],
+    held: MutexSet,
+    statements: &[Statement],
+    sets: &mut Vec<MutexSet>,
+) -> Result<MutexSet, LockError>
+    ensures walk { let w = walk_all (map variable_of variables.now) (length held) held (statements_of statements.now) in
+        MatchResult result (λ after. w ≡ Behind after) (Refuses w) }
+    ensures sets { IfOk result (λ _. sets.new.items ≡ sets.old.items ++ sets_in_all held (statements_of statements.now)) }
+{
+    let mut end = held;
+    for statement in statements {
+        end = walk_statement(alloc, variables, end, statement, sets)?;
+    }
+    Ok(end)
+}
+
+/// The arms of an `if`: the sets behind them.
+#[cycle(walk)]
+fn walk_arms(
+    alloc: Global,
+    variables: &[Variable],
+    held: MutexSet,
+    arms: &[Arm],
+    sets: &mut Vec<MutexSet>,
+) -> Result<Vec<MutexSet>, LockError>
+    ensures walk { let w = walk_arms (map variable_of variables.now) (length held) held [] (arms_list_of arms.now) in
+        MatchResult result (λ ends. (behind : List Held → Walked) → w behind ≡ behind ends.items) (RefusesAny w) }
+    ensures long { IfOk result (λ ends. All (λ h. length h ≡ length held) ends.items) }
+    ensures sets { IfOk result (λ _. sets.new.items ≡ sets.old.items ++ sets_in_arms held (arms_list_of arms.now)) }
+{
+    let mut ends = Vec::new(alloc);
+    for arm in arms {
+        sets.push(held)?;
+        check_expr(variables, held, &arm.condition.expr)?;
+        ends.push(walk_statements(alloc, variables, held, &arm.body, sets)?)?;
+    }
+    Ok(ends)
+}
+
+/// A thread, which begins and ends with no mutex held: the sets before its steps.
+pub fn walk_thread(
+    alloc: Global,
+    variables: &[Variable],
+    mutexes: u32,
+    thread: &Thread,
+) -> Result<Vec<MutexSet>, LockError>
+    requires { mutexes ≤ 64 }
+    ensures walk { let w = walk_thread (map variable_of variables.now) mutexes (thread_of thread.now) in
+        MatchResult result (λ _. (end : Held) × (w ≡ Behind end)) (Refuses w) }
+    ensures sets { IfOk result (λ sets. sets.items ≡ thread_sets mutexes (thread_of thread.now)) }
+{
+    let mut sets = Vec::new(alloc);
+    let none = MutexSet::none(mutexes);
+    let end = walk_statements(alloc, variables, none, &thread.body, &mut sets)?;
+    if let Some(mutex) = end.least() {
+        return Err(LockError::EndHeld {
+            place: thread.closing,
+            mutex,
+        });
+    }
+    sets.push(end)?;
+    Ok(sets)
+}
