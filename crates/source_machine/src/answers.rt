@@ -1,0 +1,32 @@
+//! What steps and runs answer.
+use thiserror::Error;
+
+/// What a step of a thread did.
+#[derive(Clone, Copy, PartialEq, Eq, Debug)]
+pub enum Stepped {
+    /// The step is made.
+    Did,
+    /// There is none: the thread waits for a mutex that isn't free.
+    Waits { mutex: u32 },
+    /// There is none: the thread has ended, or it stands at an `if` that has no condition.
+    Ended,
+}
+
+/// Why a step of a schedule can't be made.
+#[derive(Clone, Copy, PartialEq, Eq, Debug)]
+pub enum RefusedKind {
+    /// There is no such thread.
+    UnknownThread,
+    /// The thread waits for a mutex that isn't free.
+    Waits,
+    /// The thread has ended, or it stands at an `if` that has no condition.
+    Ended,
+}
+
+/// The first step of a schedule that can't be made. Steps count from 1.
+#[derive(Clone, Copy, PartialEq, Eq, Debug, Drop, Error)]
+#[error("step {step} can't be made: {kind:?}")]
+pub struct Refused {
+    pub kind: RefusedKind,
+    pub step: u64,
+}

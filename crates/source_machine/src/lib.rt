@@ -1,0 +1,18 @@
+//! The source's own run: what each step of a thread does, without a graph, registers or a log. After `start` no call takes
+//! memory.
+#![tactic(auto)]
+
+mod answers;
+mod code;
+mod evaluation;
+pub mod laws;
+mod locks;
+mod number;
+mod state;
+#[cfg(test)]
+mod tests;
+mod thread;
+mod variables;
+
+pub use answers::{Refused, RefusedKind, Stepped};
+pub use state::SourceState;

@@ -1,0 +1,79 @@
+//! Who holds the mutexes, and how many sections have ended.
+ghost use Rattle.std.specs.Prelude.{◌≡◌, ℕ, ◌+◌, IsTrue, ◌↔◌, Some, None, slice_get, slice_set, replicate, IfOk};
+ghost use Rattle.std.specs.Bool.{OnTrue, OnFalse};
+ghost use Rattle.ido_base.specs.Locks.{is_held_by, holds_none};
+ghost use Rattle.source_machine.specs.Sections.{AreCounted, ends, is_one};
+
+use ido_base::memory::Memory;
+use std::alloc::Global;
+
+/// So many mutexes, all free.
+pub(crate) fn free(alloc: Global, mutexes: usize) -> Result<Vec<Option<u32>>, Memory>
+    ensures { IfOk result (λ holders. holders.items ≡ replicate mutexes None) }
+{
+    let holders: Vec<Option<u32>> = vec![in alloc; None; mutexes]?;
+    Ok(holders)
+}
+
+/// The holder is the thread.
+fn is_held(holder: Option<u32>, thread: u32) -> bool
+    ensures { result ≡ is_held_by thread holder }
+{
+    match holder {
+        None => false,
+        Some(other) => thread == other,
+    }
+}
+
+/// The thread holds no mutex.
+pub(crate) fn holds_none(holders: &[Option<u32>], thread: u32) -> bool
+    ensures { result ≡ holds_none holders.now thread }
+{
+    for holder in holders {
+        if is_held(*holder, thread) {
+            return false;
+        }
+    }
+    true
+}
+
+/// Gives the mutex to the thread where it is free.
+pub(crate) fn take(holders: &mut [Option<u32>], mutex: u32, thread: u32) -> bool
+    ensures free { IsTrue result ↔ (slice_get holders.old mutex ≡ Some None) }
+    ensures taken { OnTrue result (holders.new ≡ slice_set holders.old mutex (Some thread)) }
+    ensures kept { OnFalse result (holders.new ≡ holders.old) }
+{
+    let mutex = mutex as usize;
+    if mutex >= holders.len() || holders[mutex].is_some() {
+        return false;
+    }
+    holders[mutex] = Some(thread);
+    true
+}
+
+/// Frees the mutex, whoever holds it. Where its holder has none left, a section of it has ended.
+pub(crate) fn release(holders: &mut [Option<u32>], sections: &mut [u64], mutex: u32)
+    ensures holders { holders.new ≡ slice_set holders.old mutex None }
+    ensures sections { (ended : ℕ → ℕ) → AreCounted sections.old ended → AreCounted sections.new (λ k. ended k + ends holders.old holders.new k) }
+{
+    let mutex = mutex as usize;
+    if mutex < holders.len() {
+        let holder = holders[mutex];
+        holders[mutex] = None;
+        if let Some(thread) = holder {
+            if holds_none(holders, thread) {
+                count(sections, thread);
+            }
+        }
+    }
+}
+
+// One more for the thread, where there is such a thread.
+fn count(sections: &mut [u64], thread: u32)
+    ensures { (ended : ℕ → ℕ) → AreCounted sections.old ended → AreCounted sections.new (λ k. ended k + is_one thread k) }
+{
+    let thread = thread as usize;
+    if thread < sections.len() {
+        sections[thread] = sections[thread].saturating_add(1);
+    }
+}

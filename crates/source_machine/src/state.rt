@@ -1,0 +1,123 @@
+//! The state of a source's run.
+ghost use Rattle.std.specs.Prelude.{◌≡◌, vec_len};
+
+use crate::answers::{Refused, RefusedKind, Stepped};
+use crate::locks;
+use crate::thread::ThreadState;
+use crate::variables::Variables;
+use c_tree::flat::Flat;
+use ido_base::memory::Memory;
+use std::alloc::Global;
+
+/// The state of a run of a source: its variables, who holds its mutexes, and its threads.
+#[derive(Drop)]
+pub struct SourceState<'a> {
+    variables: Variables,
+    holders: Vec<Option<u32>>,
+    threads: Vec<ThreadState<'a>>,
+    // of each thread how many of its sections have ended
+    sections: Vec<u64>,
+    ghost counted: { vec_len sections ≡ vec_len threads },
+}
+
+impl<'a> SourceState<'a> {
+    ghost use Rattle.std.specs.Prelude.{◌≡◌, ◌+◌, ◌^◌, ◌-◌, ◌<◌, ℕ, min, flat_map, IfOk};
+    ghost use Rattle.c_tree.specs.Flats.{flat_of};
+    ghost use Rattle.c_tree.specs.Source.{State, start, is_between};
+    ghost use Rattle.source_machine.specs.Runs.{Stands, IsAfter, Ran, threads_in};
+
+    /// The state before any step: initial numbers, mutexes free, whole bodies.
+    pub fn start(alloc: Global, flat: &'a Flat) -> Result<SourceState<'a>, Memory>
+        ensures { IfOk result (λ state. Stands state (start (flat_of flat.now)) (λ _. 0)) }
+    {
+        let variables = Variables::new(alloc, &flat.variables)?;
+        let holders = locks::free(alloc, flat.mutexes.len())?;
+        let sections: Vec<u64> = vec![in alloc; 0; flat.threads.len()]?;
+        let mut threads = Vec::new(alloc);
+        for thread in &flat.threads {
+            threads.push(ThreadState::start(alloc, thread)?)?;
+        }
+        Ok(SourceState {
+            variables,
+            holders,
+            threads,
+            sections,
+        })
+    }
+
+    /// How many threads there are.
+    pub fn threads(&self) -> usize
+        ensures { result ≡ threads_in self.now }
+    {
+        self.threads.len()
+    }
+
+    /// Makes a step of a thread, if there is one now.
+    pub fn step(&mut self, thread: u32) -> Stepped
+        requires exists { thread < threads_in self.old }
+        ensures after { (s : State) (ended : ℕ → ℕ) → Stands self.old s ended → IsAfter self.new result s ended thread }
+        ensures threads { threads_in self.new ≡ threads_in self.old }
+    {
+        let it = &mut self.threads[thread as usize];
+        it.step(
+            thread,
+            &mut self.variables,
+            &mut self.holders,
+            &mut self.sections,
+        )
+    }
+
+    /// Makes the steps of a schedule up to the first that can't be made.
+    pub fn run(&mut self, schedule: &[u32]) -> Result<(), Refused>
+        ensures ran { (s : State) (ended : ℕ → ℕ) → Stands self.old s ended → Ran self.new result s ended schedule.now }
+        ensures threads { threads_in self.new ≡ threads_in self.old }
+    {
+        for (i, thread) in schedule.iter().enumerate() {
+            let step = i as u64 + 1;
+            if *thread as usize >= self.threads.len() {
+                return Err(Refused {
+                    kind: RefusedKind::UnknownThread,
+                    step,
+                });
+            }
+            match self.step(*thread) {
+                Stepped::Did => {}
+                Stepped::Waits { .. } => {
+                    return Err(Refused {
+                        kind: RefusedKind::Waits,
+                        step,
+                    });
+                }
+                Stepped::Ended => {
+                    return Err(Refused {
+                        kind: RefusedKind::Ended,
+                        step,
+                    });
+                }
+            }
+        }
+        Ok(())
+    }
+
+    /// The numbers of all elements of all variables, in order of declaration.
+    pub fn variables(&self) -> &[i128]
+        ensures { (s : State) (ended : ℕ → ℕ) → Stands self.now s ended → result.now ≡ flat_map (λ xs. xs) s.variables }
+    {
+        self.variables.elements()
+    }
+
+    /// How many sections of a thread have ended. Past 2^64 - 1 it is answered as that.
+    pub fn ended_sections(&self, thread: u32) -> u64
+        requires exists { thread < threads_in self.now }
+        ensures { (s : State) (ended : ℕ → ℕ) → Stands self.now s ended → result ≡ min (ended thread) (2 ^ 64 - 1) }
+    {
+        self.sections[thread as usize]
+    }
+
+    /// The thread stands between sections: it holds no mutex.
+    pub fn between(&self, thread: u32) -> bool
+        ensures { (s : State) (ended : ℕ → ℕ) → Stands self.now s ended → result ≡ is_between s thread }
+    {
+        locks::holds_none(&self.holders, thread)
+    }
+}

@@ -1,0 +1,153 @@
+//! A thread of a run.
+ghost use Rattle.std.specs.Prelude.{◌≡◌, ℕ, ◌+◌, List, Option, IfOk};
+ghost use Rattle.c_tree.specs.Exprs.{expr_of, target_of};
+ghost use Rattle.c_tree.specs.Flats.{thread_of, Statement};
+ghost use Rattle.c_tree.specs.Source.{Thread as Model, evaluated};
+ghost use Rattle.source_machine.specs.Sections.{AreCounted, ends};
+ghost use Rattle.source_machine.specs.Threads.{IsLeft, IsStarted, IsMade, model_of, state_in};
+
+use crate::answers::Stepped;
+use crate::code::{self, Code, Node};
+use crate::evaluation::{element_at, evaluate};
+use crate::locks;
+use crate::variables::Variables;
+use c_tree::expr::{Expr, Target};
+use c_tree::flat::Thread;
+use ido_base::memory::Memory;
+use std::alloc::Global;
+
+/// A store that is still to be made.
+#[derive(Clone, Copy)]
+pub(crate) struct Pending {
+    variable: u32,
+    element: u128,
+    number: i128,
+}
+
+/// A thread: where it stands in its code, its locals, its pending store, and whether its last step is done.
+#[derive(Drop)]
+pub(crate) struct ThreadState<'a> {
+    nodes: Vec<Node<'a>>,
+    at: usize,
+    locals: Vec<i128>,
+    pending: Option<Pending>,
+    ended: bool,
+}
+
+impl<'a> ThreadState<'a> {
+    /// A thread at its start.
+    pub(crate) fn start(alloc: Global, thread: &'a Thread) -> Result<ThreadState<'a>, Memory>
+        ensures { IfOk result (λ started. IsStarted started (thread_of thread.now)) }
+    {
+        let Code { nodes, start } = code::compile(alloc, &thread.body)?;
+        let locals = vec![in alloc; 0; thread.locals.len()]?;
+        Ok(ThreadState {
+            nodes,
+            at: start,
+            locals,
+            pending: None,
+            ended: false,
+        })
+    }
+
+    /// Makes a step, if there is one now.
+    pub(crate) fn step(
+        &mut self,
+        number: u32,
+        variables: &mut Variables,
+        holders: &mut [Option<u32>],
+        sections: &mut [u64],
+    ) -> Stepped
+        ensures made { (left : List Statement) (threads : List Model) → IsLeft self.old left → IsMade self.old self.new variables.old variables.new holders.old holders.new result number threads left }
+        ensures sections { (ended : ℕ → ℕ) → AreCounted sections.old ended → AreCounted sections.new (λ k. ended k + ends holders.old holders.new k) }
+    {
+        if let Some(pending) = self.pending {
+            self.pending = None;
+            variables.set(pending.variable, pending.element, pending.number);
+            return Stepped::Did;
+        }
+        let Some(node) = self.nodes.get(self.at).copied() else {
+            return Stepped::Ended;
+        };
+        match node {
+            Node::End => {
+                if self.ended {
+                    return Stepped::Ended;
+                }
+                self.ended = true;
+                Stepped::Did
+            }
+            Node::Assign {
+                target,
+                value,
+                next,
+            } => {
+                self.assign(target, &value.expr, variables);
+                self.at = next;
+                Stepped::Did
+            }
+            Node::Test {
+                condition,
+                holds,
+                fails,
+            } => {
+                let condition = evaluate(&condition.expr, &self.locals, variables);
+                self.at = if condition.is_zero() { fails } else { holds };
+                Stepped::Did
+            }
+            Node::Lock { mutex, next } => {
+                if locks::take(holders, mutex, number) {
+                    self.at = next;
+                    Stepped::Did
+                } else {
+                    Stepped::Waits { mutex }
+                }
+            }
+            Node::Unlock { mutex, next } => {
+                locks::release(holders, sections, mutex);
+                self.at = next;
+                Stepped::Did
+            }
+            Node::Never => Stepped::Ended,
+        }
+    }
+
+    // Evaluates a value for a target: a local has it, a store of a variable is pending.
+    fn assign(&mut self, target: &Target, value: &Expr, variables: &Variables)
+        ensures model { (left : List Statement) (holders : List (Option ℕ)) (threads : List Model) → model_of self.new left ≡ evaluated (state_in variables.now holders threads) (model_of self.old left) (target_of target.now) (expr_of value.now) }
+        ensures nodes { self.new.nodes ≡ self.old.nodes }
+    {
+        let value = evaluate(value, &self.locals, variables);
+        match target {
+            Target::Local { local, kind } => {
+                let local = *local as usize;
+                let number = value.convert(*kind).number();
+                if local < self.locals.len() {
+                    self.locals[local] = number;
+                }
+            }
+            Target::Variable { variable, kind, .. } => {
+                let number = value.convert(*kind).number();
+                self.pending = Some(Pending {
+                    variable: *variable,
+                    element: 0,
+                    number,
+                });
+            }
+            Target::Element {
+                variable,
+                kind,
+                index,
+                ..
+            } => {
+                let number = value.convert(*kind).number();
+                let element = element_at(evaluate(&index.expr, &self.locals, variables));
+                self.pending = Some(Pending {
+                    variable: *variable,
+                    element,
+                    number,
+                });
+            }
+        }
+    }
+}
