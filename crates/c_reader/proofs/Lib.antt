@@ -1,0 +1,28 @@
+mod Good
+mod Tokens
+mod Parts
+mod Types
+mod Expressions
+mod Operands
+mod Assignments
+mod Calls
+mod Here
+mod Simple
+mod Statements
+mod Items
+pub mod Whole
+pub mod Steady
+pub mod Refusals
+mod Worked
+pub mod Blocks
+pub mod Comments
+pub mod Fronts
+pub mod Answers
+pub mod ItemSteps
+pub mod Nestings
+pub mod Numbers
+pub mod Rows
+pub mod Scans
+pub mod Sizes
+pub mod Steps
+mod WorkedTokens

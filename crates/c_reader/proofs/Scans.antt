@@ -1,0 +1,81 @@
+-- The tokens of a text, one after another.
+use Rattle.std.proofs.Common.{◌≡◌, ℕ, ◌+◌, ◌<◌, ◌≤◌, zero, suc, Some, None, List, [], ◌∷◌, ◌++◌, length, drop, refl, ap, sym, subst, ◌∙◌, arith, length-drop, append_assoc}
+use Rattle.c_tree.specs.Tokens.{Lexeme, Token}
+use Rattle.c_tree.specs.Scanning.{Front, Blank, Lexed, Broken, End, front, Scanned, scanned_from, scanned}
+use Rattle.c_reader.proofs.Sizes.{IsPart, front-IsPart}
+
+abbrev token_at : (place : ℕ) → Lexeme → Token
+token_at place lexeme = record { place = record { 0 = place }; lexeme = lexeme }
+
+-- what stands at a place and behind it, by what stands there
+abbrev after_front : (more place : ℕ) → List ℕ → Front → Scanned
+after_front more place text f = elim f [
+  | Blank bytes ↦ scanned_from more (place + bytes) (drop bytes text)
+  | Lexed lexeme bytes ↦ record (scanned_from more (place + bytes) (drop bytes text)) { tokens = token_at place lexeme ∷ (scanned_from more (place + bytes) (drop bytes text)).tokens }
+  | Broken rule ↦ record { tokens = []; fault = Some (record { rule = rule; place = record { 0 = place } }) }
+  | End ↦ record { tokens = []; fault = None }
+]
+
+-- so much of a text is left behind the tokens that were found
+pub record IsLeft (text rest : List ℕ) (found : List Token) : Type 0 where
+  pub place : ℕ
+  pub at : place + length rest ≡ length text
+  -- more than the bytes that are left
+  pub more : ℕ
+  pub enough : length rest ≤ more
+  pub tokens : found ++ (scanned_from (suc more) place rest).tokens ≡ (scanned text).tokens
+  pub fault : (scanned_from (suc more) place rest).fault ≡ (scanned text).fault
+
+pub IsLeft-start : (text : List ℕ) → IsLeft text text []
+unfolding scanned
+IsLeft-start text = record {
+  place = 0;
+  at = omega arith;
+  more = length text;
+  enough = omega arith;
+  tokens = refl;
+  fault = refl;
+}
+
+-- what stands at the front is some of what is left
+pub some_of : (rest : List ℕ) (f : Front) → f ≡ front rest → IsPart rest f
+some_of rest f e = let P : Front → Type 0 = IsPart rest in subst P (sym e) (front-IsPart rest)
+
+pub IsLeft-Blank : (text rest : List ℕ) (found : List Token) (n : ℕ) → IsLeft text rest found → Blank n ≡ front rest → IsLeft text (drop n rest) found
+IsLeft-Blank text rest found n l e = by l.more l.enough l.tokens l.fault
+  where
+    some : (0 < n) × (n ≤ length rest)
+    some = some_of rest (Blank n) e
+
+    by : (more : ℕ) → length rest ≤ more → found ++ (scanned_from (suc more) l.place rest).tokens ≡ (scanned text).tokens → (scanned_from (suc more) l.place rest).fault ≡ (scanned text).fault → IsLeft text (drop n rest) found
+    by zero enough t f = absurd (omega (arith, some.0, some.1))
+    by (suc m) enough t f = record {
+      place = l.place + n;
+      at = omega (arith, l.at, some.1, length-drop n rest);
+      more = m;
+      enough = omega (arith, some.0, some.1, length-drop n rest);
+      tokens = ap (λ x. found ++ (after_front (suc m) l.place rest x).tokens) e ∙ t;
+      fault = ap (λ x. (after_front (suc m) l.place rest x).fault) e ∙ f;
+    }
+
+pub IsLeft-Lexed : (text rest : List ℕ) (found : List Token) (place : ℕ) (lexeme : Lexeme) (n : ℕ) → IsLeft text rest found → Lexed lexeme n ≡ front rest → place + length rest ≡ length text → IsLeft text (drop n rest) (found ++ token_at place lexeme ∷ [])
+IsLeft-Lexed text rest found place lexeme n l e at = by l.more l.enough l.tokens l.fault
+  where
+    some : (0 < n) × (n ≤ length rest)
+    some = some_of rest (Lexed lexeme n) e
+
+    same : l.place ≡ place
+    same = omega (arith, l.at, at)
+
+    by : (more : ℕ) → length rest ≤ more → found ++ (scanned_from (suc more) l.place rest).tokens ≡ (scanned text).tokens → (scanned_from (suc more) l.place rest).fault ≡ (scanned text).fault → IsLeft text (drop n rest) (found ++ token_at place lexeme ∷ [])
+    by zero enough t f = absurd (omega (arith, some.0, some.1))
+    by (suc m) enough t f = record {
+      place = place + n;
+      at = omega (arith, at, some.1, length-drop n rest);
+      more = m;
+      enough = omega (arith, some.0, some.1, length-drop n rest);
+      tokens = append_assoc found (token_at place lexeme ∷ []) (scanned_from (suc m) (place + n) (drop n rest)).tokens
+          ∙ ap (λ p. found ++ (after_front (suc m) p rest (Lexed lexeme n)).tokens) (sym same)
+          ∙ ap (λ x. found ++ (after_front (suc m) l.place rest x).tokens) e ∙ t;
+      fault = ap (λ p. (after_front (suc m) p rest (Lexed lexeme n)).fault) (sym same) ∙ ap (λ x. (after_front (suc m) l.place rest x).fault) e ∙ f;
+    }

@@ -1,0 +1,10 @@
+use Rattle.std.proofs.Common.{length}
+use Rattle.c_reader.specs.Tokens.{tokens_of}
+use Rattle.c_reader.proofs.Scans.{IsLeft}
+use Rattle.c_reader.proofs.scanner.scan.Given as goal
+
+abbrev pub invariant-loop-bytes : goal.invariant-loop-bytes
+invariant-loop-bytes l = IsLeft l.text l.rest (tokens_of l.tokens.items)
+
+abbrev pub decreases-loop-bytes : goal.decreases-loop-bytes
+decreases-loop-bytes l = length l.rest

@@ -1,0 +1,61 @@
+//! The tokens of a text.
+ghost use Rattle.std.specs.Prelude.{◌≡◌, ◌<◌, ◌≤◌, ◌^◌, length, drop, IfOk};
+ghost use Rattle.c_tree.specs.Scanning.{scanned};
+ghost use Rattle.c_reader.specs.Fronts.{scanned_of};
+
+use crate::front::{Front, read_front};
+use crate::token::Token;
+use c_tree::rule::Rule;
+use ido_base::place::Place;
+use std::alloc::{AllocError, Global};
+
+/// A rule that is broken at a place.
+#[derive(Clone, Copy, PartialEq, Eq, Debug, Drop)]
+pub struct Fault {
+    pub rule: Rule,
+    pub place: Place,
+}
+
+/// The tokens of a text up to its end, or up to the first place where none begins.
+#[derive(Debug, Drop)]
+pub struct Scanned<'a> {
+    pub tokens: Vec<Token<'a>>,
+    /// What is broken where no token begins.
+    pub fault: Option<Fault>,
+}
+
+/// What stands behind so many bytes.
+fn behind<'a>(text: &'a [u8], bytes: usize) -> &'a [u8]
+    requires { bytes ≤ length text.now }
+    ensures { result.now ≡ drop bytes text.entry.now }
+{
+    let (_, rest) = text.split_at(bytes);
+    rest
+}
+
+/// The tokens of a text.
+pub fn scan<'a>(alloc: Global, text: &'a [u8]) -> Result<Scanned<'a>, AllocError>
+    requires { length text.now < 2 ^ 32 }
+    ensures { IfOk result (λ s. scanned_of s ≡ scanned text.entry.now) }
+{
+    let mut tokens = Vec::new(alloc);
+    let mut rest = text;
+    loop {
+        let place = Place((text.len() - rest.len()) as u32);
+        match read_front(rest) {
+            Front::Blank(bytes) => rest = behind(rest, bytes),
+            Front::Lexed(lexeme, bytes) => {
+                tokens.push(Token { place, lexeme })?;
+                rest = behind(rest, bytes);
+            }
+            Front::Broken(rule) => {
+                let fault = Some(Fault { rule, place });
+                return Ok(Scanned { tokens, fault });
+            }
+            Front::End => {
+                let fault = None;
+                return Ok(Scanned { tokens, fault });
+            }
+        }
+    }
+}

@@ -1,0 +1,250 @@
+//! Statements without blocks.
+ghost use Rattle.std.specs.Option.{option_map};
+ghost use Rattle.c_tree.specs.Views.{assignment_of, declaration_of, expression_of, first_of, initial_of, name_of, statement_of, target_of};
+ghost use Rattle.c_reader.specs.Parsing as spec;
+ghost use Rattle.c_reader.specs.Reads.{Reads};
+ghost use Rattle.c_reader.specs.Steps.{maybe_initial, parse_assignment_statement, parse_declaration_statement, parse_lock, parse_named_statement, parse_unlock, statement_behind_name, statement_behind_target};
+
+use crate::assignment::{RightSide, assignment, call_after, change, right};
+use crate::cursor::Cursor;
+use crate::expression::{expression, index};
+use crate::halt::Halt;
+use crate::kind::kind;
+use c_tree::token::{Keyword, Punctuator};
+use c_tree::tree::{
+    Assignment, Change, Declaration, Expression, First, Initial, Name, Statement, Target,
+};
+use std::alloc::Global;
+
+/// What a local begins with, where it is written.
+#[tactic(auto, using(crate::proofs::Steps::maybe_initial_is))]
+fn initial(alloc: Global, tokens: &mut Cursor<'_>, fuel: usize) -> Result<Initial, Halt>
+    ensures { Reads initial_of (maybe_initial fuel tokens.old) result tokens.new }
+{
+    if !tokens.sees(Punctuator::Assign) {
+        return Ok(Initial::Absent);
+    }
+    tokens.mark(Punctuator::Assign)?;
+    match right(alloc, tokens, fuel)? {
+        RightSide::Expression(value) => Ok(Initial::Expression(value)),
+        RightSide::Call(call) => Ok(Initial::Call(call)),
+    }
+}
+
+/// The same without a call.
+fn initial_of_first(alloc: Global, tokens: &mut Cursor<'_>, fuel: usize) -> Result<Initial, Halt>
+    ensures { Reads initial_of (spec.parse_initial_of_first fuel tokens.old) result tokens.new }
+{
+    if !tokens.sees(Punctuator::Assign) {
+        return Ok(Initial::Absent);
+    }
+    tokens.mark(Punctuator::Assign)?;
+    Ok(Initial::Expression(expression(alloc, tokens, fuel)?))
+}
+
+/// A declaration.
+pub fn declaration(alloc: Global, tokens: &mut Cursor<'_>, fuel: usize) -> Result<Declaration, Halt>
+    ensures { Reads declaration_of (spec.declaration_over (maybe_initial fuel) tokens.old) result tokens.new }
+{
+    let place = tokens.place()?;
+    let kind = kind(tokens)?;
+    let name = tokens.name(alloc)?;
+    let initial = initial(alloc, tokens, fuel)?;
+    Ok(Declaration {
+        place,
+        kind,
+        name,
+        initial,
+    })
+}
+
+/// A declaration that makes no call.
+fn declaration_of_first(
+    alloc: Global,
+    tokens: &mut Cursor<'_>,
+    fuel: usize,
+) -> Result<Declaration, Halt>
+    ensures { Reads declaration_of (spec.declaration_over (spec.parse_initial_of_first fuel) tokens.old) result tokens.new }
+{
+    let place = tokens.place()?;
+    let kind = kind(tokens)?;
+    let name = tokens.name(alloc)?;
+    let initial = initial_of_first(alloc, tokens, fuel)?;
+    Ok(Declaration {
+        place,
+        kind,
+        name,
+        initial,
+    })
+}
+
+/// The first part of a `for`, before its semicolon.
+pub fn first(alloc: Global, tokens: &mut Cursor<'_>, fuel: usize) -> Result<First, Halt>
+    ensures { Reads first_of (spec.parse_first fuel tokens.old) result tokens.new }
+{
+    if tokens.sees(Punctuator::Semicolon) {
+        Ok(First::Absent)
+    } else if tokens.sees_type() {
+        Ok(First::Declaration(declaration_of_first(alloc, tokens, fuel)?))
+    } else {
+        Ok(First::Assignment(assignment(alloc, tokens, fuel)?))
+    }
+}
+
+/// The condition of a `for`, before its semicolon.
+pub fn condition_of_for(
+    alloc: Global,
+    tokens: &mut Cursor<'_>,
+    fuel: usize,
+) -> Result<Option<Expression>, Halt>
+    ensures { Reads (option_map expression_of) (spec.parse_unless (spec.is_mark Punctuator.Semicolon) (spec.parse_expression fuel) tokens.old) result tokens.new }
+{
+    if tokens.sees(Punctuator::Semicolon) {
+        Ok(None)
+    } else {
+        Ok(Some(expression(alloc, tokens, fuel)?))
+    }
+}
+
+/// The last part of a `for`, before its closing parenthesis.
+pub fn last(alloc: Global, tokens: &mut Cursor<'_>, fuel: usize) -> Result<Option<Assignment>, Halt>
+    ensures { Reads (option_map assignment_of) (spec.parse_unless (spec.is_mark Punctuator.CloseParenthesis) (spec.parse_assignment fuel) tokens.old) result tokens.new }
+{
+    if tokens.sees(Punctuator::CloseParenthesis) {
+        Ok(None)
+    } else {
+        Ok(Some(assignment(alloc, tokens, fuel)?))
+    }
+}
+
+/// `(condition)`
+pub fn condition(alloc: Global, tokens: &mut Cursor<'_>, fuel: usize) -> Result<Expression, Halt>
+    ensures { Reads expression_of (spec.parse_condition fuel tokens.old) result tokens.new }
+{
+    tokens.mark(Punctuator::OpenParenthesis)?;
+    let inside = expression(alloc, tokens, fuel)?;
+    tokens.mark(Punctuator::CloseParenthesis)?;
+    Ok(inside)
+}
+
+/// `(name)`
+pub fn name_in_parentheses(alloc: Global, tokens: &mut Cursor<'_>) -> Result<Name, Halt>
+    ensures { Reads name_of (spec.parse_name_in_parentheses tokens.old) result tokens.new }
+{
+    tokens.mark(Punctuator::OpenParenthesis)?;
+    let inside = tokens.name(alloc)?;
+    tokens.mark(Punctuator::CloseParenthesis)?;
+    Ok(inside)
+}
+
+/// What stands behind the target of a statement, before its semicolon.
+#[tactic(auto, using(crate::proofs::Steps::statement_behind_target_is))]
+fn statement_after_target(
+    alloc: Global,
+    tokens: &mut Cursor<'_>,
+    fuel: usize,
+    target: Target,
+) -> Result<Statement, Halt>
+    ensures { Reads statement_of (statement_behind_target fuel (target_of target) tokens.old) result tokens.new }
+{
+    let place = target.name.place;
+    if !tokens.sees(Punctuator::Assign) {
+        let change = change(alloc, tokens, fuel)?;
+        return Ok(Statement::Assignment(Assignment {
+            place,
+            target,
+            change,
+        }));
+    }
+    tokens.mark(Punctuator::Assign)?;
+    match right(alloc, tokens, fuel)? {
+        RightSide::Expression(value) => Ok(Statement::Assignment(Assignment {
+            place,
+            target,
+            change: Change::Set { value },
+        })),
+        RightSide::Call(call) => Ok(Statement::CallAssignment { target, call }),
+    }
+}
+
+/// What stands behind the name that a statement begins with, before its semicolon.
+#[tactic(auto, using(crate::proofs::Steps::statement_behind_name_is))]
+fn statement_after_name(
+    alloc: Global,
+    tokens: &mut Cursor<'_>,
+    fuel: usize,
+    name: Name,
+) -> Result<Statement, Halt>
+    ensures { Reads statement_of (statement_behind_name fuel (name_of name) tokens.old) result tokens.new }
+{
+    if tokens.sees(Punctuator::OpenParenthesis) {
+        return Ok(Statement::Call(call_after(alloc, tokens, fuel, name)?));
+    }
+    let index = index(alloc, tokens, fuel)?;
+    statement_after_target(alloc, tokens, fuel, Target { name, index })
+}
+
+/// A statement that begins with a name.
+#[tactic(auto, using(crate::proofs::Steps::named_statement_is))]
+pub fn named_statement(
+    alloc: Global,
+    tokens: &mut Cursor<'_>,
+    fuel: usize,
+) -> Result<Statement, Halt>
+    ensures { Reads statement_of (parse_named_statement fuel tokens.old) result tokens.new }
+{
+    let name = tokens.name(alloc)?;
+    let statement = statement_after_name(alloc, tokens, fuel, name)?;
+    tokens.mark(Punctuator::Semicolon)?;
+    Ok(statement)
+}
+
+/// A statement that is a declaration.
+#[tactic(auto, using(crate::proofs::Steps::declaration_statement_is))]
+pub fn declaration_statement(
+    alloc: Global,
+    tokens: &mut Cursor<'_>,
+    fuel: usize,
+) -> Result<Statement, Halt>
+    ensures { Reads statement_of (parse_declaration_statement fuel tokens.old) result tokens.new }
+{
+    let declared = declaration(alloc, tokens, fuel)?;
+    tokens.mark(Punctuator::Semicolon)?;
+    Ok(Statement::Declaration(declared))
+}
+
+/// A statement that is an assignment without a call.
+#[tactic(auto, unfolding(crate::specs::Steps::parse_assignment_statement))]
+pub fn assignment_statement(
+    alloc: Global,
+    tokens: &mut Cursor<'_>,
+    fuel: usize,
+) -> Result<Statement, Halt>
+    ensures { Reads statement_of (parse_assignment_statement fuel tokens.old) result tokens.new }
+{
+    let assigned = assignment(alloc, tokens, fuel)?;
+    tokens.mark(Punctuator::Semicolon)?;
+    Ok(Statement::Assignment(assigned))
+}
+
+/// `lock(mutex);`
+#[tactic(auto, unfolding(crate::specs::Steps::parse_lock))]
+pub fn lock(alloc: Global, tokens: &mut Cursor<'_>) -> Result<Statement, Halt>
+    ensures { Reads statement_of (parse_lock tokens.old) result tokens.new }
+{
+    let place = tokens.word(Keyword::Lock)?;
+    let mutex = name_in_parentheses(alloc, tokens)?;
+    tokens.mark(Punctuator::Semicolon)?;
+    Ok(Statement::Lock { place, mutex })
+}
+
+/// `unlock(mutex);`
+#[tactic(auto, unfolding(crate::specs::Steps::parse_unlock))]
+pub fn unlock(alloc: Global, tokens: &mut Cursor<'_>) -> Result<Statement, Halt>
+    ensures { Reads statement_of (parse_unlock tokens.old) result tokens.new }
+{
+    let place = tokens.word(Keyword::Unlock)?;
+    let mutex = name_in_parentheses(alloc, tokens)?;
+    tokens.mark(Punctuator::Semicolon)?;
+    Ok(Statement::Unlock { place, mutex })
+}
