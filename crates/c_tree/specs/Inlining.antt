@@ -107,6 +107,11 @@ assigned place n (Some x) (Some target) = one (f.Assign place target (record { p
 assigned place n (Some x) None = f.no_statement
 assigned place n None target = f.no_statement
 
+-- a call of which nothing is left has no locals
+abbrev pub kinds_behind : f.Statements → (before after : List Kind) → List Kind
+kinds_behind f.no_statement before after = before
+kinds_behind (f.statement_and x xs) before after = after
+
 -- a call's function with its locals behind those of the kinds
 abbrev pub Bodies : Type 0
 Bodies = (function : ℕ) → List Kind → Made f.Statements
@@ -114,10 +119,9 @@ Bodies = (function : ℕ) → List Kind → Made f.Statements
 module _ (fs : List p.Function) (bodies : Bodies) where
   -- the parameters, the body, the result
   abbrev pub called : Place → (by : ℕ) → List Kind → p.Function → (body : Made f.Statements) → List e.Placed → Option e.Target → Made f.Statements
-  called place n ks x body arguments result = record {
-    made = statements_and (passed place (length ks) x.locals (map (shifted_placed n) arguments)) (statements_and body.made (assigned place (length ks) x.result (option_map (shifted_target n) result)));
-    kinds = body.kinds;
-  }
+  called place n ks x body arguments result =
+      let made = statements_and (passed place (length ks) x.locals (map (shifted_placed n) arguments)) (statements_and body.made (assigned place (length ks) x.result (option_map (shifted_target n) result))) in
+      record { made = made; kinds = kinds_behind made ks body.kinds }
 
   abbrev mutual
     pub statement : (by : ℕ) → List Kind → p.Statement → Made f.Statements

@@ -18,3 +18,4 @@ pub mod Ranges
 pub mod Inlining
 pub mod Locking
 pub mod Temporaries
+pub mod Checking

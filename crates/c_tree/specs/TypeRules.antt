@@ -169,9 +169,9 @@ module _ (gs : List n.Global) where
     statement_faults s (t.Assign x) = assignment_faults s x
     statement_faults s (t.AssignResult x c) = target_faults s x ++ call_faults s c true
     statement_faults s (t.CallOnly c) = call_faults s c false
-    statement_faults s (t.If place arms otherwise) = arms_faults s arms ++ otherwise_faults s otherwise
+    statement_faults s (t.If place arms otherwise) = arms_faults s arms ++ otherwise_faults (made.arms_of gs s arms).scope otherwise
     statement_faults s (t.While place x body) = expression_faults s x ++ block_faults s body
-    statement_faults s (t.Do place body x) = block_faults s body ++ expression_faults s x
+    statement_faults s (t.Do place body x) = block_faults s body ++ expression_faults (made.inside gs s body).scope x
     statement_faults s (t.For place start x last body) =
         first_faults (n.entered s) start ++ (let f = (made.first_at gs place (n.entered s) start).scope in maybe_faults f x ++ last_faults f last ++ block_faults f body)
     statement_faults s (t.Lock place mutex) = mutex_faults s mutex
@@ -186,7 +186,7 @@ module _ (gs : List n.Global) where
 
     pub arms_faults : n.Scope → t.Arms → List Fault
     arms_faults s t.no_arm = []
-    arms_faults s (t.arm_and x body arms) = expression_faults s x ++ block_faults s body ++ arms_faults s arms
+    arms_faults s (t.arm_and x body arms) = expression_faults s x ++ block_faults s body ++ arms_faults (made.inside gs s body).scope arms
 
     pub otherwise_faults : n.Scope → t.Otherwise → List Fault
     otherwise_faults s t.Nothing = []

@@ -210,7 +210,7 @@ module _ (gs : List n.Global) where
     statement s (t.While place x body) = let m = inside s body in
         record { made = one (p.While place (placed s x) m.made); scope = m.scope }
     statement s (t.Do place body x) = let m = inside s body in
-        record { made = one (p.Do place m.made (placed s x)); scope = m.scope }
+        record { made = one (p.Do place m.made (placed m.scope x)); scope = m.scope }
     statement s (t.For place start x last body) =
         let f = first_at place (n.entered s) start in
         let m = inside f.scope body in

@@ -9,3 +9,9 @@ pub mod Reported
 pub mod Plays
 pub mod TrackerLemmas
 pub mod Tops
+pub mod Sizes
+pub mod Checks
+pub mod Commands
+pub mod Rests
+pub mod Stops
+pub mod Fronts

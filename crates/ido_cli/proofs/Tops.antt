@@ -1,34 +1,28 @@
 -- What a run of the top call comes to.
-use Rattle.std.proofs.Common.{◌≡◌, ℕ, ◌+◌, ◌<◌, ◌≤◌, ◌⊎◌, List, [], length, replicate, Some, None, Bool, true, false, if◌then◌else◌, refl, sym, ap, subst, arith, IfSome, inl, inr}
+use Rattle.std.proofs.Common.{◌≡◌, ℕ, ◌+◌, ◌<◌, ◌≤◌, ◌⊎◌, List, [], ◌∷◌, length, replicate, Some, None, Bool, true, false, if◌then◌else◌, refl, sym, ap, subst, arith, IfSome, inl, inr}
 use Rattle.std.specs.declared.option.Option.{Option}
 use Rattle.std.proofs.lemmas.List.{length-replicate}
 use Rattle.std.specs.Prelude.{codes}
 use Rattle.rv64_isa.specs.Machine.{machine}
 use Rattle.rv64_isa.specs.Schedule.{is_settled}
 use Rattle.ido_cli.specs.declared.play.Said.{Said}
-use Rattle.ido_cli.specs.Answers.{is_accepted, IsPastLimits, AnswerToParts, of_no_form, played, AnswerToInput, past_limits, within_limits, Answer, wrong_words, taken_words, IsAnswer, IsAnswered, Outside, answered, sink_failed, most_bytes, most_source_bytes, steps_of_first}
+use Rattle.c_tree.specs.Flats as f
+use Rattle.ido_cli.specs.declared.command.Command.{Command}
+use Rattle.ido_cli.specs.declared.command.Command.TheVariants as command
+use Rattle.ido_cli.specs.Commands.{command_of}
+use Rattle.ido_cli.specs.Runs.{RunAnswer, ran, stopped, run_state, status_by}
+use Rattle.ido_cli.specs.Answers.{IsPastLimits, CheckedAnswer, of_no_form, played, PlayAnswer, unplayed, checked, SourceAnswer, faulty, no_schedule, of_schedule, CommandAnswer, AnswerToInput, past_limits, within_limits, Answer, wrong_words, taken_words, IsAnswer, IsAnswered, Outside, answered, sink_failed, most_bytes, most_source_bytes, steps_of_first}
 use Rattle.ido_cli.specs.Inputs.{source_of, rest_of}
 use Rattle.ido_cli.specs.Deliveries.{IsSaidToInput, IsDelivered, whole, broken}
-
--- ---- Inputs within the limits
-
-pub answer_within : (input source script : List ℕ) (status : ℕ) (output : List ℕ) → source ≡ source_of input → script ≡ rest_of input → length input ≤ most_bytes → length source ≤ most_source_bytes → AnswerToParts source script status output → AnswerToInput input status output
-answer_within input source script status output s r few few_of_source parts =
-    let with_source : AnswerToParts (source_of input) script status output = subst (λ (x : List ℕ). AnswerToParts x script status output) s parts in
-    within_limits (not_past s few few_of_source) (subst (λ (x : List ℕ). AnswerToParts (source_of input) x status output) r with_source)
-  where
-    not_past : source ≡ source_of input → length input ≤ most_bytes → length source ≤ most_source_bytes → IsPastLimits input → ⊥
-    not_past same few few_of_source (inl long) = omega (arith, few, long)
-    not_past same few few_of_source (inr long) = omega (arith, few_of_source, long, ap length same)
 
 -- ---- Inputs that the source may not tell
 
 some_longer : (n : ℕ) → (input : List ℕ) × (n < length input)
 some_longer n = (replicate (n + 1) 0, omega (arith, length-replicate {A = ℕ} (n + 1) 0))
 
-pub said_to_long_input : (left : Option (List ℕ)) (said : Said) → IfSome left (λ bytes. most_bytes < length bytes) → said.status ≡ 6 → said.output.items ≡ codes "refused limit\n" → IsSaidToInput left said
-said_to_long_input (Some bytes) said long status output = record { input = bytes; told = refl; answer = past_limits (inl long) (status, output) }
-said_to_long_input None said long status output =
+pub said_to_long_input : (c : Command) (left : Option (List ℕ)) (said : Said) → IfSome left (λ bytes. most_bytes < length bytes) → said.status ≡ 6 → said.output.items ≡ codes "refused limit\n" → IsSaidToInput c left said
+said_to_long_input c (Some bytes) said long status output = record { input = bytes; told = refl; answer = past_limits (inl long) (status, output) }
+said_to_long_input c None said long status output =
     let some : (input : List ℕ) × (most_bytes < length input) = some_longer most_bytes in
     record { input = some.0; told = tt; answer = past_limits (inl some.1) (status, output) }
 
@@ -36,13 +30,13 @@ told_some : (left : Option (List ℕ)) → (input : List ℕ) × IfSome left (λ
 told_some (Some bytes) = (bytes, refl)
 told_some None = ([], tt)
 
-pub answer_to_wrong_words : (words : List (List ℕ)) (left : Option (List ℕ)) (status : ℕ) (output : List ℕ) → is_accepted words ≡ false → status ≡ 2 → output ≡ codes "refused words\n" → IsAnswer words left status output
+pub answer_to_wrong_words : (words : List (List ℕ)) (left : Option (List ℕ)) (status : ℕ) (output : List ℕ) → command_of words ≡ None → status ≡ 2 → output ≡ codes "refused words\n" → IsAnswer words left status output
 answer_to_wrong_words words left status output wrong status_is output_is =
     let some : (input : List ℕ) × IfSome left (λ bytes. input ≡ bytes) = told_some left in
     record { input = some.0; told = some.1; answer = wrong_words wrong (status_is, output_is) }
 
-pub answer_to_taken_words : (words : List (List ℕ)) (left : Option (List ℕ)) (said : Said) → is_accepted words ≡ true → IsSaidToInput left said → IsAnswer words left said.status said.output.items
-answer_to_taken_words words left said taken s = record { input = s.input; told = s.told; answer = taken_words taken s.answer }
+pub answer_to_taken_words : (words : List (List ℕ)) (c : Command) (left : Option (List ℕ)) (said : Said) → command_of words ≡ Some c → IsSaidToInput c left said → IsAnswer words left said.status said.output.items
+answer_to_taken_words words c left said taken s = record { input = s.input; told = s.told; answer = taken_words c taken s.answer }
 
 -- ---- Statuses of answers
 
@@ -53,21 +47,42 @@ settled_or_not false status e = inr e
 not_four_or_seven : (status n : ℕ) → status ≡ n → (n < 4) ⊎ (n ≡ 6) → (status ≡ 4) ⊎ (status ≡ 7) → ⊥
 not_four_or_seven status n e small h = omega arith
 
-of_parts : (source script : List ℕ) (status : ℕ) (output : List ℕ) → AnswerToParts source script status output → (status ≡ 4) ⊎ (status ≡ 7) → ⊥
-of_parts source script status output (of_no_form other refused) h = not_four_or_seven status 6 refused.0 (inr refl) h
-of_parts source script status output (played form steps is p) h =
+of_checked : (source script : List ℕ) (status : ℕ) (output : List ℕ) → CheckedAnswer source script status output → (status ≡ 4) ⊎ (status ≡ 7) → ⊥
+of_checked source script status output (of_no_form other refused) h = not_four_or_seven status 6 refused.0 (inr refl) h
+of_checked source script status output (played form steps is p) h =
     elim (settled_or_not (is_settled (machine p.object (steps_of_first steps))) status p.status_is) [
       | inl e ↦ not_four_or_seven status 0 e (inl (omega arith)) h
       | inr e ↦ not_four_or_seven status 3 e (inl (omega arith)) h
     ]
 
-of_input : (input : List ℕ) (status : ℕ) (output : List ℕ) → AnswerToInput input status output → (status ≡ 4) ⊎ (status ≡ 7) → ⊥
-of_input input status output (past_limits past refused) h = not_four_or_seven status 6 refused.0 (inr refl) h
-of_input input status output (within_limits within parts) h = of_parts _ _ status output parts h
+of_play : (source script : List ℕ) (status : ℕ) (output : List ℕ) → PlayAnswer source script status output → (status ≡ 4) ⊎ (status ≡ 7) → ⊥
+of_play source script status output (unplayed found place is refused) h = not_four_or_seven status 1 refused.0 (inl (omega arith)) h
+of_play source script status output (checked flat is answer) h = of_checked source script status output answer h
+
+by_unsettled : (unsettled : List ℕ) (status : ℕ) → status ≡ status_by unsettled → (status ≡ 4) ⊎ (status ≡ 7) → ⊥
+by_unsettled [] status e h = not_four_or_seven status 0 e (inl (omega arith)) h
+by_unsettled (t ∷ ts) status e h = not_four_or_seven status 3 e (inl (omega arith)) h
+
+of_run : (x : f.Flat) (schedule : List ℕ) (status : ℕ) (output : List ℕ) → RunAnswer x schedule status output → (status ≡ 4) ⊎ (status ≡ 7) → ⊥
+of_run x schedule status output (ran runs reported) h = by_unsettled (run_state x schedule).unsettled status reported.status_is h
+of_run x schedule status output (stopped stop is e out) h = not_four_or_seven status 6 e (inr refl) h
+
+of_source : (input : List ℕ) (status : ℕ) (output : List ℕ) → SourceAnswer input status output → (status ≡ 4) ⊎ (status ≡ 7) → ⊥
+of_source input status output (faulty found place is refused) h = not_four_or_seven status 1 refused.0 (inl (omega arith)) h
+of_source input status output (no_schedule flat is x read refused) h = not_four_or_seven status 6 refused.0 (inr refl) h
+of_source input status output (of_schedule flat is schedule read answer) h = of_run flat schedule status output answer h
+
+of_command : (c : Command) (input : List ℕ) (status : ℕ) (output : List ℕ) → CommandAnswer c input status output → (status ≡ 4) ⊎ (status ≡ 7) → ⊥
+of_command command.Play input status output answer h = of_play _ _ status output answer h
+of_command command.Source input status output answer h = of_source input status output answer h
+
+of_input : (c : Command) (input : List ℕ) (status : ℕ) (output : List ℕ) → AnswerToInput c input status output → (status ≡ 4) ⊎ (status ≡ 7) → ⊥
+of_input c input status output (past_limits past refused) h = not_four_or_seven status 6 refused.0 (inr refl) h
+of_input c input status output (within_limits within answer) h = of_command c input status output answer h
 
 of_answer : (words : List (List ℕ)) (input : List ℕ) (status : ℕ) (output : List ℕ) → Answer words input status output → (status ≡ 4) ⊎ (status ≡ 7) → ⊥
 of_answer words input status output (wrong_words wrong refused) h = not_four_or_seven status 2 refused.0 (inl (omega arith)) h
-of_answer words input status output (taken_words taken answer) h = of_input input status output answer h
+of_answer words input status output (taken_words c taken answer) h = of_input c input status output answer h
 
 -- ---- What was delivered
 

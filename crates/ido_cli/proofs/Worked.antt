@@ -2,7 +2,9 @@
 use Rattle.std.specs.Prelude.{◌≡◌, [], ◌∷◌, Some, None, true, false, refl, codes}
 use Rattle.ido_cli.specs.Inputs.{source_of, rest_of, behind_mark}
 use Rattle.ido_cli.specs.Scripts.{steps_of}
-use Rattle.ido_cli.specs.Answers.{is_accepted}
+use Rattle.clap.proofs.OnLiterals.{clap_on_literals}
+use Rattle.ido_cli.specs.declared.command.Command.TheVariants as command
+use Rattle.ido_cli.specs.Commands.{command_of}
 
 -- ---- Inputs
 
@@ -90,11 +92,30 @@ other_word = refl
 
 -- ---- Words
 
-play_is_accepted : is_accepted (codes "ido" ∷ codes "play" ∷ []) ≡ true
-play_is_accepted = refl
+play_is_taken : command_of (codes "ido" ∷ codes "play" ∷ []) ≡ Some command.Play
+unfolding command_of clap_on_literals
+play_is_taken = refl
 
-frob_is_not : is_accepted (codes "ido" ∷ codes "frob" ∷ []) ≡ false
+source_is_taken : command_of (codes "ido" ∷ codes "source" ∷ []) ≡ Some command.Source
+unfolding command_of clap_on_literals
+source_is_taken = refl
+
+frob_is_not : command_of (codes "ido" ∷ codes "frob" ∷ []) ≡ None
+unfolding command_of clap_on_literals
 frob_is_not = refl
 
-no_more_words : is_accepted (codes "ido" ∷ codes "play" ∷ codes "play" ∷ []) ≡ false
+no_command : command_of (codes "ido" ∷ []) ≡ None
+unfolding command_of clap_on_literals
+no_command = refl
+
+no_more_words : command_of (codes "ido" ∷ codes "play" ∷ codes "play" ∷ []) ≡ None
+unfolding command_of clap_on_literals
 no_more_words = refl
+
+no_help : command_of (codes "ido" ∷ codes "--help" ∷ []) ≡ None
+unfolding command_of clap_on_literals
+no_help = refl
+
+no_help_of_a_command : command_of (codes "ido" ∷ codes "help" ∷ codes "play" ∷ []) ≡ None
+unfolding command_of clap_on_literals
+no_help_of_a_command = refl

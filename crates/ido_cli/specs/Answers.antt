@@ -1,6 +1,15 @@
 -- What the program answers: a status and the bytes that it writes.
-use Rattle.std.specs.Prelude.{◌≡◌, ◌⊎◌, ℕ, ◌<◌, List, [], ◌∷◌, ◌++◌, length, replicate, Option, Some, Bool, true, false, nat_eq, if◌then◌else◌, IsTrue, codes, IfSome}
-use Rattle.std.specs.Cmp.Lexicographic.{pointwise}
+use Rattle.std.specs.Prelude.{◌≡◌, ◌⊎◌, ℕ, ◌+◌, ◌-◌, ◌<◌, List, [], ◌∷◌, ◌++◌, length, replicate, Option, Some, None, if◌then◌else◌, IsTrue, codes, IfSome}
+use Rattle.ido_base.specs.declared.place.Place.{Place}
+use Rattle.c_tree.specs.Checking.{IsChecked, IsFaulty}
+use Rattle.c_tree.specs.Flats as f
+use Rattle.c_tree.specs.declared.rule.Rule as r
+use Rattle.run_scripts.specs.Schedules as s
+use Rattle.ido_cli.specs.declared.command.Command.{Command}
+use Rattle.ido_cli.specs.declared.command.Command.TheVariants as command
+use Rattle.ido_cli.specs.Commands.{command_of}
+use Rattle.ido_cli.specs.Refusals.{IsRefusedAt, code_of, fault_code, fault_place}
+use Rattle.ido_cli.specs.Runs.{RunAnswer}
 use Rattle.ido_base.specs.declared.event.Event.{Event}
 use Rattle.ido_base.specs.declared.event.Event.TheVariants.{Step}
 use Rattle.ido_outside.specs.Causes.{Rose}
@@ -15,13 +24,6 @@ use Rattle.ido_cli.specs.Inputs.{source_of, rest_of}
 use Rattle.ido_cli.specs.Scripts.{steps_of}
 use Rattle.run_scripts.specs.Reports.{line, report}
 use Rattle.ido_cli.specs.Reports.{machine_state, source_state}
-
--- the words of the command line, the program's name first, that the program takes
-abbrev pub is_accepted : (words : List (List ℕ)) → Bool
-is_accepted (name ∷ command ∷ []) = pointwise nat_eq command (codes "play")
-is_accepted [] = false
-is_accepted (name ∷ []) = false
-is_accepted (name ∷ command ∷ next ∷ more) = false
 
 -- bytes that are read
 abbrev pub most_bytes : ℕ
@@ -67,21 +69,45 @@ pub record IsPlayed (form : Form) (steps status : ℕ) (output : List ℕ) : Typ
   pub output_is : output ≡ report (machine_state (form.variable ∷ []) (start_state form) (machine object (steps_of_first steps)) (steps_compared (compared form object marks) (machine_start object) (steps_of_first steps)).kept)
   pub settled : status ≡ 0 → IsSourceRun form output
 
--- what a source and a script are answered: status and output
-pub data AnswerToParts (source script : List ℕ) (status : ℕ) (output : List ℕ) : Type 0 where
-  of_no_form : ((form : Form) (steps : ℕ) → IsOfForm source script form steps → ⊥) → Refuses 6 status (codes "form") output → AnswerToParts source script status output
-  played : (form : Form) (steps : ℕ) → IsOfForm source script form steps → IsPlayed form steps status output → AnswerToParts source script status output
+-- what a source that is checked and a script are answered: status and output
+pub data CheckedAnswer (source script : List ℕ) (status : ℕ) (output : List ℕ) : Type 0 where
+  of_no_form : ((form : Form) (steps : ℕ) → IsOfForm source script form steps → ⊥) → Refuses 6 status (codes "form") output → CheckedAnswer source script status output
+  played : (form : Form) (steps : ℕ) → IsOfForm source script form steps → IsPlayed form steps status output → CheckedAnswer source script status output
 
--- what an input of `play` is answered
-pub data AnswerToInput (input : List ℕ) (status : ℕ) (output : List ℕ) : Type 0 where
-  past_limits : IsPastLimits input → Refuses 6 status (codes "limit") output → AnswerToInput input status output
-  within_limits : (IsPastLimits input → ⊥) → AnswerToParts (source_of input) (rest_of input) status output → AnswerToInput input status output
+-- what a source and a script are answered
+pub data PlayAnswer (source script : List ℕ) (status : ℕ) (output : List ℕ) : Type 0 where
+  unplayed : (found : r.Rule) (place : Place) → IsFaulty source found place → IsRefusedAt 1 (code_of found) source place.0 status output → PlayAnswer source script status output
+  checked : (flat : f.Flat) → IsChecked source flat → CheckedAnswer source script status output → PlayAnswer source script status output
+
+-- ---- `source`
+
+-- where the schedule begins
+abbrev pub rest_begins : (input : List ℕ) → ℕ
+rest_begins input = length input - length (rest_of input)
+
+-- what an input of a source and a schedule is answered: status and output
+pub data SourceAnswer (input : List ℕ) (status : ℕ) (output : List ℕ) : Type 0 where
+  faulty : (found : r.Rule) (place : Place) → IsFaulty (source_of input) found place → IsRefusedAt 1 (code_of found) (source_of input) place.0 status output → SourceAnswer input status output
+  no_schedule : (flat : f.Flat) → IsChecked (source_of input) flat → (x : s.Fault) → s.read (rest_of input) ≡ s.Refused x → IsRefusedAt 6 (fault_code x) input (rest_begins input + fault_place x) status output → SourceAnswer input status output
+  of_schedule : (flat : f.Flat) → IsChecked (source_of input) flat → (schedule : List ℕ) → s.read (rest_of input) ≡ s.Steps schedule → RunAnswer flat schedule status output → SourceAnswer input status output
+
+-- ---- All commands
+
+-- what an input within the limits is answered
+abbrev pub CommandAnswer : Command → (input : List ℕ) → (status : ℕ) → (output : List ℕ) → Type 0
+CommandAnswer command.Play input status output = PlayAnswer (source_of input) (rest_of input) status output
+CommandAnswer command.Source input status output = SourceAnswer input status output
+
+-- what an input of a command is answered
+pub data AnswerToInput (c : Command) (input : List ℕ) (status : ℕ) (output : List ℕ) : Type 0 where
+  past_limits : IsPastLimits input → Refuses 6 status (codes "limit") output → AnswerToInput c input status output
+  within_limits : (IsPastLimits input → ⊥) → CommandAnswer c input status output → AnswerToInput c input status output
 
 -- what words and an input are answered
 pub data Answer (words : List (List ℕ)) (input : List ℕ) (status : ℕ) (output : List ℕ) : Type 0 where
   -- words that aren't taken, whatever the input is
-  wrong_words : is_accepted words ≡ false → Refuses 2 status (codes "words") output → Answer words input status output
-  taken_words : is_accepted words ≡ true → AnswerToInput input status output → Answer words input status output
+  wrong_words : command_of words ≡ None → Refuses 2 status (codes "words") output → Answer words input status output
+  taken_words : (c : Command) → command_of words ≡ Some c → AnswerToInput c input status output → Answer words input status output
 
 -- ---- A run of the top call
 

@@ -3,13 +3,14 @@ use Rattle.std.specs.Prelude.{◌≡◌, ℕ, List, Option, IfSome}
 use Rattle.ido_outside.specs.Causes.{Rose}
 use Rattle.ido_outside.specs.Sink.{Adds, AddsFront}
 use Rattle.ido_cli.specs.declared.play.Said.{Said}
+use Rattle.ido_cli.specs.declared.command.Command.{Command}
 use Rattle.ido_cli.specs.Answers.{AnswerToInput}
 
--- the answer to an input of `play`, which is what was left where the source tells it
-pub record IsSaidToInput (left : Option (List ℕ)) (said : Said) : Type 0 where
+-- the answer to an input of a command, which is what was left where the source tells it
+pub record IsSaidToInput (c : Command) (left : Option (List ℕ)) (said : Said) : Type 0 where
   pub input : List ℕ
   pub told : IfSome left (λ bytes. input ≡ bytes)
-  pub answer : AnswerToInput input said.status said.output.items
+  pub answer : AnswerToInput c input said.status said.output.items
 
 -- by the status that is answered then
 pub data IsDelivered (said : Said) (written_before written : Option (List ℕ)) (faults_before faults : ℕ) (status : ℕ) : Type 0 where

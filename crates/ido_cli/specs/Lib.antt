@@ -1,3 +1,7 @@
+pub mod Commands
+pub mod Fronts
+pub mod Refusals
+pub mod Runs
 pub mod Inputs
 pub mod Scripts
 pub mod Reports

@@ -3,12 +3,16 @@ ghost use Rattle.std.specs.Prelude.{◌≡◌, ◌∷◌, [], ◌<◌, ◌≤◌
 ghost use Rattle.ido_compile.specs.Form.{Form, IsForm, form_of};
 ghost use Rattle.ido_compile.specs.Emitted.{IsEmitted};
 ghost use Rattle.ido_compile.specs.Compilation.{Compilation, node_marks};
-ghost use Rattle.ido_cli.specs.Answers.{IsPlayed, AnswerToParts, AnswerToInput, most_bytes};
+ghost use Rattle.ido_cli.specs.Answers.{IsPlayed, CheckedAnswer, PlayAnswer, AnswerToInput, most_bytes, most_source_bytes};
 
+use crate::command::Command;
+use crate::front::{FrontError, front};
 use crate::input::split;
 use crate::play::{Said, say};
+use crate::refusal::{code_of, refused, refused_at};
 use crate::run::run;
 use crate::script::read_script;
+use crate::source::source_answer;
 use crate::tracker::Tracker;
 use ido_base::memory::Memory;
 use ido_compile::compiler::{CompileError, Compiled, compile};
@@ -42,18 +46,9 @@ fn play(alloc: Global, compiled: &Compiled, steps: u64) -> Result<Said, Memory>
     Ok(said)
 }
 
-/// A refusal.
-pub fn refused(alloc: Global, status: u8, line: &[u8]) -> Result<Said, Memory>
-    ensures status { IfOk result (λ said. said.status ≡ status) }
-    ensures output { IfOk result (λ said. said.output.items ≡ line.now) }
-{
-    let output = line.to_vec(alloc)?;
-    Ok(Said { status, output })
-}
-
-/// The answer to a source text and a script.
-fn answer_parts(alloc: Global, source: &[u8], script: &[u8]) -> Result<Said, Memory>
-    ensures { IfOk result (λ said. AnswerToParts source.now script.now said.status said.output.items) }
+/// The answer to a source text that is checked, and a script.
+fn checked_answer(alloc: Global, source: &[u8], script: &[u8]) -> Result<Said, Memory>
+    ensures { IfOk result (λ said. CheckedAnswer source.now script.now said.status said.output.items) }
 {
     let compiled = match compile(alloc, source) {
         Ok(compiled) => compiled,
@@ -69,16 +64,31 @@ fn answer_parts(alloc: Global, source: &[u8], script: &[u8]) -> Result<Said, Mem
     }
 }
 
-/// The answer to an input of `play`.
-pub fn answer(alloc: Global, input: &[u8]) -> Result<Said, Memory>
-    requires { length input.now ≤ most_bytes }
-    ensures { IfOk result (λ said. AnswerToInput input.now said.status said.output.items) }
+/// The answer to an input of `play`, from its source text and its script.
+fn play_answer(alloc: Global, source: &[u8], script: &[u8]) -> Result<Said, Memory>
+    requires { length source.now ≤ most_source_bytes }
+    ensures { IfOk result (λ said. PlayAnswer source.now script.now said.status said.output.items) }
 {
-    let (source, script) = split(input);
+    match front(alloc, source) {
+        Ok(_) => checked_answer(alloc, source, script),
+        Err(FrontError::Refused { rule, place }) => {
+            refused_at(alloc, 1, code_of(rule), source, u64::from(place.0))
+        }
+        Err(FrontError::Memory) => Err(Memory),
+    }
+}
+
+/// The answer to an input of a command.
+pub fn answer(alloc: Global, command: Command, input: &[u8]) -> Result<Said, Memory>
+    requires { length input.now ≤ most_bytes }
+    ensures { IfOk result (λ said. AnswerToInput command input.now said.status said.output.items) }
+{
+    let (source, rest) = split(input);
     if source.len() > MOST_SOURCE_BYTES {
-        refused(alloc, 6, b"refused limit\n")
-    } else {
-        let said = answer_parts(alloc, source, script)?;
-        Ok(said)
+        return refused(alloc, 6, b"refused limit\n");
+    }
+    match command {
+        Command::Play => play_answer(alloc, source, rest),
+        Command::Source => source_answer(alloc, input, source, rest),
     }
 }

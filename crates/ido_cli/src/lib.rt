@@ -2,10 +2,14 @@
 #![tactic(auto)]
 
 mod answer;
+mod command;
+mod front;
 mod input;
 mod play;
+mod refusal;
 mod run;
 mod script;
+mod source;
 mod top;
 mod tracker;
 

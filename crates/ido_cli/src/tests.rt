@@ -41,14 +41,19 @@ fn answer_of<S: Source>(alloc: Global, texts: &[&str], source: &mut S) -> Result
     })
 }
 
-/// The answer of `play` to the parts of an input.
-fn played(alloc: Global, parts: &[&[u8]]) -> Result<Answered, Fail> {
+/// The answer of a command to the parts of an input.
+fn answer_to_parts(alloc: Global, command: &str, parts: &[&[u8]]) -> Result<Answered, Fail> {
     let mut bytes = Vec::new(alloc);
     for part in parts {
         bytes.extend_from_slice(part)?;
     }
     let mut source = MemSource::new(bytes, 1000, Vec::new(alloc));
-    answer_of(alloc, &["ido", "play"], &mut source)
+    answer_of(alloc, &["ido", command], &mut source)
+}
+
+/// The answer of `play` to the parts of an input.
+fn played(alloc: Global, parts: &[&[u8]]) -> Result<Answered, Fail> {
+    answer_to_parts(alloc, "play", parts)
 }
 
 /// A source that makes its bytes as they are read: the head, and line feeds behind it.
@@ -96,7 +101,7 @@ fn scripts_of_steps(rt: HostRuntime) -> Result<(), Fail> {
         (b"\n%%\ns 0 5 \n", 6, NO_FORM),
         (b"\n%%\ns 0 5\ns 0 5\n", 6, NO_FORM),
         (b"\n%%\nc\n", 6, NO_FORM),
-        (b"\n %%\ns 0 5\n", 6, NO_FORM),
+        (b"\n %%\ns 0 5\n", 1, b"refused S3 at 2:2\n"),
     ] {
         let answered = played(rt.alloc(), &[ADD_ONE, script])?;
         assert_eq!(rt; answered.status, status, "at {script:?}");
@@ -119,11 +124,34 @@ fn sources_of_the_form_and_others(rt: HostRuntime) -> Result<(), Fail> {
             b"bc = -9223372036854773762\nended 0 1\nschedule 0*4\n",
         ),
         (b"mutex m;", 6, NO_FORM),
-        (b"", 6, NO_FORM),
+        (b"", 1, b"refused S3 at 2:1\n"),
+        (
+            b"mutex m;\nthread t {\n  lock(n);\n}",
+            1,
+            b"refused N1 at 3:8\n",
+        ),
     ] {
         let answered = played(rt.alloc(), &[source, b"\n%%\ns 0 100000"])?;
         assert_eq!(rt; answered.status, status, "at {source:?}");
         assert_eq!(rt; answered.output.as_slice(), output, "at {source:?}");
+    }
+    Ok(())
+}
+
+#[test]
+fn schedules_of_a_source(rt: HostRuntime) -> Result<(), Fail> {
+    for (rest, status, output) in [
+        (b"\n%%\n0*4".as_slice(), 0, WHOLE),
+        (b"", 0, UNTOUCHED),
+        (b"\n%%\n0*2", 3, UNSETTLED),
+        (b"\n%%\n0*6", 6, b"refused Q3 at step 6\n"),
+        (b"\n%%\n1*1", 6, b"refused Q1 at step 1\n"),
+        (b"\n%%\n0*1\n0", 6, b"refused E2 at 4:1\n"),
+        (b"lock", 1, b"refused S3 at 1:79\n"),
+    ] {
+        let answered = answer_to_parts(rt.alloc(), "source", &[ADD_ONE, rest])?;
+        assert_eq!(rt; answered.status, status, "at {rest:?}");
+        assert_eq!(rt; answered.output.as_slice(), output, "at {rest:?}");
     }
     Ok(())
 }
@@ -157,6 +185,8 @@ fn wrong_words(rt: HostRuntime) -> Result<(), Fail> {
         &["play"],
         &["ido", "play", "x"],
         &["ido", "Play"],
+        &["ido", "source", "x"],
+        &["ido", "--help"],
     ] {
         let mut source = MemSource::new(ADD_ONE.to_vec(rt.alloc())?, 1000, Vec::new(rt.alloc()));
         let answered = answer_of(rt.alloc(), words, &mut source)?;
@@ -189,10 +219,13 @@ fn faults_outside(rt: HostRuntime) -> Result<(), Fail> {
 
 #[test]
 fn limits_of_a_source(rt: HostRuntime) -> Result<(), Fail> {
-    for (blanks, output) in [(1_048_576, NO_FORM), (1_048_577, PAST_LIMIT)] {
+    for (blanks, status, output) in [
+        (1_048_576, 1, b"refused S3 at 1:1048577\n".as_slice()),
+        (1_048_577, 6, PAST_LIMIT),
+    ] {
         let source = vec![in rt.alloc(); b' '; blanks]?;
         let answered = played(rt.alloc(), &[&source])?;
-        assert_eq!(rt; answered.status, 6, "at {blanks}");
+        assert_eq!(rt; answered.status, status, "at {blanks}");
         assert_eq!(rt; answered.output.as_slice(), output, "at {blanks}");
     }
     Ok(())

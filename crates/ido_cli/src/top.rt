@@ -1,11 +1,14 @@
 //! The top calls.
-ghost use Rattle.std.specs.Prelude.{◌≡◌, ◌⊎◌, map, string_bytes, false, IfOk, IsErrOf, IsSome, IfSome};
+ghost use Rattle.std.specs.Prelude.{◌≡◌, ◌⊎◌, map, string_bytes, None, IfOk, IsErrOf, IsSome, IfSome};
 ghost use Rattle.ido_outside.specs.Causes.{Rose};
-ghost use Rattle.ido_cli.specs.Answers.{is_accepted, IsAnswer, IsAnswered};
+ghost use Rattle.ido_cli.specs.Answers.{IsAnswer, IsAnswered};
+ghost use Rattle.ido_cli.specs.Commands.{command_of};
 ghost use Rattle.ido_cli.specs.Deliveries.{IsSaidToInput, IsDelivered};
 
-use crate::answer::{answer, refused};
+use crate::answer::answer;
+use crate::command::{Command, command_of};
 use crate::play::Said;
+use crate::refusal::refused;
 use ido_base::memory::Memory;
 use ido_outside::{Failed, Gate, InFault, Sink, Source, read_all, write_all};
 use std::alloc::Global;
@@ -34,24 +37,14 @@ impl From<Memory> for Unsaid {
     }
 }
 
-/// The program takes these words, its name first.
-fn accepts(words: &[String]) -> bool
-    ensures { result ≡ is_accepted (map string_bytes words.now) }
-{
-    match words {
-        [_, command] => command.as_str() == "play",
-        _ => false,
-    }
-}
-
-/// What is said to the input of `play`.
-fn say_to_input<S: Source>(alloc: Global, input: &mut S) -> Result<Said, Unsaid>
-    ensures said { IfOk result (λ said. IsSaidToInput (S.left input.old) said) }
+/// What is said to the input of a command.
+fn say_to_input<S: Source>(alloc: Global, command: Command, input: &mut S) -> Result<Said, Unsaid>
+    ensures said { IfOk result (λ said. IsSaidToInput command (S.left input.old) said) }
     ensures failed { IsErrOf result Unsaid.Failed → Rose (S.faults input.old) (S.faults input.new) }
 {
     match read_all(alloc, input, MOST_BYTES) {
         Ok(bytes) => {
-            let said = answer(alloc, &bytes)?;
+            let said = answer(alloc, command, &bytes)?;
             Ok(said)
         }
         Err(InFault::TooLong) => {
@@ -68,14 +61,17 @@ fn say_to<S: Source>(alloc: Global, words: &[String], input: &mut S) -> Result<S
     ensures said { IfOk result (λ said.
         IsAnswer (map string_bytes words.now) (S.left input.old) said.status said.output.items) }
     ensures failed { IsErrOf result Unsaid.Failed → Rose (S.faults input.old) (S.faults input.new) }
-    ensures unread { is_accepted (map string_bytes words.now) ≡ false → input.new ≡ input.old }
+    ensures unread { command_of (map string_bytes words.now) ≡ None → input.new ≡ input.old }
 {
-    if accepts(words) {
-        let said = say_to_input(alloc, input)?;
-        Ok(said)
-    } else {
-        let said = refused(alloc, 2, b"refused words\n")?;
-        Ok(said)
+    match command_of(alloc, words)? {
+        Some(command) => {
+            let said = say_to_input(alloc, command, input)?;
+            Ok(said)
+        }
+        None => {
+            let said = refused(alloc, 2, b"refused words\n")?;
+            Ok(said)
+        }
     }
 }
 
@@ -100,7 +96,7 @@ fn serve<S: Source, K: Sink>(alloc: Global, words: &[String], input: &mut S, out
       sink_faults_before = K.faults output.old;
       sink_faults = K.faults output.new;
     }) result }
-    ensures unread { is_accepted (map string_bytes words.now) ≡ false → input.new ≡ input.old }
+    ensures unread { command_of (map string_bytes words.now) ≡ None → input.new ≡ input.old }
     ensures unwritten { (result ≡ 4) ⊎ (result ≡ 7) → output.new ≡ output.old }
 {
     match say_to(alloc, words, input) {
@@ -136,7 +132,7 @@ pub fn alone<S: Source, K: Sink>(
     }) status) }
 
     // For words that aren't taken the source isn't touched.
-    ensures unread { is_accepted (map string_bytes words.now) ≡ false → input.new ≡ input.old }
+    ensures unread { command_of (map string_bytes words.now) ≡ None → input.new ≡ input.old }
 
     // At status 4 and 7 the sink isn't touched.
     ensures unwritten { IfSome result (λ status. (status ≡ 4) ⊎ (status ≡ 7) → output.new ≡ output.old) }
@@ -166,7 +162,7 @@ pub fn ido<R: Threads + Wait + Sync, S: Source, K: Sink, G: Gate + Sync>(
     }) result }
 
     // For words that aren't taken the source isn't touched.
-    ensures unread { is_accepted (map string_bytes words.now) ≡ false → input.new ≡ input.old }
+    ensures unread { command_of (map string_bytes words.now) ≡ None → input.new ≡ input.old }
 
     // At status 4 and 7 the sink isn't touched.
     ensures unwritten { (result ≡ 4) ⊎ (result ≡ 7) → output.new ≡ output.old }

@@ -1,5 +1,5 @@
 -- Code as it grows: each part extends what is left at the positions before it.
-use Rattle.std.proofs.Common.{◌≡◌, ◌≢◌, refl, ℕ, zero, suc, ◌+◌, ◌-◌, ◌<◌, ◌≤◌, List, [], ◌∷◌, ◌++◌, length, sym, ◌∙◌, ap, subst, arith, Option, Some, None, slice_set, get_or, Bor, drop, ⊎_elim, append_assoc, length-append, replicate}
+use Rattle.std.proofs.Common.{◌≡◌, ◌≢◌, refl, ℕ, zero, suc, ◌+◌, ◌-◌, ◌<◌, ◌≤◌, List, [], ◌∷◌, ◌++◌, length, sym, ◌∙◌, ap, subst, arith, Some, slice_set, get_or, Bor, drop, ⊎_elim, append_assoc, length-append, replicate}
 use Rattle.std.specs.Prelude.{slice_get, Result, IfOk}
 use Rattle.std.proofs.lemmas.Result.{IfOk-weaker}
 use Rattle.c_tree.specs.declared.flat.Arm as arm
@@ -14,8 +14,7 @@ use Rattle.c_tree.specs.declared.flat.Statement as s
 use Rattle.c_tree.specs.Source.{opened, opened_all}
 use Rattle.source_machine.specs.declared.code.Node.{Node}
 use Rattle.source_machine.specs.declared.code.Node.TheVariants as node
-use Rattle.source_machine.specs.declared.code.Loop.{Loop}
-use Rattle.source_machine.specs.Codes.{Lefts, At, behind, Assigns, Locks, Unlocks, IsStuck, Tests, chooses, repeats, Does, IsCode, IsPushed, Extends, Emits, EmitsArms, EmitsTest, EmitsLoop}
+use Rattle.source_machine.specs.Codes.{Lefts, At, behind, chooses, repeats, Does, IsCode, IsPushed, Extends, Emits, EmitsArms, EmitsTest, EmitsLoop}
 
 -- ---- Lists
 

@@ -6,3 +6,6 @@ pub mod Steps
 pub mod Running
 pub mod Starting
 pub mod Others
+pub mod Guarding
+pub mod Keeping
+pub mod Discipline

@@ -1,5 +1,5 @@
 -- A step of a thread writes that thread alone.
-use Rattle.std.proofs.Common.{◌≡◌, ◌≢◌, refl, ℕ, List, [], ◌∷◌, ◌++◌, sym, ◌∙◌, ap, subst, Bool, true, false, cond, Option, Some, None, slice_set, arith, suc, ◌<◌, length}
+use Rattle.std.proofs.Common.{◌≡◌, ◌≢◌, refl, ℕ, List, [], ◌∷◌, sym, ◌∙◌, ap, Bool, true, false, Option, Some, None, slice_set, arith, suc}
 use Rattle.std.specs.Prelude.{slice_get, if◌then◌else◌, Contains}
 use Rattle.ido_base.specs.declared.place.Place.{Place}
 use Rattle.c_tree.specs.Flats as f

@@ -1,5 +1,5 @@
 -- Operators on numbers that are reduced first: what they give is the same.
-use Rattle.std.proofs.Common.{◌≡◌, ◌≢◌, refl, ℕ, ◌+◌, ◌*◌, ◌^◌, ◌<◌, sym, ◌∙◌, ap, ap₂, arith}
+use Rattle.std.proofs.Common.{◌≡◌, ◌≢◌, refl, ℕ, ◌*◌, ◌^◌, ◌<◌, sym, ◌∙◌, ap, ap₂, arith}
 use Rattle.std.specs.Prelude.{ℤ, pos, negsuc, ◌+ℤ◌, ◌*ℤ◌, ◌-ℤ◌, neg_ℤ, unsigned_abs, int_lt, int_le, bit_and, bit_or, bit_xor, not}
 use Rattle.std.specs.Int.{int_rem_euclid, int_shr}
 use Rattle.std.specs.Ordering.{int_eq}

@@ -1,10 +1,9 @@
 -- A step of a whole state, and runs of it.
-use Rattle.std.proofs.Common.{◌≡◌, ◌≢◌, refl, ℕ, zero, suc, ◌+◌, ◌<◌, ◌≤◌, List, [], ◌∷◌, ◌++◌, length, take, drop, get_or, sym, ◌∙◌, ap, ap₂, subst, Bool, true, false, cond, Option, Some, None, slice_set, min, ◌^◌, ◌-◌, arith, add_assoc, add-zero, ⊎_elim}
-use Rattle.std.specs.Prelude.{slice_get, ℤ, not, ◌&&◌, if◌then◌else◌, Result, Ok, Err, IfErr}
+use Rattle.std.proofs.Common.{◌≡◌, refl, ℕ, zero, suc, ◌+◌, ◌<◌, ◌≤◌, List, [], ◌∷◌, ◌++◌, length, take, drop, get_or, sym, ◌∙◌, ap, subst, Bool, true, false, Option, Some, None, slice_set, min, ◌^◌, ◌-◌, arith, add-zero, ⊎_elim}
+use Rattle.std.specs.Prelude.{slice_get, Ok, Err}
 use Rattle.std.proofs.lemmas.Bool.{cases_eq}
 use Rattle.std.proofs.lemmas.Option.{slice_get_within, slice_get_past}
 use Rattle.std.proofs.lemmas.List.{length-set, take-append-drop, drop_more, take_more, take_all}
-use Rattle.ido_base.specs.Locks.{holds_none}
 use Rattle.c_tree.specs.Flats as f
 use Rattle.c_tree.specs.Source as m
 use Rattle.c_tree.specs.Source.{source_step}
@@ -17,7 +16,7 @@ use Rattle.source_machine.specs.declared.thread.ThreadState.{ThreadState}
 use Rattle.source_machine.specs.declared.state.SourceState.{SourceState}
 use Rattle.source_machine.specs.Sections.{AreCounted, ends}
 use Rattle.source_machine.specs.Threads.{IsLeft, model_of, state_in, lock_ahead, answer_of, reached, IsMade}
-use Rattle.source_machine.specs.Runs.{ThreadStands, Stands, stepped_of, IsAfter, refusal_of, IsRefused, Ran}
+use Rattle.source_machine.specs.Runs.{ThreadStands, Stands, stepped_of, IsAfter, refusal_of, Ran}
 use Rattle.source_machine.proofs.Emission.{set_same, set_other}
 use Rattle.source_machine.proofs.Ends.{ends_same, counted_as}
 

@@ -1,5 +1,5 @@
 -- The steps of a thread, by the node at which it stands.
-use Rattle.std.proofs.Common.{◌≡◌, ◌≢◌, refl, ℕ, List, [], ◌∷◌, ◌++◌, sym, ◌∙◌, ap, subst, Bool, true, false, cond, Option, Some, None, slice_set, get_or, length, ◌<◌, nat_lt, arith, Bor, Vec, Global}
+use Rattle.std.proofs.Common.{◌≡◌, ◌≢◌, refl, ℕ, List, [], ◌∷◌, ◌++◌, sym, ◌∙◌, ap, subst, Bool, true, false, Option, Some, None, slice_set, get_or, length, ◌<◌, nat_lt, arith, Bor, Vec, Global}
 use Rattle.std.specs.Prelude.{slice_get, ℤ, not, if◌then◌else◌}
 use Rattle.std.specs.Option.{option_map, option_copied, is_some, IfSome}
 use Rattle.std.proofs.lemmas.Option.{slice_get-get_or}
@@ -17,7 +17,7 @@ use Rattle.source_machine.specs.declared.answers.Stepped.TheVariants.{Did, Waits
 use Rattle.source_machine.specs.declared.code.Node.{Node}
 use Rattle.source_machine.specs.declared.code.Node.TheVariants as node
 use Rattle.source_machine.specs.declared.thread.ThreadState.{ThreadState}
-use Rattle.source_machine.specs.Codes.{Lefts, At, behind, Assigns, Locks, Unlocks, IsStuck, Tests, chooses, repeats, Does, IsCode}
+use Rattle.source_machine.specs.Codes.{At, behind, chooses, repeats, Does, IsCode}
 use Rattle.source_machine.specs.Threads.{pending_of, model_of, IsLeft, state_in, first_lock, lock_ahead, answer_of, reached, IsMade}
 
 module _ (vs : List (List ℤ)) (hs : List (Option ℕ)) (threads : List m.Thread) (n : ℕ) (t : ThreadState) (left : List f.Statement) where

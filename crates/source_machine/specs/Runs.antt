@@ -1,5 +1,5 @@
 -- What a state in the code stands for, and what steps and runs of it do.
-use Rattle.std.specs.Prelude.{◌≡◌, ℕ, ◌+◌, List, [], ◌∷◌, ◌++◌, length, slice_get, Option, Some, None, true, Result, IfErr}
+use Rattle.std.specs.Prelude.{◌≡◌, ℕ, ◌+◌, List, [], ◌∷◌, ◌++◌, length, slice_get, Some, None, true, Result, IfErr}
 use Rattle.std.specs.Result.{is_ok}
 use Rattle.c_tree.specs.Flats as f
 use Rattle.c_tree.specs.Source as m

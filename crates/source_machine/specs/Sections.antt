@@ -1,5 +1,5 @@
 -- How many sections of each thread have ended.
-use Rattle.std.specs.Prelude.{◌≡◌, ℕ, ◌+◌, ◌-◌, ◌^◌, ◌<◌, List, length, min, slice_index, Option, not, ◌&&◌, ◌==◌, if◌then◌else◌}
+use Rattle.std.specs.Prelude.{◌≡◌, ℕ, ◌-◌, ◌^◌, ◌<◌, List, length, min, slice_index, Option, not, ◌&&◌, ◌==◌, if◌then◌else◌}
 use Rattle.ido_base.specs.Locks.{holds_none}
 
 -- of each thread so many; from 2 ^ 64 - 1 on they aren't told apart

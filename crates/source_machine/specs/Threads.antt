@@ -1,5 +1,5 @@
 -- What a thread in the code stands for, and what a step of it is.
-use Rattle.std.specs.Prelude.{◌≡◌, ℕ, List, [], ◌∷◌, length, replicate, slice_set, Option, Some, None, false, ℤ, pos}
+use Rattle.std.specs.Prelude.{◌≡◌, ℕ, List, [], ◌∷◌, slice_set, Option, Some, None, ℤ}
 use Rattle.std.specs.Option.{option_map}
 use Rattle.c_tree.specs.Flats as f
 use Rattle.c_tree.specs.Source as m

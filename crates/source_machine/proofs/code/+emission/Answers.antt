@@ -1,15 +1,14 @@
-use Rattle.std.proofs.Common.{◌≡◌, ◌∙◌, ℕ, ◌+◌, ◌<◌, List, [], ◌∷◌, ap, ap₂, sym, subst, refl, arith, length, length-append}
+use Rattle.std.proofs.Common.{◌≡◌, ◌∙◌, ◌<◌, List, [], ◌∷◌, ap, sym, subst, refl, arith, length, length-append}
 use Rattle.std.proofs.lemmas.Bool.Decides.{nat_tests}
 use Rattle.std.specs.Prelude.{IfOk}
 use Rattle.c_tree.specs.Exprs.{placed_of, target_of}
 use Rattle.c_tree.specs.Flats as f
 use Rattle.c_tree.specs.declared.flat.Statement.{Statement}
 use Rattle.c_tree.specs.declared.flat.Arm.{Arm}
-use Rattle.source_machine.specs.declared.code.Node.{Node}
 use Rattle.source_machine.specs.declared.code.Node.TheVariants as node
 use Rattle.c_tree.specs.Source.{opened, opened_all}
 use Rattle.c_tree.proofs.FlatRows.{of_while, of_do, of_if}
-use Rattle.source_machine.specs.Codes.{Emits, EmitsLoop, EmitsArms, EmitsTest, IsPushed}
+use Rattle.source_machine.specs.Codes.{Emits, EmitsLoop, EmitsArms}
 use Rattle.source_machine.proofs.Emission.{emits_longer, emits_loop, ok_node, ok_never, ok_if, ok_test, all_none, all_more, arms_none, arms_more}
 use Rattle.source_machine.proofs.code.+emission.Goals as goal
 

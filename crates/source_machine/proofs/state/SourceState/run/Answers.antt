@@ -1,6 +1,6 @@
-use Rattle.std.proofs.Common.{◌≡◌, ◌∙◌, ℕ, ◌+◌, take, drop, length, get_or, arith}
+use Rattle.std.proofs.Common.{◌∙◌, ◌+◌, take, drop, get_or, arith}
 use Rattle.std.proofs.lemmas.List.{length-take-le}
-use Rattle.c_tree.specs.Source.{State, after_from, ended_from}
+use Rattle.c_tree.specs.Source.{after_from, ended_from}
 use Rattle.source_machine.specs.declared.answers.RefusedKind.TheVariants as kind
 use Rattle.source_machine.proofs.Running.{did_more, unknown, waits_stuck, ended_stuck, ran_all, ran_refused, ran_stuck, split_at, one_more, whole}
 use Rattle.source_machine.proofs.state.SourceState.run.Goals as goal

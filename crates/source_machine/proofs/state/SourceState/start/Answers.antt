@@ -1,10 +1,9 @@
-use Rattle.std.proofs.Common.{◌≡◌, ◌∙◌, ap, sym, subst, length, arith, List, ◌++◌, ◌∷◌, [], replicate, ℕ, ◌+◌, ◌<◌, get_or, map}
-use Rattle.std.specs.Prelude.{ℤ, Option, None}
+use Rattle.std.proofs.Common.{◌≡◌, ◌∙◌, ap, length, arith, List, ◌∷◌, [], replicate, ℕ, ◌+◌, ◌<◌, get_or, map}
+use Rattle.std.specs.Prelude.{Option, None}
 use Rattle.std.proofs.lemmas.List.{length-append}
 use Rattle.c_tree.specs.Programs.{variable_of}
 use Rattle.c_tree.specs.declared.program.Variable.{Variable}
 use Rattle.c_tree.specs.declared.flat.Thread.{Thread}
-use Rattle.source_machine.specs.declared.thread.ThreadState.{ThreadState}
 use Rattle.source_machine.proofs.Starting.{one_started, starts}
 use Rattle.source_machine.proofs.state.SourceState.start.Goals as goal
 

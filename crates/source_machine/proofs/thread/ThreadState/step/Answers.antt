@@ -1,12 +1,10 @@
-use Rattle.std.proofs.Common.{◌≡◌, ◌∙◌, ap, sym, Some, None, ℕ, List, Option, slice_set, subst, refl, false, true}
+use Rattle.std.proofs.Common.{◌≡◌, ◌∙◌, ap, sym, Some, ℕ, List, Option, subst, refl, false, true}
 use Rattle.std.specs.Prelude.{ℤ}
-use Rattle.c_tree.specs.Flats.{Statement}
 use Rattle.c_tree.specs.Exprs.{expr_of}
 use Rattle.c_tree.specs.Values.{value}
 use Rattle.ido_ints.specs.Operators.{is_zero}
 use Rattle.ido_ints.specs.Typed.{Typed}
 use Rattle.source_machine.specs.declared.answers.Stepped.TheVariants.{Did, Waits}
-use Rattle.source_machine.specs.declared.thread.ThreadState.{ThreadState}
 use Rattle.source_machine.specs.Sections.{ends}
 use Rattle.source_machine.specs.Threads.{IsMade}
 use Rattle.source_machine.proofs.Ends.{ends_taken, counted_same}

@@ -1,4 +1,4 @@
-use Rattle.std.proofs.Common.{sym, ◌∙◌, length, List}
+use Rattle.std.proofs.Common.{sym, ◌∙◌, length}
 use Rattle.std.proofs.Common.{zero-add}
 use Rattle.source_machine.proofs.Parts.{joined}
 use Rattle.source_machine.proofs.variables.Variables.elements.Goals as goal

@@ -1,6 +1,6 @@
-use Rattle.std.proofs.Common.{◌≡◌, ◌∙◌, sym, ap, rules, to_z, of_z, FitsSigned, arith, Option, Some, None, ℕ, length, List, get_or}
+use Rattle.std.proofs.Common.{◌≡◌, ◌∙◌, sym, ap, FitsSigned, arith, get_or}
 use Rattle.std.specs.Int.{w128}
-use Rattle.std.specs.Prelude.{ℤ, pos, unwrap_or}
+use Rattle.std.specs.Prelude.{pos, unwrap_or}
 use Rattle.std.proofs.lemmas.Int.{ints, to_z-of_z}
 use Rattle.source_machine.specs.Spans.{place_in}
 use Rattle.source_machine.proofs.Parts.{get_read, unread}

@@ -1,4 +1,4 @@
-use Rattle.std.proofs.Common.{◌≡◌, ◌∙◌, ℕ, List, arith, length}
+use Rattle.std.proofs.Common.{◌≡◌, arith, length}
 use Rattle.c_tree.specs.declared.program.Variable.{Variable}
 use Rattle.source_machine.proofs.Parts.{map_more, grown}
 use Rattle.source_machine.proofs.variables.Variables.new.Goals as goal

@@ -1,8 +1,7 @@
-use Rattle.std.proofs.Common.{◌≡◌, ◌∙◌, arith, FitsSigned, sym, ap, List, length, get_or, set, [], ℕ}
+use Rattle.std.proofs.Common.{◌∙◌, arith, FitsSigned, sym, ap}
 use Rattle.std.specs.Int.{w128}
-use Rattle.std.specs.Prelude.{ℤ}
 use Rattle.std.proofs.lemmas.Int.{ints, to_z-of_z}
-use Rattle.source_machine.specs.Spans.{place_in, parts}
+use Rattle.source_machine.specs.Spans.{place_in}
 use Rattle.source_machine.proofs.Parts.{set_read, unwritten}
 use Rattle.source_machine.proofs.variables.Variables.set.Goals as goal
 

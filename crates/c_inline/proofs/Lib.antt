@@ -1,0 +1,11 @@
+pub mod Near
+pub mod Deep
+pub mod CallLists
+pub mod Known
+pub mod Passes
+pub mod Reach
+pub mod Cycle
+pub mod Backs
+pub mod Weighed
+pub mod Making
+pub mod Ends

@@ -1,0 +1,6 @@
+pub mod Calls
+pub mod Weights
+pub mod Weighing
+pub mod Reaching
+pub mod Making
+pub mod Inline

@@ -1,0 +1,134 @@
+//! From a program to its flat form.
+ghost use Rattle.std.specs.Prelude.{◌≡◌, ℕ, map, min, IfOk};
+ghost use Rattle.c_tree.specs.Programs.{program_of, function_of, thread_of};
+ghost use Rattle.c_tree.specs.Flats as f;
+ghost use Rattle.c_tree.specs.Inlining.{flat_thread};
+ghost use Rattle.c_tree.specs.Prices.{thread_price};
+ghost use Rattle.c_inline.specs.Weights.{price};
+ghost use Rattle.c_inline.specs.Weighing.{AreRight, IsUnknown};
+ghost use Rattle.c_inline.specs.Making.{AreSized};
+ghost use Rattle.c_inline.specs.Inline.{IsInlining, fault_among};
+
+use crate::build::{Bodies, make_statements};
+use crate::calls::function_calls;
+use crate::copy::{copy_name, copy_names, copy_variables};
+use crate::recursion::first_back;
+use crate::weigh::weigh;
+use crate::weight::{PRICE, SIZE, statements_weight};
+use c_tree::flat::{self, Flat};
+use c_tree::program::{Function, Program, Thread};
+use ido_base::place::Place;
+use std::alloc::{AllocError, Global};
+use thiserror::Error;
+
+/// Why a program has no flat form.
+#[derive(Clone, Copy, Debug, PartialEq, Eq, Drop, Error)]
+pub enum InlineError {
+    /// A call in a function names one from which calls lead back to it. The place is that of the name.
+    #[error("a call leads back to its function")]
+    Recursion { place: Place },
+    /// A thread costs too much. The place is that of its name.
+    #[error("a thread has too much code")]
+    Code { place: Place },
+    /// An allocation was refused.
+    #[error("out of memory")]
+    Memory,
+}
+
+impl From<AllocError> for InlineError {
+    ghost use Rattle.c_inline.specs.declared.inline.InlineError.TheVariants.{Memory};
+
+    ghost from_gives = { λ _ e. e ≡ Memory };
+
+    fn from(_: AllocError) -> Self {
+        InlineError::Memory
+    }
+}
+
+/// The greatest price of a thread.
+const MOST_PRICE: u64 = 65536;
+
+// The price of a thread, by those of functions.
+fn thread_price(functions: &[Function], prices: &[Option<u64>], thread: &Thread) -> u64
+    requires right { AreRight price (map function_of functions.now) prices.now }
+    requires known { (g : ℕ) → ¬ (IsUnknown prices.now g) }
+    ensures { result ≡ min (thread_price (flat_thread (map function_of functions.now) (thread_of thread.now))) u64.MAX }
+{
+    statements_weight(PRICE, functions, prices, &thread.body).saturating_add(PRICE.node)
+}
+
+// The place of the name of the first thread whose price is too high.
+fn price_fault(functions: &[Function], prices: &[Option<u64>], threads: &[Thread]) -> Option<Place>
+    requires right { AreRight price (map function_of functions.now) prices.now }
+    requires known { (g : ℕ) → ¬ (IsUnknown prices.now g) }
+    ensures { result ≡ fault_among (map function_of functions.now) (map thread_of threads.now) }
+{
+    for thread in threads {
+        if thread_price(functions, prices, thread) > MOST_PRICE {
+            return Some(thread.name.place);
+        }
+    }
+    None
+}
+
+// The flat form of a thread.
+fn make_thread(alloc: Global, bodies: Bodies, thread: &Thread) -> Result<flat::Thread, AllocError>
+    requires { AreSized (map function_of bodies.functions.now) bodies.sizes.now }
+    ensures { IfOk result (λ t. f.thread_of t ≡ flat_thread (map function_of bodies.entry.functions.now) (thread_of thread.now)) }
+{
+    let mut locals = Vec::new(alloc);
+    locals.extend_from_slice(&thread.locals)?;
+    let body = make_statements(alloc, bodies, 0, &thread.body, &mut locals)?;
+    Ok(flat::Thread {
+        name: copy_name(&thread.name)?,
+        locals,
+        body,
+        closing: thread.closing,
+    })
+}
+
+// The flat form of threads.
+fn make_threads(
+    alloc: Global,
+    bodies: Bodies,
+    threads: &[Thread],
+) -> Result<Vec<flat::Thread>, AllocError>
+    requires { AreSized (map function_of bodies.functions.now) bodies.sizes.now }
+    ensures { IfOk result (λ made. map f.thread_of made.items ≡ map (flat_thread (map function_of bodies.entry.functions.now)) (map thread_of threads.now)) }
+{
+    let mut made = Vec::with_capacity(alloc, threads.len())?;
+    for thread in threads {
+        made.push(make_thread(alloc, bodies, thread)?)?;
+    }
+    Ok(made)
+}
+
+/// The flat form of a program: its threads with each call replaced by its function's body, with fresh locals.
+/// `Recursion` is answered where a call leads back to the function that it stands in, and names the first such call by
+/// place; else `Code` is where a thread costs more than 65,536, and names the first such thread.
+pub fn inline(alloc: Global, program: &Program) -> Result<Flat, InlineError>
+    ensures { IsInlining (program_of program.now) result }
+{
+    let functions = program.functions.as_slice();
+    let calls = function_calls(alloc, functions)?;
+    let prices = weigh(alloc, PRICE, functions, &calls)?;
+    if let Some(place) = first_back(alloc, &calls, &prices)? {
+        return Err(InlineError::Recursion { place });
+    }
+    if let Some(place) = price_fault(functions, &prices, &program.threads) {
+        return Err(InlineError::Code { place });
+    }
+    let sizes = weigh(alloc, SIZE, functions, &calls)?;
+    let bodies = Bodies {
+        functions,
+        sizes: &sizes,
+    };
+    let mutexes = copy_names(alloc, &program.mutexes)?;
+    let variables = copy_variables(alloc, &program.variables)?;
+    let threads = make_threads(alloc, bodies, &program.threads)?;
+    Ok(Flat {
+        mutexes,
+        variables,
+        threads,
+    })
+}

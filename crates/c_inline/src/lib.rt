@@ -1,0 +1,14 @@
+//! Calls replaced by the bodies of their functions, with fresh locals. Calls that lead back are found first
+//! (`recursion`), then threads that cost too much (`weigh`), and only then is the flat form made (`build`).
+#![tactic(auto)]
+
+mod build;
+mod calls;
+mod copy;
+pub mod inline;
+mod recursion;
+mod shift;
+#[cfg(test)]
+mod tests;
+mod weigh;
+mod weight;

@@ -1,0 +1,19 @@
+use Rattle.std.proofs.Common.{◌≡◌, None, map, flat_map, drop}
+use Rattle.c_tree.specs.Programs.{program_of}
+use Rattle.c_tree.specs.TypeRules.{item_faults}
+use Rattle.c_tree.specs.Typing.{program_from}
+use Rattle.c_tree.specs.Views.{item_of}
+use Rattle.c_typer.specs.Noted.{first_of, noted}
+use Rattle.c_typer.specs.Scopes.{globals_of}
+use Rattle.c_typer.specs.Whole.{joined}
+use Rattle.c_typer.proofs.program.items.Given as goal
+
+abbrev pub invariant-loop-item : goal.invariant-loop-item
+invariant-loop-item l = record {
+  made :
+      first_of l.faults ≡ None → joined (program_of l.made) (program_from (globals_of l.globals) (map item_of (drop l.item-index l.tree.items.items)))
+      ≡ program_from (globals_of l.globals) (map item_of l.tree.items.items);
+  noted :
+      noted (first_of l.faults) (flat_map (item_faults (globals_of l.globals)) (map item_of (drop l.item-index l.tree.items.items)))
+      ≡ noted (first_of l.initial.faults) (flat_map (item_faults (globals_of l.globals)) (map item_of l.tree.items.items));
+}

@@ -1,0 +1,9 @@
+pub mod Noted
+pub mod Scopes
+pub mod Meanings
+pub mod Rows
+pub mod Whole
+pub mod Answers
+pub mod Places
+pub mod Locals
+pub mod Declarations

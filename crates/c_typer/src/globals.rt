@@ -1,0 +1,187 @@
+//! The names of the whole text.
+ghost use Rattle.std.specs.Prelude.{◌≡◌, ◌+◌, ℕ, List, map, IfOk, OnOk};
+ghost use Rattle.std.proofs.Props.{props};
+ghost use Rattle.c_tree.specs.Trees as t;
+ghost use Rattle.c_tree.specs.Views.{name_of, parameter_of};
+ghost use Rattle.c_typer.specs.Declarations.{names_declared};
+ghost use Rattle.c_typer.specs.Places.{place_of, first_place};
+
+use crate::names::Places;
+use c_tree::tree::{Item, Name, Parameter, Tree};
+use ido_ints::Kind;
+use std::alloc::{AllocError, Global};
+
+/// What a name of the whole text stands for, with its number among those of its sort.
+#[derive(Drop)]
+pub enum Sort {
+    Mutex {
+        number: u32,
+    },
+    Variable {
+        number: u32,
+        kind: Kind,
+        is_array: bool,
+    },
+    Function {
+        number: u32,
+        result: Option<Kind>,
+        parameters: Vec<Kind>,
+    },
+    Thread,
+}
+
+/// A name of the whole text.
+#[derive(Drop)]
+pub struct Declared {
+    pub name: Name,
+    pub sort: Sort,
+}
+
+impl Declared {
+    ghost use Rattle.c_tree.specs.Names as n;
+    ghost use Rattle.c_tree.specs.Views.{item_of};
+    ghost use Rattle.c_typer.specs.Scopes.{counts_of, global_of};
+
+    /// The name that an item declares.
+    fn of(alloc: Global, counts: &Counts, item: &Item) -> Result<Declared, AllocError>
+        ensures { IfOk result (λ x. global_of x ≡ n.global_of (counts_of counts.now) (item_of item.now)) }
+    {
+        match item {
+            Item::Mutex(name) => Ok(Declared {
+                name: copied(name)?,
+                sort: Sort::Mutex {
+                    number: counts.mutexes,
+                },
+            }),
+            Item::Persistent(read) => Ok(Declared {
+                name: copied(&read.name)?,
+                sort: Sort::Variable {
+                    number: counts.variables,
+                    kind: read.kind,
+                    is_array: read.length.is_some(),
+                },
+            }),
+            Item::Thread(read) => Ok(Declared {
+                name: copied(&read.name)?,
+                sort: Sort::Thread,
+            }),
+            Item::Function(read) => Ok(Declared {
+                name: copied(&read.name)?,
+                sort: Sort::Function {
+                    number: counts.functions,
+                    result: read.kind,
+                    parameters: kinds_of(alloc, &read.parameters)?,
+                },
+            }),
+        }
+    }
+}
+
+/// The names of the whole text, in order of declaration, and for each the place of the first one.
+#[derive(Drop)]
+pub struct Globals {
+    pub declared: Vec<Declared>,
+    places: Places,
+    ghost placed: { (name : List ℕ) → place_of places name ≡ first_place name (names_declared declared.items) } by { Prim.hlevel props },
+}
+
+impl Globals {
+    ghost use Rattle.std.specs.Prelude.{◌≤◌, find, length, take};
+    ghost use Rattle.std.specs.List.{list_any};
+    ghost use Rattle.std.specs.Option.{option_map};
+    ghost use Rattle.c_tree.specs.Names as n;
+    ghost use Rattle.c_tree.specs.Views.{items_of};
+    ghost use Rattle.c_typer.specs.Scopes.{global_of, globals_of, names_before};
+
+    /// The first declaration of a name.
+    pub fn find(&self, name: &[u8]) -> Option<&Declared>
+        ensures { option_map (λ g. global_of g.now) result ≡ find (λ (g : n.Global). n.same_name g.name.text name.now) (globals_of self.now) }
+    {
+        let first = self.places.get(name)?;
+        Some(&self.declared[first])
+    }
+
+    /// Whether a name is declared before the global of that number.
+    pub fn is_declared_before(&self, number: usize, name: &[u8]) -> bool
+        requires { number ≤ length self.now.declared.items }
+        ensures { result ≡ list_any (n.same_name name.now) (names_before (take number self.now.declared.items)) }
+    {
+        match self.places.get(name) {
+            Some(first) => first < number,
+            None => false,
+        }
+    }
+
+    /// The names of a tree.
+    pub fn of(alloc: Global, tree: &Tree) -> Result<Globals, AllocError>
+        ensures { IfOk result (λ x. globals_of x ≡ n.globals_of (items_of tree.now)) }
+    {
+        let mut declared = Vec::new(alloc);
+        let mut places = Places::new(alloc);
+        let mut counts = Counts {
+            mutexes: 0,
+            variables: 0,
+            functions: 0,
+        };
+        for item in &tree.items {
+            let global = Declared::of(alloc, &counts, item)?;
+            places.put_first(&global.name.text, declared.len())?;
+            declared.push(global)?;
+            counts.count(item)?;
+        }
+        Ok(Globals { declared, places })
+    }
+}
+
+/// How many of a sort were declared before.
+#[derive(Drop)]
+struct Counts {
+    mutexes: u32,
+    variables: u32,
+    functions: u32,
+}
+
+impl Counts {
+    ghost use Rattle.c_tree.specs.Names as n;
+    ghost use Rattle.c_tree.specs.Views.{item_of};
+    ghost use Rattle.c_typer.specs.Scopes.{counts_of};
+
+    /// Counts one more. More than 2^32 - 1 of a sort have no numbers.
+    fn count(&mut self, item: &Item) -> Result<(), AllocError>
+        ensures { OnOk result (counts_of self.new ≡ n.counted (counts_of self.old) (item_of item.now)) }
+    {
+        match item {
+            Item::Mutex(_) => self.mutexes = next(self.mutexes)?,
+            Item::Persistent(_) => self.variables = next(self.variables)?,
+            Item::Thread(_) => (),
+            Item::Function(_) => self.functions = next(self.functions)?,
+        }
+        Ok(())
+    }
+}
+
+fn next(number: u32) -> Result<u32, AllocError>
+    ensures { IfOk result (λ x. x ≡ number + 1) }
+{
+    number.checked_add(1).ok_or(AllocError)
+}
+
+/// The same name.
+pub fn copied(name: &Name) -> Result<Name, AllocError>
+    ensures { IfOk result (λ x. name_of x ≡ name_of name.now) }
+{
+    Ok(Name {
+        text: name.text.clone()?,
+        place: name.place,
+    })
+}
+
+fn kinds_of(alloc: Global, parameters: &[Parameter]) -> Result<Vec<Kind>, AllocError>
+    ensures { IfOk result (λ xs. xs.items ≡ map (λ (x : t.Parameter). x.kind) (map parameter_of parameters.now)) }
+{
+    let mut kinds = Vec::new(alloc);
+    for parameter in parameters {
+        kinds.push(parameter.kind)?;
+    }
+    Ok(kinds)
+}

@@ -1,0 +1,301 @@
+//! Functions, threads and variables.
+ghost use Rattle.std.specs.Prelude.{◌≡◌, List, [], map, IfOk, OnOk};
+ghost use Rattle.std.specs.Option.{option_map};
+ghost use Rattle.c_tree.specs.Names as n;
+ghost use Rattle.c_tree.specs.Programs as p;
+ghost use Rattle.c_tree.specs.Trees as t;
+ghost use Rattle.c_tree.specs.TypeRules as rules;
+ghost use Rattle.c_tree.specs.Typing as typing;
+ghost use Rattle.c_tree.specs.Views as v;
+ghost use Rattle.c_typer.specs.Noted.{first_of, noted};
+ghost use Rattle.c_typer.specs.Scopes.{globals_of, scope_of};
+ghost use Rattle.ido_ints.specs.Reduction.{reduced};
+
+use crate::assignment::note_twice;
+use crate::expression::placed;
+use crate::faults::Faults;
+use crate::globals::{Globals, copied};
+use crate::scope::Scope;
+use crate::statement::{mutex, statements};
+use c_tree::program::{Function, Returned, Thread, Variable};
+use c_tree::rule::Rule;
+use c_tree::tree;
+use c_tree::tree::{Initialiser, Length, Parameter, Persistent, Return, Signed};
+use ido_ints::{Kind, Unary, Value, unary};
+use std::alloc::{AllocError, Global};
+
+const MOST_ELEMENTS: u64 = 4096;
+
+// The scope that a function's body stands in.
+#[tactic(auto, using(crate::proofs::Noted::noted_append))]
+fn with_parameters(
+    alloc: Global,
+    faults: &mut Faults,
+    parameters: &[Parameter],
+) -> Result<Scope, AllocError>
+    ensures made { IfOk result (λ scope. scope_of scope ≡ typing.with_parameters n.no_locals (map v.parameter_of parameters.now)) }
+    ensures noted { (gs : List n.Global) → OnOk result (first_of faults.new ≡ noted (first_of faults.old) (rules.parameters_faults gs n.no_locals (map v.parameter_of parameters.now))) }
+{
+    let mut scope = Scope::new(alloc);
+    for parameter in parameters {
+        note_twice(&scope, faults, &parameter.name);
+        scope.declare(&parameter.name.text, parameter.kind)?;
+    }
+    Ok(scope)
+}
+
+// What a function of a kind gives.
+fn returned(
+    alloc: Global,
+    globals: &Globals,
+    scope: &Scope,
+    faults: &mut Faults,
+    kind: Option<Kind>,
+    read: &Option<Return>,
+) -> Result<Option<Returned>, AllocError>
+    ensures made { IfOk result (λ x. option_map p.returned_of x ≡ typing.returned (globals_of globals.now) (scope_of scope.now) kind (option_map v.return_of read.now)) }
+    ensures noted { OnOk result (first_of faults.new ≡ noted (first_of faults.old) (rules.returned_faults (globals_of globals.now) (scope_of scope.now) (option_map v.return_of read.now))) }
+{
+    match read {
+        Some(
+            Return {
+                value: Some(value),
+                ..
+            },
+        ) => {
+            let value = placed(alloc, globals, scope, faults, value)?;
+            match kind {
+                Some(kind) => Ok(Some(Returned { kind, value })),
+                None => Ok(None),
+            }
+        }
+        _ => Ok(None),
+    }
+}
+
+// Notes a function with a result that returns none, or one without that returns one.
+fn note_return(faults: &mut Faults, read: &tree::Function)
+    ensures { first_of faults.new ≡ noted (first_of faults.old) (rules.return_faults [] (v.function_of read.now)) }
+{
+    let returns_value = match &read.body.returned {
+        Some(returned) => returned.value.is_some(),
+        None => false,
+    };
+    if read.kind.is_some() != returns_value {
+        faults.note(Rule::Return, read.name.place);
+    }
+}
+
+/// A function.
+#[tactic(auto, using(crate::proofs::Noted::noted_append))]
+pub fn function(
+    alloc: Global,
+    globals: &Globals,
+    faults: &mut Faults,
+    read: &tree::Function,
+) -> Result<Function, AllocError>
+    ensures made { IfOk result (λ x. p.function_of x ≡ typing.function (globals_of globals.now) (v.function_of read.now)) }
+    ensures noted { OnOk result (first_of faults.new ≡ noted (first_of faults.old) (rules.item_faults (globals_of globals.now) (t.FunctionItem (v.function_of read.now)))) }
+{
+    let mut scope = with_parameters(alloc, faults, &read.parameters)?;
+    let mut body = Vec::new(alloc);
+    statements(
+        alloc,
+        globals,
+        &mut scope,
+        faults,
+        &read.body.statements,
+        &mut body,
+    )?;
+    let result = returned(
+        alloc,
+        globals,
+        &scope,
+        faults,
+        read.kind,
+        &read.body.returned,
+    )?;
+    note_return(faults, read);
+    Ok(Function {
+        name: copied(&read.name)?,
+        parameters: u32::try_from(read.parameters.len()).map_err(|_| AllocError)?,
+        locals: scope.kinds,
+        body,
+        result,
+    })
+}
+
+/// A thread.
+pub fn thread(
+    alloc: Global,
+    globals: &Globals,
+    faults: &mut Faults,
+    read: &tree::Thread,
+) -> Result<Thread, AllocError>
+    ensures made { IfOk result (λ x. p.thread_of x ≡ typing.thread (globals_of globals.now) (v.thread_of read.now)) }
+    ensures noted { OnOk result (first_of faults.new ≡ noted (first_of faults.old) (rules.item_faults (globals_of globals.now) (t.ThreadItem (v.thread_of read.now)))) }
+{
+    let mut scope = Scope::new(alloc);
+    let mut body = Vec::new(alloc);
+    statements(
+        alloc,
+        globals,
+        &mut scope,
+        faults,
+        &read.block.statements,
+        &mut body,
+    )?;
+    Ok(Thread {
+        name: copied(&read.name)?,
+        locals: scope.kinds,
+        body,
+        closing: read.block.closing,
+    })
+}
+
+/// How many elements a variable has.
+pub fn element_count(length: &Option<Length>) -> u64
+    ensures { result ≡ typing.element_count (option_map v.length_of length.now) }
+{
+    match length {
+        None => 1,
+        Some(length) => length.value.number().unsigned_abs() as u64,
+    }
+}
+
+fn note_length(faults: &mut Faults, length: &Option<Length>)
+    ensures { first_of faults.new ≡ noted (first_of faults.old) (rules.length_faults (option_map v.length_of length.now)) }
+{
+    if let Some(read) = length {
+        let elements = element_count(length);
+        if elements == 0 || elements > MOST_ELEMENTS {
+            faults.note(Rule::Length, read.place);
+        }
+    }
+}
+
+// Notes the first number behind so many.
+fn note_count(faults: &mut Faults, count: u64, numbers: &[Signed])
+    ensures { first_of faults.new ≡ noted (first_of faults.old) (rules.numbers_past count (map v.signed_of numbers.now)) }
+{
+    if let Some(number) = numbers.get(count as usize) {
+        faults.note(Rule::Count, number.place);
+    }
+}
+
+fn note_initialiser(faults: &mut Faults, length: &Option<Length>, initialiser: &Option<Initialiser>)
+    ensures { first_of faults.new ≡ noted (first_of faults.old) (rules.initialiser_faults (option_map v.length_of length.now) (option_map v.initialiser_of initialiser.now)) }
+{
+    match initialiser {
+        None => (),
+        Some(Initialiser::Single(number)) => {
+            if length.is_some() {
+                faults.note(Rule::WrongSort, number.place);
+            }
+        }
+        Some(Initialiser::Braced { numbers, .. }) => {
+            note_count(faults, element_count(length), numbers);
+        }
+    }
+}
+
+// The number, in the kind of the variable.
+fn signed_number(kind: Kind, read: &Signed) -> i128
+    ensures { result ≡ reduced kind (typing.signed_number (v.signed_of read.now)) }
+{
+    let value = if read.negative {
+        unary(Unary::Minus, read.value)
+    } else {
+        read.value
+    };
+    Value::reduce(kind, value.number()).number()
+}
+
+// Numbers, in the kind of the variable.
+fn converted(alloc: Global, kind: Kind, given: &[Signed]) -> Result<Vec<i128>, AllocError>
+    ensures { IfOk result (λ xs. xs.items ≡ map (reduced kind) (map typing.signed_number (map v.signed_of given.now))) }
+{
+    let mut numbers = Vec::new(alloc);
+    for number in given {
+        numbers.push(signed_number(kind, number))?;
+    }
+    Ok(numbers)
+}
+
+// The numbers that are given, in the kind of the variable.
+fn given_numbers(
+    alloc: Global,
+    kind: Kind,
+    initialiser: &Option<Initialiser>,
+) -> Result<Vec<i128>, AllocError>
+    ensures { IfOk result (λ xs. xs.items ≡ map (reduced kind) (typing.numbers_of (option_map v.initialiser_of initialiser.now))) }
+{
+    match initialiser {
+        None => Ok(Vec::new(alloc)),
+        Some(Initialiser::Single(number)) => {
+            let mut numbers = Vec::new(alloc);
+            numbers.push(signed_number(kind, number))?;
+            Ok(numbers)
+        }
+        Some(Initialiser::Braced { numbers, .. }) => converted(alloc, kind, numbers),
+    }
+}
+
+// So many numbers: zeros behind the last one given.
+fn fill(numbers: &mut Vec<i128>, count: usize) -> Result<(), AllocError>
+    ensures { OnOk result (numbers.new.items ≡ typing.filled count numbers.old.items) }
+{
+    numbers.truncate(count);
+    let missing = count - numbers.len();
+    for _ in 0..missing {
+        numbers.push(0)?;
+    }
+    Ok(())
+}
+
+// How many elements a variable has, or any number where its length breaks its rule.
+#[tactic(auto, using(crate::proofs::Counts::within))]
+fn checked_count(length: &Option<Length>) -> u32
+    ensures { rules.length_faults (option_map v.length_of length.now) ≡ [] → result ≡ typing.element_count (option_map v.length_of length.now) }
+{
+    let count = element_count(length);
+    if count <= MOST_ELEMENTS {
+        count as u32
+    } else {
+        0
+    }
+}
+
+// The length of an array, or any where it breaks its rule.
+fn checked_length(length: &Option<Length>) -> Option<u32>
+    ensures { rules.length_faults (option_map v.length_of length.now) ≡ [] → result ≡ option_map typing.length_number (option_map v.length_of length.now) }
+{
+    match length {
+        None => None,
+        Some(_) => Some(checked_count(length)),
+    }
+}
+
+/// A persistent variable. One whose length breaks its rule has no elements.
+pub fn variable(
+    alloc: Global,
+    globals: &Globals,
+    faults: &mut Faults,
+    read: &Persistent,
+) -> Result<Variable, AllocError>
+    ensures made { IfOk result (λ x. first_of faults.new ≡ None → p.variable_of x ≡ typing.variable (globals_of globals.now) (v.persistent_of read.now)) }
+    ensures noted { OnOk result (first_of faults.new ≡ noted (first_of faults.old) (rules.item_faults (globals_of globals.now) (t.PersistentItem (v.persistent_of read.now)))) }
+{
+    let guard = mutex(globals, &Scope::new(alloc), faults, &read.guard);
+    note_length(faults, &read.length);
+    note_initialiser(faults, &read.length, &read.initialiser);
+    let mut initial = given_numbers(alloc, read.kind, &read.initialiser)?;
+    fill(&mut initial, checked_count(&read.length) as usize)?;
+    Ok(Variable {
+        name: copied(&read.name)?,
+        guard,
+        kind: read.kind,
+        length: checked_length(&read.length),
+        initial,
+    })
+}

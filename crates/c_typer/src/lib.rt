@@ -1,0 +1,20 @@
+//! The typing of a tree: its names resolved, its kinds fixed, and the rules of names and kinds held.
+#![tactic(auto)]
+
+mod assignment;
+mod error;
+mod expression;
+mod faults;
+mod globals;
+mod item;
+mod meaning;
+mod names;
+mod program;
+mod scope;
+mod statement;
+#[cfg(test)]
+mod tests;
+mod text;
+
+pub use error::TypeError;
+pub use program::type_tree;

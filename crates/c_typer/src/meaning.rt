@@ -1,0 +1,202 @@
+//! What a name means where it stands.
+ghost use Rattle.std.specs.Prelude.{◌≡◌, IfOk};
+ghost use Rattle.ido_ints.specs.Kinds.{Holds};
+ghost use Rattle.ido_ints.specs.Typed.{typed};
+ghost use Rattle.ido_ints.specs.declared.kinds.Kind.TheVariants.{Int};
+ghost use Rattle.c_tree.specs.Exprs as e;
+ghost use Rattle.c_tree.specs.Exprs.{expr_of, placed_of, target_of};
+ghost use Rattle.c_tree.specs.Names as n;
+ghost use Rattle.c_typer.specs.Meanings.{count_rule, element_as, function_as, function_rule, meaning_of, mutex_as, mutex_rule, named_as, rule_if, target_as, target_element_as, use_rule};
+ghost use Rattle.c_typer.specs.Scopes.{globals_of, scope_of};
+
+use crate::globals::{Globals, Sort};
+use crate::scope::{Local, Scope};
+use c_tree::expr::{Expr, Placed, Target};
+use c_tree::rule::Rule;
+use ido_base::place::Place;
+use ido_ints::{Kind, Value};
+use std::alloc::{AllocError, Global};
+
+/// What a name means.
+#[derive(Clone, Copy)]
+pub enum Meaning<'a> {
+    Local(&'a Local),
+    Global(&'a Sort),
+    Unknown,
+}
+
+/// What a name means: a local hides what is declared outside its scope.
+pub fn resolve<'a>(globals: &'a Globals, scope: &'a Scope, name: &[u8]) -> Meaning<'a>
+    ensures { meaning_of result ≡ n.meaning (globals_of globals.now) (scope_of scope.now) name.now }
+{
+    match scope.find(name) {
+        Some(local) => Meaning::Local(local),
+        None => match globals.find(name) {
+            Some(global) => Meaning::Global(&global.sort),
+            None => Meaning::Unknown,
+        },
+    }
+}
+
+/// An `int`.
+pub fn int(number: i128) -> Expr
+    requires { Holds Int number }
+    ensures { expr_of result ≡ e.Constant (typed Int number) }
+{
+    Expr::Constant {
+        value: Value::new(Kind::Int, number),
+    }
+}
+
+impl<'a> Meaning<'a> {
+    /// The value of the name at a place, or any where it has none.
+    pub fn named(self, place: Place) -> Expr
+        ensures { expr_of result ≡ named_as (meaning_of self.entry) place }
+    {
+        match self {
+            Meaning::Local(local) => Expr::Local {
+                local: local.number,
+                kind: local.kind,
+            },
+            Meaning::Global(Sort::Variable { number, kind, .. }) => Expr::Variable {
+                place,
+                variable: *number,
+                kind: *kind,
+            },
+            _ => int(0),
+        }
+    }
+
+    /// The element of the name at a place, or any value where it has none.
+    pub fn element(self, alloc: Global, place: Place, index: Placed) -> Result<Expr, AllocError>
+        ensures { IfOk result (λ x. expr_of x ≡ element_as (meaning_of self.entry) place index.place (expr_of index.expr)) }
+    {
+        match self {
+            Meaning::Global(Sort::Variable { number, kind, .. }) => Ok(Expr::Element {
+                place,
+                variable: *number,
+                kind: *kind,
+                index_place: index.place,
+                index: Box::new(alloc, index.expr)?,
+            }),
+            _ => Ok(int(0)),
+        }
+    }
+
+    /// The name at a place as a target, or any where it is none.
+    pub fn target(self, place: Place) -> Target
+        ensures { target_of result ≡ target_as (meaning_of self.entry) place }
+    {
+        match self {
+            Meaning::Local(local) => Target::Local {
+                local: local.number,
+                kind: local.kind,
+            },
+            Meaning::Global(Sort::Variable { number, kind, .. }) => Target::Variable {
+                place,
+                variable: *number,
+                kind: *kind,
+            },
+            _ => Target::Local {
+                local: 0,
+                kind: Kind::Int,
+            },
+        }
+    }
+
+    /// The element of the name at a place as a target, or any where it is none.
+    pub fn target_element(self, place: Place, index: Placed) -> Target
+        ensures { target_of result ≡ target_element_as (meaning_of self.entry) place (placed_of index) }
+    {
+        match self {
+            Meaning::Global(Sort::Variable { number, kind, .. }) => Target::Element {
+                place,
+                variable: *number,
+                kind: *kind,
+                index,
+            },
+            _ => Target::Local {
+                local: 0,
+                kind: Kind::Int,
+            },
+        }
+    }
+
+    /// The number of the function, or any where it is none.
+    pub fn function(self) -> u32
+        ensures { result ≡ function_as (meaning_of self.entry) }
+    {
+        match self {
+            Meaning::Global(Sort::Function { number, .. }) => *number,
+            _ => 0,
+        }
+    }
+
+    /// The number of the mutex, or any where it is none.
+    pub fn mutex(self) -> u32
+        ensures { result ≡ mutex_as (meaning_of self.entry) }
+    {
+        match self {
+            Meaning::Global(Sort::Mutex { number }) => *number,
+            _ => 0,
+        }
+    }
+
+    /// The rule that a use breaks: a local or a variable has an index exactly where it is an array.
+    pub fn use_rule(self, indexed: bool) -> Option<Rule>
+        ensures { result ≡ use_rule (meaning_of self.entry) indexed }
+    {
+        match self {
+            Meaning::Unknown => Some(Rule::Unknown),
+            Meaning::Local(_) => rule_if(indexed, Rule::WrongSort),
+            Meaning::Global(Sort::Variable { is_array, .. }) => {
+                rule_if(if *is_array { !indexed } else { indexed }, Rule::WrongSort)
+            }
+            Meaning::Global(_) => Some(Rule::WrongSort),
+        }
+    }
+
+    /// The rule that its use as a mutex breaks.
+    pub fn mutex_rule(self) -> Option<Rule>
+        ensures { result ≡ mutex_rule (meaning_of self.entry) }
+    {
+        match self {
+            Meaning::Unknown => Some(Rule::Unknown),
+            Meaning::Global(Sort::Mutex { .. }) => None,
+            _ => Some(Rule::WrongSort),
+        }
+    }
+
+    /// The rule that its call breaks, but for the number of arguments: a function has a result
+    /// exactly where one is assigned.
+    pub fn function_rule(self, assigned: bool) -> Option<Rule>
+        ensures { result ≡ function_rule (meaning_of self.entry) assigned }
+    {
+        match self {
+            Meaning::Unknown => Some(Rule::Unknown),
+            Meaning::Global(Sort::Function { result: gives, .. }) => rule_if(
+                if gives.is_some() { !assigned } else { assigned },
+                Rule::WrongSort,
+            ),
+            _ => Some(Rule::WrongSort),
+        }
+    }
+
+    /// The rule that a call with so many arguments breaks by their number.
+    pub fn count_rule(self, arguments: usize) -> Option<Rule>
+        ensures { result ≡ count_rule (meaning_of self.entry) arguments }
+    {
+        match self {
+            Meaning::Global(Sort::Function { parameters, .. }) => {
+                rule_if(arguments != parameters.len(), Rule::Count)
+            }
+            _ => None,
+        }
+    }
+}
+
+fn rule_if(broken: bool, rule: Rule) -> Option<Rule>
+    ensures { result ≡ rule_if broken rule }
+{
+    if broken { Some(rule) } else { None }
+}

@@ -1,0 +1,94 @@
+//! The whole program.
+ghost use Rattle.std.specs.Prelude.{◌≡◌, flat_map, IfOk, OnOk};
+ghost use Rattle.c_tree.specs.Programs as p;
+ghost use Rattle.c_tree.specs.TypeRules as rules;
+ghost use Rattle.c_tree.specs.Typing as typing;
+ghost use Rattle.c_tree.specs.Views.{item_of, items_of};
+ghost use Rattle.c_typer.specs.Noted.{first_of, noted};
+ghost use Rattle.c_typer.specs.Scopes.{globals_of};
+ghost use Rattle.c_typer.specs.Answers.{Answers};
+ghost use Rattle.c_typer.specs.Whole.{and_item, nothing};
+
+use crate::error::TypeError;
+use crate::faults::Faults;
+use crate::globals::{Globals, copied};
+use crate::item::{function, thread, variable};
+use crate::text::{note_bytes, note_mutexes, note_second_declarations, note_threads};
+use c_tree::program::Program;
+use c_tree::tree::{Item, Tree};
+use std::alloc::{AllocError, Global};
+
+fn empty(alloc: Global) -> Program
+    ensures { p.program_of result ≡ nothing }
+{
+    Program {
+        mutexes: Vec::new(alloc),
+        variables: Vec::new(alloc),
+        functions: Vec::new(alloc),
+        threads: Vec::new(alloc),
+    }
+}
+
+// One more item behind those that were made.
+fn add(
+    alloc: Global,
+    globals: &Globals,
+    faults: &mut Faults,
+    item: &Item,
+    made: &mut Program,
+) -> Result<(), AllocError>
+    ensures made { OnOk result (first_of faults.new ≡ None → p.program_of made.new ≡ and_item (globals_of globals.now) (p.program_of made.old) (item_of item.now)) }
+    ensures noted { OnOk result (first_of faults.new ≡ noted (first_of faults.old) (rules.item_faults (globals_of globals.now) (item_of item.now))) }
+{
+    match item {
+        Item::Mutex(name) => made.mutexes.push(copied(name)?)?,
+        Item::Persistent(read) => {
+            made.variables
+                .push(variable(alloc, globals, faults, read)?)?;
+        }
+        Item::Thread(read) => made.threads.push(thread(alloc, globals, faults, read)?)?,
+        Item::Function(read) => made
+            .functions
+            .push(function(alloc, globals, faults, read)?)?,
+    }
+    Ok(())
+}
+
+// The items of a tree.
+#[tactic(auto, using(crate::proofs::Whole::joins))]
+fn items(
+    alloc: Global,
+    globals: &Globals,
+    faults: &mut Faults,
+    tree: &Tree,
+) -> Result<Program, AllocError>
+    ensures made { IfOk result (λ x. first_of faults.new ≡ None → p.program_of x ≡ typing.program_from (globals_of globals.now) (items_of tree.now)) }
+    ensures noted { OnOk result (first_of faults.new ≡ noted (first_of faults.old) (flat_map (rules.item_faults (globals_of globals.now)) (items_of tree.now))) }
+{
+    let mut made = empty(alloc);
+    for item in &tree.items {
+        add(alloc, globals, faults, item, &mut made)?;
+    }
+    Ok(made)
+}
+
+/// The program that a tree is: its names resolved, its kinds fixed, its initialisers converted; or
+/// the first of its tokens where a rule of names and kinds is broken.
+pub fn type_tree(alloc: Global, tree: &Tree) -> Result<Program, TypeError>
+    ensures { Answers (items_of tree.now) result }
+{
+    let globals = Globals::of(alloc, tree)?;
+    let mut faults = Faults::new();
+    note_second_declarations(&globals, &mut faults);
+    note_threads(tree, &mut faults);
+    note_mutexes(tree, &mut faults);
+    note_bytes(tree, &mut faults);
+    let program = items(alloc, &globals, &mut faults, tree)?;
+    match faults.first {
+        None => Ok(program),
+        Some(fault) => Err(TypeError::Broken {
+            rule: fault.rule,
+            place: fault.place,
+        }),
+    }
+}

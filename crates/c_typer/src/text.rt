@@ -1,0 +1,91 @@
+//! Rules of the whole text.
+ghost use Rattle.std.specs.Prelude.{◌≡◌, ℕ, ◌+◌, ◌*◌, ◌≤◌, [], map};
+ghost use Rattle.c_tree.specs.TypeRules as rules;
+ghost use Rattle.c_tree.specs.TypeRules.{most_mutexes, most_threads};
+ghost use Rattle.c_tree.specs.Views.{items_of, persistent_of};
+ghost use Rattle.c_tree.specs.declared.rule.Rule.TheVariants as rule;
+ghost use Rattle.c_typer.specs.Noted.{first_of, noted};
+ghost use Rattle.c_typer.specs.Scopes.{globals_of};
+
+use crate::faults::Faults;
+use crate::globals::Globals;
+use crate::item::element_count;
+use c_tree::rule::Rule;
+use c_tree::tree::{Item, Persistent, Tree};
+
+const MOST_THREADS: usize = 8;
+
+const MOST_MUTEXES: usize = 64;
+
+const MOST_VARIABLE_BYTES: u128 = 65536;
+
+/// Notes each second declaration of a name.
+pub fn note_second_declarations(globals: &Globals, faults: &mut Faults)
+    ensures { first_of faults.new ≡ noted (first_of faults.old) (rules.twice_from [] (globals_of globals.now)) }
+{
+    for (i, global) in globals.declared.iter().enumerate() {
+        if globals.is_declared_before(i, &global.name.text) {
+            faults.note(Rule::Twice, global.name.place);
+        }
+    }
+}
+
+/// Notes the first thread past the eighth.
+#[tactic(auto, using(crate::proofs::Whole::pasts))]
+pub fn note_threads(tree: &Tree, faults: &mut Faults)
+    ensures { first_of faults.new ≡ noted (first_of faults.old) (rules.past rule.Threads most_threads (rules.thread_names (items_of tree.now))) }
+{
+    let mut left = MOST_THREADS;
+    for item in &tree.items {
+        if let Item::Thread(thread) = item {
+            if left == 0 {
+                faults.note(Rule::Threads, thread.name.place);
+                return;
+            }
+            left -= 1;
+        }
+    }
+}
+
+/// Notes the first mutex past the 64th.
+#[tactic(auto, using(crate::proofs::Whole::pasts))]
+pub fn note_mutexes(tree: &Tree, faults: &mut Faults)
+    ensures { first_of faults.new ≡ noted (first_of faults.old) (rules.past rule.Mutexes most_mutexes (rules.mutex_names (items_of tree.now))) }
+{
+    let mut left = MOST_MUTEXES;
+    for item in &tree.items {
+        if let Item::Mutex(name) = item {
+            if left == 0 {
+                faults.note(Rule::Mutexes, name.place);
+                return;
+            }
+            left -= 1;
+        }
+    }
+}
+
+// Where a variable ends, if the one before it ends at `end`.
+fn end_behind(end: u128, variable: &Persistent) -> u128
+    requires { end ≤ 65536 }
+    ensures { result ≡ rules.end_behind end (persistent_of variable.now) }
+{
+    let bytes = u128::from(variable.kind.bytes());
+    let start = (end + bytes - 1) / bytes * bytes;
+    start + bytes * u128::from(element_count(&variable.length))
+}
+
+/// Notes the first variable that ends past the bytes that variables may have.
+pub fn note_bytes(tree: &Tree, faults: &mut Faults)
+    ensures { first_of faults.new ≡ noted (first_of faults.old) (rules.too_many_bytes 0 (items_of tree.now)) }
+{
+    let mut end = 0;
+    for item in &tree.items {
+        if let Item::Persistent(variable) = item {
+            end = end_behind(end, variable);
+            if end > MOST_VARIABLE_BYTES {
+                faults.note(Rule::Bytes, variable.name.place);
+                return;
+            }
+        }
+    }
+}

@@ -1,0 +1,64 @@
+-- Lines that say what is refused.
+use Rattle.std.specs.Prelude.{◌≡◌, ℕ, List, ◌++◌, codes, decimal}
+use Rattle.ido_base.specs.Places.{column_of, line_of}
+use Rattle.c_tree.specs.declared.rule.Rule as r
+use Rattle.c_tree.specs.declared.rule.Rule.TheVariants as rule
+use Rattle.run_scripts.specs.Reports.{line}
+use Rattle.run_scripts.specs.Schedules as s
+use Rattle.source_machine.specs.declared.answers.RefusedKind.{RefusedKind}
+use Rattle.source_machine.specs.declared.answers.RefusedKind.TheVariants as kind
+
+-- the code of a rule that a source text breaks
+abbrev pub code_of : r.Rule → List ℕ
+code_of rule.Byte = codes "S1"
+code_of rule.Number = codes "S2"
+code_of rule.Syntax = codes "S3"
+code_of rule.Unknown = codes "N1"
+code_of rule.Twice = codes "N2"
+code_of rule.WrongSort = codes "N3"
+code_of rule.Recursion = codes "N4"
+code_of rule.Count = codes "N5"
+code_of rule.Return = codes "N6"
+code_of rule.Threads = codes "K2"
+code_of rule.Mutexes = codes "K3"
+code_of rule.Bytes = codes "K4"
+code_of rule.Locals = codes "K5"
+code_of rule.Temporaries = codes "K6"
+code_of rule.Code = codes "K7"
+code_of rule.High = codes "K8"
+code_of rule.Length = codes "K9"
+code_of rule.Index = codes "X1"
+code_of rule.Unheld = codes "L1"
+code_of rule.Again = codes "L2"
+code_of rule.NotHeld = codes "L3"
+code_of rule.Join = codes "L4"
+code_of rule.EndHeld = codes "L5"
+
+-- that of a fault of a schedule, and its place in the schedule's text
+abbrev pub fault_code : s.Fault → List ℕ
+fault_code (s.TooMany place) = codes "E1"
+fault_code (s.BadWord place) = codes "E2"
+fault_code (s.BadNumber place) = codes "E3"
+
+abbrev pub fault_place : s.Fault → ℕ
+fault_place (s.TooMany place) = place
+fault_place (s.BadWord place) = place
+fault_place (s.BadNumber place) = place
+
+-- that of a step that can't be made
+abbrev pub stop_code : RefusedKind → List ℕ
+stop_code kind.UnknownThread = codes "Q1"
+stop_code kind.Waits = codes "Q2"
+stop_code kind.Ended = codes "Q3"
+
+-- `refused L1 at 4:3`
+unfoldable pub line_at : (code text : List ℕ) → (place : ℕ) → List ℕ
+line_at code text place = line (codes "refused " ++ code ++ codes " at " ++ decimal (line_of text place) ++ codes ":" ++ decimal (column_of text place))
+
+-- `refused Q3 at step 6`
+unfoldable pub line_at_step : (code : List ℕ) → (step : ℕ) → List ℕ
+line_at_step code step = line (codes "refused " ++ code ++ codes " at step " ++ decimal step)
+
+-- the refusal by the code at the place, with the status
+abbrev pub IsRefusedAt : (refused : ℕ) → (code text : List ℕ) → (place status : ℕ) → (output : List ℕ) → Type 0
+IsRefusedAt refused code text place status output = (status ≡ refused) × (output ≡ line_at code text place)

@@ -1,0 +1,106 @@
+//! Lines that say what is refused.
+ghost use Rattle.std.specs.Prelude.{◌≡◌, ◌<◌, ◌^◌, length, IfOk};
+ghost use Rattle.ido_base.specs.Places.{column_of, line_of};
+ghost use Rattle.ido_cli.specs.Refusals.{code_of, fault_code, fault_place, line_at, line_at_step, stop_code};
+ghost use Rattle.run_scripts.specs.Schedules as s;
+
+use crate::play::Said;
+use c_tree::rule::Rule;
+use ido_base::memory::Memory;
+use ido_base::place::{Place, line_column};
+use source_machine::RefusedKind;
+use std::alloc::Global;
+
+/// A refusal.
+pub fn refused(alloc: Global, status: u8, line: &[u8]) -> Result<Said, Memory>
+    ensures status { IfOk result (λ said. said.status ≡ status) }
+    ensures output { IfOk result (λ said. said.output.items ≡ line.now) }
+{
+    let output = line.to_vec(alloc)?;
+    Ok(Said { status, output })
+}
+
+/// The code of a rule in a refusal.
+pub fn code_of(rule: Rule) -> &'static str
+    ensures { result.now ≡ code_of rule }
+{
+    match rule {
+        Rule::Byte => "S1",
+        Rule::Number => "S2",
+        Rule::Syntax => "S3",
+        Rule::Unknown => "N1",
+        Rule::Twice => "N2",
+        Rule::WrongSort => "N3",
+        Rule::Recursion => "N4",
+        Rule::Count => "N5",
+        Rule::Return => "N6",
+        Rule::Threads => "K2",
+        Rule::Mutexes => "K3",
+        Rule::Bytes => "K4",
+        Rule::Locals => "K5",
+        Rule::Temporaries => "K6",
+        Rule::Code => "K7",
+        Rule::High => "K8",
+        Rule::Length => "K9",
+        Rule::Index => "X1",
+        Rule::Unheld => "L1",
+        Rule::Again => "L2",
+        Rule::NotHeld => "L3",
+        Rule::Join => "L4",
+        Rule::EndHeld => "L5",
+    }
+}
+
+/// The code of a step that can't be made.
+pub fn stop_code(kind: RefusedKind) -> &'static str
+    ensures { result.now ≡ stop_code kind }
+{
+    match kind {
+        RefusedKind::UnknownThread => "Q1",
+        RefusedKind::Waits => "Q2",
+        RefusedKind::Ended => "Q3",
+    }
+}
+
+/// The line and the column of a place, past its end that of the end.
+fn place_in(text: &[u8], place: u64) -> (u32, u32)
+    requires { length text.now < 2 ^ 31 }
+    ensures line { result.0 ≡ line_of text.now place }
+    ensures column { result.1 ≡ column_of text.now place }
+{
+    line_column(text, Place(place.min(text.len() as u64) as u32))
+}
+
+/// The refusal by a code at a place of a text.
+#[tactic(auto, unfolding(crate::specs::Refusals::line_at))]
+pub fn refused_at(
+    alloc: Global,
+    status: u8,
+    code: &str,
+    text: &[u8],
+    place: u64,
+) -> Result<Said, Memory>
+    requires { length text.now < 2 ^ 31 }
+    ensures status { IfOk result (λ said. said.status ≡ status) }
+    ensures output { IfOk result (λ said. said.output.items ≡ line_at code.now text.now place) }
+{
+    let (line, column) = place_in(text, place);
+    let output = format!(in alloc; "refused {code} at {line}:{column}\n")?;
+    Ok(Said {
+        status,
+        output: output.into_bytes(),
+    })
+}
+
+/// The refusal by a code at a step of a schedule.
+#[tactic(auto, unfolding(crate::specs::Refusals::line_at_step))]
+pub fn refused_at_step(alloc: Global, code: &str, step: u64) -> Result<Said, Memory>
+    ensures status { IfOk result (λ said. said.status ≡ 6) }
+    ensures output { IfOk result (λ said. said.output.items ≡ line_at_step code.now step) }
+{
+    let output = format!(in alloc; "refused {code} at step {step}\n")?;
+    Ok(Said {
+        status: 6,
+        output: output.into_bytes(),
+    })
+}

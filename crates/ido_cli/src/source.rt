@@ -1,0 +1,197 @@
+//! The command `source`: the source's own run.
+ghost use Rattle.std.specs.Prelude.{◌≡◌, ◌+◌, ◌-◌, ◌<◌, ◌≤◌, ◌^◌, ℕ, length, map, take, drop, IfOk, IfSome, IsSome};
+ghost use Rattle.c_tree.specs.Checking.{IsChecked};
+ghost use Rattle.c_tree.specs.Flats.{flat_of};
+ghost use Rattle.c_tree.specs.Programs.{variable_of};
+ghost use Rattle.c_tree.specs.Source as m;
+ghost use Rattle.run_scripts.specs.ReportViews as views;
+ghost use Rattle.run_scripts.specs.WordLengths as words;
+ghost use Rattle.source_machine.specs.Runs.{Stands, threads_in};
+ghost use Rattle.ido_cli.specs.Answers.{SourceAnswer, most_bytes, most_source_bytes};
+ghost use Rattle.ido_cli.specs.Inputs.{source_of, rest_of};
+ghost use Rattle.ido_cli.specs.Refusals.{IsRefusedAt, fault_code, fault_place};
+ghost use Rattle.ido_cli.specs.Runs.{IsReport, RunAnswer, counted, run_state, taken, unsettled_threads, variable_with};
+
+use crate::front::{FrontError, front};
+use crate::play::Said;
+use crate::refusal::{code_of, refused_at, refused_at_step, stop_code};
+use c_tree::flat::Flat;
+use ido_base::memory::Memory;
+use run_scripts::report::{Reported, Variable, report};
+use run_scripts::schedule::{ScheduleError, read_schedule};
+use source_machine::SourceState;
+use std::alloc::Global;
+
+/// The threads that hold a mutex, ascending.
+fn unsettled(alloc: Global, state: &SourceState) -> Result<Vec<u32>, Memory>
+    requires { threads_in state.now < 2 ^ 32 }
+    ensures { IfOk result (λ threads. (s : m.State) (ended : ℕ → ℕ) → Stands state.now s ended → threads.items ≡ unsettled_threads s) }
+{
+    let mut threads = Vec::new(alloc);
+    for thread in 0..state.threads() as u32 {
+        if !state.between(thread) {
+            threads.push(thread)?;
+        }
+    }
+    Ok(threads)
+}
+
+/// How many sections of each thread have ended.
+fn ended(alloc: Global, state: &SourceState) -> Result<Vec<u64>, Memory>
+    requires { threads_in state.now < 2 ^ 32 }
+    ensures { IfOk result (λ sections. (s : m.State) (ended : ℕ → ℕ) → Stands state.now s ended → sections.items ≡ counted ended (length s.threads)) }
+{
+    let mut sections = Vec::new(alloc);
+    for thread in 0..state.threads() as u32 {
+        sections.push(state.ended_sections(thread))?;
+    }
+    Ok(sections)
+}
+
+/// The first so many elements, or all where there are fewer, and those behind them.
+#[tactic(auto, using(crate::proofs::Sizes::take_min, crate::proofs::Sizes::drop_min))]
+fn split_front(elements: &[i128], count: usize) -> (&[i128], &[i128])
+    ensures front { result.0.now ≡ take count elements.entry.now }
+    ensures behind { result.1.now ≡ drop count elements.entry.now }
+{
+    elements.split_at(count.min(elements.len()))
+}
+
+/// A variable with the numbers of its elements.
+fn with_elements(
+    alloc: Global,
+    declared: &c_tree::program::Variable,
+    elements: &[i128],
+) -> Result<Variable, Memory>
+    ensures { IfOk result (λ x. views.variable_of x ≡ variable_with (variable_of declared.now) elements.now) }
+{
+    Ok(Variable {
+        name: declared.name.text.clone()?,
+        elements: elements.to_vec(alloc)?,
+    })
+}
+
+/// Variables with the numbers of their elements, of which those of all stand one behind the other.
+fn variables(
+    alloc: Global,
+    declared: &[c_tree::program::Variable],
+    elements: &[i128],
+) -> Result<Vec<Variable>, Memory>
+    ensures { IfOk result (λ found. map views.variable_of found.items ≡ taken (map variable_of declared.now) elements.now) }
+{
+    let mut found = Vec::new(alloc);
+    let mut rest = elements;
+    for variable in declared {
+        let (own, behind) = split_front(rest, variable.initial.len());
+        found.push(with_elements(alloc, variable, own)?)?;
+        rest = behind;
+    }
+    Ok(found)
+}
+
+/// What is reported of the state behind a schedule.
+fn reported(
+    alloc: Global,
+    flat: &Flat,
+    state: &SourceState,
+    schedule: Vec<u32>,
+) -> Result<Reported, Memory>
+    requires few { length flat.now.threads.items ≤ 8 }
+    requires stands { Stands state.now (m.after_from (m.start (flat_of flat.now)) schedule.items) (λ thread. 0 + m.ended_from (m.start (flat_of flat.now)) schedule.items thread) }
+    ensures { IfOk result (λ x. views.state_of x ≡ run_state (flat_of flat.now) schedule.items) }
+{
+    let unsettled = unsettled(alloc, state)?;
+    let variables = variables(alloc, &flat.variables, state.variables())?;
+    let ended = ended(alloc, state)?;
+    Ok(Reported {
+        unsettled,
+        variables,
+        ended,
+        schedule,
+    })
+}
+
+/// What is said of the state behind a schedule.
+fn say_run(
+    alloc: Global,
+    flat: &Flat,
+    state: &SourceState,
+    schedule: Vec<u32>,
+) -> Result<Said, Memory>
+    requires few { length flat.now.threads.items ≤ 8 }
+    requires stands { Stands state.now (m.after_from (m.start (flat_of flat.now)) schedule.items) (λ thread. 0 + m.ended_from (m.start (flat_of flat.now)) schedule.items thread) }
+    ensures { IfOk result (λ said. IsReport (run_state (flat_of flat.now) schedule.items) said.status said.output.items) }
+{
+    let state = reported(alloc, flat, state, schedule)?;
+    let output = report(alloc, &state)?;
+    let status = if state.unsettled.is_empty() { 0 } else { 3 };
+    Ok(Said { status, output })
+}
+
+/// What is said of the run of a schedule.
+fn run_answer(alloc: Global, flat: &Flat, schedule: Vec<u32>) -> Result<Said, Memory>
+    requires few { length flat.now.threads.items ≤ 8 }
+    ensures { IfOk result (λ said. RunAnswer (flat_of flat.now) schedule.items said.status said.output.items) }
+{
+    let mut state = SourceState::start(alloc, flat)?;
+    match state.run(&schedule) {
+        Ok(()) => say_run(alloc, flat, &state, schedule),
+        Err(stop) => refused_at_step(alloc, stop_code(stop.kind), stop.step),
+    }
+}
+
+/// The refusal of a schedule that begins at a place of an input.
+fn schedule_refused(
+    alloc: Global,
+    input: &[u8],
+    begins: u64,
+    error: ScheduleError,
+) -> Result<Said, Memory>
+    requires short { length input.now ≤ most_bytes }
+    requires within { begins ≤ length input.now }
+    ensures fault { IfOk result (λ said. IsSome (words.fault_of error)) }
+    ensures said { IfOk result (λ said. IfSome (words.fault_of error) (λ x. IsRefusedAt 6 (fault_code x) input.now (begins + fault_place x) said.status said.output.items)) }
+{
+    let (code, place) = match error {
+        ScheduleError::Many(place) => ("E1", place),
+        ScheduleError::Word(place) => ("E2", place),
+        ScheduleError::Number(place) => ("E3", place),
+        ScheduleError::Memory => return Err(Memory),
+    };
+    refused_at(alloc, 6, code, input, begins + u64::from(place.0))
+}
+
+/// What is said of a flat form and the text of a schedule, which ends an input.
+fn flat_answer(alloc: Global, flat: &Flat, input: &[u8], rest: &[u8]) -> Result<Said, Memory>
+    requires few { length flat.now.threads.items ≤ 8 }
+    requires short { length input.now ≤ most_bytes }
+    requires rest { rest.now ≡ rest_of input.now }
+    ensures { IfOk result (λ said. IsChecked (source_of input.now) (flat_of flat.now) → SourceAnswer input.now said.status said.output.items) }
+{
+    match read_schedule(alloc, rest) {
+        Ok(schedule) => run_answer(alloc, flat, schedule),
+        Err(error) => schedule_refused(alloc, input, (input.len() - rest.len()) as u64, error),
+    }
+}
+
+/// The answer to an input of `source`, from its source text and what stands behind it.
+pub fn source_answer(
+    alloc: Global,
+    input: &[u8],
+    source: &[u8],
+    rest: &[u8],
+) -> Result<Said, Memory>
+    requires short { length input.now ≤ most_bytes }
+    requires short_source { length source.now ≤ most_source_bytes }
+    requires source { source.now ≡ source_of input.now }
+    requires rest { rest.now ≡ rest_of input.now }
+    ensures { IfOk result (λ said. SourceAnswer input.now said.status said.output.items) }
+{
+    match front(alloc, source) {
+        Ok(flat) => flat_answer(alloc, &flat, input, rest),
+        Err(FrontError::Refused { rule, place }) => {
+            refused_at(alloc, 1, code_of(rule), source, u64::from(place.0))
+        }
+        Err(FrontError::Memory) => Err(Memory),
+    }
+}

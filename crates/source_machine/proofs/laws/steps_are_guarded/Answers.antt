@@ -1,0 +1,11 @@
+use Rattle.source_machine.proofs.Discipline.{writes_guarded, leaves_others, reads_guarded}
+use Rattle.source_machine.proofs.laws.steps_are_guarded.Goals as goal
+
+pub returns-clause-writes : goal.returns-clause-writes
+returns-clause-writes c = writes_guarded
+
+pub returns-clause-of_others : goal.returns-clause-of_others
+returns-clause-of_others c = leaves_others
+
+pub returns-clause-reads : goal.returns-clause-reads
+returns-clause-reads c = reads_guarded
