@@ -181,9 +181,9 @@ fn reads_names_and_numbers(rt: HostRuntime) -> Result<(), Fail> {
     let alloc = rt.alloc();
     let form = read_form(
         alloc,
-        b"mutex guard_1; persistent(guard_1) long _ = 0; thread T9 { lock(guard_1); _ = _ + 0; unlock(guard_1); }",
+        b"mutex guard_1; persistent(guard_1) long _ = 0; thread Turn9 { lock(guard_1); _ = _ + 0; unlock(guard_1); }",
     )?;
-    assert_form(&rt, &form, b"guard_1", b"_", b"T9", 0, 0);
+    assert_form(&rt, &form, b"guard_1", b"_", b"Turn9", 0, 0);
     let form = read_form(
         alloc,
         b"mutex M; persistent(M) long mutex1 = 9223372036854775807; thread lockx { lock(M); mutex1 = mutex1 + 2047; unlock(M); }",
