@@ -1,5 +1,5 @@
 -- Calls that lead no deeper than so far: what is found so deep is found at every greater depth.
-use Rattle.std.proofs.Common.{◌≡◌, ℕ, zero, suc, ◌<◌, ◌≤◌, List, [], ◌++◌, length, Option, Some, None, refl, sym, ap, ◌∙◌, subst, arith, ⊎_elim}
+use Rattle.std.proofs.Common.{◌≡◌, ℕ, zero, suc, ◌≤◌, List, [], ◌++◌, length, Option, Some, None, refl, sym, ap, ◌∙◌, subst, arith, ⊎_elim}
 use Rattle.std.specs.Prelude.{Contains, slice_get}
 use Rattle.std.proofs.lemmas.Bool.{cases_lt}
 use Rattle.std.proofs.lemmas.Option.{slice_get_past}
@@ -18,15 +18,8 @@ module _ (fs : List p.Function) where
   low_more (suc d) zero g le h = absurd (omega arith)
   low_more (suc d) (suc e) g le h = λ c k l. low_more d e c.function (omega arith) (h c k l)
 
-  -- a function that makes a call exists
   pub calls_of_some : (g : ℕ) (x : p.Function) → slice_get fs g ≡ Some x → i.calls_in fs g ≡ i.statements_calls x.body
   calls_of_some g x e = ap (λ (o : Option p.Function). elim o as (λ _. List i.Call) [ Some y ↦ i.statements_calls y.body | None ↦ [] ]) e
-
-  pub calls_past : (g : ℕ) → length fs ≤ g → i.calls_in fs g ≡ []
-  calls_past g le = ap (λ (o : Option p.Function). elim o as (λ _. List i.Call) [ Some y ↦ i.statements_calls y.body | None ↦ [] ]) (slice_get_past fs g le)
-
-  pub caller_exists : (g : ℕ) (c : i.Call) → Contains (i.calls_in fs g) c → g < length fs
-  caller_exists g c k = ⊎_elim (λ l. l) (λ le. absurd (let e : length (i.calls_in fs g) ≡ 0 = ap length (calls_past g le) in omega (arith, k.1))) (cases_lt g (length fs))
 
   -- ---- Weights
   module _ (w : Weights) (call : ℕ) where
@@ -75,22 +68,3 @@ module _ (fs : List p.Function) where
   fixed_bodies d g ks x le h k =
       stable_bodies d (length fs) g ks le h ∙ sym (stable_bodies d (suc (length fs)) g ks (omega arith) h)
       ∙ ap (λ (o : Option p.Function). elim o as (λ _. i.Made f.Statements) [ Some y ↦ i.statements fs (i.bodies_of fs (length fs)) (length ks) (ks ++ y.locals) y.body | None ↦ record { made = f.no_statement; kinds = ks } ]) k
-
-  -- ---- Calls that lead back
-
-  leads_exists : (to g : ℕ) → to < length fs → i.Leads fs to g → g < length fs
-  leads_exists to g l i.there = l
-  leads_exists to g l (i.by_call from c k rest) = caller_exists from c k
-
-  low_leads : (to d g : ℕ) → to < length fs → Low fs d g → i.Leads fs to g → Low fs d to
-  low_leads to d g l h i.there = h
-  low_leads to zero g l h (i.by_call from c k rest) = absurd h
-  low_leads to (suc d) g l h (i.by_call from c k rest) =
-      low_more d (suc d) to (omega arith) (low_leads to d c.function l (h c k (leads_exists to c.function l rest)) rest)
-
-  -- no call in such a function leads back
-  pub low_no_back : (d g : ℕ) (c : i.Call) → Low fs d g → Contains (i.calls_in fs g) c → i.Leads fs g c.function → ⊥
-  low_no_back zero g c h k back = h
-  low_no_back (suc d) g c h k back =
-      let l = caller_exists g c k in
-      low_no_back d g c (low_leads g d c.function l (h c k (leads_exists g c.function l back)) back) k back

@@ -1,21 +1,19 @@
 -- Whether calls lead back, by the lists of calls and by the functions.
-use Rattle.std.proofs.Common.{◌≡◌, ℕ, List, length, map, Option, Some, Vec, Global, refl, sym, ap, ◌∙◌, subst, arith}
-use Rattle.std.specs.Prelude.{Contains, slice_get}
+use Rattle.std.proofs.Common.{◌≡◌, ℕ, List, map, Option, Vec, Global, refl, sym, ap, ◌∙◌, subst, arith}
+use Rattle.std.specs.Prelude.{Contains}
 use Rattle.ido_base.specs.declared.place.Place.{Place}
 use Rattle.c_tree.specs.Programs as p
 use Rattle.c_tree.specs.Inlining as i
 use Rattle.c_tree.specs.Temporaries.{price_fault}
 use Rattle.c_inline.specs.declared.calls.Call.{Call}
-use Rattle.c_inline.specs.declared.weight.Weights.{Weights}
 use Rattle.c_inline.specs.Calls as c
 use Rattle.c_inline.specs.Calls.{calls_at, lists_of, function_calls}
 use Rattle.c_inline.specs.Weights as v
-use Rattle.c_inline.specs.Weighing.{AreRight, IsUnknown, IsClosed, found}
+use Rattle.c_inline.specs.Weighing.{AreRight, IsUnknown, IsClosed}
 use Rattle.c_inline.specs.Making.{AreSized}
 use Rattle.c_inline.specs.Inline.{fault_among}
-use Rattle.c_inline.proofs.CallLists.{calls_at_function, lists_length}
+use Rattle.c_inline.proofs.CallLists.{calls_at_function}
 use Rattle.c_inline.proofs.Known.{known_cases}
-use Rattle.c_inline.proofs.Deep.{low_no_back}
 use Rattle.c_inline.proofs.Cycle.{call_back}
 
 module _ (cs : List (Vec Call Global)) (fs : List p.Function) (lists : lists_of cs ≡ map function_calls fs) where
@@ -41,14 +39,6 @@ module _ (cs : List (Vec Call Global)) (fs : List p.Function) (lists : lists_of 
 
   pub first_back_is : (place : Place) → c.IsFirstBack (lists_of cs) place → i.IsFirstBack fs place
   first_back_is place h = record { call = h.call; stands = h.stands; back = back_in h.call h.back; first = λ x b. h.first x (back_listed x b) }
-
-  -- where a function's weight is known, no call in it leads back
-  pub known_no_back : (w : Weights) (known : List (Option ℕ)) → AreRight w fs known → (g weight : ℕ) → slice_get known g ≡ Some (Some weight) → (x : i.Call) → Contains (calls_at (lists_of cs) g) x → c.Leads (lists_of cs) g x.function → ⊥
-  known_no_back w known is_right g weight e x k lead =
-      low_no_back fs (found known) g x (is_right.low g weight e) (subst (λ (l : List i.Call). Contains l x) (calls_same g) k) (leads_in g x.function lead)
-
-  pub known_covers : (w : Weights) (known : List (Option ℕ)) → AreRight w fs known → length known ≡ length cs
-  known_covers w known is_right = is_right.covers ∙ sym (lists_length cs fs lists)
 
 module _ (fs : List p.Function) (known : List (Option ℕ)) (closed : IsClosed fs known) (ends : (x : i.Call) → i.LeadsBack fs x → ⊥) where
   pub none_unknown : (g : ℕ) → IsUnknown known g → ⊥

@@ -3,6 +3,7 @@ pub mod Deep
 pub mod CallLists
 pub mod Known
 pub mod Passes
+pub mod Ranks
 pub mod Reach
 pub mod Cycle
 pub mod Backs

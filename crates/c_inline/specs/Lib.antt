@@ -4,3 +4,4 @@ pub mod Weighing
 pub mod Reaching
 pub mod Making
 pub mod Inline
+pub mod Ranking

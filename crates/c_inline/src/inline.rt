@@ -12,6 +12,7 @@ ghost use Rattle.c_inline.specs.Inline.{IsInlining, fault_among};
 use crate::build::{Bodies, make_statements};
 use crate::calls::function_calls;
 use crate::copy::{copy_name, copy_names, copy_variables};
+use crate::rank::order;
 use crate::recursion::first_back;
 use crate::weigh::weigh;
 use crate::weight::{PRICE, SIZE, statements_weight};
@@ -111,14 +112,15 @@ pub fn inline(alloc: Global, program: &Program) -> Result<Flat, InlineError>
 {
     let functions = program.functions.as_slice();
     let calls = function_calls(alloc, functions)?;
-    let prices = weigh(alloc, PRICE, functions, &calls)?;
-    if let Some(place) = first_back(alloc, &calls, &prices)? {
+    let order = order(alloc, &calls)?;
+    if let Some(place) = first_back(alloc, &calls, &order.ranks)? {
         return Err(InlineError::Recursion { place });
     }
+    let prices = weigh(alloc, PRICE, functions, &calls, &order.callees_first)?;
     if let Some(place) = price_fault(functions, &prices, &program.threads) {
         return Err(InlineError::Code { place });
     }
-    let sizes = weigh(alloc, SIZE, functions, &calls)?;
+    let sizes = weigh(alloc, SIZE, functions, &calls, &order.callees_first)?;
     let bodies = Bodies {
         functions,
         sizes: &sizes,

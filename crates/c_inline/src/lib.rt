@@ -1,11 +1,12 @@
 //! Calls replaced by the bodies of their functions, with fresh locals. Calls that lead back are found first
-//! (`recursion`), then threads that cost too much (`weigh`), and only then is the flat form made (`build`).
+//! (`rank`, `recursion`), then threads that cost too much (`weigh`), and only then is the flat form made (`build`).
 #![tactic(auto)]
 
 mod build;
 mod calls;
 mod copy;
 pub mod inline;
+mod rank;
 mod recursion;
 mod shift;
 #[cfg(test)]

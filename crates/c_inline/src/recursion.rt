@@ -2,10 +2,11 @@
 ghost use Rattle.std.specs.Prelude.{◌≡◌, ◌<◌, ◌≤◌, ◌+◌, ℕ, List, ◌++◌, ◌∷◌, [], ◌⊎◌, ◌↔◌, IsTrue, true, false, length, IfOk, OnOk, MatchBool, MatchOption, IfSome, Contains, slice_get, slice_set, Some};
 ghost use Rattle.c_tree.specs.Inlining as i;
 ghost use Rattle.c_inline.specs.Calls.{call_of, lists_of, calls_at, Leads, LeadsBack, IsFirstBack};
-ghost use Rattle.c_inline.specs.Weighing.{IsUnknown};
+ghost use Rattle.c_inline.specs.Ranking.{AreRanks};
 ghost use Rattle.c_inline.specs.Reaching.{IsReached, IsBackBelow, IsBetter};
 
 use crate::calls::Call;
+use crate::rank::rank_of;
 use ido_base::place::Place;
 use std::alloc::{AllocError, Global};
 
@@ -44,14 +45,19 @@ fn reach(reached: &mut Vec<bool>, waiting: &mut Vec<u32>, function: u32) -> Resu
 fn better(
     alloc: Global,
     calls: &[Vec<Call>],
+    ranks: &[Option<u32>],
     number: usize,
     call: Call,
     best: Option<Place>,
 ) -> Result<Option<Place>, AllocError>
-    requires { number < length calls.now }
+    requires exists { number < length calls.now }
+    requires ranks { AreRanks (lists_of calls.now) ranks.now }
     ensures { IfOk result (IsBetter (lists_of calls.now) number (call_of call) best) }
 {
     if !is_before(call.place, best) {
+        return Ok(best);
+    }
+    if rank_of(ranks, call.function as usize) < rank_of(ranks, number) {
         return Ok(best);
     }
     if leads(alloc, calls, call.function, number)? {
@@ -64,15 +70,17 @@ fn better(
 fn first_back_in(
     alloc: Global,
     calls: &[Vec<Call>],
+    ranks: &[Option<u32>],
     number: usize,
     mut best: Option<Place>,
 ) -> Result<Option<Place>, AllocError>
     requires exists { number < length calls.now }
+    requires ranks { AreRanks (lists_of calls.now) ranks.now }
     requires best { IsBackBelow (lists_of calls.now) number best }
     ensures { IfOk result (IsBackBelow (lists_of calls.now) (number + 1)) }
 {
     for call in &calls[number] {
-        best = better(alloc, calls, number, *call, best)?;
+        best = better(alloc, calls, ranks, number, *call, best)?;
     }
     Ok(best)
 }
@@ -87,21 +95,19 @@ fn is_before(place: Place, best: Option<Place>) -> bool
     }
 }
 
-/// The place of the first call that leads back. No call does in a function whose weight is known.
+/// The place of the first call that leads back. None leads back to a function of a higher rank than that of the one that
+/// is called.
 pub fn first_back(
     alloc: Global,
     calls: &[Vec<Call>],
-    known: &[Option<u64>],
+    ranks: &[Option<u32>],
 ) -> Result<Option<Place>, AllocError>
-    requires covers { length known.now ≡ length calls.now }
-    requires known { (g weight : ℕ) → slice_get known.now g ≡ Some (Some weight) → (c : i.Call) → Contains (calls_at (lists_of calls.now) g) c → ¬ (Leads (lists_of calls.now) g c.function) }
+    requires { AreRanks (lists_of calls.now) ranks.now }
     ensures { IfOk result (λ best. MatchOption best ((c : i.Call) → ¬ (LeadsBack (lists_of calls.now) c)) (IsFirstBack (lists_of calls.now))) }
 {
     let mut best = None;
     for number in 0..calls.len() {
-        if known[number].is_none() {
-            best = first_back_in(alloc, calls, number, best)?;
-        }
+        best = first_back_in(alloc, calls, ranks, number, best)?;
     }
     Ok(best)
 }

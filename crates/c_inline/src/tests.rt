@@ -193,6 +193,17 @@ fn takes_a_long_chain(rt: HostRuntime) -> Result<(), Fail> {
     Ok(())
 }
 
+// 25,000 functions, of which the last one calls itself; no earlier call leads back.
+#[test]
+fn finds_a_call_behind_a_long_chain(rt: HostRuntime) -> Result<(), Fail> {
+    let alloc = rt.alloc();
+    let functions = chain(alloc, 24_999, 1, vec![in alloc; call(alloc, 5, 24_999)]?)?;
+    let program = program(alloc, functions, Vec::new(alloc))?;
+    let outcome = inline(alloc, &program);
+    assert!(rt; matches!(&outcome, Err(InlineError::Recursion { place: Place(5) })));
+    Ok(())
+}
+
 // 2^60 calls of an empty function.
 #[test]
 fn skips_calls_that_leave_nothing(rt: HostRuntime) -> Result<(), Fail> {

@@ -1,5 +1,5 @@
-//! What functions weigh, found once for each, callees first.
-ghost use Rattle.std.specs.Prelude.{◌≡◌, ◌<◌, ◌+◌, ℕ, map, length, IfOk, OnOk, MatchBool, Contains};
+//! What functions weigh, found once for each.
+ghost use Rattle.std.specs.Prelude.{◌≡◌, ◌<◌, ◌+◌, ℕ, map, length, IfOk, MatchBool, Contains};
 ghost use Rattle.c_tree.specs.Inlining as i;
 ghost use Rattle.c_tree.specs.Programs.{function_of};
 ghost use Rattle.c_inline.specs.Calls.{calls_of, function_calls, lists_of};
@@ -58,106 +58,23 @@ fn weigh_function(
     true
 }
 
-// A function whose calls are being followed, and how many of them were.
-#[derive(Clone, Copy, Debug)]
-struct Visit {
-    function: usize,
-    followed: usize,
-}
-
-// Begins the visit of a function that exists and wasn't visited yet.
-fn begin(
-    begun: &mut Vec<bool>,
-    visits: &mut Vec<Visit>,
-    function: usize,
-) -> Result<(), AllocError> {
-    if function < begun.len() && !begun[function] {
-        begun[function] = true;
-        visits.push(Visit {
-            function,
-            followed: 0,
-        })?;
-    }
-    Ok(())
-}
-
-// Goes on with a visit: to the next function that is called, or, behind the last one, to its own weight.
-fn go_on(
+// Finds what functions weigh, in this order.
+fn weigh_in_order(
     weights: Weights,
     functions: &[Function],
     calls: &[Vec<Call>],
     known: &mut Vec<Option<u64>>,
-    begun: &mut Vec<bool>,
-    visits: &mut Vec<Visit>,
-    visit: Visit,
-) -> Result<(), AllocError>
+    order: &[usize],
+)
     requires calls { lists_of calls.now ≡ map function_calls (map function_of functions.now) }
     requires right { AreRight weights (map function_of functions.now) known.old.items }
-    ensures { OnOk result (AreRight weights (map function_of functions.now) known.new.items) }
+    ensures { AreRight weights (map function_of functions.now) known.new.items }
 {
-    if visit.function >= functions.len() {
-        return Ok(());
-    }
-    match calls[visit.function].get(visit.followed) {
-        Some(call) => {
-            visits.push(Visit {
-                function: visit.function,
-                followed: visit.followed + 1,
-            })?;
-            begin(begun, visits, call.function as usize)
-        }
-        None => {
-            weigh_function(weights, functions, calls, known, visit.function);
-            Ok(())
+    for number in order {
+        if *number < functions.len() {
+            weigh_function(weights, functions, calls, known, *number);
         }
     }
-}
-
-// How many steps it takes to visit all functions and to follow all calls.
-fn visiting_steps(calls: &[Vec<Call>]) -> usize {
-    let mut steps = calls.len().saturating_mul(2);
-    for list in calls {
-        steps = steps.saturating_add(list.len());
-    }
-    steps
-}
-
-// Finds what functions weigh, each behind those that it calls: every call is followed once.
-fn weigh_callees_first(
-    alloc: Global,
-    weights: Weights,
-    functions: &[Function],
-    calls: &[Vec<Call>],
-    known: &mut Vec<Option<u64>>,
-) -> Result<(), AllocError>
-    requires calls { lists_of calls.now ≡ map function_calls (map function_of functions.now) }
-    requires right { AreRight weights (map function_of functions.now) known.old.items }
-    ensures { OnOk result (AreRight weights (map function_of functions.now) known.new.items) }
-{
-    let mut begun = vec![in alloc; false; functions.len()]?;
-    let mut visits = Vec::new(alloc);
-    let mut next = 0;
-    for _ in 0..visiting_steps(calls) {
-        match visits.pop() {
-            Some(visit) => go_on(
-                weights,
-                functions,
-                calls,
-                known,
-                &mut begun,
-                &mut visits,
-                visit,
-            )?,
-            None => {
-                if next == functions.len() {
-                    break;
-                }
-                begin(&mut begun, &mut visits, next)?;
-                next += 1;
-            }
-        }
-    }
-    Ok(())
 }
 
 // Finds what functions weigh, once forwards and once backwards. Answers whether any was found.
@@ -188,19 +105,21 @@ fn weigh_both_ways(
     found
 }
 
-/// What each function weighs, but for those from which calls lead to one that leads back: these are not known.
+/// What each function weighs, but for those from which calls lead to one that leads back: these are not known. In an order
+/// that has callees first they are found in one pass.
 pub fn weigh(
     alloc: Global,
     weights: Weights,
     functions: &[Function],
     calls: &[Vec<Call>],
+    order: &[usize],
 ) -> Result<Vec<Option<u64>>, AllocError>
     requires calls { lists_of calls.now ≡ map function_calls (map function_of functions.now) }
     ensures right { IfOk result (λ known. AreRight weights (map function_of functions.now) known.items) }
     ensures closed { IfOk result (λ known. IsClosed (map function_of functions.now) known.items) }
 {
     let mut known = vec![in alloc; None; functions.len()]?;
-    weigh_callees_first(alloc, weights, functions, calls, &mut known)?;
+    weigh_in_order(weights, functions, calls, &mut known, order);
     while weigh_both_ways(weights, functions, calls, &mut known) {}
     Ok(known)
 }

@@ -13,6 +13,7 @@ mod Items
 pub mod Whole
 pub mod Steady
 pub mod Refusals
+pub mod Single
 mod Worked
 pub mod Blocks
 pub mod Comments

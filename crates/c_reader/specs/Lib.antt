@@ -1,4 +1,5 @@
 pub mod Fronts
+pub mod Laws
 pub mod Nestings
 pub mod Parsing
 pub mod Readings

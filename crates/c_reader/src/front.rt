@@ -13,7 +13,7 @@ use c_tree::token::{Keyword, Punctuator};
 use ido_ints::Binary;
 
 /// What stands at the front of a text.
-#[derive(Clone, Copy, Debug, Drop)]
+#[derive(Clone, Copy, Drop)]
 pub enum Front<'a> {
     /// So many bytes between tokens.
     Blank(usize),

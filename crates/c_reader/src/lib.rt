@@ -10,16 +10,13 @@ mod front;
 mod halt;
 mod item;
 mod kind;
+pub mod laws;
 mod nesting;
 mod number;
 mod parser;
-#[cfg(test)]
-mod read_tests;
 mod reader;
 mod scanner;
 mod statement;
-#[cfg(test)]
-mod tests;
 mod token;
 
 pub use reader::{ReadError, read};

@@ -10,14 +10,14 @@ use ido_base::place::Place;
 use std::alloc::{AllocError, Global};
 
 /// A rule that is broken at a place.
-#[derive(Clone, Copy, PartialEq, Eq, Debug, Drop)]
+#[derive(Clone, Copy, Drop)]
 pub struct Fault {
     pub rule: Rule,
     pub place: Place,
 }
 
 /// The tokens of a text up to its end, or up to the first place where none begins.
-#[derive(Debug, Drop)]
+#[derive(Drop)]
 pub struct Scanned<'a> {
     pub tokens: Vec<Token<'a>>,
     /// What is broken where no token begins.

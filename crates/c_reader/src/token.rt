@@ -8,7 +8,7 @@ use ido_base::place::Place;
 use ido_ints::{Binary, Kind, Unary, Value};
 
 /// A number, with the kind of its literal. The kind holds each number that a text spells.
-#[derive(Clone, Copy, PartialEq, Eq, Debug, Drop)]
+#[derive(Clone, Copy, Drop)]
 pub struct Literal {
     pub kind: Kind,
     pub number: u64,
@@ -24,7 +24,7 @@ impl Literal {
 }
 
 /// What a token is.
-#[derive(Clone, Copy, PartialEq, Eq, Debug, Drop)]
+#[derive(Clone, Copy, Drop)]
 pub enum Lexeme<'a> {
     /// A word that isn't reserved, with its bytes.
     Name(&'a [u8]),
@@ -109,7 +109,7 @@ impl Lexeme<'_> {
 }
 
 /// A token and the place of its first byte.
-#[derive(Clone, Copy, PartialEq, Eq, Debug, Drop)]
+#[derive(Clone, Copy, Drop)]
 pub struct Token<'a> {
     pub place: Place,
     pub lexeme: Lexeme<'a>,

@@ -6,3 +6,4 @@ pub mod Uses
 pub mod Whole
 pub mod Stays
 pub mod Steps
+pub mod Firsts

@@ -1,26 +1,12 @@
--- Names of globals and rows of items.
-use Rattle.std.proofs.Common.{◌≡◌, ℕ, suc, ◌-◌, ◌<◌, List, [], ◌∷◌, ◌++◌, Bool, false, ◌||◌, map, reverse, refl, ap, ◌∙◌, append_assoc, append-nil, arith}
-use Rattle.std.specs.List.{list_any}
-use Rattle.std.proofs.lemmas.List.{reverse-append, map-append}
-use Rattle.std.proofs.lemmas.List.Folds.{list_any-append}
+-- Rows of items.
+use Rattle.std.proofs.Common.{◌≡◌, ℕ, suc, ◌-◌, ◌<◌, List, [], ◌∷◌, ◌++◌, refl, ap, ◌∙◌, append_assoc, append-nil, arith}
 use Rattle.c_tree.specs.Names as n
 use Rattle.c_tree.specs.Programs as p
 use Rattle.c_tree.specs.Trees as t
 use Rattle.c_tree.specs.TypeRules as rules
 use Rattle.c_tree.specs.Typing.{with_item}
 use Rattle.c_tree.specs.declared.rule.Rule.{Rule}
-use Rattle.c_typer.specs.Scopes.{names_before}
 use Rattle.c_typer.specs.Whole.{and_item, joined, nothing}
-use Rattle.c_typer.specs.declared.globals.Declared.{Declared}
-
-abbrev name_in : Declared → List ℕ
-name_in x = x.name.text.items
-
-pub names_any : (q : List ℕ → Bool) (x : Declared) (xs : List Declared) → list_any q (names_before (x ∷ xs)) ≡ (list_any q (names_before xs) || (q x.name.text.items || false))
-names_any q x xs =
-    ap (λ (ys : List Declared). list_any q (map name_in ys)) (reverse-append (x ∷ []) xs)
-    ∙ ap (list_any q) (map-append name_in (reverse xs) (x ∷ []))
-    ∙ list_any-append q (names_before xs) (name_in x ∷ [])
 
 -- ---- Programs
 

@@ -7,3 +7,4 @@ pub mod Answers
 pub mod Places
 pub mod Locals
 pub mod Declarations
+pub mod Laws

@@ -7,13 +7,12 @@ mod expression;
 mod faults;
 mod globals;
 mod item;
+pub mod laws;
 mod meaning;
 mod names;
 mod program;
 mod scope;
 mod statement;
-#[cfg(test)]
-mod tests;
 mod text;
 
 pub use error::TypeError;

@@ -1,14 +1,13 @@
 -- What a text that keeps the rules of names has: few mutexes and few threads.
-use Rattle.std.proofs.Common.{◌≡◌, refl, ℕ, zero, suc, ◌+◌, ◌≤◌, List, [], ◌∷◌, ◌++◌, length, map, flat_map, sym, ◌∙◌, ap, subst, arith}
-use Rattle.std.proofs.lemmas.List.{length-map, length-append}
-use Rattle.c_tree.specs.Checking.{IsChecked, IsFlattened, IsRanged, IsTyped}
+use Rattle.std.proofs.Common.{◌≡◌, refl, ℕ, zero, suc, ◌+◌, ◌≤◌, List, [], ◌∷◌, ◌++◌, length, flat_map, ap, arith}
+use Rattle.std.proofs.lemmas.List.{length-map}
+use Rattle.c_tree.specs.Checking.{IsChecked}
 use Rattle.c_tree.specs.Flats as f
 use Rattle.c_tree.specs.Flats.{flat_of}
 use Rattle.c_tree.specs.Inlining.{flat_form, flat_thread}
 use Rattle.c_tree.specs.Names as n
 use Rattle.c_tree.specs.Programs as p
 use Rattle.c_tree.specs.Trees as t
-use Rattle.c_tree.specs.Scanning.{Fault}
 use Rattle.c_tree.specs.TypeRules.{mutex_names, past, thread_names, most_mutexes, most_threads, type_faults, twice_from, too_many_bytes, item_faults}
 use Rattle.c_tree.specs.Views.{name_of}
 use Rattle.c_tree.specs.Typing.{program_from, typed_program}

@@ -1,6 +1,6 @@
 -- What the checks of a text come to, one after the other.
 use Rattle.std.proofs.Common.{◌≡◌, refl, ℕ, List, sym, subst, IfSome, IsErrAnd}
-use Rattle.std.specs.Prelude.{Result, Ok, Err, Some, None}
+use Rattle.std.specs.Prelude.{Result, Ok, Err, Some}
 use Rattle.c_tree.specs.Checking.{IsTyped, IsRanged, IsFlattened, unread, mistyped, unfit, leads_back, too_long, undisciplined}
 use Rattle.c_tree.specs.Flats as f
 use Rattle.c_tree.specs.Locking.{lock_fault}

@@ -9,9 +9,11 @@ pub mod Reported
 pub mod Plays
 pub mod TrackerLemmas
 pub mod Tops
-pub mod Sizes
+pub mod Gathered
 pub mod Checks
 pub mod Commands
 pub mod Rests
 pub mod Stops
 pub mod Fronts
+pub mod Verdicts
+pub mod Single

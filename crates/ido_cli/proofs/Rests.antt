@@ -1,6 +1,6 @@
 -- The rest of an input is no longer than it.
-use Rattle.std.proofs.Common.{◌≡◌, refl, ℕ, ◌+◌, ◌≤◌, List, [], ◌∷◌, length, drop, sym, ap, Bool, true, false, Option, Some, None, ◌==◌, arith, length-drop}
-use Rattle.std.specs.Prelude.{nat_eq, codes, if◌then◌else◌}
+use Rattle.std.proofs.Common.{◌≡◌, refl, ℕ, ◌≤◌, List, [], ◌∷◌, length, drop, ap, Bool, true, false, Option, Some, None, ◌==◌, arith, length-drop}
+use Rattle.std.specs.Prelude.{nat_eq, if◌then◌else◌}
 use Rattle.std.specs.Cmp.Lexicographic.{pointwise}
 use Rattle.std.specs.List.{starts_with}
 use Rattle.ido_base.specs.Places.{line_feed}

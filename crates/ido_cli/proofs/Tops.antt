@@ -1,5 +1,5 @@
 -- What a run of the top call comes to.
-use Rattle.std.proofs.Common.{◌≡◌, ℕ, ◌+◌, ◌<◌, ◌≤◌, ◌⊎◌, List, [], ◌∷◌, length, replicate, Some, None, Bool, true, false, if◌then◌else◌, refl, sym, ap, subst, arith, IfSome, inl, inr}
+use Rattle.std.proofs.Common.{◌≡◌, ℕ, ◌+◌, ◌<◌, ◌⊎◌, List, [], ◌∷◌, length, replicate, Some, None, Bool, true, false, if◌then◌else◌, refl, sym, subst, arith, IfSome, inl, inr}
 use Rattle.std.specs.declared.option.Option.{Option}
 use Rattle.std.proofs.lemmas.List.{length-replicate}
 use Rattle.std.specs.Prelude.{codes}
@@ -11,8 +11,7 @@ use Rattle.ido_cli.specs.declared.command.Command.{Command}
 use Rattle.ido_cli.specs.declared.command.Command.TheVariants as command
 use Rattle.ido_cli.specs.Commands.{command_of}
 use Rattle.ido_cli.specs.Runs.{RunAnswer, ran, stopped, run_state, status_by}
-use Rattle.ido_cli.specs.Answers.{IsPastLimits, CheckedAnswer, of_no_form, played, PlayAnswer, unplayed, checked, SourceAnswer, faulty, no_schedule, of_schedule, CommandAnswer, AnswerToInput, past_limits, within_limits, Answer, wrong_words, taken_words, IsAnswer, IsAnswered, Outside, answered, sink_failed, most_bytes, most_source_bytes, steps_of_first}
-use Rattle.ido_cli.specs.Inputs.{source_of, rest_of}
+use Rattle.ido_cli.specs.Answers.{CheckedAnswer, of_no_form, played, PlayAnswer, unplayed, checked, SourceAnswer, faulty, no_schedule, of_schedule, CommandAnswer, AnswerToInput, past_limits, within_limits, Answer, wrong_words, taken_words, IsAnswer, IsAnswered, Outside, answered, sink_failed, most_bytes, steps_of_first}
 use Rattle.ido_cli.specs.Deliveries.{IsSaidToInput, IsDelivered, whole, broken}
 
 -- ---- Inputs that the source may not tell

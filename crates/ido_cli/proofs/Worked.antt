@@ -1,5 +1,5 @@
 -- What the definitions compute.
-use Rattle.std.specs.Prelude.{◌≡◌, [], ◌∷◌, Some, None, true, false, refl, codes}
+use Rattle.std.specs.Prelude.{◌≡◌, [], ◌∷◌, Some, None, refl, codes}
 use Rattle.ido_cli.specs.Inputs.{source_of, rest_of, behind_mark}
 use Rattle.ido_cli.specs.Scripts.{steps_of}
 use Rattle.clap.proofs.OnLiterals.{clap_on_literals}

@@ -1,7 +1,7 @@
 -- The words of the command line: which command they name, as `clap` takes them.
 use Rattle.std.specs.Prelude.{ℕ, List, [], true, Option, Some, None, Bool, option_map, codes, nat_eq, if◌then◌else◌}
 use Rattle.std.specs.Cmp.Lexicographic.{pointwise}
-use Rattle.clap.specs.Words.{App, fault_of, new_app, subcommand_of, with_subcommand}
+use Rattle.clap.specs.Words.{App, fault_of, subcommand_of, with_subcommand}
 use Rattle.clap.specs.Simple.{new_shape}
 use Rattle.clap.specs.Walk.{is_empty}
 use Rattle.ido_cli.specs.declared.command.Command as c

@@ -10,3 +10,4 @@ pub mod Steps
 pub mod Sayings
 pub mod Deliveries
 pub mod Answers
+pub mod Laws

@@ -10,6 +10,7 @@ use Rattle.source_machine.specs.declared.answers.Refused.{Refused}
 use Rattle.source_machine.specs.Runs.{IsRefused}
 use Rattle.ido_cli.specs.Refusals.{line_at_step, stop_code}
 
+-- a variable with these numbers as its elements
 abbrev pub variable_with : p.Variable → (elements : List ℤ) → r.Variable
 variable_with v elements = record { name = v.name.text; elements = elements }
 

@@ -5,6 +5,7 @@ mod answer;
 mod command;
 mod front;
 mod input;
+pub mod laws;
 mod play;
 mod refusal;
 mod run;

@@ -20,6 +20,7 @@ use ido_base::memory::Memory;
 use run_scripts::report::{Reported, Variable, report};
 use run_scripts::schedule::{ScheduleError, read_schedule};
 use source_machine::SourceState;
+use source_machine::laws::sizes_stay;
 use std::alloc::Global;
 
 /// The threads that hold a mutex, ascending.
@@ -49,7 +50,7 @@ fn ended(alloc: Global, state: &SourceState) -> Result<Vec<u64>, Memory>
 }
 
 /// The first so many elements, or all where there are fewer, and those behind them.
-#[tactic(auto, using(crate::proofs::Sizes::take_min, crate::proofs::Sizes::drop_min))]
+#[tactic(auto, using(crate::proofs::Gathered::take_min, crate::proofs::Gathered::drop_min))]
 fn split_front(elements: &[i128], count: usize) -> (&[i128], &[i128])
     ensures front { result.0.now ≡ take count elements.entry.now }
     ensures behind { result.1.now ≡ drop count elements.entry.now }
@@ -100,6 +101,7 @@ fn reported(
     requires stands { Stands state.now (m.after_from (m.start (flat_of flat.now)) schedule.items) (λ thread. 0 + m.ended_from (m.start (flat_of flat.now)) schedule.items thread) }
     ensures { IfOk result (λ x. views.state_of x ≡ run_state (flat_of flat.now) schedule.items) }
 {
+    sizes_stay();
     let unsettled = unsettled(alloc, state)?;
     let variables = variables(alloc, &flat.variables, state.variables())?;
     let ended = ended(alloc, state)?;

@@ -120,7 +120,8 @@ pub fn alone<S: Source, K: Sink>(
 ) -> Option<u8>
     ensures whole { IsSome result }
 
-    // The status and what was written are the answer, or say what was wanting.
+    // The status and what was written are the answer, or say what was wanting. There is one answer
+    // (`laws::one_answer`), but for `play`.
     ensures answered { IfSome result (λ status. IsAnswered (map string_bytes words.now) (record {
       left = S.left input.old;
       written_before = K.written output.old;
@@ -150,7 +151,8 @@ pub fn ido<R: Threads + Wait + Sync, S: Source, K: Sink, G: Gate + Sync>(
     output: &mut K,
     gate: &G,
 ) -> u8
-    // The status and what was written are the answer, or say what was wanting.
+    // The status and what was written are the answer, or say what was wanting. There is one answer
+    // (`laws::one_answer`), but for `play`.
     ensures answered { IsAnswered (map string_bytes words.now) (record {
       left = S.left input.old;
       written_before = K.written output.old;

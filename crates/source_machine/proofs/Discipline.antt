@@ -17,7 +17,7 @@ use Rattle.source_machine.specs.Threads.{state_in}
 use Rattle.source_machine.specs.Laws.{Guards, IsReached, LooksSame}
 use Rattle.source_machine.proofs.Emission.{set_same, set_other}
 use Rattle.source_machine.proofs.Starting.{map_found}
-use Rattle.source_machine.proofs.Running.{step_found, step_missing}
+use Rattle.source_machine.proofs.Running.{after_by, step_found, step_missing}
 use Rattle.source_machine.proofs.Guarding.{held_by, held_found, held_apart, held_taken, held_given, held_kept, held_none, guarded_first, guarded_rest, guarded_left, guarded_right, value_same, written_same}
 use Rattle.source_machine.proofs.Keeping.{KeepList, keep_append, keep_opened_all, keeps_assign, keeps_if, keeps_arm, keeps_while, keeps_lock, keeps_unlock, keep_tested}
 
@@ -336,15 +336,8 @@ safe_start x keep = record {
       subst (λ (th : m.Thread). Safe x (held_by u (m.start x).holders) th) a.2 (subst (λ (h : Held). Safe x h (m.thread_start a.0)) (sym is) made);
 }
 
--- the state behind a first step, or none
-abbrev after_by : m.State → List ℕ → Option m.State → m.State
-after_by s ts o = elim o [
-  | None ↦ s
-  | Some next ↦ m.after_from next ts
-]
-
 -- all are safe behind a first step
-safe_by : (x : f.Flat) (s : m.State) (t : ℕ) (ts : List ℕ) (o : Option m.State) → source_step s t ≡ o → AreSafe x s → ((next : m.State) → AreSafe x next → AreSafe x (m.after_from next ts)) → AreSafe x (after_by s ts o)
+safe_by : (x : f.Flat) (s : m.State) (t : ℕ) (ts : List ℕ) (o : Option m.State) → source_step s t ≡ o → AreSafe x s → ((next : m.State) → AreSafe x next → AreSafe x (m.after_from next ts)) → AreSafe x (after_by ts s o)
 safe_by x s t ts None e safe more = safe
 safe_by x s t ts (Some next) e safe more = more next (safe_next x s next t safe e)
 

@@ -9,3 +9,4 @@ pub mod Others
 pub mod Guarding
 pub mod Keeping
 pub mod Discipline
+pub mod Single

@@ -124,13 +124,13 @@ module _ (before after : SourceState) (s : m.State) (ended : ℕ → ℕ) (n : �
 
 -- ---- Runs
 
-abbrev runs_by : List ℕ → Option m.State → Bool
+abbrev pub runs_by : List ℕ → Option m.State → Bool
 runs_by ts o = elim o [
   | None ↦ false
   | Some next ↦ m.runs_from next ts
 ]
 
-abbrev after_by : List ℕ → m.State → Option m.State → m.State
+abbrev pub after_by : List ℕ → m.State → Option m.State → m.State
 after_by ts s o = elim o [
   | None ↦ s
   | Some next ↦ m.after_from next ts

@@ -1,8 +1,10 @@
 -- Laws of the source's own steps.
-use Rattle.std.specs.Prelude.{◌≡◌, ◌≢◌, ℕ, List, All, Contains, slice_get, Some}
+use Rattle.std.specs.Prelude.{◌≡◌, ◌≢◌, ℕ, List, length, map, All, Contains, slice_get, Some, false}
 use Rattle.c_tree.specs.Flats as f
-use Rattle.c_tree.specs.Source.{State, source_step, start, after_from}
+use Rattle.c_tree.specs.Source.{State, source_step, start, after_from, runs_from}
 use Rattle.c_tree.specs.Locking.{guard_of, IsDisciplined}
+use Rattle.source_machine.specs.Runs.{IsRefused}
+use Rattle.source_machine.specs.declared.answers.Refused.{Refused}
 
 -- ---- A thread that isn't stepped
 
@@ -13,6 +15,12 @@ OthersStay = (s next : State) (thread other : ℕ) → source_step s thread ≡ 
 -- so does a run in which the thread takes no step
 abbrev pub RestingStays : Type 0
 RestingStays = (s : State) (schedule : List ℕ) (other : ℕ) → (Contains schedule other → ⊥) → slice_get (after_from s schedule).threads other ≡ slice_get s.threads other
+
+-- ---- Sizes
+
+-- a run keeps the number of threads, of variables, and of each variable's elements
+abbrev pub SizesStay : Type 0
+SizesStay = (s : State) (schedule : List ℕ) → (length (after_from s schedule).threads ≡ length s.threads) × (map length (after_from s schedule).variables ≡ map length s.variables)
 
 -- ---- The lock discipline
 
@@ -43,3 +51,13 @@ pub record LooksSame (x : f.Flat) (s other : State) (thread : ℕ) : Type 0 wher
 abbrev pub ReadsGuarded : Type 0
 ReadsGuarded = (x : f.Flat) (s other next : State) (thread : ℕ) → All (IsDisciplined x) x.threads → IsReached x s → LooksSame x s other thread → source_step s thread ≡ Some next →
     (after : State) × (source_step other thread ≡ Some after) × (slice_get after.threads thread ≡ slice_get next.threads thread) × (after.holders ≡ next.holders) × ((variable : ℕ) → Guards x s thread variable → slice_get after.variables variable ≡ slice_get next.variables variable)
+
+-- ---- A schedule that can't be stepped whole
+
+-- a schedule is refused at one step for one reason at most
+abbrev pub OneStop : Type 0
+OneStop = (s : State) (schedule : List ℕ) (x y : Refused) → IsRefused x s schedule → IsRefused y s schedule → x ≡ y
+
+-- and one that is refused can't be stepped whole
+abbrev pub NotWhole : Type 0
+NotWhole = (s : State) (schedule : List ℕ) (x : Refused) → IsRefused x s schedule → runs_from s schedule ≡ false

@@ -1,12 +1,11 @@
-use Rattle.std.proofs.Common.{◌≡◌, List, ℕ, IfOk, sym, ap, subst, ◌∙◌}
+use Rattle.std.proofs.Common.{List, ℕ, ap, subst, ◌∙◌}
 use Rattle.std.specs.Prelude.{Err}
 use Rattle.std.proofs.lemmas.Result.{IfOk-weaker}
 use Rattle.c_tree.specs.Flats.{flat_of}
-use Rattle.ido_cli.specs.Answers.{PlayAnswer, checked, unplayed}
+use Rattle.ido_cli.specs.Answers.{checked, unplayed}
 use Rattle.ido_cli.specs.Fronts.{IsFrontAnswer}
 use Rattle.ido_cli.specs.Refusals.{code_of, line_at}
 use Rattle.ido_cli.specs.declared.front.FrontError.{FrontError}
-use Rattle.ido_cli.specs.declared.play.Said.{Said}
 use Rattle.ido_cli.proofs.Stops.{both_ok}
 use Rattle.ido_cli.proofs.answer.play_answer.Goals.{in-Ok, in-Err-Refused, in-Err-Memory}
 use Rattle.ido_cli.proofs.answer.play_answer.Goals as goal

@@ -1,4 +1,3 @@
-use Rattle.std.proofs.Common.{◌≡◌}
 use Rattle.c_tree.specs.Checking.{IsTyped, IsRanged, IsFlattened}
 use Rattle.c_tree.specs.Flats.{flat_of}
 use Rattle.c_tree.specs.Programs.{program_of}

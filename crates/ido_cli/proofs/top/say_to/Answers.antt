@@ -1,5 +1,4 @@
-use Rattle.std.proofs.Common.{◌≡◌, Some, None, map, string_bytes, sym, ◌∙◌}
-use Rattle.ido_cli.specs.Commands.{command_of}
+use Rattle.std.proofs.Common.{map, string_bytes, sym, ◌∙◌}
 use Rattle.ido_cli.proofs.Tops.{answer_to_taken_words, answer_to_wrong_words}
 use Rattle.ido_cli.proofs.top.say_to.Goals as goal
 

@@ -1,112 +1,16 @@
--- Steps keep the number of variables and of their elements, and end at most one section each.
-use Rattle.std.proofs.Common.{◌≡◌, refl, ℕ, zero, suc, ◌+◌, ◌-◌, ◌^◌, ◌<◌, ◌≤◌, min, List, [], ◌∷◌, ◌++◌, length, map, take, drop, sym, ◌∙◌, ap, ap₂, subst, Bool, true, false, Option, Some, None, ℤ, slice_set, arith, flat_map, filter, not, ◌&&◌, append_assoc, ⊎_elim}
-use Rattle.std.specs.Prelude.{slice_get, slice_index_or, if◌then◌else◌}
+-- What is gathered of a run for its report: threads, ended sections, and the elements of each variable.
+use Rattle.std.proofs.Common.{◌≡◌, refl, ℕ, zero, suc, ◌+◌, ◌-◌, ◌^◌, ◌<◌, ◌≤◌, min, List, [], ◌∷◌, ◌++◌, length, map, take, drop, sym, ◌∙◌, ap, ap₂, Bool, true, false, Option, Some, None, ℤ, arith, flat_map, filter, not, ◌&&◌, append_assoc, ⊎_elim}
+use Rattle.std.specs.Prelude.{if◌then◌else◌}
 use Rattle.std.proofs.lemmas.Bool.{cases_lt}
-use Rattle.std.proofs.lemmas.List.{append-nil, drop_all, length-map, length-set, take_all}
-use Rattle.ido_base.specs.declared.place.Place.{Place}
+use Rattle.std.proofs.lemmas.List.{append-nil, drop_all, length-map, take_all}
 use Rattle.rv64_isa.specs.Machine.{numbers_from}
 use Rattle.c_tree.specs.Flats as f
 use Rattle.c_tree.specs.Programs as p
 use Rattle.c_tree.specs.Source as m
 use Rattle.c_tree.specs.Source.{source_step}
-use Rattle.source_machine.proofs.Running.{step_found, step_missing}
+use Rattle.source_machine.specs.Laws.{SizesStay}
 use Rattle.run_scripts.specs.Reports as r
 use Rattle.ido_cli.specs.Runs.{counted, named, run_state, taken, unsettled_threads}
-
-some_is : {X : Type 0} (a b : X) → Some a ≡ Some b → a ≡ b
-some_is a b h = cc
-
--- ---- Sizes of variables
-
-abbrev pub sizes : m.State → List ℕ
-sizes s = map length s.variables
-
-sizes_set : (xss : List (List ℤ)) (i j : ℕ) (z : ℤ) → map length (slice_set xss i (slice_set (slice_index_or xss i []) j z)) ≡ map length xss
-sizes_set [] i j z = refl
-sizes_set (xs ∷ xss) zero j z = ap (λ (n : ℕ). n ∷ map length xss) (length-set xs j z)
-sizes_set (xs ∷ xss) (suc i) j z = ap (λ (ns : List ℕ). length xs ∷ ns) (sizes_set xss i j z)
-
--- as many threads, and as many elements of each variable
-record Same (s next : m.State) : Type 0 where
-  sizes : sizes next ≡ sizes s
-  count : length next.threads ≡ length s.threads
-
-module _ (s next : m.State) (t : ℕ) (thread : m.Thread) where
-  by_some : (before : m.State) (x : m.Thread) → sizes before ≡ sizes s → before.threads ≡ s.threads → Some (m.with_thread before t x) ≡ Some next → Same s next
-  by_some before x same threads h =
-      let is = some_is (m.with_thread before t x) next h in
-      record {
-        sizes = sym (ap sizes is) ∙ same;
-        count = sym (ap (λ (y : m.State). length y.threads) is) ∙ length-set before.threads t x ∙ ap length threads;
-      }
-
-  abbrev lock_by : (mutex : ℕ) (rest : List f.Statement) → Option (Option ℕ) → Option m.State
-  lock_by mutex rest None = None
-  lock_by mutex rest (Some None) = Some (m.with_thread (m.with_holder s mutex (Some t)) t (record thread { left = rest }))
-  lock_by mutex rest (Some (Some u)) = None
-
-  lock_is : (place : Place) (mutex : ℕ) (rest : List f.Statement) (o : Option (Option ℕ)) → slice_get s.holders mutex ≡ o → m.statement_step s t thread (f.Lock place mutex) rest ≡ lock_by mutex rest o
-  lock_is place mutex rest None e = rw (m.statement_step, e) refl
-  lock_is place mutex rest (Some None) e = rw (m.statement_step, e) refl
-  lock_is place mutex rest (Some (Some u)) e = rw (m.statement_step, e) refl
-
-  by_lock : (mutex : ℕ) (rest : List f.Statement) (o : Option (Option ℕ)) → lock_by mutex rest o ≡ Some next → Same s next
-  by_lock mutex rest None h = absurd (cc h)
-  by_lock mutex rest (Some None) h = by_some (m.with_holder s mutex (Some t)) (record thread { left = rest }) refl refl h
-  by_lock mutex rest (Some (Some u)) h = absurd (cc h)
-
-  by_statement : (x : f.Statement) (rest : List f.Statement) → m.statement_step s t thread x rest ≡ Some next → Same s next
-  by_statement (f.Assign place target x) rest h = by_some s _ refl refl h
-  by_statement (f.If place f.no_arm otherwise) rest h = absurd (cc h)
-  by_statement (f.If place (f.arm_and condition body arms) otherwise) rest h = by_some s _ refl refl h
-  by_statement (f.While place condition body) rest h = by_some s _ refl refl h
-  by_statement (f.Do place body condition) rest h = absurd (cc h)
-  by_statement (f.Lock place mutex) rest h = by_lock mutex rest (slice_get s.holders mutex) (sym (lock_is place mutex rest (slice_get s.holders mutex) refl) ∙ h)
-  by_statement (f.Unlock place mutex) rest h = by_some (m.with_holder s mutex None) (record thread { left = rest }) refl refl h
-
-  by_end : (ended : Bool) → (let o : Option m.State = if ended then None else Some (m.with_thread s t (record thread { ended = true })) in o ≡ Some next) → Same s next
-  by_end true h = absurd (cc h)
-  by_end false h = by_some s (record thread { ended = true }) refl refl h
-
-  by_left : (left : List f.Statement) → m.left_step s t thread left ≡ Some next → Same s next
-  by_left [] h = by_end thread.ended h
-  by_left (x ∷ rest) h = by_statement x rest h
-
-  abbrev pending_by : Option m.Pending → Option m.State
-  pending_by o = elim o [
-    | Some x ↦ Some (m.with_thread (m.stored s x) t (record thread { pending = None }))
-    | None ↦ m.left_step s t thread thread.left
-  ]
-
-  by_pending : (o : Option m.Pending) → pending_by o ≡ Some next → Same s next
-  by_pending None h = by_left thread.left h
-  by_pending (Some x) h = by_some (m.stored s x) (record thread { pending = None }) (sizes_set s.variables x.variable x.element x.number) refl h
-
-  by_thread : m.thread_step s t thread ≡ Some next → Same s next
-  by_thread h = by_pending thread.pending h
-
-by_found : (s next : m.State) (t : ℕ) (o : Option m.Thread) → slice_get s.threads t ≡ o → source_step s t ≡ Some next → Same s next
-by_found s next t None e h = let none = step_missing s t e in absurd (cc (none, h))
-by_found s next t (Some thread) e h = by_thread s next t thread (sym (step_found s t thread e) ∙ h)
-
-abbrev after_by : m.State → List ℕ → Option m.State → m.State
-after_by s ts o = elim o [
-  | None ↦ s
-  | Some next ↦ m.after_from next ts
-]
-
-same_by : (s : m.State) (t : ℕ) (ts : List ℕ) (o : Option m.State) → source_step s t ≡ o → ((next : m.State) → Same next (m.after_from next ts)) → Same s (after_by s ts o)
-same_by s t ts None e more = record { sizes = refl; count = refl }
-same_by s t ts (Some next) e more =
-    let one = by_found s next t (slice_get s.threads t) refl e in
-    record { sizes = (more next).sizes ∙ one.sizes; count = (more next).count ∙ one.count }
-
-same_after : (s : m.State) (ts : List ℕ) → Same s (m.after_from s ts)
-same_after s [] = record { sizes = refl; count = refl }
-same_after s (t ∷ ts) = same_by s t ts (source_step s t) refl (λ next. same_after next ts)
-
-pub count_after : (s : m.State) (ts : List ℕ) → length (m.after_from s ts).threads ≡ length s.threads
-count_after s ts = (same_after s ts).count
 
 -- ---- Ended sections
 
@@ -212,19 +116,19 @@ taken_is (v ∷ vs) (ns ∷ numbers) e =
 
 -- ---- The state that is reported
 
-pub reported_is : (x : f.Flat) (schedule unsettled ended : List ℕ) (variables : List r.Variable) →
+pub reported_is : SizesStay → (x : f.Flat) (schedule unsettled ended : List ℕ) (variables : List r.Variable) →
     unsettled ≡ unsettled_threads (m.after_from (m.start x) schedule) →
     variables ≡ taken x.variables (flat_map (λ ns. ns) (m.after_from (m.start x) schedule).variables) →
     ended ≡ counted (λ t. 0 + m.ended_from (m.start x) schedule t) (length (m.after_from (m.start x) schedule).threads) →
     length schedule ≤ 2 ^ 64 - 1 →
     (let s : r.State = record { unsettled = unsettled; variables = variables; ended = ended; schedule = schedule } in s) ≡ run_state x schedule
 unfolding run_state
-reported_is x schedule unsettled ended variables u v e short =
+reported_is stay x schedule unsettled ended variables u v e short =
     let after = m.after_from (m.start x) schedule in
-    let same = same_after (m.start x) schedule in
-    let threads : length after.threads ≡ length x.threads = same.count ∙ length-map x.threads m.thread_start in
-    let starts : sizes (m.start x) ≡ map (λ (y : p.Variable). length y.initial) x.variables = map-map x.variables in
-    let variables_are = v ∙ taken_is x.variables after.variables (same.sizes ∙ starts) in
+    let same = stay (m.start x) schedule in
+    let threads : length after.threads ≡ length x.threads = same.0 ∙ length-map x.threads m.thread_start in
+    let starts : map length (m.start x).variables ≡ map (λ (y : p.Variable). length y.initial) x.variables = map-map x.variables in
+    let variables_are = v ∙ taken_is x.variables after.variables (same.1 ∙ starts) in
     let counts = counted_is (λ t. m.ended_from (m.start x) schedule t) 0 (length x.threads) (λ t. let h = ended_few (m.start x) schedule t in omega (arith, h, short)) in
     let ended_are = e ∙ plain (length after.threads) ∙ ap (λ (n : ℕ). counted (λ t. m.ended_from (m.start x) schedule t) n) threads ∙ counts in
     ap₂ (λ (us : List ℕ) (vs : List r.Variable). let s : r.State = record { unsettled = us; variables = vs; ended = ended; schedule = schedule } in s) u variables_are

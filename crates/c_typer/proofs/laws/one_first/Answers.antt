@@ -1,0 +1,5 @@
+use Rattle.c_typer.proofs.Firsts.{one_first}
+use Rattle.c_typer.proofs.laws.one_first.Goals as goal
+
+pub returns : goal.returns
+returns c = one_first

@@ -1,0 +1,68 @@
+-- Words that don't ask for `play`, and an input, have one answer.
+use Rattle.std.proofs.Common.{◌≡◌, ◌≢◌, refl, ℕ, ◌+◌, List, Some, None, true, false, sym, ap, ap₂, ◌∙◌, subst}
+use Rattle.ido_base.specs.declared.place.Place.{Place}
+use Rattle.c_tree.specs.Flats as f
+use Rattle.c_tree.specs.Source.{start}
+use Rattle.run_scripts.specs.Schedules as s
+use Rattle.source_machine.specs.Laws.{OneStop, NotWhole}
+use Rattle.ido_cli.specs.declared.command.Command as c
+use Rattle.ido_cli.specs.declared.command.Command.TheVariants as command
+use Rattle.ido_cli.specs.Refusals.{code_of, fault_code, fault_place, line_at, line_at_step, stop_code}
+use Rattle.ido_cli.specs.Runs.{RunAnswer, ran, stopped}
+use Rattle.ido_cli.specs.Inputs.{source_of}
+use Rattle.ido_cli.specs.Answers.{SourceAnswer, faulty, no_schedule, of_schedule, rest_begins, AnswerToInput, past_limits, within_limits, wrong_words, taken_words}
+use Rattle.ido_cli.specs.Laws.{OneFlat, OneFault, NotBoth, OneAnswer}
+
+-- both are the same status and output
+abbrev Same : (status other : ℕ) → (output written : List ℕ) → Type 0
+Same status other output written = (status ≡ other) × (output ≡ written)
+
+module _ (one_flat : OneFlat) (one_fault : OneFault) (not_both : NotBoth) (one_stop : OneStop) (not_whole : NotWhole) where
+  -- ---- A run
+
+  one_run : (x : f.Flat) (schedule : List ℕ) (status other : ℕ) (output written : List ℕ) → RunAnswer x schedule status output → RunAnswer x schedule other written → Same status other output written
+  one_run x schedule status other output written (ran runs told) (ran also more) = (told.status_is ∙ sym more.status_is, told.output_is ∙ sym more.output_is)
+  one_run x schedule status other output written (ran runs told) (stopped stop is e told_too) = let both : true ≡ false = sym runs ∙ not_whole (start x) schedule stop is in cc both
+  one_run x schedule status other output written (stopped stop is e told) (ran runs more) = let both : true ≡ false = sym runs ∙ not_whole (start x) schedule stop is in cc both
+  one_run x schedule status other output written (stopped stop is e told) (stopped again also h more) =
+      (e ∙ sym h, told ∙ ap (λ y. line_at_step (stop_code y.kind) y.step) (one_stop (start x) schedule stop again is also) ∙ sym more)
+
+  -- ---- An input of `source`
+
+  one_source : (input : List ℕ) (status other : ℕ) (output written : List ℕ) → SourceAnswer input status output → SourceAnswer input other written → Same status other output written
+  one_source input status other output written (faulty found place is (e, told)) (faulty again elsewhere also (h, more)) =
+      let both = one_fault (source_of input) found again place elsewhere is also in
+      (e ∙ sym h, told ∙ ap₂ (λ rule (at : Place). line_at (code_of rule) (source_of input) at.0) both.0 both.1 ∙ sym more)
+  one_source input status other output written (faulty found place is told) (no_schedule flat checked x read more) = absurd (not_both (source_of input) flat found place checked is)
+  one_source input status other output written (faulty found place is told) (of_schedule flat checked schedule read more) = absurd (not_both (source_of input) flat found place checked is)
+  one_source input status other output written (no_schedule flat checked x read told) (faulty found place is more) = absurd (not_both (source_of input) flat found place checked is)
+  one_source input status other output written (of_schedule flat checked schedule read told) (faulty found place is more) = absurd (not_both (source_of input) flat found place checked is)
+  one_source input status other output written (no_schedule flat checked x read (e, told)) (no_schedule flat' checked' y read' (h, more)) =
+      let both : s.Refused x ≡ s.Refused y = sym read ∙ read' in
+      let same : x ≡ y = cc both in
+      (e ∙ sym h, told ∙ ap (λ z. line_at (fault_code z) input (rest_begins input + fault_place z)) same ∙ sym more)
+  one_source input status other output written (no_schedule flat checked x read told) (of_schedule flat' checked' schedule read' more) = let both : s.Refused x ≡ s.Steps schedule = sym read ∙ read' in cc both
+  one_source input status other output written (of_schedule flat checked schedule read told) (no_schedule flat' checked' x read' more) = let both : s.Steps schedule ≡ s.Refused x = sym read ∙ read' in cc both
+  one_source input status other output written (of_schedule flat checked schedule read told) (of_schedule flat' checked' schedule' read' more) =
+      let both : s.Steps schedule ≡ s.Steps schedule' = sym read ∙ read' in
+      let same : schedule ≡ schedule' = cc both in
+      let forms : flat ≡ flat' = one_flat (source_of input) flat flat' checked checked' in
+      one_run flat' schedule' status other output written (subst (λ z. RunAnswer flat' z status output) same (subst (λ z. RunAnswer z schedule status output) forms told)) more
+
+  -- ---- All words but those of `play`
+
+  one_to_input : (d : c.Command) (input : List ℕ) (status other : ℕ) (output written : List ℕ) → d ≢ command.Play → AnswerToInput d input status output → AnswerToInput d input other written → Same status other output written
+  one_to_input d input status other output written n (past_limits past (e, told)) (past_limits past' (h, more)) = (e ∙ sym h, told ∙ sym more)
+  one_to_input d input status other output written n (past_limits past told) (within_limits within more) = absurd (within past)
+  one_to_input d input status other output written n (within_limits within told) (past_limits past more) = absurd (within past)
+  one_to_input command.Play input status other output written n (within_limits within told) (within_limits within' more) = absurd (n refl)
+  one_to_input command.Source input status other output written n (within_limits within told) (within_limits within' more) = one_source input status other output written told more
+
+  pub one_answer : OneAnswer
+  one_answer words input status other output written n (wrong_words wrong (e, told)) (wrong_words wrong' (h, more)) = (e ∙ sym h, told ∙ sym more)
+  one_answer words input status other output written n (wrong_words wrong told) (taken_words d taken more) = let both : None ≡ Some d = sym wrong ∙ taken in cc both
+  one_answer words input status other output written n (taken_words d taken told) (wrong_words wrong more) = let both : None ≡ Some d = sym wrong ∙ taken in cc both
+  one_answer words input status other output written n (taken_words d taken told) (taken_words d' taken' more) =
+      let both : Some d ≡ Some d' = sym taken ∙ taken' in
+      let same : d ≡ d' = cc both in
+      one_to_input d' input status other output written (λ e. n (taken' ∙ ap Some e)) (subst (λ z. AnswerToInput z input status output) same told) more

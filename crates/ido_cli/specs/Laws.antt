@@ -1,0 +1,30 @@
+-- What a text comes to, and what words and an input are answered, is one thing.
+use Rattle.std.specs.Prelude.{◌≡◌, ◌≢◌, ℕ, List, Some}
+use Rattle.ido_base.specs.declared.place.Place.{Place}
+use Rattle.c_tree.specs.Checking.{IsChecked, IsFaulty}
+use Rattle.c_tree.specs.Flats.{Flat}
+use Rattle.c_tree.specs.declared.rule.Rule.{Rule}
+use Rattle.ido_cli.specs.declared.command.Command.TheVariants as command
+use Rattle.ido_cli.specs.Commands.{command_of}
+use Rattle.ido_cli.specs.Answers.{Answer}
+
+-- ---- Texts
+
+-- a checked text has one flat form
+abbrev pub OneFlat : Type 0
+OneFlat = (text : List ℕ) (x y : Flat) → IsChecked text x → IsChecked text y → x ≡ y
+
+-- a refused one breaks one rule at one place
+abbrev pub OneFault : Type 0
+OneFault = (text : List ℕ) (found other : Rule) (place elsewhere : Place) → IsFaulty text found place → IsFaulty text other elsewhere → (found ≡ other) × (place ≡ elsewhere)
+
+-- and none is both
+abbrev pub NotBoth : Type 0
+NotBoth = (text : List ℕ) (x : Flat) (found : Rule) (place : Place) → IsChecked text x → ¬ (IsFaulty text found place)
+
+-- ---- Answers
+
+-- words that don't ask for `play`, and an input, have one answer: a status and an output
+abbrev pub OneAnswer : Type 0
+OneAnswer = (words : List (List ℕ)) (input : List ℕ) (status other : ℕ) (output written : List ℕ) → command_of words ≢ Some command.Play
+    → Answer words input status output → Answer words input other written → (status ≡ other) × (output ≡ written)
