@@ -1,5 +1,5 @@
 //! An order of functions: callees first, and where calls lead back to a function, those functions side by side.
-ghost use Rattle.std.specs.Prelude.{◌≡◌, ◌≤◌, IfOk, IsTrue, Contains};
+ghost use Rattle.std.specs.Prelude.{◌≡◌, ◌<◌, ◌≤◌, IfOk, MatchBool, Contains};
 ghost use Rattle.c_tree.specs.Inlining as i;
 ghost use Rattle.c_inline.specs.Calls.{calls_of, lists_of};
 ghost use Rattle.c_inline.specs.Ranking.{AreRanks, rank_at};
@@ -28,7 +28,9 @@ pub fn rank_of(ranks: &[Option<u32>], function: usize) -> u32
 
 // Whether no call leads to a function of a higher rank than this.
 fn lead_no_higher(ranks: &[Option<u32>], rank: u32, calls: &[Call]) -> bool
-    ensures { IsTrue result → (c : i.Call) → Contains (calls_of calls.now) c → rank_at ranks.now c.function ≤ rank }
+    ensures { MatchBool result
+        ((c : i.Call) → Contains (calls_of calls.now) c → rank_at ranks.now c.function ≤ rank)
+        ((c : i.Call) × Contains (calls_of calls.now) c × (rank < rank_at ranks.now c.function)) }
 {
     for call in calls {
         if rank_of(ranks, call.function as usize) > rank {
@@ -40,7 +42,7 @@ fn lead_no_higher(ranks: &[Option<u32>], rank: u32, calls: &[Call]) -> bool
 
 // Whether each call leads to a function of no higher rank.
 fn are_ranks(ranks: &[Option<u32>], calls: &[Vec<Call>]) -> bool
-    ensures { IsTrue result → AreRanks (lists_of calls.now) ranks.now }
+    ensures { MatchBool result (AreRanks (lists_of calls.now) ranks.now) (¬ (AreRanks (lists_of calls.now) ranks.now)) }
 {
     for number in 0..calls.len() {
         if !lead_no_higher(ranks, rank_of(ranks, number), &calls[number]) {
