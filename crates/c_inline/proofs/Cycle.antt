@@ -10,34 +10,34 @@ use Rattle.c_tree.specs.Programs as p
 use Rattle.c_tree.specs.Inlining as i
 use Rattle.c_inline.specs.Weighing.{IsUnknown, IsClosed}
 
-leads_on : (fs : List p.Function) (to from : ℕ) (c : i.Call) → Contains (i.calls_in fs to) c → i.Leads fs to from → i.Leads fs c.function from
+pub leads_on : (fs : List p.Function) (to from : ℕ) (c : i.Call) → Contains (i.calls_in fs to) c → i.Leads fs to from → i.Leads fs c.function from
 leads_on fs to from c k i.there = i.by_call from c k i.there
 leads_on fs to from c k (i.by_call _ d m rest) = i.by_call _ d m (leads_on fs to d.function c k rest)
 
 -- a number is in a list, or differs from each of it
-found_in : (g : ℕ) (xs : List ℕ) → Contains xs g ⊎ AllByRecursion (λ y. eqb g y ≡ false) xs
+pub found_in : (g : ℕ) (xs : List ℕ) → Contains xs g ⊎ AllByRecursion (λ y. eqb g y ≡ false) xs
 found_in g [] = inr tt
 found_in g (x ∷ xs) = ⊎_elim
     (λ is. inl (0, omega arith, sym is))
     (λ ne. ⊎_elim (λ k. inl (suc k.0, omega (arith, k.1), k.2)) (λ all. inr (ne_eqb g x ne, all)) (found_in g xs))
     (cases_eq g x)
 
-any_below : (n : ℕ) (xs : List ℕ) → ((g : ℕ) → Contains xs g → g < n) → (q : ℕ) → list_any (eqb q) xs ≡ true → q < n
+pub any_below : (n : ℕ) (xs : List ℕ) → ((g : ℕ) → Contains xs g → g < n) → (q : ℕ) → list_any (eqb q) xs ≡ true → q < n
 any_below n [] h q e = absurd (false≢true e)
 any_below n (x ∷ xs) h q e = ⊎_elim
     (λ is. let s = eqb-true q x is in omega (arith, s, h x (0, omega arith, refl)))
     (λ rest. any_below n xs (λ g k. h g (suc k.0, omega (arith, k.1), k.2)) q rest)
     (or_cases (eqb q x) (list_any (eqb q) xs) e)
 
-first_or : (x : ℕ) (xs : List ℕ) (g : ℕ) → Contains (x ∷ xs) g → (P : ℕ → Type 0) → P x → ((h : ℕ) → Contains xs h → P h) → P g
+pub first_or : (x : ℕ) (xs : List ℕ) (g : ℕ) → Contains (x ∷ xs) g → (P : ℕ → Type 0) → P x → ((h : ℕ) → Contains xs h → P h) → P g
 first_or x xs g (zero, l, e) P here rest = subst P e here
 first_or x xs g (suc k, l, e) P here rest = rest g (k, omega arith, e)
 
-IsDistinct-nil : IsDistinct eqb []
+pub IsDistinct-nil : IsDistinct eqb []
 unfolding IsDistinct
 IsDistinct-nil = tt
 
-only : (x h : ℕ) → Contains (x ∷ []) h → x ≡ h
+pub only : (x h : ℕ) → Contains (x ∷ []) h → x ≡ h
 only x h (zero, l, e) = e
 only x h (suc k, l, e) = absurd (omega arith)
 

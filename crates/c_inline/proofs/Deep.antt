@@ -46,7 +46,7 @@ module _ (fs : List p.Function) where
         ∙ ap (λ (o : Option p.Function). elim o as (λ _. ℕ) [ Some y ↦ v.statements_weight w call fs (v.function_weight w call fs (length fs)) y.body | None ↦ 0 ]) k
 
   -- ---- Bodies
-  bodies_past : (d g : ℕ) (ks : List Kind) → length fs ≤ g → i.bodies_of fs d g ks ≡ record { made = f.no_statement; kinds = ks }
+  pub bodies_past : (d g : ℕ) (ks : List Kind) → length fs ≤ g → i.bodies_of fs d g ks ≡ record { made = f.no_statement; kinds = ks }
   bodies_past zero g ks le = refl
   bodies_past (suc d) g ks le = ap (λ (o : Option p.Function). elim o as (λ _. i.Made f.Statements) [ Some x ↦ i.statements fs (i.bodies_of fs d) (length ks) (ks ++ x.locals) x.body | None ↦ record { made = f.no_statement; kinds = ks } ]) (slice_get_past fs g le)
 

@@ -10,3 +10,8 @@ pub mod Backs
 pub mod Weighed
 pub mod Making
 pub mod Ends
+pub mod FormLaws
+pub mod CallDepth
+pub mod CallLocals
+pub mod CallRuns
+pub mod CallArguments

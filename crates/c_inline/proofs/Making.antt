@@ -58,7 +58,7 @@ then_done made made' s ks K h =
 pub behind_pushed : (xs : List flat.Statement) (x : flat.Statement) → f.statements_of (xs ++ x ∷ []) ≡ i.statements_and (f.statements_of xs) (i.one (f.statement_of x))
 behind_pushed xs x = sym (and_none (f.statements_of (xs ++ x ∷ []))) ∙ pushed xs x f.no_statement
 
-passed_more : (place : Place) (n j : ℕ) (ks : List Kind) (x : e.Placed) (xs : List e.Placed) → i.passed place n (drop j ks) (x ∷ xs) ≡ f.statement_and (f.Assign place (e.ToLocal n (slice_index_or ks j Int)) x) (i.passed place (n + 1) (drop (suc j) ks) xs)
+pub passed_more : (place : Place) (n j : ℕ) (ks : List Kind) (x : e.Placed) (xs : List e.Placed) → i.passed place n (drop j ks) (x ∷ xs) ≡ f.statement_and (f.Assign place (e.ToLocal n (slice_index_or ks j Int)) x) (i.passed place (n + 1) (drop (suc j) ks) xs)
 passed_more place n zero [] x xs = refl
 passed_more place n (suc j) [] x xs = refl
 passed_more place n zero (k ∷ ks) x xs = refl

@@ -5,3 +5,5 @@ pub mod Reaching
 pub mod Making
 pub mod Inline
 pub mod Ranking
+pub mod CallLaws
+pub mod FormLaws

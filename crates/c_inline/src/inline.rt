@@ -106,7 +106,8 @@ fn make_threads(
 
 /// The flat form of a program: its threads with each call replaced by its function's body, with fresh locals.
 /// `Recursion` is answered where a call leads back to the function that it stands in, and names the first such call by
-/// place; else `Code` is where a thread costs more than 65,536, and names the first such thread.
+/// place; else `Code` is where a thread costs more than 65,536, and names the first such thread. `Memory` is answered
+/// also where the locals of a thread would be numbered past 2^32 - 1.
 pub fn inline(alloc: Global, program: &Program) -> Result<Flat, InlineError>
     ensures { IsInlining (program_of program.now) result }
 {

@@ -6,10 +6,9 @@ mod build;
 mod calls;
 mod copy;
 pub mod inline;
+pub mod laws;
 mod rank;
 mod recursion;
 mod shift;
-#[cfg(test)]
-mod tests;
 mod weigh;
 mod weight;

@@ -4,6 +4,9 @@ pub mod Firsts
 pub mod Fitting
 pub mod Foreseen
 pub mod HeldRanges
+pub mod Kept
+pub mod Keeping
+pub mod Steps
 pub mod Multiples
 pub mod Operations
 pub mod Products

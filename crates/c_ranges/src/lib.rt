@@ -7,10 +7,8 @@
 mod expression;
 mod indexes;
 mod interval;
-mod laws;
+pub mod laws;
 mod operators;
-#[cfg(test)]
-mod tests;
 
 pub use expression::range;
 pub use indexes::{IndexError, check};

@@ -27,3 +27,4 @@ pub mod Scans
 pub mod Sizes
 pub mod Steps
 mod WorkedTokens
+pub mod Depths

@@ -65,7 +65,7 @@ or_front : (b r s : Bool) → (r ≡ false → s ≡ false) → (b || r) ≡ fal
 or_front true r s f e = e
 or_front false r s f e = f e
 
-is_high_from-front : (n : Nesting) (xs ys : List t.Token) → is_high_from n (xs ++ ys) ≡ false → is_high_from n xs ≡ false
+pub is_high_from-front : (n : Nesting) (xs ys : List t.Token) → is_high_from n (xs ++ ys) ≡ false → is_high_from n xs ≡ false
 is_high_from-front n [] ys e = refl
 is_high_from-front n (x ∷ xs) ys e =
     let m : Nesting = within_lexeme x.lexeme n in

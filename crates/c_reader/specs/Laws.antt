@@ -1,9 +1,10 @@
--- What a text is read as is one thing.
-use Rattle.std.specs.Prelude.{◌≡◌, ℕ, List}
+-- What a text is read as is at most one thing, and no deep one.
+use Rattle.std.specs.Prelude.{◌≡◌, ℕ, ◌+◌, List}
 use Rattle.ido_base.specs.declared.place.Place.{Place}
-use Rattle.c_tree.specs.Reading.{IsRead, IsRefused}
+use Rattle.c_tree.specs.Reading.{IsRead, IsRefused, most_nesting}
 use Rattle.c_tree.specs.Trees.{Item}
 use Rattle.c_tree.specs.declared.rule.Rule.{Rule}
+use Rattle.c_reader.specs.Depths.{IsShallow}
 
 -- a text has one tree at most
 abbrev pub OneTree : Type 0
@@ -16,3 +17,7 @@ OneRefusal = (text : List ℕ) (found other : Rule) (place elsewhere : Place) �
 -- and what is refused has no tree
 abbrev pub NotBoth : Type 0
 NotBoth = (text : List ℕ) (xs : List Item) (found : Rule) (place : Place) → IsRead text xs → ¬ (IsRefused text found place)
+
+-- the blocks of a tree that is read are at most 128 deep, and its expressions at most 129 high
+abbrev pub TreesAreShallow : Type 0
+TreesAreShallow = (text : List ℕ) (xs : List Item) → IsRead text xs → IsShallow most_nesting (most_nesting + 1) xs

@@ -7,3 +7,4 @@ pub mod Reads
 pub mod Rows
 pub mod Steps
 pub mod Tokens
+pub mod Depths

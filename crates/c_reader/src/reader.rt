@@ -1,8 +1,9 @@
 //! The reader.
-ghost use Rattle.std.specs.Prelude.{◌≡◌, ◌<◌, ◌≤◌, length, take, IfOk, IfErr, List, ℕ, IsSome, IfSome, IfNone};
-ghost use Rattle.c_tree.specs.Reading.{IsRead, IsRefused};
+ghost use Rattle.std.specs.Prelude.{◌≡◌, ◌+◌, ◌<◌, ◌≤◌, length, take, IfOk, IfErr, List, ℕ, IsSome, IfSome, IfNone};
+ghost use Rattle.c_tree.specs.Reading.{IsRead, IsRefused, most_nesting};
 ghost use Rattle.c_tree.specs.Scanning.{scanned};
 ghost use Rattle.c_tree.specs.Views.{items_of};
+ghost use Rattle.c_reader.specs.Depths.{IsShallow};
 ghost use Rattle.c_reader.specs.Fronts.{scanned_of};
 ghost use Rattle.c_reader.specs.Readings.{fault_of, behind_of, reach, IsFirstHigh, IsParsed};
 
@@ -117,10 +118,12 @@ fn judge(
 ///
 /// A byte that begins no token, a number that is none, a token that the tokens before it can't go on
 /// with, and one that nests past 128: the first place decides, and at one place this order. A text
-/// that ends too early is refused at its length.
+/// that ends too early is refused at its length. The blocks of a tree are at most 128 deep, and its
+/// expressions at most 129 high.
 pub fn read(alloc: Global, text: &[u8]) -> Result<Tree, ReadError>
     requires { length text.now ≤ 1048576 }
     ensures read { IfOk result (λ tree. IsRead text.now (items_of tree)) }
+    ensures shallow { IfOk result (λ tree. IsShallow most_nesting (most_nesting + 1) (items_of tree)) }
     ensures refused { IfErr result (λ e. IfSome (fault_of e) (λ f. IsRefused text.now f.rule f.place)) }
 {
     let found = scan(alloc, text)?;

@@ -9,3 +9,4 @@ mod WorkedRanges
 mod WorkedInlining
 mod WorkedSource
 mod WorkedLocking
+mod WorkedWellFormed

@@ -71,6 +71,9 @@ sixteen_nodes = refl
 sixteen_need : need_of (balanced 4) ≡ 5
 sixteen_need = refl
 
+half_need : need_of (balanced 3) ≡ 4
+half_need = refl
+
 -- a sum from left to right needs two
 row_need : need_of (e.Binary b.Add (e.Binary b.Add (e.Binary b.Add (number 1) (number 2)) (number 3)) (number 4)) ≡ 2
 row_need = refl

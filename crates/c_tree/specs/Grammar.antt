@@ -80,7 +80,7 @@ expression_from (t.Conditional condition then otherwise) n =
 abbrev pub expression : t.Expression → List Token → Type 0
 expression x = expression_from x 0
 
--- ---- Assignments and calls
+-- ---- Assignments (C11 6.5.16) and calls (6.5.2.2)
 
 abbrev pub index : Option t.Expression → List Token → Type 0
 index None = empty
@@ -101,7 +101,7 @@ assignment x = starting_at x.place (changed x.target x.change)
 abbrev pub call : t.Call → List Token → Type 0
 call x = name x.function ⋅ mark p.OpenParenthesis ⋅ list_of expression x.arguments ⋅ mark p.CloseParenthesis
 
--- ---- Statements
+-- ---- Statements (C11 6.8) and declarations of locals (6.7)
 
 abbrev pub initial : t.Initial → List Token → Type 0
 initial t.Absent = empty
@@ -149,7 +149,7 @@ abbrev mutual
   statements t.no_statement = empty
   statements (t.statement_and x rest) = statement x ⋅ statements rest
 
-  -- `if`, and then `else if`
+  -- `if`, and then `else if` (C11 6.8.4.1)
   pub arms_of : t.Arms → List Token → Type 0
   arms_of t.no_arm = never
   arms_of (t.arm_and x inside rest) = word k.If ⋅ condition x ⋅ block inside ⋅ more_arms_of rest
@@ -162,7 +162,7 @@ abbrev mutual
   otherwise_of t.Nothing = empty
   otherwise_of (t.Else inside) = word k.Else ⋅ block inside
 
--- ---- Items
+-- ---- Items: functions (C11 6.9.1), variables and their initialisers (6.7.9), threads and mutexes
 
 abbrev pub returned : t.Return → List Token → Type 0
 returned x = word_at x.place k.Return ⋅ maybe expression x.value ⋅ mark p.Semicolon

@@ -92,7 +92,7 @@ pub record Made (A : Type 0) : Type 0 where
   pub made : A
   pub kinds : List Kind
 
--- parameters take the arguments: the locals from the first number on
+-- parameters take the arguments, as if by assignment (C11 6.5.2.2, paragraph 7): the locals from the first number on
 abbrev pub passed : Place → (first : ℕ) → List Kind → List e.Placed → f.Statements
 passed place n ks [] = f.no_statement
 passed place n ks (x ∷ xs) = f.statement_and (f.Assign place (e.ToLocal n (slice_index_or ks 0 Int)) x) (passed place (n + 1) (drop_first ks) xs)
@@ -101,7 +101,7 @@ passed place n ks (x ∷ xs) = f.statement_and (f.Assign place (e.ToLocal n (sli
     drop_first [] = []
     drop_first (j ∷ js) = js
 
--- the result, converted to its function's kind, is assigned
+-- the result, converted to its function's kind (C11 6.8.6.4), is assigned
 abbrev pub assigned : Place → (by : ℕ) → Option p.Returned → Option e.Target → f.Statements
 assigned place n (Some x) (Some target) = one (f.Assign place target (record { place = x.value.place; expr = e.Converted x.kind (shifted n x.value.expr) }))
 assigned place n (Some x) None = f.no_statement

@@ -16,6 +16,7 @@ pub mod Typing
 pub mod TypeRules
 pub mod Ranges
 pub mod Inlining
+pub mod WellFormed
 pub mod Locking
 pub mod Temporaries
 pub mod Checking

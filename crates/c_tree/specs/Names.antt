@@ -1,4 +1,4 @@
--- What a name means where it stands.
+-- What a name means where it stands: scopes of identifiers (C11 6.2.1).
 use Rattle.std.specs.Prelude.{ℕ, ◌+◌, List, [], ◌∷◌, ◌++◌, length, map, find, Option, Some, None, Bool, nat_eq, is_some}
 use Rattle.std.specs.Cmp.Lexicographic.{pointwise}
 use Rattle.ido_ints.specs.declared.kinds.Kind.{Kind}

@@ -60,7 +60,7 @@ start x = record {
   threads = map thread_start x.threads;
 }
 
--- ---- Steps
+-- ---- Steps: assignment (C11 6.5.16), selection (6.8.4) and iteration (6.8.5)
 
 abbrev pub with_thread : State → ℕ → Thread → State
 with_thread s t thread = record s { threads = slice_set s.threads t thread }

@@ -72,7 +72,7 @@ statements_and (p.statement_and x xs) more = p.statement_and x (statements_and x
 abbrev pub one : p.Statement → p.Statements
 one x = p.statement_and x p.no_statement
 
--- ---- Initialisers
+-- ---- Initialisers (C11 6.7.9): what isn't given is 0
 
 abbrev pub signed_number : t.Signed → ℤ
 signed_number x = if x.negative then (unary_of u.Minus x.value).number else x.value.number
@@ -122,7 +122,7 @@ module _ (gs : List n.Global) where
   abbrev pub placed : n.Scope → t.Expression → e.Placed
   placed s x = record { place = first_place x; expr = expr s x }
 
-  -- ---- Targets and assignments
+  -- ---- Targets and assignments (C11 6.5.16)
 
   abbrev pub target_named : n.Scope → t.Name → e.Target
   target_named s x = elim (n.meaning gs s x.text) [
@@ -175,7 +175,7 @@ module _ (gs : List n.Global) where
     | t.Result c ↦ call place s c (Some new)
   ]
 
-  -- ---- Statements
+  -- ---- Statements (C11 6.8); a block has a scope of its own (6.2.1)
 
   abbrev pub first_at : Place → n.Scope → t.First → Made p.Statements
   first_at place s t.NoFirst = record { made = p.no_statement; scope = s }

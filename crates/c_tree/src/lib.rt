@@ -6,7 +6,5 @@ pub mod flat;
 pub mod price;
 pub mod program;
 pub mod rule;
-#[cfg(test)]
-mod tests;
 pub mod token;
 pub mod tree;

@@ -7,3 +7,6 @@ pub mod Whole
 pub mod Stays
 pub mod Steps
 pub mod Firsts
+pub mod Growing
+pub mod Formed
+pub mod FormedItems

@@ -1,9 +1,9 @@
--- The first rule that a tree breaks is one.
+-- At most one rule is the first that a tree breaks.
 use Rattle.std.specs.Prelude.{◌≡◌, List}
 use Rattle.c_tree.specs.Scanning.{Fault}
 use Rattle.c_tree.specs.Trees.{Item}
 use Rattle.c_tree.specs.TypeRules.{IsFirst, type_faults}
 
--- of all that is broken in a tree one is the first, a rule at a place
+-- of all that is broken in a tree at most one is the first, a rule at a place
 abbrev pub OneFirst : Type 0
 OneFirst = (xs : List Item) (f g : Fault) → IsFirst (type_faults xs) f → IsFirst (type_faults xs) g → f ≡ g

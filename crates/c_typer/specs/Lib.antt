@@ -8,3 +8,4 @@ pub mod Places
 pub mod Locals
 pub mod Declarations
 pub mod Laws
+pub mod FormLaws

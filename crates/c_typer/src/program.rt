@@ -73,7 +73,9 @@ fn items(
 }
 
 /// The program that a tree is: its names resolved, its kinds fixed, its initialisers converted; or
-/// the first of its tokens where a rule of names and kinds is broken.
+/// the first of its tokens where a rule of names and kinds is broken. `Memory` is answered also where
+/// the mutexes, variables or functions of the text, the parameters of a function or the locals of a
+/// function or thread would be numbered past 2^32 - 1.
 pub fn type_tree(alloc: Global, tree: &Tree) -> Result<Program, TypeError>
     ensures { Answers (items_of tree.now) result }
 {

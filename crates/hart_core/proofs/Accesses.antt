@@ -10,6 +10,7 @@ use Rattle.line_memory.specs.declared.memory.LineMemory.{LineMemory}
 use Rattle.line_memory.specs.declared.queue.Queue.{Queue}
 use Rattle.line_memory.specs.Queues.{QueueStands, queue_length}
 use Rattle.line_memory.specs.Stands.{Stands, threads_of}
+use Rattle.line_memory.proofs.Histories.{QueueStands-stored, QueueStands-drained}
 use Rattle.rv64_isa.specs.declared.phase.Phase.{Phase}
 use Rattle.rv64_isa.specs.Rows.{Loads, Stores, Cleans, Fences, next, written, load_result}
 use Rattle.rv64_isa.specs.Machine.{Hart as HartModel, World, Outcome, applied, access, stuck, moved, gone_on, drain_one, fenced, cleaned}
@@ -56,8 +57,8 @@ load_step number address bytes register found signed phase hart memory locks mad
 }
 
 -- a store that is made
-pub store_step : (number address bytes value : ℕ) (phase : Phase) (hart : Hart) (memory memory' : LineMemory) (locks : List (Option ℕ)) → refusal (threads_of memory) address bytes ≡ None → ((words : List Word) → Stands memory words → Stands memory' (stored words (byte_number address) bytes value)) → threads_of memory' ≡ threads_of memory → ((any : Queue) (entries : List Entry) (words : List Word) → QueueStands any entries words → QueueStands any entries (stored words (byte_number address) bytes value)) → IsStep (λ w model. applied w number model (Stores address bytes value)) number (record { phase = phase; hart = hart; memory = memory; locks = locks }) (record { phase = phase; hart = record hart { pc = next hart.pc }; memory = memory'; locks = locks }) Moved
-store_step number address bytes value phase hart memory memory' locks made stands threads queues = record {
+pub store_step : (number address bytes value : ℕ) (phase : Phase) (hart : Hart) (memory memory' : LineMemory) (locks : List (Option ℕ)) → refusal (threads_of memory) address bytes ≡ None → ((words : List Word) → Stands memory words → Stands memory' (stored words (byte_number address) bytes value)) → threads_of memory' ≡ threads_of memory → IsStep (λ w model. applied w number model (Stores address bytes value)) number (record { phase = phase; hart = hart; memory = memory; locks = locks }) (record { phase = phase; hart = record hart { pc = next hart.pc }; memory = memory'; locks = locks }) Moved
+store_step number address bytes value phase hart memory memory' locks made stands threads = record {
   each = λ w model s.
       let before : Parts = record { phase = phase; hart = hart; memory = memory; locks = locks } in
       let after : Parts = record { phase = phase; hart = record hart { pc = next hart.pc }; memory = memory'; locks = locks } in
@@ -65,8 +66,8 @@ store_step number address bytes value phase hart memory memory' locks made stand
       subst (λ (o : Outcome). PartsEnd after Moved number w o) (sym (access-made w (threads_of memory) address bytes (moved (record w { words = words }) number (gone_on model)) s.count made)) (changed_end before after Moved number w model (gone_on model) words w.holders s (stands w.words s.words) threads s.holders s.phase (record {
         registers = s.hart.registers;
         pc = ap next s.hart.pc;
-        queue = queues hart.queue model.queue w.words s.hart.queue;
-      }) (λ any entries q. queues any entries w.words q));
+        queue = QueueStands-stored hart.queue model.queue w.words (byte_number address) bytes value s.hart.queue;
+      }) (λ any entries q. QueueStands-stored any entries w.words (byte_number address) bytes value q));
 }
 
 -- a queue that isn't full has room
@@ -77,22 +78,22 @@ no_room : (n m : ℕ) → n ≡ m → (m == 16) ≡ true → nat_lt n 16 ≡ fal
 no_room n m e other = grind (arith, nat_tests)
 
 -- the oldest entry of a queue is written back
-drained_end : (number : ℕ) (phase : Phase) (hart : Hart) (memory memory' : LineMemory) (queue' : Queue) (locks : List (Option ℕ)) (w : World) (model : HartModel) (entries : List Entry) → model.queue ≡ entries → 0 < length entries → ((words : List Word) (e : Entry) (es : List Entry) → Stands memory words → QueueStands hart.queue (e ∷ es) words → Stands memory' (drained words e) × QueueStands queue' es (drained words e)) → threads_of memory' ≡ threads_of memory → ((any : Queue) (entries : List Entry) (words : List Word) (e : Entry) → QueueStands any entries words → QueueStands any entries (drained words e)) → PartsStand (record { phase = phase; hart = hart; memory = memory; locks = locks }) number w model → PartsEnd (record { phase = phase; hart = record hart { queue = queue' }; memory = memory'; locks = locks }) Drained number w (drain_one w number model entries)
-drained_end number phase hart memory memory' queue' locks w model [] same some stands threads queues s = absurd (omega arith)
-drained_end number phase hart memory memory' queue' locks w model (e ∷ es) same some stands threads queues s =
+drained_end : (number : ℕ) (phase : Phase) (hart : Hart) (memory memory' : LineMemory) (queue' : Queue) (locks : List (Option ℕ)) (w : World) (model : HartModel) (entries : List Entry) → model.queue ≡ entries → 0 < length entries → ((words : List Word) (e : Entry) (es : List Entry) → Stands memory words → QueueStands hart.queue (e ∷ es) words → Stands memory' (drained words e) × QueueStands queue' es (drained words e)) → threads_of memory' ≡ threads_of memory → PartsStand (record { phase = phase; hart = hart; memory = memory; locks = locks }) number w model → PartsEnd (record { phase = phase; hart = record hart { queue = queue' }; memory = memory'; locks = locks }) Drained number w (drain_one w number model entries)
+drained_end number phase hart memory memory' queue' locks w model [] same some stands threads s = absurd (omega arith)
+drained_end number phase hart memory memory' queue' locks w model (e ∷ es) same some stands threads s =
     let before : Parts = record { phase = phase; hart = hart; memory = memory; locks = locks } in
     let after : Parts = record { phase = phase; hart = record hart { queue = queue' }; memory = memory'; locks = locks } in
     let both : Stands memory' (drained w.words e) × QueueStands queue' es (drained w.words e) = stands w.words e es s.words (subst (λ (q : List Entry). QueueStands hart.queue q w.words) same s.hart.queue) in
-    changed_end before after Drained number w model (record model { queue = es }) (drained w.words e) w.holders s both.0 threads s.holders s.phase (record { registers = s.hart.registers; pc = s.hart.pc; queue = both.1 }) (λ any entries q. queues any entries w.words e q)
+    changed_end before after Drained number w model (record model { queue = es }) (drained w.words e) w.holders s both.0 threads s.holders s.phase (record { registers = s.hart.registers; pc = s.hart.pc; queue = both.1 }) (λ any entries q. QueueStands-drained any entries w.words e q)
 
 -- a clean that meets a full queue
-pub full_step : (number address : ℕ) (phase : Phase) (hart : Hart) (memory memory' : LineMemory) (queue' : Queue) (locks : List (Option ℕ)) → refusal (threads_of memory) address 1 ≡ None → (queue_length hart.queue == 16) ≡ true → ((words : List Word) (e : Entry) (es : List Entry) → Stands memory words → QueueStands hart.queue (e ∷ es) words → Stands memory' (drained words e) × QueueStands queue' es (drained words e)) → threads_of memory' ≡ threads_of memory → ((any : Queue) (entries : List Entry) (words : List Word) (e : Entry) → QueueStands any entries words → QueueStands any entries (drained words e)) → IsStep (λ w model. applied w number model (Cleans address)) number (record { phase = phase; hart = hart; memory = memory; locks = locks }) (record { phase = phase; hart = record hart { queue = queue' }; memory = memory'; locks = locks }) Drained
-full_step number address phase hart memory memory' queue' locks made full stands threads queues = record {
+pub full_step : (number address : ℕ) (phase : Phase) (hart : Hart) (memory memory' : LineMemory) (queue' : Queue) (locks : List (Option ℕ)) → refusal (threads_of memory) address 1 ≡ None → (queue_length hart.queue == 16) ≡ true → ((words : List Word) (e : Entry) (es : List Entry) → Stands memory words → QueueStands hart.queue (e ∷ es) words → Stands memory' (drained words e) × QueueStands queue' es (drained words e)) → threads_of memory' ≡ threads_of memory → IsStep (λ w model. applied w number model (Cleans address)) number (record { phase = phase; hart = hart; memory = memory; locks = locks }) (record { phase = phase; hart = record hart { queue = queue' }; memory = memory'; locks = locks }) Drained
+full_step number address phase hart memory memory' queue' locks made full stands threads = record {
   each = λ w model s.
       let after : Parts = record { phase = phase; hart = record hart { queue = queue' }; memory = memory'; locks = locks } in
       let no : nat_lt (length model.queue) 16 ≡ false = no_room (length model.queue) (queue_length hart.queue) s.hart.queue.size full in
       let some : 0 < length model.queue = full_some (length model.queue) (queue_length hart.queue) s.hart.queue.size full in
-      subst (λ (o : Outcome). PartsEnd after Drained number w o) (sym (access-made w (threads_of memory) address 1 (cleaned w number model (byte_number address / line_bytes)) s.count made)) (subst (λ (b : Bool). PartsEnd after Drained number w (if b then moved w number (record (gone_on model) { queue = model.queue ++ entry_of w.words (byte_number address / line_bytes) ∷ [] }) else drain_one w number model model.queue)) (sym no) (drained_end number phase hart memory memory' queue' locks w model model.queue refl some stands threads queues s));
+      subst (λ (o : Outcome). PartsEnd after Drained number w o) (sym (access-made w (threads_of memory) address 1 (cleaned w number model (byte_number address / line_bytes)) s.count made)) (subst (λ (b : Bool). PartsEnd after Drained number w (if b then moved w number (record (gone_on model) { queue = model.queue ++ entry_of w.words (byte_number address / line_bytes) ∷ [] }) else drain_one w number model model.queue)) (sym no) (drained_end number phase hart memory memory' queue' locks w model model.queue refl some stands threads s));
 }
   where
     full_some : (n m : ℕ) → n ≡ m → (m == 16) ≡ true → 0 < n
@@ -114,11 +115,11 @@ clean_step number address line phase hart memory queue' locks made within room s
 }
 
 -- a fence that still writes back
-pub draining_step : (number : ℕ) (phase : Phase) (hart : Hart) (memory memory' : LineMemory) (queue' : Queue) (locks : List (Option ℕ)) → (queue_length hart.queue == 0) ≡ false → ((words : List Word) (e : Entry) (es : List Entry) → Stands memory words → QueueStands hart.queue (e ∷ es) words → Stands memory' (drained words e) × QueueStands queue' es (drained words e)) → threads_of memory' ≡ threads_of memory → ((any : Queue) (entries : List Entry) (words : List Word) (e : Entry) → QueueStands any entries words → QueueStands any entries (drained words e)) → IsStep (λ w model. applied w number model Fences) number (record { phase = phase; hart = hart; memory = memory; locks = locks }) (record { phase = phase; hart = record hart { queue = queue' }; memory = memory'; locks = locks }) Drained
-draining_step number phase hart memory memory' queue' locks other stands threads queues = record {
+pub draining_step : (number : ℕ) (phase : Phase) (hart : Hart) (memory memory' : LineMemory) (queue' : Queue) (locks : List (Option ℕ)) → (queue_length hart.queue == 0) ≡ false → ((words : List Word) (e : Entry) (es : List Entry) → Stands memory words → QueueStands hart.queue (e ∷ es) words → Stands memory' (drained words e) × QueueStands queue' es (drained words e)) → threads_of memory' ≡ threads_of memory → IsStep (λ w model. applied w number model Fences) number (record { phase = phase; hart = hart; memory = memory; locks = locks }) (record { phase = phase; hart = record hart { queue = queue' }; memory = memory'; locks = locks }) Drained
+draining_step number phase hart memory memory' queue' locks other stands threads = record {
   each = λ w model s.
       let some : 0 < length model.queue = not_empty (length model.queue) (queue_length hart.queue) s.hart.queue.size other in
-      subst (λ (o : Outcome). PartsEnd (record { phase = phase; hart = record hart { queue = queue' }; memory = memory'; locks = locks }) Drained number w o) (sym (fenced-some w number model model.queue some)) (drained_end number phase hart memory memory' queue' locks w model model.queue refl some stands threads queues s);
+      subst (λ (o : Outcome). PartsEnd (record { phase = phase; hart = record hart { queue = queue' }; memory = memory'; locks = locks }) Drained number w o) (sym (fenced-some w number model model.queue some)) (drained_end number phase hart memory memory' queue' locks w model model.queue refl some stands threads s);
 }
   where
     not_empty : (n m : ℕ) → n ≡ m → (m == 0) ≡ false → 0 < n

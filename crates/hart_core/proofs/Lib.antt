@@ -1,3 +1,4 @@
-pub mod Ends
 pub mod Accesses
+pub mod Completions
+pub mod Ends
 pub mod Holding

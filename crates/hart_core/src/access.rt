@@ -1,6 +1,6 @@
 //! Loads, stores, cleans and fences of a hart.
-ghost use Rattle.std.specs.Prelude.{◌≡◌, ℕ, ◌+◌, ◌<◌, ◌≤◌, ◌^◌, List, Option, IfNone, IsTrue};
-ghost use Rattle.ido_base.specs.Layout.{in_range as is_in_range, aligned as is_aligned};
+ghost use Rattle.std.specs.Prelude.{◌≡◌, ◌==◌, ◌&&◌, ℕ, ◌+◌, ◌<◌, ◌≤◌, ◌^◌, List, Option, IfNone, IsTrue};
+ghost use Rattle.ido_base.specs.Layout.{in_range as is_in_range, aligned as is_aligned, point_at, word_number};
 ghost use Rattle.line_memory.specs.Access.{is_width};
 ghost use Rattle.line_memory.specs.Stands.{threads_of, stores_of};
 ghost use Rattle.rv64_isa.specs.declared.phase.Phase.{Phase};
@@ -55,6 +55,21 @@ fn refused(memory: &LineMemory, address: u64, bytes: u32) -> Option<Cause>
     None
 }
 
+/// A store of this kind at the address is made, and into the word of the hart's point.
+pub(crate) fn is_point_store(
+    number: u32,
+    kind: StoreKind,
+    address: u64,
+    memory: &LineMemory,
+) -> bool
+    ensures { result ≡ ((is_in_range (threads_of memory.now) address (store_bytes kind) && is_aligned address (store_bytes kind)) && (word_number address == word_number (point_at number))) }
+{
+    let bytes = store_width(kind);
+    memory.in_range(address, bytes)
+        && aligned(address, bytes)
+        && memory.is_in_point(number, address, bytes)
+}
+
 /// A load into a register.
 pub(crate) fn load(
     kind: LoadKind,
@@ -63,7 +78,10 @@ pub(crate) fn load(
     hart: &mut Hart,
     memory: &LineMemory,
 ) -> Reply
-    ensures { (number : ℕ) (phase : Phase) (locks : List (Option ℕ)) → IsStep (λ w model. applied w number model (Loads address (load_bytes kind) (load_signed kind) register)) number (record { phase = phase; hart = hart.old; memory = memory.now; locks = locks }) (record { phase = phase; hart = hart.new; memory = memory.now; locks = locks }) result }
+    ensures { (number : ℕ) (phase : Phase) (locks : List (Option ℕ))
+        → IsStep (λ w model. applied w number model (Loads address (load_bytes kind) (load_signed kind) register)) number
+        (record { phase = phase; hart = hart.old; memory = memory.now; locks = locks })
+        (record { phase = phase; hart = hart.new; memory = memory.now; locks = locks }) result }
 {
     let bytes = load_width(kind);
     if let Some(cause) = refused(memory, address, bytes) {
@@ -84,7 +102,10 @@ pub(crate) fn store(
     memory: &mut LineMemory,
 ) -> Reply
     requires { stores_of memory.old < 2 ^ 63 }
-    ensures step { (number : ℕ) (phase : Phase) (locks : List (Option ℕ)) → IsStep (λ w model. applied w number model (Stores address (store_bytes kind) value)) number (record { phase = phase; hart = hart.old; memory = memory.old; locks = locks }) (record { phase = phase; hart = hart.new; memory = memory.new; locks = locks }) result }
+    ensures step { (number : ℕ) (phase : Phase) (locks : List (Option ℕ))
+        → IsStep (λ w model. applied w number model (Stores address (store_bytes kind) value)) number
+        (record { phase = phase; hart = hart.old; memory = memory.old; locks = locks })
+        (record { phase = phase; hart = hart.new; memory = memory.new; locks = locks }) result }
     ensures threads { threads_of memory.new ≡ threads_of memory.old }
     ensures stores { stores_of memory.new ≤ stores_of memory.old + 1 }
 {
@@ -99,7 +120,9 @@ pub(crate) fn store(
 
 /// A clean of the line of an address. Where the queue is full, its oldest entry is written back.
 pub(crate) fn clean(address: u64, hart: &mut Hart, memory: &mut LineMemory) -> Reply
-    ensures step { (number : ℕ) (phase : Phase) (locks : List (Option ℕ)) → IsStep (λ w model. applied w number model (Cleans address)) number (record { phase = phase; hart = hart.old; memory = memory.old; locks = locks }) (record { phase = phase; hart = hart.new; memory = memory.new; locks = locks }) result }
+    ensures step { (number : ℕ) (phase : Phase) (locks : List (Option ℕ)) → IsStep (λ w model. applied w number model (Cleans address)) number
+        (record { phase = phase; hart = hart.old; memory = memory.old; locks = locks })
+        (record { phase = phase; hart = hart.new; memory = memory.new; locks = locks }) result }
     ensures threads { threads_of memory.new ≡ threads_of memory.old }
     ensures stores { stores_of memory.new ≡ stores_of memory.old }
 {
@@ -117,7 +140,9 @@ pub(crate) fn clean(address: u64, hart: &mut Hart, memory: &mut LineMemory) -> R
 
 /// A fence: the oldest entry of the queue is written back, until there is none.
 pub(crate) fn fence(hart: &mut Hart, memory: &mut LineMemory) -> Reply
-    ensures step { (number : ℕ) (phase : Phase) (locks : List (Option ℕ)) → IsStep (λ w model. applied w number model Fences) number (record { phase = phase; hart = hart.old; memory = memory.old; locks = locks }) (record { phase = phase; hart = hart.new; memory = memory.new; locks = locks }) result }
+    ensures step { (number : ℕ) (phase : Phase) (locks : List (Option ℕ)) → IsStep (λ w model. applied w number model Fences) number
+        (record { phase = phase; hart = hart.old; memory = memory.old; locks = locks })
+        (record { phase = phase; hart = hart.new; memory = memory.new; locks = locks }) result }
     ensures threads { threads_of memory.new ≡ threads_of memory.old }
     ensures stores { stores_of memory.new ≡ stores_of memory.old }
 {

@@ -13,9 +13,16 @@ use ido_base::event::{Cause, Reply};
 use lock_table::LockTable;
 use rv64_isa::phase::Phase;
 
+/// The register that says what an ECALL asks for.
+const ASKED: usize = 17;
+/// The register that says of which lock.
+const LOCK: usize = 10;
+
 /// Takes a lock, or waits for its holder.
 fn acquire(number: u32, lock: u64, hart: &mut Hart, locks: &mut LockTable) -> Reply
-    ensures step { (phase : Phase) (memory : LineMemory) → IsStep (λ w model. acquired w number model lock (slice_get w.holders lock)) number (record { phase = phase; hart = hart.old; memory = memory; locks = locks.old }) (record { phase = phase; hart = hart.new; memory = memory; locks = locks.new }) result }
+    ensures step { (phase : Phase) (memory : LineMemory) → IsStep (λ w model. acquired w number model lock (slice_get w.holders lock)) number
+        (record { phase = phase; hart = hart.old; memory = memory; locks = locks.old })
+        (record { phase = phase; hart = hart.new; memory = memory; locks = locks.new }) result }
     ensures locks { length locks.new ≡ length locks.old }
 {
     if lock >= u64::from(locks.locks()) {
@@ -32,7 +39,9 @@ fn acquire(number: u32, lock: u64, hart: &mut Hart, locks: &mut LockTable) -> Re
 
 /// Releases a lock that the hart holds.
 fn release(number: u32, lock: u64, hart: &mut Hart, locks: &mut LockTable) -> Reply
-    ensures step { (phase : Phase) (memory : LineMemory) → IsStep (λ w model. released w number model lock (slice_get w.holders lock)) number (record { phase = phase; hart = hart.old; memory = memory; locks = locks.old }) (record { phase = phase; hart = hart.new; memory = memory; locks = locks.new }) result }
+    ensures step { (phase : Phase) (memory : LineMemory) → IsStep (λ w model. released w number model lock (slice_get w.holders lock)) number
+        (record { phase = phase; hart = hart.old; memory = memory; locks = locks.old })
+        (record { phase = phase; hart = hart.new; memory = memory; locks = locks.new }) result }
     ensures locks { length locks.new ≡ length locks.old }
 {
     if lock >= u64::from(locks.locks()) {
@@ -48,7 +57,9 @@ fn release(number: u32, lock: u64, hart: &mut Hart, locks: &mut LockTable) -> Re
 
 /// Ends the hart, unless it holds a lock.
 fn end(number: u32, phase: &mut Phase, hart: &mut Hart, locks: &LockTable) -> Reply
-    ensures step { (memory : LineMemory) → IsStep (λ w model. ended w number model (least_held w.holders number)) number (record { phase = phase.old; hart = hart.old; memory = memory; locks = locks.now }) (record { phase = phase.new; hart = hart.new; memory = memory; locks = locks.now }) result }
+    ensures step { (memory : LineMemory) → IsStep (λ w model. ended w number model (least_held w.holders number)) number
+        (record { phase = phase.old; hart = hart.old; memory = memory; locks = locks.now })
+        (record { phase = phase.new; hart = hart.new; memory = memory; locks = locks.now }) result }
     ensures phase { (phase.new ≡ phase.old) ⊎ (phase.new ≡ Ended) }
 {
     if let Some(lock) = locks.least_held(number) {
@@ -63,12 +74,14 @@ fn end(number: u32, phase: &mut Phase, hart: &mut Hart, locks: &LockTable) -> Re
 
 /// What an ECALL asks for: x17 says what, x10 of which lock.
 pub(crate) fn call(number: u32, phase: &mut Phase, hart: &mut Hart, locks: &mut LockTable) -> Reply
-    ensures step { (memory : LineMemory) → IsStep (λ w model. applied w number model Calls) number (record { phase = phase.old; hart = hart.old; memory = memory; locks = locks.old }) (record { phase = phase.new; hart = hart.new; memory = memory; locks = locks.new }) result }
+    ensures step { (memory : LineMemory) → IsStep (λ w model. applied w number model Calls) number
+        (record { phase = phase.old; hart = hart.old; memory = memory; locks = locks.old })
+        (record { phase = phase.new; hart = hart.new; memory = memory; locks = locks.new }) result }
     ensures phase { (phase.new ≡ phase.old) ⊎ (phase.new ≡ Ended) }
     ensures locks { length locks.new ≡ length locks.old }
 {
-    let lock = hart.registers[10];
-    match hart.registers[17] {
+    let lock = hart.registers[LOCK];
+    match hart.registers[ASKED] {
         1 => acquire(number, lock, hart, locks),
         2 => release(number, lock, hart, locks),
         3 => end(number, phase, hart, locks),

@@ -35,6 +35,17 @@ impl Hart {
         }
     }
 
+    /// The same for a hart that there is: all its registers are 0, and what it queued is lost.
+    pub fn restart(&mut self, pc: u64)
+        ensures registers { self.new.registers ≡ replicate 32 0 }
+        ensures pc { self.new.pc ≡ pc }
+        ensures queue { (words : List Word) → QueueStands self.new.queue [] words }
+    {
+        self.registers = [0; 32];
+        self.pc = pc;
+        self.queue.clear();
+    }
+
     /// Writes a register; x0 stays as it is.
     pub(crate) fn write(&mut self, register: Register, value: u64)
         ensures { self.new ≡ record self.old { registers = written self.old.registers register value } }

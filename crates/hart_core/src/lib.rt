@@ -4,11 +4,10 @@
 
 mod access;
 mod calls;
+pub mod completion;
 pub mod effects;
 pub mod hart;
 pub mod program;
 pub mod rows;
 mod signs;
 pub mod step;
-#[cfg(test)]
-mod tests;

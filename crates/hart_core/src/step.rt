@@ -24,7 +24,10 @@ use rv64_isa::phase::Phase;
 
 /// Writes a register, and goes on at the pc.
 fn write_and_go(register: Register, value: u64, pc: u64, hart: &mut Hart) -> Reply
-    ensures { (number : ℕ) (phase : Phase) (memory : LineMemory) (locks : List (Option ℕ)) → IsStep (λ w model. applied w number model (GoesOn (written hart.old.registers register value) pc)) number (record { phase = phase; hart = hart.old; memory = memory; locks = locks }) (record { phase = phase; hart = hart.new; memory = memory; locks = locks }) result }
+    ensures { (number : ℕ) (phase : Phase) (memory : LineMemory) (locks : List (Option ℕ))
+        → IsStep (λ w model. applied w number model (GoesOn (written hart.old.registers register value) pc)) number
+        (record { phase = phase; hart = hart.old; memory = memory; locks = locks })
+        (record { phase = phase; hart = hart.new; memory = memory; locks = locks }) result }
 {
     hart.write(register, value);
     hart.pc = pc;
@@ -33,7 +36,10 @@ fn write_and_go(register: Register, value: u64, pc: u64, hart: &mut Hart) -> Rep
 
 /// Goes on at the pc.
 fn go(pc: u64, hart: &mut Hart) -> Reply
-    ensures { (number : ℕ) (phase : Phase) (memory : LineMemory) (locks : List (Option ℕ)) → IsStep (λ w model. applied w number model (GoesOn hart.old.registers pc)) number (record { phase = phase; hart = hart.old; memory = memory; locks = locks }) (record { phase = phase; hart = hart.new; memory = memory; locks = locks }) result }
+    ensures { (number : ℕ) (phase : Phase) (memory : LineMemory) (locks : List (Option ℕ))
+        → IsStep (λ w model. applied w number model (GoesOn hart.old.registers pc)) number
+        (record { phase = phase; hart = hart.old; memory = memory; locks = locks })
+        (record { phase = phase; hart = hart.new; memory = memory; locks = locks }) result }
 {
     hart.pc = pc;
     Reply::Moved
@@ -49,7 +55,9 @@ fn apply(
     locks: &mut LockTable,
 ) -> Reply
     requires { stores_of memory.old < 2 ^ 63 }
-    ensures step { IsStep (λ w model. applied w number model (effect_in effect hart.old.registers)) number (record { phase = phase.old; hart = hart.old; memory = memory.old; locks = locks.old }) (record { phase = phase.new; hart = hart.new; memory = memory.new; locks = locks.new }) result }
+    ensures step { IsStep (λ w model. applied w number model (effect_in effect hart.old.registers)) number
+        (record { phase = phase.old; hart = hart.old; memory = memory.old; locks = locks.old })
+        (record { phase = phase.new; hart = hart.new; memory = memory.new; locks = locks.new }) result }
     ensures phase { (phase.new ≡ phase.old) ⊎ (phase.new ≡ Ended) }
     ensures threads { threads_of memory.new ≡ threads_of memory.old }
     ensures stores { stores_of memory.new ≤ stores_of memory.old + 1 }
@@ -92,7 +100,9 @@ pub fn step(
     requires exists { number < length program.now }
     requires threads { threads_of memory.old ≡ length program.now }
     requires room { stores_of memory.old < 2 ^ 63 }
-    ensures step { IsStep (λ w model. hart_step program.now w number model) number (record { phase = phase.old; hart = hart.old; memory = memory.old; locks = locks.old }) (record { phase = phase.new; hart = hart.new; memory = memory.new; locks = locks.new }) result }
+    ensures step { IsStep (λ w model. hart_step program.now w number model) number
+        (record { phase = phase.old; hart = hart.old; memory = memory.old; locks = locks.old })
+        (record { phase = phase.new; hart = hart.new; memory = memory.new; locks = locks.new }) result }
     ensures phase { (phase.new ≡ phase.old) ⊎ (phase.new ≡ Ended) }
     ensures threads { threads_of memory.new ≡ threads_of memory.old }
     ensures stores { stores_of memory.new ≤ stores_of memory.old + 1 }

@@ -3,32 +3,54 @@
 
 use ido_base::memory::Memory;
 use ido_outside::{OpenGate, Reading, Writing};
-use std::env::Env;
-use std::io::ErrorKind;
+use std::alloc::Global;
+use std::env::{Env, FillError};
 use std::process::ExitCode;
-use std::{env, io};
 
 /// The status for want of memory.
 const OUT_OF_MEMORY: u8 = 7;
 
-/// The words of the command line. Where they are no text there are none, which no command takes.
-fn words_of<R: Env + AllocGlobal>(rt: &R) -> Result<Vec<String>, Memory> {
-    match env::args(rt) {
-        Ok(args) => {
-            let words = args.collect(rt.alloc())?;
-            Ok(words)
+/// Stands for the path of the program where that isn't UTF-8: no answer depends on it.
+const NAME: &str = "ido";
+
+/// The bytes of a word of the command line, where it exists.
+fn bytes_of<R: Env>(rt: &R, alloc: Global, number: usize) -> Result<Option<Vec<u8>>, Memory> {
+    let mut room = 256usize;
+    for _ in 0..usize::BITS {
+        let mut bytes = vec![in alloc; 0u8; room]?;
+        match rt.arg(number, &mut bytes) {
+            Ok(count) => {
+                bytes.truncate(count);
+                return Ok(Some(bytes));
+            }
+            Err(FillError::NotPresent) => return Ok(None),
+            Err(FillError::TooLong) => room = room.saturating_mul(2),
         }
-        Err(error) => match error.kind() {
-            ErrorKind::OutOfMemory => Err(Memory),
-            _ => Ok(Vec::new(rt.alloc())),
-        },
     }
+    Err(Memory)
+}
+
+/// The words of the command line, the program's path first. Where another one isn't UTF-8 there are
+/// none, which no command takes.
+fn words_of<R: Env>(rt: &R, alloc: Global) -> Result<Vec<String>, Memory> {
+    let mut words = Vec::new(alloc);
+    for number in 0..usize::MAX {
+        let Some(bytes) = bytes_of(rt, alloc, number)? else {
+            break;
+        };
+        match String::from_utf8(bytes) {
+            Ok(word) => words.push(word)?,
+            Err(_) if number == 0 => words.push(String::from_str(alloc, NAME)?)?,
+            Err(_) => return Ok(Vec::new(alloc)),
+        }
+    }
+    Ok(words)
 }
 
 fn main(rt: HostRuntime) -> ExitCode {
     let mut input = Reading::new(rt.stdin());
     let mut output = Writing::new(rt.stdout());
-    let status = match words_of(&rt) {
+    let status = match words_of(&rt, rt.alloc()) {
         Ok(words) => ido_cli::ido(&rt, rt.alloc(), &words, &mut input, &mut output, &OpenGate),
         Err(Memory) => OUT_OF_MEMORY,
     };

@@ -1,1 +1,3 @@
 mod Worked
+pub mod Growth
+pub mod Cores

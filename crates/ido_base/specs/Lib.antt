@@ -4,3 +4,4 @@ pub mod Locks
 pub mod Locations
 pub mod Places
 pub mod Cores
+pub mod Growth

@@ -4,6 +4,7 @@
 #![tactic(auto)]
 
 pub mod event;
+pub mod laws;
 pub mod location;
 pub mod machine;
 pub mod memory;

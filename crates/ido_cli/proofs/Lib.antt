@@ -1,7 +1,11 @@
 mod Worked
+mod WorkedListing
+pub mod Listed
+pub mod Lists
 pub mod InputSteps
 pub mod ScriptLines
 pub mod Numerals
+pub mod Running
 pub mod Points
 pub mod Sights
 pub mod Turns

@@ -12,7 +12,7 @@ use Rattle.rv64_isa.specs.Schedule.{Steps, steps_along, first_steps, is_settled}
 use Rattle.hart_core.specs.Objects.{IsWithinLimits}
 use Rattle.ido_machine.specs.declared.machine.Machine.{Machine}
 use Rattle.ido_machine.specs.Machines.{MachineStands}
-use Rattle.ido_machine.specs.Parts.{IsRunning}
+use Rattle.ido_cli.specs.Running.{IsRunning}
 use Rattle.ido_base.specs.declared.event.Event.{Event}
 use Rattle.ido_compile.specs.Source.{after_from}
 use Rattle.ido_compile.specs.Form.{Form, start_state}

@@ -17,8 +17,8 @@ use Rattle.rv64_isa.specs.Rows.{Effect, GoesOn, Loads, Stores, Cleans, Fences, C
 use Rattle.rv64_isa.specs.Programs.{fetched}
 use Rattle.rv64_isa.specs.Machine.{Hart, World, Outcome, happens, stepped, phase_step, after_event, reply_to, executed, applied, access, cleaned, fenced, called, acquired, released, ended, drain_one, moved, stuck, gone_on, with_holder, queue_limit}
 use Rattle.rv64_isa.specs.Schedule.{completing, effect_at, is_point_store, stores_point, has_moved, is_running, passes_mark, is_mark}
-use Rattle.ido_machine.specs.Parts.{IsOutsideRecovery}
-use Rattle.ido_machine.proofs.Steps.{stepped-run}
+use Rattle.ido_cli.specs.Running.{IsOutsideRecovery}
+use Rattle.ido_cli.proofs.Running.{stepped-run}
 use Rattle.ido_cli.specs.Steps.{point_word}
 
 -- the newest position of a word

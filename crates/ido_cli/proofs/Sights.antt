@@ -9,7 +9,7 @@ use Rattle.rv64_isa.specs.Machine.{World, Hart, after_event, reply_to}
 use Rattle.rv64_isa.specs.Schedule.{has_moved, is_running}
 use Rattle.ido_machine.specs.declared.machine.Machine.{Machine}
 use Rattle.ido_machine.specs.Machines.{MachineStands, program_in}
-use Rattle.ido_machine.specs.Parts.{IsRunning}
+use Rattle.ido_cli.specs.Running.{IsRunning}
 use Rattle.ido_machine.proofs.Lists.{get_some}
 use Rattle.ido_cli.specs.Steps.{IsSeen, point_word}
 use Rattle.ido_cli.proofs.Points.{passes_is, stores_where_it_rises}

@@ -1,5 +1,5 @@
 -- Words that don't ask for `play`, and an input, have one answer.
-use Rattle.std.proofs.Common.{◌≡◌, ◌≢◌, refl, ℕ, ◌+◌, List, Some, None, true, false, sym, ap, ap₂, ◌∙◌, subst}
+use Rattle.std.proofs.Common.{◌≡◌, ◌≢◌, refl, ℕ, ◌+◌, List, Some, None, Result, Ok, Err, true, false, sym, ap, ap₂, ◌∙◌, subst}
 use Rattle.ido_base.specs.declared.place.Place.{Place}
 use Rattle.c_tree.specs.Flats as f
 use Rattle.c_tree.specs.Source.{start}
@@ -7,11 +7,20 @@ use Rattle.run_scripts.specs.Schedules as s
 use Rattle.source_machine.specs.Laws.{OneStop, NotWhole}
 use Rattle.ido_cli.specs.declared.command.Command as c
 use Rattle.ido_cli.specs.declared.command.Command.TheVariants as command
-use Rattle.ido_cli.specs.Refusals.{code_of, fault_code, fault_place, line_at, line_at_step, stop_code}
+use Rattle.ido_cli.specs.Refusals.{code_of, fault_code, fault_place, line_at, line_at_byte, line_at_step, object_fault_code, object_fault_place, stop_code}
+use Rattle.object_format.specs.Contents.{Contents}
+use Rattle.object_format.specs.Reading as o
+use Rattle.ido_cli.specs.Listing.{listing}
 use Rattle.ido_cli.specs.Runs.{RunAnswer, ran, stopped}
 use Rattle.ido_cli.specs.Inputs.{source_of}
-use Rattle.ido_cli.specs.Answers.{SourceAnswer, faulty, no_schedule, of_schedule, rest_begins, AnswerToInput, past_limits, within_limits, wrong_words, taken_words}
+use Rattle.ido_cli.specs.Answers.{SourceAnswer, faulty, no_schedule, of_schedule, rest_begins, ListAnswer, no_object, of_object, AnswerToInput, past_limits, within_limits, wrong_words, taken_words}
 use Rattle.ido_cli.specs.Laws.{OneFlat, OneFault, NotBoth, OneAnswer}
+
+abbrev fails : o.Fault → Result Contents o.Fault
+fails fault = Err fault
+
+abbrev gives : Contents → Result Contents o.Fault
+gives object = Ok object
 
 -- both are the same status and output
 abbrev Same : (status other : ℕ) → (output written : List ℕ) → Type 0
@@ -49,6 +58,20 @@ module _ (one_flat : OneFlat) (one_fault : OneFault) (not_both : NotBoth) (one_s
       let forms : flat ≡ flat' = one_flat (source_of input) flat flat' checked checked' in
       one_run flat' schedule' status other output written (subst (λ z. RunAnswer flat' z status output) same (subst (λ z. RunAnswer z schedule status output) forms told)) more
 
+  -- ---- An input of `list`
+
+  one_list : (input : List ℕ) (status other : ℕ) (output written : List ℕ) → ListAnswer input status output → ListAnswer input other written → Same status other output written
+  one_list input status other output written (no_object x read e told) (no_object y read' h more) =
+      let both : fails x ≡ fails y = sym read ∙ read' in
+      let same : x ≡ y = cc both in
+      (e ∙ sym h, told ∙ ap (λ z. line_at_byte (object_fault_code z) (object_fault_place z)) same ∙ sym more)
+  one_list input status other output written (no_object x read e told) (of_object y read' h more) = let both : fails x ≡ Ok y = sym read ∙ read' in cc both
+  one_list input status other output written (of_object x read e told) (no_object y read' h more) = let both : fails y ≡ Ok x = sym read' ∙ read in cc both
+  one_list input status other output written (of_object x read e told) (of_object y read' h more) =
+      let both : gives x ≡ gives y = sym read ∙ read' in
+      let same : x ≡ y = cc both in
+      (e ∙ sym h, told ∙ ap (λ z. listing z.code) same ∙ sym more)
+
   -- ---- All words but those of `play`
 
   one_to_input : (d : c.Command) (input : List ℕ) (status other : ℕ) (output written : List ℕ) → d ≢ command.Play → AnswerToInput d input status output → AnswerToInput d input other written → Same status other output written
@@ -57,6 +80,7 @@ module _ (one_flat : OneFlat) (one_fault : OneFault) (not_both : NotBoth) (one_s
   one_to_input d input status other output written n (within_limits within told) (past_limits past more) = absurd (within past)
   one_to_input command.Play input status other output written n (within_limits within told) (within_limits within' more) = absurd (n refl)
   one_to_input command.Source input status other output written n (within_limits within told) (within_limits within' more) = one_source input status other output written told more
+  one_to_input command.List input status other output written n (within_limits within told) (within_limits within' more) = one_list input status other output written told more
 
   pub one_answer : OneAnswer
   one_answer words input status other output written n (wrong_words wrong (e, told)) (wrong_words wrong' (h, more)) = (e ∙ sym h, told ∙ sym more)

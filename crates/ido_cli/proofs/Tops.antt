@@ -11,7 +11,7 @@ use Rattle.ido_cli.specs.declared.command.Command.{Command}
 use Rattle.ido_cli.specs.declared.command.Command.TheVariants as command
 use Rattle.ido_cli.specs.Commands.{command_of}
 use Rattle.ido_cli.specs.Runs.{RunAnswer, ran, stopped, run_state, status_by}
-use Rattle.ido_cli.specs.Answers.{CheckedAnswer, of_no_form, played, PlayAnswer, unplayed, checked, SourceAnswer, faulty, no_schedule, of_schedule, CommandAnswer, AnswerToInput, past_limits, within_limits, Answer, wrong_words, taken_words, IsAnswer, IsAnswered, Outside, answered, sink_failed, most_bytes, steps_of_first}
+use Rattle.ido_cli.specs.Answers.{CheckedAnswer, of_no_form, played, PlayAnswer, unplayed, checked, SourceAnswer, faulty, no_schedule, of_schedule, CommandAnswer, ListAnswer, no_object, of_object, IsPastLimits, AnswerToInput, past_limits, within_limits, Answer, wrong_words, taken_words, IsAnswer, IsAnswered, Outside, answered, sink_failed, most_bytes, steps_of_first}
 use Rattle.ido_cli.specs.Deliveries.{IsSaidToInput, IsDelivered, whole, broken}
 
 -- ---- Inputs that the source may not tell
@@ -19,11 +19,16 @@ use Rattle.ido_cli.specs.Deliveries.{IsSaidToInput, IsDelivered, whole, broken}
 some_longer : (n : ℕ) → (input : List ℕ) × (n < length input)
 some_longer n = (replicate (n + 1) 0, omega (arith, length-replicate {A = ℕ} (n + 1) 0))
 
+long_is_past : (c : Command) (input : List ℕ) → most_bytes < length input → IsPastLimits c input
+long_is_past command.Play input long = inl long
+long_is_past command.Source input long = inl long
+long_is_past command.List input long = long
+
 pub said_to_long_input : (c : Command) (left : Option (List ℕ)) (said : Said) → IfSome left (λ bytes. most_bytes < length bytes) → said.status ≡ 6 → said.output.items ≡ codes "refused limit\n" → IsSaidToInput c left said
-said_to_long_input c (Some bytes) said long status output = record { input = bytes; told = refl; answer = past_limits (inl long) (status, output) }
+said_to_long_input c (Some bytes) said long status output = record { input = bytes; told = refl; answer = past_limits (long_is_past c bytes long) (status, output) }
 said_to_long_input c None said long status output =
     let some : (input : List ℕ) × (most_bytes < length input) = some_longer most_bytes in
-    record { input = some.0; told = tt; answer = past_limits (inl some.1) (status, output) }
+    record { input = some.0; told = tt; answer = past_limits (long_is_past c some.0 some.1) (status, output) }
 
 told_some : (left : Option (List ℕ)) → (input : List ℕ) × IfSome left (λ bytes. input ≡ bytes)
 told_some (Some bytes) = (bytes, refl)
@@ -71,9 +76,14 @@ of_source input status output (faulty found place is refused) h = not_four_or_se
 of_source input status output (no_schedule flat is x read refused) h = not_four_or_seven status 6 refused.0 (inr refl) h
 of_source input status output (of_schedule flat is schedule read answer) h = of_run flat schedule status output answer h
 
+of_list : (input : List ℕ) (status : ℕ) (output : List ℕ) → ListAnswer input status output → (status ≡ 4) ⊎ (status ≡ 7) → ⊥
+of_list input status output (no_object fault read e told) h = not_four_or_seven status 6 e (inr refl) h
+of_list input status output (of_object object read e told) h = not_four_or_seven status 0 e (inl (omega arith)) h
+
 of_command : (c : Command) (input : List ℕ) (status : ℕ) (output : List ℕ) → CommandAnswer c input status output → (status ≡ 4) ⊎ (status ≡ 7) → ⊥
 of_command command.Play input status output answer h = of_play _ _ status output answer h
 of_command command.Source input status output answer h = of_source input status output answer h
+of_command command.List input status output answer h = of_list input status output answer h
 
 of_input : (c : Command) (input : List ℕ) (status : ℕ) (output : List ℕ) → AnswerToInput c input status output → (status ≡ 4) ⊎ (status ≡ 7) → ⊥
 of_input c input status output (past_limits past refused) h = not_four_or_seven status 6 refused.0 (inr refl) h

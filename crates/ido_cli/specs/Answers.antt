@@ -1,5 +1,5 @@
 -- What the program answers: a status and the bytes that it writes.
-use Rattle.std.specs.Prelude.{◌≡◌, ◌⊎◌, ℕ, ◌+◌, ◌-◌, ◌<◌, List, [], ◌∷◌, ◌++◌, length, replicate, Option, Some, None, if◌then◌else◌, IsTrue, codes, IfSome}
+use Rattle.std.specs.Prelude.{◌≡◌, ◌⊎◌, ℕ, ◌+◌, ◌-◌, ◌<◌, List, [], ◌∷◌, ◌++◌, length, replicate, Option, Some, None, Ok, Err, if◌then◌else◌, IsTrue, codes, IfSome}
 use Rattle.ido_base.specs.declared.place.Place.{Place}
 use Rattle.c_tree.specs.Checking.{IsChecked, IsFaulty}
 use Rattle.c_tree.specs.Flats as f
@@ -8,7 +8,10 @@ use Rattle.run_scripts.specs.Schedules as s
 use Rattle.ido_cli.specs.declared.command.Command.{Command}
 use Rattle.ido_cli.specs.declared.command.Command.TheVariants as command
 use Rattle.ido_cli.specs.Commands.{command_of}
-use Rattle.ido_cli.specs.Refusals.{IsRefusedAt, code_of, fault_code, fault_place}
+use Rattle.object_format.specs.Contents.{Contents}
+use Rattle.object_format.specs.Reading as o
+use Rattle.ido_cli.specs.Listing.{listing}
+use Rattle.ido_cli.specs.Refusals.{IsRefusedAt, code_of, fault_code, fault_place, line_at_byte, object_fault_code, object_fault_place}
 use Rattle.ido_cli.specs.Runs.{RunAnswer}
 use Rattle.ido_base.specs.declared.event.Event.{Event}
 use Rattle.ido_base.specs.declared.event.Event.TheVariants.{Step}
@@ -33,8 +36,14 @@ most_bytes = 67108864
 abbrev pub most_source_bytes : ℕ
 most_source_bytes = 1048576
 
-abbrev pub IsPastLimits : (input : List ℕ) → Type 0
-IsPastLimits input = (most_bytes < length input) ⊎ (most_source_bytes < length (source_of input))
+-- the whole input, or the source text in it
+abbrev pub IsSourcePastLimits : (input : List ℕ) → Type 0
+IsSourcePastLimits input = (most_bytes < length input) ⊎ (most_source_bytes < length (source_of input))
+
+abbrev pub IsPastLimits : Command → (input : List ℕ) → Type 0
+IsPastLimits command.Play input = IsSourcePastLimits input
+IsPastLimits command.Source input = IsSourcePastLimits input
+IsPastLimits command.List input = most_bytes < length input
 
 -- the source is of the form, and the script asks for so many steps
 pub record IsOfForm (source script : List ℕ) (form : Form) (steps : ℕ) : Type 0 where
@@ -91,17 +100,25 @@ pub data SourceAnswer (input : List ℕ) (status : ℕ) (output : List ℕ) : Ty
   no_schedule : (flat : f.Flat) → IsChecked (source_of input) flat → (x : s.Fault) → s.read (rest_of input) ≡ s.Refused x → IsRefusedAt 6 (fault_code x) input (rest_begins input + fault_place x) status output → SourceAnswer input status output
   of_schedule : (flat : f.Flat) → IsChecked (source_of input) flat → (schedule : List ℕ) → s.read (rest_of input) ≡ s.Steps schedule → RunAnswer flat schedule status output → SourceAnswer input status output
 
+-- ---- `list`
+
+-- what an input of an object is answered: its listing, or its first fault
+pub data ListAnswer (input : List ℕ) (status : ℕ) (output : List ℕ) : Type 0 where
+  no_object : (fault : o.Fault) → o.read input ≡ Err fault → status ≡ 6 → output ≡ line_at_byte (object_fault_code fault) (object_fault_place fault) → ListAnswer input status output
+  of_object : (object : Contents) → o.read input ≡ Ok object → status ≡ 0 → output ≡ listing object.code → ListAnswer input status output
+
 -- ---- All commands
 
 -- what an input within the limits is answered
 abbrev pub CommandAnswer : Command → (input : List ℕ) → (status : ℕ) → (output : List ℕ) → Type 0
 CommandAnswer command.Play input status output = PlayAnswer (source_of input) (rest_of input) status output
 CommandAnswer command.Source input status output = SourceAnswer input status output
+CommandAnswer command.List input status output = ListAnswer input status output
 
 -- what an input of a command is answered
 pub data AnswerToInput (c : Command) (input : List ℕ) (status : ℕ) (output : List ℕ) : Type 0 where
-  past_limits : IsPastLimits input → Refuses 6 status (codes "limit") output → AnswerToInput c input status output
-  within_limits : (IsPastLimits input → ⊥) → CommandAnswer c input status output → AnswerToInput c input status output
+  past_limits : IsPastLimits c input → Refuses 6 status (codes "limit") output → AnswerToInput c input status output
+  within_limits : (IsPastLimits c input → ⊥) → CommandAnswer c input status output → AnswerToInput c input status output
 
 -- what words and an input are answered
 pub data Answer (words : List (List ℕ)) (input : List ℕ) (status : ℕ) (output : List ℕ) : Type 0 where

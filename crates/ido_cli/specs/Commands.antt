@@ -11,7 +11,7 @@ use Rattle.ido_cli.specs.declared.command.Command.TheVariants as command
 abbrev pub table : App
 table =
     let top = record (new_shape (codes "ido")) { subcommand_required = true } in
-    with_subcommand (with_subcommand (record { top = top; subs = [] }) (new_shape (codes "play"))) (new_shape (codes "source"))
+    with_subcommand (with_subcommand (with_subcommand (record { top = top; subs = [] }) (new_shape (codes "play"))) (new_shape (codes "source"))) (new_shape (codes "list"))
 
 abbrev pub is_named : (name : List ℕ) → List ℕ → Bool
 is_named name word = pointwise nat_eq word name
@@ -20,6 +20,7 @@ abbrev pub command_by_name : List ℕ → Option c.Command
 command_by_name name =
     if is_named (codes "play") name then Some command.Play
     else if is_named (codes "source") name then Some command.Source
+    else if is_named (codes "list") name then Some command.List
     else None
 
 abbrev pub command_named : Option (List ℕ) → Option c.Command

@@ -1,4 +1,4 @@
--- What a text comes to, and what words and an input are answered, is one thing.
+-- What a text comes to, and what words and an input are answered, is at most one thing.
 use Rattle.std.specs.Prelude.{◌≡◌, ◌≢◌, ℕ, List, Some}
 use Rattle.ido_base.specs.declared.place.Place.{Place}
 use Rattle.c_tree.specs.Checking.{IsChecked, IsFaulty}
@@ -10,11 +10,11 @@ use Rattle.ido_cli.specs.Answers.{Answer}
 
 -- ---- Texts
 
--- a checked text has one flat form
+-- a checked text has at most one flat form
 abbrev pub OneFlat : Type 0
 OneFlat = (text : List ℕ) (x y : Flat) → IsChecked text x → IsChecked text y → x ≡ y
 
--- a refused one breaks one rule at one place
+-- a text breaks at most one rule first, at one place
 abbrev pub OneFault : Type 0
 OneFault = (text : List ℕ) (found other : Rule) (place elsewhere : Place) → IsFaulty text found place → IsFaulty text other elsewhere → (found ≡ other) × (place ≡ elsewhere)
 
@@ -24,7 +24,7 @@ NotBoth = (text : List ℕ) (x : Flat) (found : Rule) (place : Place) → IsChec
 
 -- ---- Answers
 
--- words that don't ask for `play`, and an input, have one answer: a status and an output
+-- words that don't ask for `play`, and an input, have at most one answer: a status and an output
 abbrev pub OneAnswer : Type 0
 OneAnswer = (words : List (List ℕ)) (input : List ℕ) (status other : ℕ) (output written : List ℕ) → command_of words ≢ Some command.Play
     → Answer words input status output → Answer words input other written → (status ≡ other) × (output ≡ written)

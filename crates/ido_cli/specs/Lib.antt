@@ -6,8 +6,12 @@ pub mod Inputs
 pub mod Scripts
 pub mod Reports
 pub mod Trackers
+pub mod Running
 pub mod Steps
 pub mod Sayings
 pub mod Deliveries
+pub mod Instructions
+pub mod Listing
 pub mod Answers
 pub mod Laws
+pub mod FormLaws

@@ -3,6 +3,7 @@ use Rattle.std.specs.Prelude.{◌≡◌, ℕ, List, ◌++◌, codes, decimal}
 use Rattle.ido_base.specs.Places.{column_of, line_of}
 use Rattle.c_tree.specs.declared.rule.Rule as r
 use Rattle.c_tree.specs.declared.rule.Rule.TheVariants as rule
+use Rattle.object_format.specs.Reading as o
 use Rattle.run_scripts.specs.Reports.{line}
 use Rattle.run_scripts.specs.Schedules as s
 use Rattle.source_machine.specs.declared.answers.RefusedKind.{RefusedKind}
@@ -51,6 +52,21 @@ stop_code kind.UnknownThread = codes "Q1"
 stop_code kind.Waits = codes "Q2"
 stop_code kind.Ended = codes "Q3"
 
+-- that of a fault of an object, and its place
+abbrev pub object_fault_code : o.Fault → List ℕ
+object_fault_code o.Magic = codes "O1"
+object_fault_code o.Version = codes "O2"
+object_fault_code (o.Cut place) = codes "O3"
+object_fault_code (o.Field place) = codes "O4"
+object_fault_code (o.Rest place) = codes "O5"
+
+abbrev pub object_fault_place : o.Fault → ℕ
+object_fault_place o.Magic = 0
+object_fault_place o.Version = 8
+object_fault_place (o.Cut place) = place
+object_fault_place (o.Field place) = place
+object_fault_place (o.Rest place) = place
+
 -- `refused L1 at 4:3`
 unfoldable pub line_at : (code text : List ℕ) → (place : ℕ) → List ℕ
 line_at code text place = line (codes "refused " ++ code ++ codes " at " ++ decimal (line_of text place) ++ codes ":" ++ decimal (column_of text place))
@@ -58,6 +74,10 @@ line_at code text place = line (codes "refused " ++ code ++ codes " at " ++ deci
 -- `refused Q3 at step 6`
 unfoldable pub line_at_step : (code : List ℕ) → (step : ℕ) → List ℕ
 line_at_step code step = line (codes "refused " ++ code ++ codes " at step " ++ decimal step)
+
+-- `refused O3 at byte 35`
+unfoldable pub line_at_byte : (code : List ℕ) → (place : ℕ) → List ℕ
+line_at_byte code place = line (codes "refused " ++ code ++ codes " at byte " ++ decimal place)
 
 -- the refusal by the code at the place, with the status
 abbrev pub IsRefusedAt : (refused : ℕ) → (code text : List ℕ) → (place status : ℕ) → (output : List ℕ) → Type 0

@@ -7,7 +7,7 @@ use Rattle.rv64_isa.specs.Machine.{World, after_event}
 use Rattle.rv64_isa.specs.Schedule.{Steps, passes_mark, stores_point}
 use Rattle.ido_machine.specs.declared.machine.Machine.{Machine}
 use Rattle.ido_machine.specs.Machines.{MachineStands}
-use Rattle.ido_machine.specs.Parts.{IsRunning}
+use Rattle.ido_cli.specs.Running.{IsRunning}
 use Rattle.ido_cli.specs.declared.run.Seen.{Seen}
 use Rattle.ido_cli.specs.declared.tracker.Tracker.{Tracker}
 use Rattle.ido_cli.specs.Trackers.{TrackerStands}

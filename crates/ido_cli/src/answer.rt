@@ -3,11 +3,13 @@ ghost use Rattle.std.specs.Prelude.{◌≡◌, ◌∷◌, [], ◌<◌, ◌≤◌
 ghost use Rattle.ido_compile.specs.Form.{Form, IsForm, form_of};
 ghost use Rattle.ido_compile.specs.Emitted.{IsEmitted};
 ghost use Rattle.ido_compile.specs.Compilation.{Compilation, node_marks};
+ghost use Rattle.ido_cli.specs.declared.command.Command.TheVariants as command;
 ghost use Rattle.ido_cli.specs.Answers.{IsPlayed, CheckedAnswer, PlayAnswer, AnswerToInput, most_bytes, most_source_bytes};
 
 use crate::command::Command;
 use crate::front::{FrontError, front};
 use crate::input::split;
+use crate::list::list_answer;
 use crate::play::{Said, say};
 use crate::refusal::{code_of, refused, refused_at};
 use crate::run::run;
@@ -78,17 +80,38 @@ fn play_answer(alloc: Global, source: &[u8], script: &[u8]) -> Result<Said, Memo
     }
 }
 
+/// The answer to an input of `play`.
+fn play_input(alloc: Global, input: &[u8]) -> Result<Said, Memory>
+    requires { length input.now ≤ most_bytes }
+    ensures { IfOk result (λ said. AnswerToInput command.Play input.now said.status said.output.items) }
+{
+    let (source, script) = split(input);
+    if source.len() > MOST_SOURCE_BYTES {
+        return refused(alloc, 6, b"refused limit\n");
+    }
+    play_answer(alloc, source, script)
+}
+
+/// The answer to an input of `source`.
+fn source_input(alloc: Global, input: &[u8]) -> Result<Said, Memory>
+    requires { length input.now ≤ most_bytes }
+    ensures { IfOk result (λ said. AnswerToInput command.Source input.now said.status said.output.items) }
+{
+    let (source, schedule) = split(input);
+    if source.len() > MOST_SOURCE_BYTES {
+        return refused(alloc, 6, b"refused limit\n");
+    }
+    source_answer(alloc, input, source, schedule)
+}
+
 /// The answer to an input of a command.
 pub fn answer(alloc: Global, command: Command, input: &[u8]) -> Result<Said, Memory>
     requires { length input.now ≤ most_bytes }
     ensures { IfOk result (λ said. AnswerToInput command input.now said.status said.output.items) }
 {
-    let (source, rest) = split(input);
-    if source.len() > MOST_SOURCE_BYTES {
-        return refused(alloc, 6, b"refused limit\n");
-    }
     match command {
-        Command::Play => play_answer(alloc, source, rest),
-        Command::Source => source_answer(alloc, input, source, rest),
+        Command::Play => play_input(alloc, input),
+        Command::Source => source_input(alloc, input),
+        Command::List => list_answer(alloc, input),
     }
 }

@@ -14,6 +14,8 @@ pub enum Command {
     Play,
     /// Runs a source by itself, by a schedule.
     Source,
+    /// Lists an object.
+    List,
 }
 
 /// The commands, as `clap` takes them.
@@ -23,7 +25,8 @@ fn table<'a>(alloc: Global) -> Result<clap::Command<'a>, AllocError>
     clap::Command::new(alloc, "ido")
         .subcommand_required(true)
         .subcommand(clap::Command::new(alloc, "play"))?
-        .subcommand(clap::Command::new(alloc, "source"))
+        .subcommand(clap::Command::new(alloc, "source"))?
+        .subcommand(clap::Command::new(alloc, "list"))
 }
 
 /// The command of a name.
@@ -33,6 +36,7 @@ fn command_named(name: Option<&str>) -> Option<Command>
     match name {
         Some("play") => Some(Command::Play),
         Some("source") => Some(Command::Source),
+        Some("list") => Some(Command::List),
         _ => None,
     }
 }

@@ -5,7 +5,7 @@ use c_reader::laws::one_reading;
 use c_typer::laws::one_first;
 use source_machine::laws::one_stop;
 
-/// A text is checked and has one flat form, or it breaks one rule first, at one place.
+/// A text has at most one flat form as a checked one, or breaks at most one rule first, at one place, and never both.
 pub fn one_verdict()
     ensures flat { OneFlat }
     ensures fault { OneFault }
@@ -15,7 +15,7 @@ pub fn one_verdict()
     one_first();
 }
 
-/// Words that don't ask for `play`, and an input, have one answer: the status and the output of
+/// Words that don't ask for `play`, and an input, have at most one answer: the status and the output of
 /// `source` are a function of the bytes that are read.
 pub fn one_answer()
     ensures { OneAnswer }

@@ -3,9 +3,14 @@
 
 mod answer;
 mod command;
+pub mod forms;
 mod front;
 mod input;
+mod instruction;
 pub mod laws;
+mod list;
+mod listing;
+mod mnemonic;
 mod play;
 mod refusal;
 mod run;

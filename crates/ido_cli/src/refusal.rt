@@ -1,7 +1,7 @@
 //! Lines that say what is refused.
 ghost use Rattle.std.specs.Prelude.{◌≡◌, ◌<◌, ◌^◌, length, IfOk};
 ghost use Rattle.ido_base.specs.Places.{column_of, line_of};
-ghost use Rattle.ido_cli.specs.Refusals.{code_of, fault_code, fault_place, line_at, line_at_step, stop_code};
+ghost use Rattle.ido_cli.specs.Refusals.{code_of, fault_code, fault_place, line_at, line_at_byte, line_at_step, stop_code};
 ghost use Rattle.run_scripts.specs.Schedules as s;
 
 use crate::play::Said;
@@ -99,6 +99,20 @@ pub fn refused_at_step(alloc: Global, code: &str, step: u64) -> Result<Said, Mem
     ensures output { IfOk result (λ said. said.output.items ≡ line_at_step code.now step) }
 {
     let output = format!(in alloc; "refused {code} at step {step}\n")?;
+    Ok(Said {
+        status: 6,
+        output: output.into_bytes(),
+    })
+}
+
+/// The refusal by a code at a byte of the input.
+#[tactic(auto, unfolding(crate::specs::Refusals::line_at_byte))]
+pub fn refused_at_byte(alloc: Global, code: &str, place: Place) -> Result<Said, Memory>
+    ensures status { IfOk result (λ said. said.status ≡ 6) }
+    ensures output { IfOk result (λ said. said.output.items ≡ line_at_byte code.now place.0) }
+{
+    let byte = place.0;
+    let output = format!(in alloc; "refused {code} at byte {byte}\n")?;
     Ok(Said {
         status: 6,
         output: output.into_bytes(),

@@ -5,7 +5,7 @@ ghost use Rattle.ido_base.specs.declared.event.Event.TheVariants.{Step};
 ghost use Rattle.rv64_isa.specs.Machine.{World, after_event, after_events};
 ghost use Rattle.rv64_isa.specs.Schedule.{Steps, has_moved, is_running, steps_after, steps_along};
 ghost use Rattle.ido_machine.specs.Machines.{MachineStands, program_in, events_of};
-ghost use Rattle.ido_machine.specs.Parts.{IsRunning};
+ghost use Rattle.ido_cli.specs.Running.{IsRunning};
 ghost use Rattle.ido_cli.specs.Trackers.{TrackerStands};
 ghost use Rattle.ido_cli.specs.Steps.{IsSeen, IsAt};
 

@@ -38,6 +38,7 @@ impl From<Memory> for Unsaid {
 }
 
 /// What is said to the input of a command.
+#[tactic(auto, using(crate::proofs::Tops::said_to_long_input))]
 fn say_to_input<S: Source>(alloc: Global, command: Command, input: &mut S) -> Result<Said, Unsaid>
     ensures said { IfOk result (λ said. IsSaidToInput command (S.left input.old) said) }
     ensures failed { IsErrOf result Unsaid.Failed → Rose (S.faults input.old) (S.faults input.new) }

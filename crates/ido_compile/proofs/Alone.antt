@@ -15,7 +15,7 @@ use Rattle.rv64_isa.specs.declared.phase.Phase.{Phase}
 use Rattle.rv64_isa.specs.declared.phase.Phase.TheVariants.{Run, Ended}
 use Rattle.rv64_isa.specs.Rows.{Effect, GoesOn, Loads, Stores, Cleans, Fences, Calls, row, read, written, next, load_result}
 use Rattle.rv64_isa.specs.Programs.{fetched}
-use Rattle.rv64_isa.specs.Machine.{World, happens, hart_step, executed, applied, access, settled_hart, Outcome, cleaned, called, acquired, released, ended}
+use Rattle.rv64_isa.specs.Machine.{World, happens, hart_step, executed, applied, access, done_if_over, Outcome, cleaned, called, acquired, released, ended}
 
 -- the world of one hart
 abbrev pub alone : (registers : List ℕ) → (pc : ℕ) → Phase → List Entry → List Word → List (Option ℕ) → World
@@ -41,7 +41,7 @@ pub by_outcome : (program : List (List Slot)) (x : List ℕ) (pc : ℕ) (q : Lis
     happens program (alone x pc Run q ws ho) (Step 0) ≡ (alone x' pc' p' q' ws' ho', reply)
 unfolding happens
 by_outcome program x pc q ws ho x' pc' p' q' ws' ho' reply e =
-    ap (λ (o : Outcome). let p : Outcome = (settled_hart (alone x pc Run q ws ho) 0 (slice_get o.0.harts 0) o.0, o.1) in p) e
+    ap (λ (o : Outcome). let p : Outcome = (done_if_over (alone x pc Run q ws ho) 0 (slice_get o.0.harts 0) o.0, o.1) in p) e
 
 pub goes_on : (program : List (List Slot)) (i : Instr) (x : List ℕ) (pc : ℕ) (q : List Entry) (ws : List Word) (ho : List (Option ℕ)) (x' : List ℕ) (pc' : ℕ) →
     fetched program 0 pc ≡ Some (Row i) → row i x pc ≡ GoesOn x' pc' →

@@ -10,8 +10,6 @@ mod arithmetic;
 mod kinds;
 mod literals;
 mod operators;
-#[cfg(test)]
-mod tests;
 mod values;
 
 pub use arithmetic::{binary, unary};

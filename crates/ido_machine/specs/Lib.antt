@@ -1,3 +1,2 @@
 pub mod Harts
 pub mod Machines
-pub mod Parts

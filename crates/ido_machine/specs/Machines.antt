@@ -1,12 +1,15 @@
 -- What a machine in the code stands for.
-use Rattle.std.specs.Prelude.{◌≡◌, ℕ, List}
-use Rattle.ido_base.specs.declared.event.Event.{Event}
-use Rattle.ido_base.specs.declared.event.Event.TheVariants.{Step, Evict, Crash}
+use Rattle.std.specs.Prelude.{◌≡◌, ℕ, List, Option, Bool}
 use Rattle.ido_base.specs.declared.event.Reply.{Reply}
+use Rattle.line_memory.specs.declared.memory.LineMemory.{LineMemory}
+use Rattle.line_memory.specs.Stands.{Stands}
 use Rattle.rv64_isa.specs.declared.object.Slot.{Slot}
+use Rattle.rv64_isa.specs.declared.phase.Phase.{Phase}
 use Rattle.rv64_isa.specs.Machine.{World, Outcome}
+use Rattle.hart_core.specs.declared.hart.Hart.{Hart}
+use Rattle.resume_recovery.specs.Steps.{phases_of}
 use Rattle.ido_machine.specs.declared.machine.Machine.{Machine}
-use Rattle.ido_machine.specs.Parts.{PartsStand, IsRunning}
+use Rattle.ido_machine.specs.Harts.{HartsStand}
 
 -- what it runs
 abbrev pub program_in : Machine → List (List Slot)
@@ -16,18 +19,40 @@ program_in machine = machine.program
 abbrev pub events_of : Machine → ℕ
 events_of machine = machine.events
 
--- its harts with their queues, its memory and its locks are those of the world
+-- what changes of a machine: phases and harts, memory and locks, and whether it is in recovery
+pub record State : Type 0 where
+  pub phases : List Phase
+  pub harts : List Hart
+  pub memory : LineMemory
+  pub locks : List (Option ℕ)
+  pub recovering : Bool
+
+abbrev pub state_of : Machine → State
+state_of machine = record {
+  phases = machine.phases.items;
+  harts = machine.harts.items;
+  memory = machine.memory;
+  locks = machine.locks;
+  recovering = machine.recovering;
+}
+
+-- all of it is that of the world
+pub record StateStands (state : State) (w : World) : Type 0 where
+  pub words : Stands state.memory w.words
+  pub holders : w.holders ≡ state.locks
+  pub phases : phases_of w ≡ state.phases
+  pub standing : HartsStand state.harts w.harts w.words
+  pub recovering : w.recovering ≡ state.recovering
+
+-- its harts with their phases and queues, its memory and its locks are those of the world
 abbrev pub MachineStands : Machine → World → Type 0
-MachineStands machine w = PartsStand machine.harts.items machine.memory machine.locks w
+MachineStands machine w = StateStands (state_of machine) w
 
--- the machine is at the world of an outcome, in which there was no crash yet, and the reply is its
-pub record IsAfter (machine : Machine) (reply : Reply) (outcome : Outcome) : Type 0 where
+-- the state is that of the world of an outcome, and the reply is its
+pub record StateEnds (state : State) (reply : Reply) (outcome : Outcome) : Type 0 where
   pub replied : reply ≡ outcome.1
-  pub stands : MachineStands machine outcome.0
-  pub running : IsRunning outcome.0
+  pub stands : StateStands state outcome.0
 
--- the event isn't a crash
-abbrev pub IsNoCrash : Event → Type 0
-IsNoCrash (Step hart) = Unit {0}
-IsNoCrash (Evict line mask) = Unit {0}
-IsNoCrash Crash = ⊥
+-- the machine is at the world of an outcome, and the reply is its
+abbrev pub IsAfter : Machine → Reply → Outcome → Type 0
+IsAfter machine reply outcome = StateEnds (state_of machine) reply outcome

@@ -1,8 +1,7 @@
-//! A machine of several harts over one memory: its start, and what each event does. An event takes constant
-//! time and no memory. Crashes and the phases of recovery are not made here yet.
+//! A machine of several harts over one memory: its start, its state after a crash, and what each event does. An
+//! event takes constant time (a crash as much as has changed since the last one) and no memory.
 #![tactic(auto)]
 
 mod harts;
 pub mod machine;
-#[cfg(test)]
-mod tests;
+mod running;

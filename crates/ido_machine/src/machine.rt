@@ -2,7 +2,10 @@
 ghost use Rattle.std.specs.Prelude.{◌≡◌, ◌≤◌, length, vec_len};
 ghost use Rattle.line_memory.specs.Stands.{threads_of, stores_of};
 
-use crate::harts::{self, PhasedHart};
+use crate::harts;
+use crate::running::step_one;
+use hart_core::completion;
+use hart_core::hart::Hart;
 use hart_core::program::Program;
 use ido_base::event::{Event, Reply};
 use ido_base::memory::Memory;
@@ -16,10 +19,13 @@ use std::alloc::Global;
 #[derive(Debug, Drop)]
 pub struct Machine {
     program: Program,
-    harts: Vec<PhasedHart>,
+    phases: Vec<Phase>,
+    harts: Vec<Hart>,
     memory: LineMemory,
     locks: LockTable,
+    recovering: bool,
     events: u64,
+    ghost phased: { vec_len phases ≡ length program },
     ghost sized: { vec_len harts ≡ length program },
     ghost few_threads: { length program ≤ 8 },
     ghost logged: { threads_of memory ≡ length program },
@@ -27,22 +33,21 @@ pub struct Machine {
 }
 
 impl Machine {
-    ghost use Rattle.std.specs.Prelude.{◌≡◌, ℕ, ◌+◌, ◌*◌, ◌^◌, ◌<◌, ◌≤◌, List, length, not, slice_get, Some, IfOk};
-    ghost use Rattle.ido_base.specs.Words.{word_at, evicted, last_position, live_value, durable_value};
-    ghost use Rattle.ido_base.specs.declared.event.Reply.TheVariants.{Device};
+    ghost use Rattle.std.specs.Prelude.{◌≡◌, ℕ, ◌+◌, ◌*◌, ◌/◌, ◌^◌, ◌<◌, ◌≤◌, List, [], length, not, slice_get, Some, IfOk};
+    ghost use Rattle.ido_base.specs.declared.event.Event.TheVariants.{Step, Evict, Crash};
+    ghost use Rattle.ido_base.specs.Words.{word_at, last_position, live_value, durable_value};
     ghost use Rattle.ido_base.specs.Layout.{line_count};
     ghost use Rattle.ido_base.specs.Locks.{holds_none};
     ghost use Rattle.rv64_isa.specs.Programs.{program_of};
-    ghost use Rattle.rv64_isa.specs.Machine.{Hart as HartModel, World, IsValidEvent, stepped, happens, machine_start};
+    ghost use Rattle.rv64_isa.specs.Machine.{Hart as HartModel, World, IsValidEvent, happens, machine_start, machine_from};
+    ghost use Rattle.rv64_isa.specs.Schedule.{finishes_fence, stores_point};
     ghost use Rattle.hart_core.specs.Objects.{IsWithinLimits};
-    ghost use Rattle.ido_machine.specs.Parts.{IsRunning};
-    ghost use Rattle.ido_machine.specs.Machines.{program_in, events_of, MachineStands, IsAfter, IsNoCrash};
+    ghost use Rattle.ido_machine.specs.Machines.{program_in, events_of, MachineStands, IsAfter};
 
     /// The machine of an object at its start.
     pub fn start(alloc: Global, object: &Object) -> Result<Machine, Memory>
         requires { IsWithinLimits object.now }
         ensures stands { IfOk result (λ machine. MachineStands machine (machine_start object.now)) }
-        ensures running { IfOk result (λ machine. IsRunning (machine_start object.now)) }
         ensures program { IfOk result (λ machine. program_in machine ≡ program_of object.now) }
         ensures events { IfOk result (λ machine. events_of machine ≡ 0) }
     {
@@ -50,11 +55,41 @@ impl Machine {
         let memory = LineMemory::new(alloc, &object.initial, program.threads())?;
         let locks = LockTable::new(alloc, object.mutexes)?;
         let harts = harts::fresh(alloc, &program)?;
+        let phases = vec![in alloc; Phase::Run; program.threads() as usize]?;
         Ok(Machine {
             program,
+            phases,
             harts,
             memory,
             locks,
+            recovering: false,
+            events: 0,
+        })
+    }
+
+    /// The machine of an object after a crash that left these words of its variables and, behind them, of its
+    /// logs.
+    pub fn of_words(alloc: Global, object: &Object, words: &[u64]) -> Result<Machine, Memory>
+        requires limits { IsWithinLimits object.now }
+        requires count { length words.now ≡ length object.now.initial.items / 8 + 128 * length object.now.code.items }
+        ensures stands { IfOk result (λ machine. MachineStands machine (machine_from object.now words.now [])) }
+        ensures program { IfOk result (λ machine. program_in machine ≡ program_of object.now) }
+        ensures events { IfOk result (λ machine. events_of machine ≡ 0) }
+    {
+        let program = Program::of(alloc, object)?;
+        let threads = program.threads();
+        let memory = LineMemory::of_words(alloc, object.initial.len() as u32, threads, words)?;
+        let locks = LockTable::new(alloc, object.mutexes)?;
+        let harts = harts::fresh(alloc, &program)?;
+        let mut phases = vec![in alloc; Phase::Done; threads as usize]?;
+        harts::set_phases(&mut phases, &memory);
+        Ok(Machine {
+            program,
+            phases,
+            harts,
+            memory,
+            locks,
+            recovering: true,
             events: 0,
         })
     }
@@ -66,32 +101,33 @@ impl Machine {
         self.program.threads()
     }
 
-    /// Makes an event: a step of a hart, or an eviction.
+    /// Makes an event.
     pub fn event(&mut self, event: Event) -> Reply
         requires valid { IsValidEvent (length (program_in self.old)) event }
-        requires no_crash { IsNoCrash event }
         requires room { events_of self.old < 2 ^ 63 }
-        ensures world { (w : World) → MachineStands self.old w → IsRunning w → IsAfter self.new result (happens (program_in self.old) w event) }
+        ensures world { (w : World) → MachineStands self.old w → IsAfter self.new result (happens (program_in self.old) w event) }
         ensures program { program_in self.new ≡ program_in self.old }
         ensures events { events_of self.new ≡ events_of self.old + 1 }
     {
         match event {
             Event::Step(hart) => self.step(hart),
             Event::Evict(line, mask) => self.evict(line, mask),
-            Event::Crash => unreachable!(),
+            Event::Crash => self.crash(),
         }
     }
 
     fn step(&mut self, hart: u32) -> Reply
         requires exists { hart < length (program_in self.old) }
         requires room { events_of self.old < 2 ^ 63 }
-        ensures world { (w : World) → MachineStands self.old w → IsRunning w → IsAfter self.new result (stepped (program_in self.old) w hart (slice_get w.harts hart)) }
+        ensures world { (w : World) → MachineStands self.old w → IsAfter self.new result (happens (program_in self.old) w (Step hart)) }
         ensures program { program_in self.new ≡ program_in self.old }
         ensures events { events_of self.new ≡ events_of self.old + 1 }
     {
-        let reply = harts::step_one(
+        let reply = step_one(
             hart,
             &self.program,
+            self.recovering,
+            &mut self.phases,
             &mut self.harts,
             &mut self.memory,
             &mut self.locks,
@@ -104,7 +140,7 @@ impl Machine {
         requires exists { line < line_count (length (program_in self.old)) }
         requires mask { mask ≤ 255 }
         requires room { events_of self.old < 2 ^ 63 }
-        ensures world { (w : World) → MachineStands self.old w → IsRunning w → IsAfter self.new result (record w { words = evicted w.words line mask }, Device) }
+        ensures world { (w : World) → MachineStands self.old w → IsAfter self.new result (happens (program_in self.old) w (Evict line mask)) }
         ensures program { program_in self.new ≡ program_in self.old }
         ensures events { events_of self.new ≡ events_of self.old + 1 }
     {
@@ -113,12 +149,51 @@ impl Machine {
         Reply::Device
     }
 
+    fn crash(&mut self) -> Reply
+        requires room { events_of self.old < 2 ^ 63 }
+        ensures world { (w : World) → MachineStands self.old w → IsAfter self.new result (happens (program_in self.old) w Crash) }
+        ensures program { program_in self.new ≡ program_in self.old }
+        ensures events { events_of self.new ≡ events_of self.old + 1 }
+    {
+        self.memory.crash();
+        self.locks.clear();
+        harts::restart(&self.program, &mut self.harts);
+        harts::set_phases(&mut self.phases, &self.memory);
+        self.recovering = true;
+        self.events += 1;
+        Reply::Device
+    }
+
+    /// The next step of a hart finishes a fence of it.
+    pub fn finishes_fence(&self, hart: u32) -> bool
+        requires { hart < length (program_in self.now) }
+        ensures { (w : World) → MachineStands self.now w → result ≡ finishes_fence (program_in self.now) w (Step hart) hart }
+    {
+        let at = hart as usize;
+        completion::finishes_fence(hart, &self.program, self.phases[at], &self.harts[at])
+    }
+
+    /// The next step of a hart stores its point.
+    pub fn stores_point(&self, hart: u32) -> bool
+        requires { hart < length (program_in self.now) }
+        ensures { (w : World) → MachineStands self.now w → result ≡ stores_point (program_in self.now) w (Step hart) hart }
+    {
+        let at = hart as usize;
+        completion::stores_point(
+            hart,
+            &self.program,
+            self.phases[at],
+            &self.harts[at],
+            &self.memory,
+        )
+    }
+
     /// The phase of a hart.
     pub fn phase(&self, hart: u32) -> Phase
         requires { hart < length (program_in self.now) }
         ensures { (w : World) (model : HartModel) → MachineStands self.now w → slice_get w.harts hart ≡ Some model → result ≡ model.phase }
     {
-        self.harts[hart as usize].phase
+        self.phases[hart as usize]
     }
 
     /// The address of the instruction that a hart executes next.
@@ -126,7 +201,7 @@ impl Machine {
         requires { hart < length (program_in self.now) }
         ensures { (w : World) (model : HartModel) → MachineStands self.now w → slice_get w.harts hart ≡ Some model → result ≡ model.pc }
     {
-        self.harts[hart as usize].hart.pc
+        self.harts[hart as usize].pc
     }
 
     /// The hart holds a lock.

@@ -1,5 +1,5 @@
 use super::*;
-use std::alloc::AllocError;
+use std::alloc::{AllocError, Global};
 use std::io;
 use std::io::{Error, ErrorKind, Read, Write};
 use std::test::Fail;
@@ -14,31 +14,53 @@ fn numbers(rt: &HostRuntime, calls: &[u64]) -> Result<Vec<u64>, AllocError> {
     calls.to_vec(rt.alloc())
 }
 
-// A reader whose first read gives two bytes and whose second fails.
+// A reader of the text and a writer, of `piece` bytes a call at most. The call of number `fails` fails.
 #[derive(Drop)]
-struct Torn {
-    begun: bool,
+struct Slow {
+    piece: usize,
+    fails: u64,
+    calls: u64,
+    next: usize,
+    taken: Vec<u8>,
 }
 
-impl Read for Torn {
-    fn read(&mut self, buf: &mut [u8]) -> io::Result<usize> {
-        if self.begun || buf.len() < 2 {
-            return Err(Error::from(ErrorKind::BrokenPipe));
+impl Slow {
+    fn new(alloc: Global, piece: usize, fails: u64) -> Self {
+        Slow {
+            piece,
+            fails,
+            calls: 0,
+            next: 0,
+            taken: Vec::new(alloc),
         }
-        self.begun = true;
-        buf[0] = b'a';
-        buf[1] = b'b';
-        Ok(2)
+    }
+
+    fn call(&mut self) -> io::Result<()> {
+        self.calls = self.calls.saturating_add(1);
+        if self.calls == self.fails {
+            return Err(Error::from(ErrorKind::Interrupted));
+        }
+        Ok(())
     }
 }
 
-// A writer that takes nothing.
-#[derive(Drop)]
-struct Full;
+impl Read for Slow {
+    fn read(&mut self, buf: &mut [u8]) -> io::Result<usize> {
+        self.call()?;
+        let rest = TEXT.get(self.next..).unwrap_or(b"");
+        let count = self.piece.min(rest.len()).min(buf.len());
+        buf[..count].copy_from_slice(&rest[..count]);
+        self.next = self.next.saturating_add(count);
+        Ok(count)
+    }
+}
 
-impl Write for Full {
-    fn write(&mut self, _buf: &[u8]) -> io::Result<usize> {
-        Ok(0)
+impl Write for Slow {
+    fn write(&mut self, buf: &[u8]) -> io::Result<usize> {
+        self.call()?;
+        let count = self.piece.min(buf.len());
+        self.taken.extend_from_slice(&buf[..count])?;
+        Ok(count)
     }
 
     fn flush(&mut self) -> io::Result<()> {
@@ -148,27 +170,72 @@ fn sure_ends_never_fail(rt: HostRuntime) -> Result<(), Fail> {
     Ok(())
 }
 
+// What each read of an adapter gives, and that it is one call of its reader.
+#[test]
+fn a_read_is_one_call_of_the_reader(rt: HostRuntime) -> Result<(), Fail> {
+    let mut source = Reading::new(Slow::new(rt.alloc(), 4, 2));
+    let mut buffer = [0u8; 8];
+    for (number, given, faults) in [
+        (1, Some(b"pers".as_slice()), 0),
+        (2, None, 1),
+        (3, Some(b"iste"), 1),
+        (4, Some(b"nt"), 1),
+        (5, Some(b""), 1),
+    ] {
+        let answer = source.read(&mut buffer);
+        let count = answer.ok().map(|count| count.min(8));
+        assert_eq!(rt; count.map(|count| &buffer[..count]), given, "read {number}");
+        assert_eq!(rt; source.faults(), faults, "read {number}");
+    }
+    assert_eq!(rt; source.into_inner().calls, 5);
+    Ok(())
+}
+
+// What each write of an adapter takes, and that it is one call of its writer.
+#[test]
+fn a_write_is_one_call_of_the_writer(rt: HostRuntime) -> Result<(), Fail> {
+    let mut sink = Writing::new(Slow::new(rt.alloc(), 4, 2));
+    for (piece, answer, faults) in [
+        (TEXT, Ok(4), 0),
+        (b"istent", Err(Failed), 1),
+        (b"ist", Ok(3), 1),
+        (b"", Ok(0), 1),
+        (b"ent", Ok(3), 1),
+    ] {
+        assert_eq!(rt; sink.write(piece), answer);
+        assert_eq!(rt; sink.faults(), faults);
+    }
+    let writer = sink.into_inner();
+    assert_eq!(rt; writer.taken.as_slice(), TEXT);
+    assert_eq!(rt; writer.calls, 5);
+    Ok(())
+}
+
+// Each failing call in turn, in pieces of any size: 0 bytes a call are the end of what is read, and a
+// fault of what is written.
 #[test]
 fn std_ends_count_their_faults(rt: HostRuntime) -> Result<(), Fail> {
-    let mut whole = Reading::new(TEXT);
-    assert_eq!(rt; read_all(rt.alloc(), &mut whole, 10)?.as_slice(), TEXT);
-    assert_eq!(rt; whole.faults(), 0);
+    for (piece, fails, fault, read, written) in [
+        (3, 0, false, TEXT, TEXT),
+        (20, 0, false, TEXT, TEXT),
+        (3, 1, true, b"", b""),
+        (3, 4, true, b"", b"persisten"),
+        (20, 1, true, b"", b""),
+        (0, 0, true, b"", b""),
+    ] {
+        let mut source = Reading::new(Slow::new(rt.alloc(), piece, fails));
+        let fault_of_read = fault && piece > 0;
+        match read_all(rt.alloc(), &mut source, 10) {
+            Ok(bytes) => assert_eq!(rt; bytes.as_slice(), read),
+            Err(error) => assert_eq!(rt; error, InFault::Failed),
+        }
+        assert_eq!(rt; source.faults(), if fault_of_read { 1 } else { 0 });
 
-    let mut torn = Reading::new(Torn { begun: false });
-    let fault = read_all(rt.alloc(), &mut torn, 10).err();
-    assert_eq!(rt; fault, Some(InFault::Failed));
-    assert_eq!(rt; torn.faults(), 1);
-
-    let mut into_vec = Writing::new(Vec::new(rt.alloc()));
-    write_all(&mut into_vec, TEXT)?;
-    assert_eq!(rt; into_vec.faults(), 0);
-    assert_eq!(rt; into_vec.into_inner().as_slice(), TEXT);
-
-    let mut full = Writing::new(Full);
-    assert_eq!(rt; write_all(&mut full, TEXT).err(), Some(Failed));
-    assert_eq!(rt; full.faults(), 1);
-    write_all(&mut full, b"")?;
-    assert_eq!(rt; full.faults(), 1);
+        let mut sink = Writing::new(Slow::new(rt.alloc(), piece, fails));
+        assert_eq!(rt; write_all(&mut sink, TEXT).is_err(), fault);
+        assert_eq!(rt; sink.faults(), if fault { 1 } else { 0 });
+        assert_eq!(rt; sink.into_inner().taken.as_slice(), written);
+    }
     Ok(())
 }
 

@@ -104,3 +104,29 @@ QueueStands-drained queue entries words entry q = QueueStands-grows queue entrie
 
 pub QueueStands-evicted : (queue : Queue) (entries : List Entry) (words : List Word) (line mask : ℕ) → QueueStands queue entries words → QueueStands queue entries (evicted words line mask)
 QueueStands-evicted queue entries words line mask q = QueueStands-grows queue entries words _ (Grows-evicted words line mask) q
+
+-- ---- Write-backs give no word a further value
+
+values-back : (words : List Word) (at position j : ℕ) → (word_at (set words at (written_back (word_at words at) position)) j).values ≡ (word_at words j).values
+values-back [] at position j = refl
+values-back (w ∷ words) zero position zero = refl
+values-back (w ∷ words) zero position (suc j) = refl
+values-back (w ∷ words) (suc at) position zero = refl
+values-back (w ∷ words) (suc at) position (suc j) = values-back words at position j
+
+values-raised : (words : List Word) (at : ℕ) (positions : List ℕ) (j : ℕ) → (word_at (raised words at positions) j).values ≡ (word_at words j).values
+values-raised words at [] j = refl
+values-raised words at (p ∷ ps) j = values-raised (set words at (written_back (word_at words at) p)) (at + 1) ps j ∙ values-back words at p j
+
+pub values-drained : (words : List Word) (entry : Entry) (j : ℕ) → (word_at (drained words entry) j).values ≡ (word_at words j).values
+values-drained words entry j = values-raised words (8 * entry.line) entry.positions j
+
+values-evicted_at : (words : List Word) (at mask j : ℕ) → (word_at (evicted_at words at mask) j).values ≡ (word_at words j).values
+values-evicted_at words at mask j = cond_both (eqb (mask % 2) 1) (set words at (written_back (word_at words at) (last_position (word_at words at)))) words (λ ws. (word_at ws j).values ≡ (word_at words j).values) (λ _. values-back words at (last_position (word_at words at)) j) (λ _. refl)
+
+values-evicted_from : (words : List Word) (at mask count j : ℕ) → (word_at (evicted_from words at mask count) j).values ≡ (word_at words j).values
+values-evicted_from words at mask zero j = refl
+values-evicted_from words at mask (suc count) j = values-evicted_from (evicted_at words at mask) (at + 1) (mask / 2) count j ∙ values-evicted_at words at mask j
+
+pub values-evicted : (words : List Word) (line mask j : ℕ) → (word_at (evicted words line mask) j).values ≡ (word_at words j).values
+values-evicted words line mask j = values-evicted_from words (8 * line) mask 8 j

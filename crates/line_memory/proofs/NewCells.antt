@@ -8,6 +8,7 @@ use Rattle.ido_base.specs.Layout.{words_of_bytes, word_count, variable_lines, lo
 use Rattle.line_memory.specs.declared.memory.LineMemory.{LineMemory}
 use Rattle.line_memory.specs.Stands.{Stands}
 use Rattle.line_memory.specs.declared.cell.Cell.{Cell}
+use Rattle.line_memory.proofs.Memories.{known_single}
 use Rattle.line_memory.specs.Cells.{cell_of, CellStands, CellsStand}
 
 -- ---- A word from bytes
@@ -98,6 +99,7 @@ length-made memory ns same = length-map ns word_of ∙ sym (length-map ns cell_o
 pub Stands-of : (memory : LineMemory) (ns : List ℕ) → memory.stores ≡ 0 → memory.cells.items ≡ map cell_of ns → Stands memory (map word_of ns)
 Stands-of memory ns none same = record {
   size = length-made memory ns same;
+  changes = known_single memory.changes ns;
   cells = subst (λ (n : ℕ). CellsStand memory.cells.items (map word_of ns) n) (sym none) (subst (λ (cs : List Cell). CellsStand cs (map word_of ns) 0) (sym same) (CellsStand-of ns));
 }
 

@@ -1,11 +1,13 @@
 -- Steps of the loops over cells.
-use Rattle.std.proofs.Common.{◌≡◌, ℕ, zero, suc, ◌+◌, ◌*◌, ◌/◌, ◌%◌, ◌^◌, ◌<◌, ◌≤◌, List, [], ◌∷◌, length, get_or, take, drop, set, map, eqb, refl, sym, ◌∙◌, ap, subst, inl, inr, arith, add-one, length-set, length-take-le, length-drop, get_or-set_same, get_or-set_other, get_or-take, get_or-drop}
-use Rattle.std.proofs.lemmas.Bool.{cases_eq, eq-eqb, ne_eqb, cond-true, cond-false}
+use Rattle.std.proofs.Common.{◌≡◌, ℕ, zero, suc, ◌+◌, ◌*◌, ◌/◌, ◌%◌, ◌^◌, ◌<◌, ◌≤◌, List, [], ◌∷◌, length, get_or, take, drop, set, map, eqb, false, refl, sym, ◌∙◌, ap, subst, ◌⊎◌, inl, inr, arith, add-one, length-set, length-take-le, length-drop, get_or-set_same, get_or-set_other, get_or-take, get_or-drop}
+use Rattle.std.proofs.lemmas.Bool.{false≢true, cases_lt, cases_eq, eq-eqb, ne_eqb, cond-true, cond-false}
 use Rattle.std.proofs.lemmas.List.{get_or-map, ext_get_or, length-map}
 use Rattle.std.proofs.lemmas.Nat.{shr-shr}
 use Rattle.ido_base.specs.Words.{Word, word_of, word_at, written_back, last_position, raised, evicted_from, after_crash, entry_of, line_words}
 use Rattle.line_memory.specs.declared.cell.Cell.{Cell}
 use Rattle.line_memory.specs.Cells.{cell_of, cell_at, CellStands, CellsStand, Remembers}
+use Rattle.line_memory.specs.declared.changes.Changes.{Changes}
+use Rattle.line_memory.specs.Changes.{IsListed, HasChanged}
 use Rattle.line_memory.specs.Queues.{SnapshotStands}
 use Rattle.line_memory.proofs.Histories.{Grows-raised, Remembers-grows, evicted_at}
 
@@ -113,6 +115,92 @@ CellsStand-crashed old cells size f words stores s = record {
   size = size ∙ s.size ∙ sym (length-map words after_crash);
   each = λ i below. rw (word_at-crashed words i) (f words stores i s below);
 }
+
+-- a cell keeps its durable value alone
+pub CellStands-crashed : (cell : Cell) (word : Word) (stores : ℕ) → CellStands cell word stores → CellStands (cell_of cell.durable) (after_crash word) 0
+CellStands-crashed cell word stores s = record { live = s.durable; version = refl; durable = s.durable; durable_version = refl; order = omega arith; counted = omega arith }
+
+-- one whose word has a single value stays as it is
+CellStands-unchanged : (cell : Cell) (word : Word) (stores : ℕ) → length word.values ≤ 1 → CellStands cell word stores → CellStands cell (after_crash word) 0
+CellStands-unchanged cell word stores single s =
+    let last_is : last_position word ≡ word.durable = omega (arith, s.order, single) in
+    record {
+      live = s.live ∙ ap (λ (p : ℕ). get_or word.values p 0) last_is;
+      version = omega (arith, s.version, single);
+      durable = s.durable;
+      durable_version = omega (arith, s.durable_version, s.order, single);
+      order = omega arith;
+      counted = omega (arith, s.version, single);
+    }
+
+-- where not every word counts as changed, those that have changed are listed
+pub only_listed : (changes : Changes) (numbers : List ℕ) (i : ℕ) → changes.is_all ≡ false → numbers ≡ changes.numbers.items → HasChanged changes i → IsListed numbers i
+only_listed changes numbers i some same (inl all) = absurd (false≢true (sym some ∙ all))
+only_listed changes numbers i some same (inr listed) = subst (λ (ns : List ℕ). IsListed ns i) (sym same) listed
+
+-- each cell is as it was or as after a crash, and those of the first so many numbers are as after a crash
+pub record AreCrashed (old cells : List Cell) (numbers : List ℕ) (count : ℕ) : Type 0 where
+  pub size : length cells ≡ length old
+  pub either : (j : ℕ) → (cell_at cells j ≡ cell_at old j) ⊎ (cell_at cells j ≡ cell_of (cell_at old j).durable)
+  pub listed : (p : ℕ) → p < count → get_or numbers p 0 < length old → cell_at cells (get_or numbers p 0) ≡ cell_of (cell_at old (get_or numbers p 0)).durable
+
+module _ (old cells : List Cell) (numbers : List ℕ) (count : ℕ) (a : AreCrashed old cells numbers count) where
+  pub some_step : (at : ℕ) (cell : Cell) → at ≡ get_or numbers count 0 → at < length cells → cell ≡ cell_of (cell_at cells at).durable → AreCrashed old (set cells at cell) numbers (count + 1)
+  some_step at cell is_at within is_cell =
+      let new_is : cell ≡ cell_of (cell_at old at).durable = elim (a.either at) [
+        | inl e ↦ is_cell ∙ ap (λ (c : Cell). cell_of c.durable) e
+        | inr e ↦ is_cell ∙ ap (λ (c : Cell). cell_of c.durable) e
+      ] in
+      let here : cell_at (set cells at cell) at ≡ cell_of (cell_at old at).durable = get_or-set_same cells at cell (cell_of 0) within ∙ new_is in
+      record {
+        size = length-set cells at cell ∙ a.size;
+        either = λ j. elim (cases_eq j at) [
+          | inl same ↦ inr (subst (λ (i : ℕ). cell_at (set cells at cell) i ≡ cell_of (cell_at old i).durable) (sym same) here)
+          | inr other ↦ rw (get_or-set_other cells at j cell (cell_of 0) other) (a.either j)
+        ];
+        listed = λ p below exists. elim (cases_eq (get_or numbers p 0) at) [
+          | inl same ↦ subst (λ (i : ℕ). cell_at (set cells at cell) i ≡ cell_of (cell_at old i).durable) (sym same) here
+          | inr other ↦
+              let before : p < count = elim (cases_eq p count) [
+                | inl last ↦ absurd (other (ap (λ (i : ℕ). get_or numbers i 0) last ∙ sym is_at))
+                | inr less ↦ omega (arith, less, below)
+              ] in
+              get_or-set_other cells at (get_or numbers p 0) cell (cell_of 0) other ∙ a.listed p before exists
+        ];
+      }
+
+  pub none_step : length cells ≤ get_or numbers count 0 → AreCrashed old cells numbers (count + 1)
+  none_step past = record {
+    size = a.size;
+    either = a.either;
+    listed = λ p below exists. elim (cases_eq p count) [
+      | inl last ↦ absurd (omega (arith, a.size, past, exists, ap (λ (i : ℕ). get_or numbers i 0) last))
+      | inr less ↦ a.listed p (omega (arith, less, below)) exists
+    ];
+  }
+
+  pub CellsStand-some : count ≡ length numbers → (words : List Word) (stores : ℕ) → CellsStand old words stores → ((i : ℕ) → 1 < length (word_at words i).values → IsListed numbers i) → CellsStand cells (map after_crash words) 0
+  CellsStand-some all words stores s changed = record {
+    size = a.size ∙ s.size ∙ sym (length-map words after_crash);
+    each = λ i below. rw (word_at-crashed words i) (one i (omega (arith, a.size, below)));
+  }
+    where
+      by_list : (i : ℕ) → i < length old → IsListed numbers i → CellStands (cell_at cells i) (after_crash (word_at words i)) 0
+      by_list i below l =
+          let is : cell_at cells i ≡ cell_of (cell_at old i).durable = subst (λ (j : ℕ). cell_at cells j ≡ cell_of (cell_at old j).durable) l.same (a.listed l.place (omega (arith, l.within, all)) (omega (arith, l.same, below))) in
+          subst (λ (c : Cell). CellStands c (after_crash (word_at words i)) 0) (sym is) (CellStands-crashed (cell_at old i) (word_at words i) stores (s.each i below))
+
+      unlisted : (i : ℕ) → i < length old → length (word_at words i).values ≤ 1 → CellStands (cell_at cells i) (after_crash (word_at words i)) 0
+      unlisted i below single = elim (a.either i) [
+        | inl e ↦ subst (λ (c : Cell). CellStands c (after_crash (word_at words i)) 0) (sym e) (CellStands-unchanged (cell_at old i) (word_at words i) stores single (s.each i below))
+        | inr e ↦ subst (λ (c : Cell). CellStands c (after_crash (word_at words i)) 0) (sym e) (CellStands-crashed (cell_at old i) (word_at words i) stores (s.each i below))
+      ]
+
+      one : (i : ℕ) → i < length old → CellStands (cell_at cells i) (after_crash (word_at words i)) 0
+      one i below = elim (cases_lt 1 (length (word_at words i).values)) [
+        | inl more ↦ by_list i below (changed i more)
+        | inr single ↦ unlisted i below single
+      ]
 
 -- ---- Snapshots
 

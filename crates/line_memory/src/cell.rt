@@ -65,8 +65,7 @@ impl Cell {
 
     /// After a crash.
     pub fn crashed(self) -> Cell
-        ensures { (word : Word) (stores : ℕ) → CellStands self word stores
-            → CellStands result (after_crash word) 0 }
+        ensures { result ≡ cell_of self.durable }
     {
         Cell::of(self.durable)
     }

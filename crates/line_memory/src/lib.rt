@@ -1,6 +1,7 @@
 //! Memory in lines of eight words, as one flat array: of each word its live and its durable value, with
 //! their version numbers. A word is written back only where its durable version is older. Loads, stores,
-//! cleans, drains and evictions take constant time, and nothing takes memory once it is made.
+//! cleans, drains and evictions take constant time, a crash as much as has changed since the last one, and
+//! nothing takes memory once it is made.
 //!
 //! What the calls do is said in terms of word histories, whichever the memory stands for.
 #![tactic(auto)]
@@ -14,12 +15,12 @@ use crate::queue::Queue;
 
 mod bytes;
 mod cell;
+mod changes;
 mod lines;
+mod log;
 mod making;
 pub mod memory;
 pub mod queue;
-#[cfg(test)]
-mod tests;
 
 /// The address is a multiple of the size of the access, 1, 2, 4 or 8 bytes.
 pub fn aligned(address: u64, bytes: u32) -> bool

@@ -1,10 +1,12 @@
 //! Lines among the cells of a memory.
-ghost use Rattle.std.specs.Prelude.{◌≡◌, ℕ, ◌+◌, ◌*◌, ◌≤◌, List, length, map};
-ghost use Rattle.ido_base.specs.Words.{Word, Entry, entry_of, drained, raised, evicted_from, after_crash};
+ghost use Rattle.std.specs.Prelude.{◌≡◌, ℕ, ◌+◌, ◌*◌, ◌<◌, ◌≤◌, List, length, map};
+ghost use Rattle.ido_base.specs.Words.{Word, Entry, word_at, entry_of, drained, raised, evicted_from, after_crash};
 ghost use Rattle.line_memory.specs.Cells.{CellsStand, Remembers};
+ghost use Rattle.line_memory.specs.Changes.{IsListed, HasChanged};
 ghost use Rattle.line_memory.specs.Queues.{SnapshotStands};
 
 use crate::cell::Cell;
+use crate::changes::Changes;
 use crate::queue::Snapshot;
 
 /// A line as it is now.
@@ -67,11 +69,39 @@ pub fn evict_words(cells: &mut [Cell], base: usize, mask: u32)
 }
 
 /// Every word keeps its durable value alone.
-pub fn crash_all(cells: &mut [Cell])
+fn crash_all(cells: &mut [Cell])
     ensures { (words : List Word) (stores : ℕ) → CellsStand cells.old words stores
         → CellsStand cells.new (map after_crash words) 0 }
 {
     for cell in cells.iter_mut() {
         *cell = cell.crashed();
+    }
+}
+
+/// Each of the words of these numbers keeps its durable value alone, and all words that have changed are
+/// among them.
+fn crash_some(cells: &mut [Cell], numbers: &[u32])
+    ensures { (words : List Word) (stores : ℕ) → CellsStand cells.old words stores
+        → ((i : ℕ) → 1 < length (word_at words i).values → IsListed numbers.now i)
+        → CellsStand cells.new (map after_crash words) 0 }
+{
+    for number in numbers {
+        let at = *number as usize;
+        if at < cells.len() {
+            cells[at] = cells[at].crashed();
+        }
+    }
+}
+
+/// Every word keeps its durable value alone. Only those that may have changed are gone over.
+pub fn crash(cells: &mut [Cell], changes: &Changes)
+    ensures { (words : List Word) (stores : ℕ) → CellsStand cells.old words stores
+        → ((i : ℕ) → 1 < length (word_at words i).values → HasChanged changes.now i)
+        → CellsStand cells.new (map after_crash words) 0 }
+{
+    if changes.is_all() {
+        crash_all(cells);
+    } else {
+        crash_some(cells, changes.numbers());
     }
 }

@@ -4,8 +4,9 @@ ghost use Rattle.ido_base.specs.Layout.{word_count};
 
 use crate::bytes::{self, LINE_BYTES, LOG_BYTES, LOGS_BASE, VARIABLE_BYTES, VARIABLES_BASE};
 use crate::cell::Cell;
+use crate::changes::Changes;
 use crate::queue::Queue;
-use crate::{lines, making};
+use crate::{lines, log, making};
 use ido_base::memory::Memory;
 use std::alloc::Global;
 
@@ -18,6 +19,7 @@ const LOG_WORDS: usize = 128;
 #[derive(Debug, Drop)]
 pub struct LineMemory {
     cells: Vec<Cell>,
+    changes: Changes,
     threads: u32,
     stores: u64,
     ghost sized: { vec_len cells ≡ word_count threads },
@@ -25,9 +27,9 @@ pub struct LineMemory {
 }
 
 impl LineMemory {
-    ghost use Rattle.std.specs.Prelude.{◌≡◌, ℕ, ◌+◌, ◌*◌, ◌/◌, ◌%◌, ◌^◌, ◌<◌, ◌≤◌, List, [], ◌∷◌, ◌++◌, length, map, IfOk, IsTrue};
+    ghost use Rattle.std.specs.Prelude.{◌≡◌, ℕ, ◌+◌, ◌*◌, ◌/◌, ◌%◌, ◌^◌, ◌<◌, ◌≤◌, ◌==◌, List, [], ◌∷◌, ◌++◌, length, map, IfOk, IsTrue};
     ghost use Rattle.ido_base.specs.Words.{Word, Entry, word_of, word_at, last_position, live_value, durable_value, loaded, stored, entry_of, drained, evicted, crashed};
-    ghost use Rattle.ido_base.specs.Layout.{in_range as is_in_range, aligned, byte_number, line_bytes, line_count, initial_words, spread_words};
+    ghost use Rattle.ido_base.specs.Layout.{in_range as is_in_range, aligned, byte_number, line_bytes, line_count, initial_words, spread_words, word_number, point_at, slot_at};
     ghost use Rattle.line_memory.specs.Access.{is_width};
     ghost use Rattle.line_memory.specs.Queues.{queue_length, QueueStands};
     ghost use Rattle.line_memory.specs.declared.queue.Queue.{Queue};
@@ -41,11 +43,13 @@ impl LineMemory {
         ensures logs { IfOk result (λ memory. threads_of memory ≡ threads) }
         ensures stores { IfOk result (λ memory. stores_of memory ≡ 0) }
     {
+        let changes = Changes::new(alloc)?;
         let mut cells = Vec::with_capacity(alloc, VARIABLE_WORDS + LOG_WORDS * threads as usize)?;
         making::push_bytes(&mut cells, vars, VARIABLE_WORDS)?;
         making::push_zeros(&mut cells, LOG_WORDS * threads as usize)?;
         Ok(LineMemory {
             cells,
+            changes,
             threads,
             stores: 0,
         })
@@ -68,12 +72,14 @@ impl LineMemory {
         ensures stores { IfOk result (λ memory. stores_of memory ≡ 0) }
     {
         let variable_words = vars as usize / 8;
+        let changes = Changes::new(alloc)?;
         let mut cells = Vec::with_capacity(alloc, VARIABLE_WORDS + LOG_WORDS * threads as usize)?;
         making::push_words(&mut cells, &words[..variable_words])?;
         making::push_zeros(&mut cells, VARIABLE_WORDS - variable_words)?;
         making::push_words(&mut cells, &words[variable_words..])?;
         Ok(LineMemory {
             cells,
+            changes,
             threads,
             stores: 0,
         })
@@ -102,6 +108,34 @@ impl LineMemory {
         (bytes::byte_number(address) / LINE_BYTES) as u32
     }
 
+    /// The bytes, so many from the address on, are of the word of the thread's point.
+    pub fn is_in_point(&self, thread: u32, address: u64, bytes: u32) -> bool
+        requires { IsTrue (is_in_range (threads_of self.now) address bytes) }
+        ensures { result ≡ (word_number address == word_number (point_at thread)) }
+    {
+        bytes::byte_number(address) / 8 == bytes::byte_number(log::point_address(thread)) / 8
+    }
+
+    /// The durable point of a thread.
+    pub fn durable_point(&self, thread: u32) -> u64
+        requires { thread < threads_of self.now }
+        ensures { (words : List Word) → Stands self.now words
+            → result ≡ durable_value (word_at words (word_number (point_at thread))) }
+    {
+        self.durable_word(log::point_line(thread), 0)
+    }
+
+    /// The durable value of a slot of a bank of a thread's log.
+    pub fn durable_slot(&self, thread: u32, bank: u32, slot: u32) -> u64
+        requires exists { thread < threads_of self.now }
+        requires bank { bank < 2 }
+        requires slot { slot < 32 }
+        ensures { (words : List Word) → Stands self.now words
+            → result ≡ durable_value (word_at words (word_number (slot_at thread bank slot))) }
+    {
+        self.durable_word(log::slot_line(thread, bank, slot), slot % 8)
+    }
+
     /// What so many bytes from the address on hold, little-endian.
     pub fn load(&self, address: u64, bytes: u32) -> u64
         requires width { IsTrue (is_width bytes) }
@@ -126,16 +160,12 @@ impl LineMemory {
             → Stands self.new (stored words (byte_number address) bytes value) }
         ensures logs { threads_of self.new ≡ threads_of self.old }
         ensures stores { stores_of self.new ≡ stores_of self.old + 1 }
-
-        // Histories only grow, so every queue stands for what it stood for.
-        ensures queues { (any : Queue) (entries : List Entry) (words : List Word)
-            → QueueStands any entries words
-            → QueueStands any entries (stored words (byte_number address) bytes value) }
     {
         let number = bytes::byte_number(address);
         let at = (number / 8) as usize;
         let cell = self.cells[at];
         let word = bytes::with_part(cell.live, (number % 8) as u32, bytes, value);
+        self.changes.add_if(cell.version == 0, at as u32);
         self.cells[at] = cell.stored(word);
         self.stores += 1;
     }
@@ -161,8 +191,6 @@ impl LineMemory {
         ensures length { queue_length queue.new + 1 ≡ queue_length queue.old }
         ensures logs { threads_of self.new ≡ threads_of self.old }
         ensures stores { stores_of self.new ≡ stores_of self.old }
-        ensures queues { (any : Queue) (entries : List Entry) (words : List Word) (e : Entry)
-            → QueueStands any entries words → QueueStands any entries (drained words e) }
     {
         lines::write_back(&mut self.cells, queue.oldest());
         queue.pop();
@@ -176,8 +204,6 @@ impl LineMemory {
             → Stands self.new (evicted words line mask) }
         ensures logs { threads_of self.new ≡ threads_of self.old }
         ensures stores { stores_of self.new ≡ stores_of self.old }
-        ensures queues { (any : Queue) (entries : List Entry) (words : List Word)
-            → QueueStands any entries words → QueueStands any entries (evicted words line mask) }
     {
         lines::evict_words(&mut self.cells, 8 * line as usize, mask);
     }
@@ -188,7 +214,8 @@ impl LineMemory {
         ensures logs { threads_of self.new ≡ threads_of self.old }
         ensures stores { stores_of self.new ≡ 0 }
     {
-        lines::crash_all(&mut self.cells);
+        lines::crash(&mut self.cells, &self.changes);
+        self.changes.clear();
         self.stores = 0;
     }
 

@@ -7,14 +7,15 @@ use Rattle.c_tree.specs.Programs.{Variable}
 use Rattle.c_tree.specs.Flats as f
 use Rattle.c_tree.specs.Locking.{Held, none_held, Keeps, KeepAll, KeepArms, assign, choose, repeat, again, lock, unlock, no_more, then, no_more_arms, arm, IsDisciplined}
 use Rattle.lock_discipline.specs.Steps.{assign_steps, steps, steps_of_all, steps_of_arms, HeldIn, HeldInAll, HeldInArms, evaluate, store_variable, store_element, in_arms, in_otherwise, test_first, in_while, in_do, test_last, take, give, in_first, in_rest, test_arm, in_arm, in_other_arms, HeldBefore, in_body, at_end, AreSetsOf}
-use Rattle.lock_discipline.specs.Flow.{behind, behind_all, sets_in, sets_in_all, sets_in_arms, thread_sets}
+use Rattle.lock_discipline.specs.links.Flow.{behind, behind_all, sets_in, sets_in_all, sets_in_arms, thread_sets}
 
 -- ---- A set for each step
 
 mutual
   length-sets_in : (s : f.Statement) (h : Held) → length (sets_in h s) ≡ steps s
   length-sets_in (f.Assign place target value) h = length-replicate (assign_steps target) h
-  length-sets_in (f.If place arms otherwise) h = length-append (sets_in_arms h arms) (sets_in_all h otherwise) ∙ ap₂ ◌+◌ (length-sets_in_arms arms h) (length-sets_in_all otherwise h)
+  length-sets_in (f.If place arms otherwise) h = length-append (sets_in_arms h arms) (sets_in_all h otherwise)
+      ∙ ap₂ ◌+◌ (length-sets_in_arms arms h) (length-sets_in_all otherwise h)
   length-sets_in (f.While place condition body) h = ap suc (length-sets_in_all body h)
   length-sets_in (f.Do place body condition) h = length-append (sets_in_all h body) (behind_all h body ∷ []) ∙ ap (λ n. n + 1) (length-sets_in_all body h)
   length-sets_in (f.Lock place mutex) h = refl
@@ -22,7 +23,8 @@ mutual
 
   length-sets_in_all : (ss : f.Statements) (h : Held) → length (sets_in_all h ss) ≡ steps_of_all ss
   length-sets_in_all f.no_statement h = refl
-  length-sets_in_all (f.statement_and x rest) h = length-append (sets_in h x) (sets_in_all (behind h x) rest) ∙ ap₂ ◌+◌ (length-sets_in x h) (length-sets_in_all rest (behind h x))
+  length-sets_in_all (f.statement_and x rest) h = length-append (sets_in h x) (sets_in_all (behind h x) rest)
+      ∙ ap₂ ◌+◌ (length-sets_in x h) (length-sets_in_all rest (behind h x))
 
   length-sets_in_arms : (arms : f.Arms) (h : Held) → length (sets_in_arms h arms) ≡ steps_of_arms arms
   length-sets_in_arms f.no_arm h = refl
@@ -43,7 +45,8 @@ at_behind (x ∷ xs) ys n = ap (slice_get (x ∷ xs ++ ys)) (suc-add (length xs)
 at_right : {X : Type 0} (xs ys : List X) (m n : ℕ) → length xs ≡ m → slice_get (xs ++ ys) (m + n) ≡ slice_get ys n
 at_right xs ys m n l = ap (λ (i : ℕ). slice_get (xs ++ ys) (i + n)) (sym l) ∙ at_behind xs ys n
 
-at_either : {X : Type 0} (xs ys : List X) (n : ℕ) (k : X) → slice_get (xs ++ ys) n ≡ Some k → (slice_get xs n ≡ Some k) ⊎ ((m : ℕ) × (n ≡ length xs + m) × (slice_get ys m ≡ Some k))
+at_either : {X : Type 0} (xs ys : List X) (n : ℕ) (k : X) → slice_get (xs ++ ys) n ≡ Some k → (slice_get xs n ≡ Some k)
+    ⊎ ((m : ℕ) × (n ≡ length xs + m) × (slice_get ys m ≡ Some k))
 at_either [] ys n k p = inr (n, omega arith, p)
 at_either (x ∷ xs) ys zero k p = inl p
 at_either (x ∷ xs) ys (suc n) k p = elim (at_either xs ys n k p) [
@@ -108,14 +111,21 @@ module _ (vs : List Variable) where
 
   -- ---- The set at a step's place is held before it
 
-  at_assign : (place : Place) (target : e.Target) (value : e.Placed) (h : Held) (n : ℕ) (k : Held) → slice_get (replicate (assign_steps target) h) n ≡ Some k → HeldIn vs h (f.Assign place target value) n k
-  at_assign place (e.ToLocal local kind) value h zero k p = subst (λ x. HeldIn vs h (f.Assign place (e.ToLocal local kind) value) 0 x) (same_some h k p) (evaluate place _ value)
+  at_assign : (place : Place) (target : e.Target) (value : e.Placed) (h : Held) (n : ℕ) (k : Held) → slice_get (replicate (assign_steps target) h) n ≡ Some k →
+      HeldIn vs h (f.Assign place target value) n k
+  at_assign place (e.ToLocal local kind) value h zero k p = subst (λ x. HeldIn vs h (f.Assign place (e.ToLocal local kind) value) 0 x) (same_some h k p)
+      (evaluate place _ value)
   at_assign place (e.ToLocal local kind) value h (suc n) k p = absurd (cc)
-  at_assign place (e.ToVariable name variable kind) value h zero k p = subst (λ x. HeldIn vs h (f.Assign place (e.ToVariable name variable kind) value) 0 x) (same_some h k p) (evaluate place _ value)
-  at_assign place (e.ToVariable name variable kind) value h (suc zero) k p = subst (λ x. HeldIn vs h (f.Assign place (e.ToVariable name variable kind) value) 1 x) (same_some h k p) (store_variable place name variable kind value)
+  at_assign place (e.ToVariable name variable kind) value h zero k p = subst (λ x. HeldIn vs h (f.Assign place (e.ToVariable name variable kind) value) 0 x)
+      (same_some h k p) (evaluate place _ value)
+  at_assign place (e.ToVariable name variable kind) value h (suc zero) k p =
+      subst (λ x. HeldIn vs h (f.Assign place (e.ToVariable name variable kind) value) 1 x) (same_some h k p) (store_variable place name variable kind value)
   at_assign place (e.ToVariable name variable kind) value h (suc (suc n)) k p = absurd (cc)
-  at_assign place (e.ToElement name variable kind index) value h zero k p = subst (λ x. HeldIn vs h (f.Assign place (e.ToElement name variable kind index) value) 0 x) (same_some h k p) (evaluate place _ value)
-  at_assign place (e.ToElement name variable kind index) value h (suc zero) k p = subst (λ x. HeldIn vs h (f.Assign place (e.ToElement name variable kind index) value) 1 x) (same_some h k p) (store_element place name variable kind index value)
+  at_assign place (e.ToElement name variable kind index) value h zero k p =
+      subst (λ x. HeldIn vs h (f.Assign place (e.ToElement name variable kind index) value) 0 x) (same_some h k p) (evaluate place _ value)
+  at_assign place (e.ToElement name variable kind index) value h (suc zero) k p =
+      subst (λ x. HeldIn vs h (f.Assign place (e.ToElement name variable kind index) value) 1 x) (same_some h k p)
+      (store_element place name variable kind index value)
   at_assign place (e.ToElement name variable kind index) value h (suc (suc n)) k p = absurd (cc)
 
   -- the one set of a list
@@ -128,9 +138,11 @@ module _ (vs : List Variable) where
     at_held (assign {h = h} place target value g) n k e = at_assign place target value h n k e
     at_held (choose {h = h} place arms otherwise p q) n k e = elim (at_either (sets_in_arms h arms) (sets_in_all h otherwise) n k e) [
       | inl here ↦ in_arms place arms otherwise (at_held_arms p n k here)
-      | inr there ↦ subst (λ i. HeldIn vs h (f.If place arms otherwise) i k) (ap (λ m. m + there.0) (sym (length-sets_in_arms arms h)) ∙ sym there.1) (in_otherwise place arms otherwise (at_held_all q there.0 k there.2))
+      | inr there ↦ subst (λ i. HeldIn vs h (f.If place arms otherwise) i k) (ap (λ m. m + there.0) (sym (length-sets_in_arms arms h)) ∙ sym there.1)
+          (in_otherwise place arms otherwise (at_held_all q there.0 k there.2))
     ]
-    at_held (repeat {h = h} place condition body g p) zero k e = subst (λ x. HeldIn vs h (f.While place condition body) 0 x) (same_some h k e) (test_first place condition body)
+    at_held (repeat {h = h} place condition body g p) zero k e = subst (λ x. HeldIn vs h (f.While place condition body) 0 x) (same_some h k e)
+        (test_first place condition body)
     at_held (repeat {h = h} place condition body g p) (suc n) k e = in_while place condition body (at_held_all p n k e)
     at_held (again {h = h} place body condition p g) n k e = elim (at_either (sets_in_all h body) (behind_all h body ∷ []) n k e) [
       | inl here ↦ in_do place body condition (at_held_all p n k here)
@@ -147,30 +159,38 @@ module _ (vs : List Variable) where
         let one = at_single h k n e in
         subst (λ x. HeldIn vs h (f.Unlock place mutex) n x) one.1 (subst (λ i. HeldIn vs h (f.Unlock place mutex) i h) (sym one.0) (give place mutex))
 
-    at_held_all : {h after : Held} {ss : f.Statements} → KeepAll vs h ss after → (n : ℕ) (k : Held) → slice_get (sets_in_all h ss) n ≡ Some k → HeldInAll vs h ss n k
+    at_held_all : {h after : Held} {ss : f.Statements} → KeepAll vs h ss after → (n : ℕ) (k : Held) → slice_get (sets_in_all h ss) n ≡ Some k →
+        HeldInAll vs h ss n k
     at_held_all no_more n k e = absurd (cc)
     at_held_all (then {h = h} {between = between} x rest p q) n k e = elim (at_either (sets_in h x) (sets_in_all (behind h x) rest) n k e) [
       | inl here ↦ in_first x rest (at_held p n k here)
       | inr there ↦
           let later = subst (λ b. slice_get (sets_in_all b rest) there.0 ≡ Some k) (behind_is p) there.2 in
-          subst (λ i. HeldInAll vs h (f.statement_and x rest) i k) (ap (λ m. m + there.0) (sym (length-sets_in x h)) ∙ sym there.1) (in_rest x rest p (at_held_all q there.0 k later))
+          subst (λ i. HeldInAll vs h (f.statement_and x rest) i k) (ap (λ m. m + there.0) (sym (length-sets_in x h)) ∙ sym there.1)
+          (in_rest x rest p (at_held_all q there.0 k later))
     ]
 
-    at_held_arms : {h after : Held} {arms : f.Arms} → KeepArms vs h arms after → (n : ℕ) (k : Held) → slice_get (sets_in_arms h arms) n ≡ Some k → HeldInArms vs h arms n k
+    at_held_arms : {h after : Held} {arms : f.Arms} → KeepArms vs h arms after → (n : ℕ) (k : Held) → slice_get (sets_in_arms h arms) n ≡ Some k →
+        HeldInArms vs h arms n k
     at_held_arms no_more_arms n k e = absurd (cc)
-    at_held_arms (arm {h = h} condition body rest g p q) zero k e = subst (λ x. HeldInArms vs h (f.arm_and condition body rest) 0 x) (same_some h k e) (test_arm condition body rest)
+    at_held_arms (arm {h = h} condition body rest g p q) zero k e = subst (λ x. HeldInArms vs h (f.arm_and condition body rest) 0 x) (same_some h k e)
+        (test_arm condition body rest)
     at_held_arms (arm {h = h} condition body rest g p q) (suc n) k e = elim (at_either (sets_in_all h body) (sets_in_arms h rest) n k e) [
       | inl here ↦ in_arm condition body rest (at_held_all p n k here)
-      | inr there ↦ subst (λ i. HeldInArms vs h (f.arm_and condition body rest) (suc i) k) (ap (λ m. m + there.0) (sym (length-sets_in_all body h)) ∙ sym there.1) (in_other_arms condition body rest (at_held_arms q there.0 k there.2))
+      | inr there ↦ subst (λ i. HeldInArms vs h (f.arm_and condition body rest) (suc i) k)
+          (ap (λ m. m + there.0) (sym (length-sets_in_all body h)) ∙ sym there.1) (in_other_arms condition body rest (at_held_arms q there.0 k there.2))
     ]
 
 -- ---- Threads
 
-last_of_body : (x : f.Flat) (t : f.Thread) → IsDisciplined x t → (n : ℕ) (k : Held) → n ≡ steps_of_all t.body → behind_all (none_held (length x.mutexes)) t.body ≡ k → HeldBefore x t n k
+last_of_body : (x : f.Flat) (t : f.Thread) → IsDisciplined x t → (n : ℕ) (k : Held) → n ≡ steps_of_all t.body →
+    behind_all (none_held (length x.mutexes)) t.body ≡ k → HeldBefore x t n k
 last_of_body x t p n k i e =
-    subst (λ j. HeldBefore x t j k) (sym i) (at_end (subst (λ h. KeepAll x.variables (none_held (length x.mutexes)) t.body h) (sym (behind_all_is x.variables p) ∙ e) p))
+    subst (λ j. HeldBefore x t j k) (sym i) (at_end (subst (λ h. KeepAll x.variables (none_held (length x.mutexes)) t.body h)
+    (sym (behind_all_is x.variables p) ∙ e) p))
 
-held_before : (x : f.Flat) (t : f.Thread) → IsDisciplined x t → (n : ℕ) (k : Held) → slice_get (thread_sets (length x.mutexes) t) n ≡ Some k → HeldBefore x t n k
+held_before : (x : f.Flat) (t : f.Thread) → IsDisciplined x t → (n : ℕ) (k : Held) → slice_get (thread_sets (length x.mutexes) t) n ≡ Some k →
+    HeldBefore x t n k
 held_before x t p n k e =
     let first = none_held (length x.mutexes) in
     let sets = sets_in_all first t.body in
@@ -183,12 +203,14 @@ held_before x t p n k e =
     ]
 
 before_held : (x : f.Flat) (t : f.Thread) {n : ℕ} {k : Held} → HeldBefore x t n k → slice_get (thread_sets (length x.mutexes) t) n ≡ Some k
-before_held x t (in_body {k = k} {n = n} p) = at_left (sets_in_all (none_held (length x.mutexes)) t.body) (behind_all (none_held (length x.mutexes)) t.body ∷ []) n k (held_at_all x.variables p)
+before_held x t (in_body {k = k} {n = n} p) = at_left (sets_in_all (none_held (length x.mutexes)) t.body)
+    (behind_all (none_held (length x.mutexes)) t.body ∷ []) n k (held_at_all x.variables p)
 before_held x t (at_end p) =
     let first = none_held (length x.mutexes) in
     let sets = sets_in_all first t.body in
     let last = behind_all first t.body in
-    ap (slice_get (sets ++ last ∷ [])) (sym (add-zero (steps_of_all t.body))) ∙ at_right sets (last ∷ []) (steps_of_all t.body) 0 (length-sets_in_all t.body first) ∙ ap Some (behind_all_is x.variables p)
+    ap (slice_get (sets ++ last ∷ [])) (sym (add-zero (steps_of_all t.body)))
+    ∙ at_right sets (last ∷ []) (steps_of_all t.body) 0 (length-sets_in_all t.body first) ∙ ap Some (behind_all_is x.variables p)
 
 pub thread_sets_are : (x : f.Flat) (t : f.Thread) → IsDisciplined x t → AreSetsOf x t (thread_sets (length x.mutexes) t)
 thread_sets_are x t p =

@@ -6,3 +6,4 @@ pub mod Flows
 pub mod Refusals
 pub mod Parts
 pub mod Threads
+pub mod Standing

@@ -13,7 +13,7 @@ use Rattle.c_tree.specs.declared.flat.Arm as arm
 use Rattle.c_tree.specs.Programs.{Variable}
 use Rattle.c_tree.specs.Flats as f
 use Rattle.c_tree.specs.Locking.{Held, holds, numbers_below, is_in_some, is_in_all, least_difference, Fault, Walked, Behind, and_then, expr_uses, target_uses, walk_uses, join, join_all, walk, walk_all, walk_arms}
-use Rattle.lock_discipline.specs.Flow.{behind, behind_all, sets_in, sets_in_all, sets_in_arms}
+use Rattle.lock_discipline.specs.links.Flow.{behind, behind_all, sets_in, sets_in_all, sets_in_arms}
 use Rattle.c_tree.proofs.FlatRows.{of_while, of_do, of_if}
 use Rattle.c_tree.specs.declared.rule.Rule.TheVariants as rule
 use Rattle.lock_discipline.proofs.Sets.{AllLong, AllLong-append, AllAre-right, same_found, same_where_none}
@@ -47,7 +47,8 @@ all_last hs h m = list_all-append (λ x. holds x m) hs (h ∷ []) ∙ last_and (
 
 difference_last : (n : ℕ) (hs : List Held) (h : Held) → least_difference n (hs ++ h ∷ []) ≡ least_difference n (h ∷ hs)
 difference_last n hs h =
-    same_found (λ m. is_in_some (hs ++ h ∷ []) m && not (is_in_all (hs ++ h ∷ []) m)) (λ m. is_in_some (h ∷ hs) m && not (is_in_all (h ∷ hs) m)) (numbers_below n)
+    same_found (λ m. is_in_some (hs ++ h ∷ []) m && not (is_in_all (hs ++ h ∷ []) m)) (λ m. is_in_some (h ∷ hs) m && not (is_in_all (h ∷ hs) m))
+    (numbers_below n)
     (λ m. ap₂ (λ (a b : Bool). a && not b) (some_last hs h m) (all_last hs h m))
 
 same_end : (o p : Option ℕ) (fault : ℕ → Fault) (h k : Held) → o ≡ p → (o ≡ None → h ≡ k) → none_or o fault h ≡ none_or p fault k
@@ -55,7 +56,8 @@ same_end None p fault h k e same = ap Behind (same refl) ∙ ap (λ (q : Option 
 same_end (Some x) p fault h k e same = ap (λ (q : Option ℕ). none_or q fault k) e
 
 -- the sets may be met with the last one first
-pub join_last : (vs : List Variable) (n : ℕ) (place : Place) (h : Held) (hs : List Held) → length h ≡ n → All (λ x. length x ≡ n) hs → join_all vs n place (hs ++ h ∷ []) ≡ join vs n place h hs
+pub join_last : (vs : List Variable) (n : ℕ) (place : Place) (h : Held) (hs : List Held) → length h ≡ n → All (λ x. length x ≡ n) hs →
+    join_all vs n place (hs ++ h ∷ []) ≡ join vs n place h hs
 join_last vs n place h [] l ls = refl
 join_last vs n place h (k ∷ ks) l ls =
     let long = all_long n (k ∷ ks) ls in
@@ -67,7 +69,8 @@ join_last vs n place h (k ∷ ks) l ls =
 
 module _ (vs : List Variable) (n : ℕ) (w : Walked) where
   pub at_next : (h : Held) (xs : List s.Statement) (i : ℕ) (x : s.Statement) → i < length xs → x ≡ get_or xs i x → length h ≡ n →
-      w ≡ walk_all vs n h (f.statements_of (drop i xs)) → w ≡ and_then (walk vs (length h) h (f.statement_of x)) (λ after. walk_all vs n after (f.statements_of (drop (i + 1) xs)))
+      w ≡ walk_all vs n h (f.statements_of (drop i xs)) → w ≡ and_then (walk vs (length h) h (f.statement_of x))
+      (λ after. walk_all vs n after (f.statements_of (drop (i + 1) xs)))
   at_next h xs i x lt is l e =
       let next = λ (after : Held). walk_all vs n after (f.statements_of (drop (i + 1) xs)) in
       e ∙ ap (λ (ys : List s.Statement). walk_all vs n h (f.statements_of ys)) (drop_more xs i x lt)
@@ -75,14 +78,17 @@ module _ (vs : List Variable) (n : ℕ) (w : Walked) where
       ∙ ap (λ (m : ℕ). and_then (walk vs m h (f.statement_of x)) next) (sym l)
 
   pub next_walk : (h k : Held) (xs : List s.Statement) (i : ℕ) (x : s.Statement) → i < length xs → x ≡ get_or xs i x → length h ≡ n →
-      w ≡ walk_all vs n h (f.statements_of (drop i xs)) → walk vs (length h) h (f.statement_of x) ≡ Behind k → w ≡ walk_all vs n k (f.statements_of (drop (i + 1) xs))
+      w ≡ walk_all vs n h (f.statements_of (drop i xs)) → walk vs (length h) h (f.statement_of x) ≡ Behind k →
+      w ≡ walk_all vs n k (f.statements_of (drop (i + 1) xs))
   next_walk h k xs i x lt is l e walked = at_next h xs i x lt is l e ∙ behind_then _ (λ after. walk_all vs n after (f.statements_of (drop (i + 1) xs))) k walked
 
   pub last_walk : (h : Held) (xs : List s.Statement) (i : ℕ) → length xs ≤ i → w ≡ walk_all vs n h (f.statements_of (drop i xs)) → w ≡ Behind h
   last_walk h xs i le e = e ∙ ap (λ (ys : List s.Statement). walk_all vs n h (f.statements_of ys)) (drop_all i xs le)
 
-pub next_sets : (h k : Held) (xs : List s.Statement) (i : ℕ) (x : s.Statement) (old new all : List Held) → i < length xs → x ≡ get_or xs i x → behind h (f.statement_of x) ≡ k →
-    new ≡ old ++ sets_in h (f.statement_of x) → old ++ sets_in_all h (f.statements_of (drop i xs)) ≡ all → new ++ sets_in_all k (f.statements_of (drop (i + 1) xs)) ≡ all
+pub next_sets : (h k : Held) (xs : List s.Statement) (i : ℕ) (x : s.Statement) (old new all : List Held) → i < length xs → x ≡ get_or xs i x →
+    behind h (f.statement_of x) ≡ k →
+    new ≡ old ++ sets_in h (f.statement_of x) → old ++ sets_in_all h (f.statements_of (drop i xs)) ≡ all →
+    new ++ sets_in_all k (f.statements_of (drop (i + 1) xs)) ≡ all
 next_sets h k xs i x old new all lt is b p e =
     let rest = f.statements_of (drop (i + 1) xs) in
     ap (λ (ys : List Held). ys ++ sets_in_all k rest) p ∙ append_assoc old (sets_in h (f.statement_of x)) (sets_in_all k rest)
@@ -90,7 +96,8 @@ next_sets h k xs i x old new all lt is b p e =
     ∙ ap (λ (y : s.Statement). old ++ (sets_in h (f.statement_of y) ++ sets_in_all (behind h (f.statement_of y)) rest)) is
     ∙ ap (λ (ys : List s.Statement). old ++ sets_in_all h (f.statements_of ys)) (sym (drop_more xs i x lt)) ∙ e
 
-pub last_sets : (h : Held) (xs : List s.Statement) (i : ℕ) (old all : List Held) → length xs ≤ i → old ++ sets_in_all h (f.statements_of (drop i xs)) ≡ all → old ≡ all
+pub last_sets : (h : Held) (xs : List s.Statement) (i : ℕ) (old all : List Held) → length xs ≤ i → old ++ sets_in_all h (f.statements_of (drop i xs)) ≡ all →
+    old ≡ all
 last_sets h xs i old all le e =
     sym (append-nil old) ∙ ap (λ (ys : List s.Statement). old ++ sets_in_all h (f.statements_of ys)) (sym (drop_all i xs le)) ∙ e
 
@@ -100,36 +107,49 @@ module _ (vs : List Variable) (h : Held) (w : (List Held → Walked) → Walked)
   -- it begins with its condition
   pub at_arm : (left : List Held) (xs : List arm.Arm) (i : ℕ) (x : arm.Arm) → i < length xs → x ≡ get_or xs i x →
       ((behind : List Held → Walked) → w behind ≡ walk_arms vs (length h) h left (f.arms_list_of (drop i xs)) behind) → (behind : List Held → Walked) →
-      w behind ≡ and_then (walk_uses vs (length h) h (expr_uses (expr_of x.condition.expr))) (λ _. and_then (walk_all vs (length h) h (f.statements_of x.body.items)) (λ after. walk_arms vs (length h) h (left ++ after ∷ []) (f.arms_list_of (drop (i + 1) xs)) behind))
+      w behind ≡ and_then (walk_uses vs (length h) h (expr_uses (expr_of x.condition.expr)))
+      (λ _. and_then (walk_all vs (length h) h (f.statements_of x.body.items))
+      (λ after. walk_arms vs (length h) h (left ++ after ∷ []) (f.arms_list_of (drop (i + 1) xs)) behind))
   at_arm left xs i x lt is e behind =
       e behind ∙ ap (λ (ys : List arm.Arm). walk_arms vs (length h) h left (f.arms_list_of ys) behind) (drop_more xs i x lt)
-      ∙ ap (λ (y : arm.Arm). and_then (walk_uses vs (length h) h (expr_uses (expr_of y.condition.expr))) (λ _. and_then (walk_all vs (length h) h (f.statements_of y.body.items)) (λ after. walk_arms vs (length h) h (left ++ after ∷ []) (f.arms_list_of (drop (i + 1) xs)) behind))) (sym is)
+      ∙ ap (λ (y : arm.Arm). and_then (walk_uses vs (length h) h (expr_uses (expr_of y.condition.expr)))
+      (λ _. and_then (walk_all vs (length h) h (f.statements_of y.body.items))
+      (λ after. walk_arms vs (length h) h (left ++ after ∷ []) (f.arms_list_of (drop (i + 1) xs)) behind))) (sym is)
 
   -- then comes its body
-  pub in_arm_body : (left : List Held) (xs : List arm.Arm) (i : ℕ) (x : arm.Arm) (body : List s.Statement) → i < length xs → x ≡ get_or xs i x → body ≡ x.body.items →
+  pub in_arm_body : (left : List Held) (xs : List arm.Arm) (i : ℕ) (x : arm.Arm) (body : List s.Statement) → i < length xs → x ≡ get_or xs i x →
+      body ≡ x.body.items →
       ((behind : List Held → Walked) → w behind ≡ walk_arms vs (length h) h left (f.arms_list_of (drop i xs)) behind) →
       walk_uses vs (length h) h (expr_uses (expr_of x.condition.expr)) ≡ Behind h → (behind : List Held → Walked) →
-      w behind ≡ and_then (walk_all vs (length h) h (f.statements_of body)) (λ after. walk_arms vs (length h) h (left ++ after ∷ []) (f.arms_list_of (drop (i + 1) xs)) behind)
+      w behind ≡ and_then (walk_all vs (length h) h (f.statements_of body))
+      (λ after. walk_arms vs (length h) h (left ++ after ∷ []) (f.arms_list_of (drop (i + 1) xs)) behind)
   in_arm_body left xs i x body lt is same e tested behind =
       at_arm left xs i x lt is e behind
-      ∙ behind_then _ (λ _. and_then (walk_all vs (length h) h (f.statements_of x.body.items)) (λ after. walk_arms vs (length h) h (left ++ after ∷ []) (f.arms_list_of (drop (i + 1) xs)) behind)) h tested
-      ∙ ap (λ (ys : List s.Statement). and_then (walk_all vs (length h) h (f.statements_of ys)) (λ after. walk_arms vs (length h) h (left ++ after ∷ []) (f.arms_list_of (drop (i + 1) xs)) behind)) (sym same)
+      ∙ behind_then _ (λ _. and_then (walk_all vs (length h) h (f.statements_of x.body.items))
+      (λ after. walk_arms vs (length h) h (left ++ after ∷ []) (f.arms_list_of (drop (i + 1) xs)) behind)) h tested
+      ∙ ap (λ (ys : List s.Statement). and_then (walk_all vs (length h) h (f.statements_of ys))
+      (λ after. walk_arms vs (length h) h (left ++ after ∷ []) (f.arms_list_of (drop (i + 1) xs)) behind)) (sym same)
 
-  pub next_arm : (left ends : List Held) (k : Held) (xs : List arm.Arm) (i : ℕ) (x : arm.Arm) (body : List s.Statement) → i < length xs → x ≡ get_or xs i x → body ≡ x.body.items →
+  pub next_arm : (left ends : List Held) (k : Held) (xs : List arm.Arm) (i : ℕ) (x : arm.Arm) (body : List s.Statement) → i < length xs → x ≡ get_or xs i x →
+      body ≡ x.body.items →
       ((behind : List Held → Walked) → w behind ≡ walk_arms vs (length h) h left (f.arms_list_of (drop i xs)) behind) →
-      walk_uses vs (length h) h (expr_uses (expr_of x.condition.expr)) ≡ Behind h → walk_all vs (length h) h (f.statements_of body) ≡ Behind k → ends ≡ left ++ k ∷ [] → (behind : List Held → Walked) →
+      walk_uses vs (length h) h (expr_uses (expr_of x.condition.expr)) ≡ Behind h → walk_all vs (length h) h (f.statements_of body) ≡ Behind k →
+      ends ≡ left ++ k ∷ [] → (behind : List Held → Walked) →
       w behind ≡ walk_arms vs (length h) h ends (f.arms_list_of (drop (i + 1) xs)) behind
   next_arm left ends k xs i x body lt is same e tested walked p behind =
       in_arm_body left xs i x body lt is same e tested behind
       ∙ behind_then _ (λ after. walk_arms vs (length h) h (left ++ after ∷ []) (f.arms_list_of (drop (i + 1) xs)) behind) k walked
       ∙ ap (λ (hs : List Held). walk_arms vs (length h) h hs (f.arms_list_of (drop (i + 1) xs)) behind) (sym p)
 
-  pub last_arm : (left : List Held) (xs : List arm.Arm) (i : ℕ) → length xs ≤ i → ((behind : List Held → Walked) → w behind ≡ walk_arms vs (length h) h left (f.arms_list_of (drop i xs)) behind) →
+  pub last_arm : (left : List Held) (xs : List arm.Arm) (i : ℕ) → length xs ≤ i →
+      ((behind : List Held → Walked) → w behind ≡ walk_arms vs (length h) h left (f.arms_list_of (drop i xs)) behind) →
       (behind : List Held → Walked) → w behind ≡ behind left
   last_arm left xs i le e behind = e behind ∙ ap (λ (ys : List arm.Arm). walk_arms vs (length h) h left (f.arms_list_of ys) behind) (drop_all i xs le)
 
-pub next_arm_sets : (h : Held) (xs : List arm.Arm) (i : ℕ) (x : arm.Arm) (body : List s.Statement) (old one new all : List Held) → i < length xs → x ≡ get_or xs i x → body ≡ x.body.items →
-    one ≡ old ++ h ∷ [] → new ≡ one ++ sets_in_all h (f.statements_of body) → old ++ sets_in_arms h (f.arms_list_of (drop i xs)) ≡ all → new ++ sets_in_arms h (f.arms_list_of (drop (i + 1) xs)) ≡ all
+pub next_arm_sets : (h : Held) (xs : List arm.Arm) (i : ℕ) (x : arm.Arm) (body : List s.Statement) (old one new all : List Held) → i < length xs →
+    x ≡ get_or xs i x → body ≡ x.body.items →
+    one ≡ old ++ h ∷ [] → new ≡ one ++ sets_in_all h (f.statements_of body) → old ++ sets_in_arms h (f.arms_list_of (drop i xs)) ≡ all →
+    new ++ sets_in_arms h (f.arms_list_of (drop (i + 1) xs)) ≡ all
 next_arm_sets h xs i x body old one new all lt is same p q e =
     let rest = sets_in_arms h (f.arms_list_of (drop (i + 1) xs)) in
     ap (λ (ys : List Held). ys ++ rest) (q ∙ ap₂ (λ (a : List Held) (b : List s.Statement). a ++ sets_in_all h (f.statements_of b)) p same)
@@ -138,7 +158,8 @@ next_arm_sets h xs i x body old one new all lt is same p q e =
     ∙ ap (λ (y : arm.Arm). old ++ (h ∷ sets_in_all h (f.statements_of y.body.items) ++ rest)) is
     ∙ ap (λ (ys : List arm.Arm). old ++ sets_in_arms h (f.arms_list_of ys)) (sym (drop_more xs i x lt)) ∙ e
 
-pub last_arm_sets : (h : Held) (xs : List arm.Arm) (i : ℕ) (old all : List Held) → length xs ≤ i → old ++ sets_in_arms h (f.arms_list_of (drop i xs)) ≡ all → old ≡ all
+pub last_arm_sets : (h : Held) (xs : List arm.Arm) (i : ℕ) (old all : List Held) → length xs ≤ i → old ++ sets_in_arms h (f.arms_list_of (drop i xs)) ≡ all →
+    old ≡ all
 last_arm_sets h xs i old all le e =
     sym (append-nil old) ∙ ap (λ (ys : List arm.Arm). old ++ sets_in_arms h (f.arms_list_of ys)) (sym (drop_all i xs le)) ∙ e
 
@@ -160,12 +181,15 @@ module _ (vs : List Variable) (h : Held) where
   -- ---- An assignment
 
   pub assign_is : (x : s.Statement) (place : Place) (target : Target) (value : Placed) → x ≡ s.Assign place target value →
-      walk vs (length h) h (f.statement_of x) ≡ and_then (walk_uses vs (length h) h (expr_uses (expr_of value.expr))) (λ _. walk_uses vs (length h) h (target_uses (target_of target)))
-  assign_is x place target value is = ap (λ y. walk vs (length h) h (f.statement_of y)) is ∙ uses_append vs (length h) h (expr_uses (expr_of value.expr)) (target_uses (target_of target))
+      walk vs (length h) h (f.statement_of x) ≡ and_then (walk_uses vs (length h) h (expr_uses (expr_of value.expr)))
+      (λ _. walk_uses vs (length h) h (target_uses (target_of target)))
+  assign_is x place target value is = ap (λ y. walk vs (length h) h (f.statement_of y)) is
+      ∙ uses_append vs (length h) h (expr_uses (expr_of value.expr)) (target_uses (target_of target))
 
   -- ---- A `while`
 
-  pub while_is : (x : s.Statement) (place : Place) (condition : Placed) (body : Vec s.Statement Global) (xs : List s.Statement) → x ≡ s.While place condition body → xs ≡ body.items →
+  pub while_is : (x : s.Statement) (place : Place) (condition : Placed) (body : Vec s.Statement Global) (xs : List s.Statement) →
+      x ≡ s.While place condition body → xs ≡ body.items →
       walk_uses vs (length h) h (expr_uses (expr_of condition.expr)) ≡ Behind h →
       walk vs (length h) h (f.statement_of x) ≡ and_then (walk_all vs (length h) h (f.statements_of xs)) (λ after. join vs (length h) place h (after ∷ []))
   while_is x place condition body xs is same tested =
@@ -174,7 +198,8 @@ module _ (vs : List Variable) (h : Held) where
       ∙ behind_then _ (λ _. and_then (walk_all vs (length h) h (f.statements_of body.items)) (λ after. join vs (length h) place h (after ∷ []))) h tested
       ∙ ap (λ (y : List s.Statement). and_then (walk_all vs (length h) h (f.statements_of y)) (λ after. join vs (length h) place h (after ∷ []))) (sym same)
 
-  pub while_sets : (x : s.Statement) (place : Place) (condition : Placed) (body : Vec s.Statement Global) (xs : List s.Statement) (old one all : List Held) → x ≡ s.While place condition body → xs ≡ body.items →
+  pub while_sets : (x : s.Statement) (place : Place) (condition : Placed) (body : Vec s.Statement Global) (xs : List s.Statement) (old one all : List Held) →
+      x ≡ s.While place condition body → xs ≡ body.items →
       one ≡ old ++ h ∷ [] → all ≡ one ++ sets_in_all h (f.statements_of xs) → all ≡ old ++ sets_in h (f.statement_of x)
   while_sets x place condition body xs old one all is same p q =
       q ∙ ap₂ (λ (a b : List Held). a ++ b) p (ap (λ (y : List s.Statement). sets_in_all h (f.statements_of y)) same)
@@ -183,23 +208,31 @@ module _ (vs : List Variable) (h : Held) where
 
   -- ---- A `do`
 
-  pub do_is : (x : s.Statement) (place : Place) (body : Vec s.Statement Global) (condition : Placed) (xs : List s.Statement) → x ≡ s.Do place body condition → xs ≡ body.items →
-      walk vs (length h) h (f.statement_of x) ≡ and_then (walk_all vs (length h) h (f.statements_of xs)) (λ after. and_then (walk_uses vs (length h) after (expr_uses (expr_of condition.expr))) (λ _. join vs (length h) place h (after ∷ [])))
+  pub do_is : (x : s.Statement) (place : Place) (body : Vec s.Statement Global) (condition : Placed) (xs : List s.Statement) → x ≡ s.Do place body condition →
+      xs ≡ body.items →
+      walk vs (length h) h (f.statement_of x) ≡ and_then (walk_all vs (length h) h (f.statements_of xs))
+      (λ after. and_then (walk_uses vs (length h) after (expr_uses (expr_of condition.expr))) (λ _. join vs (length h) place h (after ∷ [])))
   do_is x place body condition xs is same =
       ap (λ y. walk vs (length h) h (f.statement_of y)) is
       ∙ ap (walk vs (length h) h) (of_do place body condition)
-      ∙ ap (λ (y : List s.Statement). and_then (walk_all vs (length h) h (f.statements_of y)) (λ after. and_then (walk_uses vs (length h) after (expr_uses (expr_of condition.expr))) (λ _. join vs (length h) place h (after ∷ [])))) (sym same)
+      ∙ ap (λ (y : List s.Statement). and_then (walk_all vs (length h) h (f.statements_of y))
+      (λ after. and_then (walk_uses vs (length h) after (expr_uses (expr_of condition.expr))) (λ _. join vs (length h) place h (after ∷ [])))) (sym same)
 
   -- behind its body
-  pub do_tests : (x : s.Statement) (place : Place) (body : Vec s.Statement Global) (condition : Placed) (xs : List s.Statement) (k : Held) → x ≡ s.Do place body condition → xs ≡ body.items →
+  pub do_tests : (x : s.Statement) (place : Place) (body : Vec s.Statement Global) (condition : Placed) (xs : List s.Statement) (k : Held) →
+      x ≡ s.Do place body condition → xs ≡ body.items →
       walk_all vs (length h) h (f.statements_of xs) ≡ Behind k →
-      walk vs (length h) h (f.statement_of x) ≡ and_then (walk_uses vs (length k) k (expr_uses (expr_of condition.expr))) (λ _. join vs (length h) place h (k ∷ []))
+      walk vs (length h) h (f.statement_of x) ≡ and_then (walk_uses vs (length k) k (expr_uses (expr_of condition.expr)))
+      (λ _. join vs (length h) place h (k ∷ []))
   do_tests x place body condition xs k is same walked =
       do_is x place body condition xs is same
-      ∙ behind_then _ (λ after. and_then (walk_uses vs (length h) after (expr_uses (expr_of condition.expr))) (λ _. join vs (length h) place h (after ∷ []))) k walked
-      ∙ ap (λ (n : ℕ). and_then (walk_uses vs n k (expr_uses (expr_of condition.expr))) (λ _. join vs (length h) place h (k ∷ []))) (sym (walked_all_length (f.statements_of xs) k walked))
+      ∙ behind_then _ (λ after. and_then (walk_uses vs (length h) after (expr_uses (expr_of condition.expr)))
+      (λ _. join vs (length h) place h (after ∷ []))) k walked
+      ∙ ap (λ (n : ℕ). and_then (walk_uses vs n k (expr_uses (expr_of condition.expr))) (λ _. join vs (length h) place h (k ∷ [])))
+      (sym (walked_all_length (f.statements_of xs) k walked))
 
-  pub do_sets : (x : s.Statement) (place : Place) (body : Vec s.Statement Global) (condition : Placed) (xs : List s.Statement) (k : Held) (old some all : List Held) → x ≡ s.Do place body condition → xs ≡ body.items →
+  pub do_sets : (x : s.Statement) (place : Place) (body : Vec s.Statement Global) (condition : Placed) (xs : List s.Statement) (k : Held)
+      (old some all : List Held) → x ≡ s.Do place body condition → xs ≡ body.items →
       walk_all vs (length h) h (f.statements_of xs) ≡ Behind k →
       some ≡ old ++ sets_in_all h (f.statements_of xs) → all ≡ some ++ k ∷ [] → all ≡ old ++ sets_in h (f.statement_of x)
   do_sets x place body condition xs k old some all is same walked p q =
@@ -214,24 +247,32 @@ module _ (vs : List Variable) (h : Held) where
 
   -- ---- An `if`
 
-  pub if_is : (x : s.Statement) (place : Place) (arms : Vec arm.Arm Global) (otherwise : Vec s.Statement Global) (choices : List arm.Arm) → x ≡ s.If place arms otherwise → choices ≡ arms.items →
-      walk vs (length h) h (f.statement_of x) ≡ walk_arms vs (length h) h [] (f.arms_list_of choices) (λ left. and_then (walk_all vs (length h) h (f.statements_of otherwise.items)) (λ after. join_all vs (length h) place (left ++ after ∷ [])))
+  pub if_is : (x : s.Statement) (place : Place) (arms : Vec arm.Arm Global) (otherwise : Vec s.Statement Global) (choices : List arm.Arm) →
+      x ≡ s.If place arms otherwise → choices ≡ arms.items →
+      walk vs (length h) h (f.statement_of x) ≡ walk_arms vs (length h) h [] (f.arms_list_of choices)
+      (λ left. and_then (walk_all vs (length h) h (f.statements_of otherwise.items)) (λ after. join_all vs (length h) place (left ++ after ∷ [])))
   if_is x place arms otherwise choices is same =
       ap (λ y. walk vs (length h) h (f.statement_of y)) is
       ∙ ap (walk vs (length h) h) (of_if place arms otherwise)
-      ∙ ap (λ (y : List arm.Arm). walk_arms vs (length h) h [] (f.arms_list_of y) (λ left. and_then (walk_all vs (length h) h (f.statements_of otherwise.items)) (λ after. join_all vs (length h) place (left ++ after ∷ [])))) (sym same)
+      ∙ ap (λ (y : List arm.Arm). walk_arms vs (length h) h [] (f.arms_list_of y)
+      (λ left. and_then (walk_all vs (length h) h (f.statements_of otherwise.items)) (λ after. join_all vs (length h) place (left ++ after ∷ []))))
+      (sym same)
 
   -- behind its arms
-  pub otherwise_is : (x : s.Statement) (place : Place) (arms : Vec arm.Arm Global) (otherwise : Vec s.Statement Global) (choices : List arm.Arm) (xs : List s.Statement) (ends : List Held) → x ≡ s.If place arms otherwise → choices ≡ arms.items → xs ≡ otherwise.items →
+  pub otherwise_is : (x : s.Statement) (place : Place) (arms : Vec arm.Arm Global) (otherwise : Vec s.Statement Global) (choices : List arm.Arm)
+      (xs : List s.Statement) (ends : List Held) → x ≡ s.If place arms otherwise → choices ≡ arms.items → xs ≡ otherwise.items →
       ((behind : List Held → Walked) → walk_arms vs (length h) h [] (f.arms_list_of choices) behind ≡ behind ends) →
-      walk vs (length h) h (f.statement_of x) ≡ and_then (walk_all vs (length h) h (f.statements_of xs)) (λ after. join_all vs (length h) place (ends ++ after ∷ []))
+      walk vs (length h) h (f.statement_of x) ≡ and_then (walk_all vs (length h) h (f.statements_of xs))
+      (λ after. join_all vs (length h) place (ends ++ after ∷ []))
   otherwise_is x place arms otherwise choices xs ends is same equal walked =
       if_is x place arms otherwise choices is same
       ∙ walked (λ left. and_then (walk_all vs (length h) h (f.statements_of otherwise.items)) (λ after. join_all vs (length h) place (left ++ after ∷ [])))
-      ∙ ap (λ (y : List s.Statement). and_then (walk_all vs (length h) h (f.statements_of y)) (λ after. join_all vs (length h) place (ends ++ after ∷ []))) (sym equal)
+      ∙ ap (λ (y : List s.Statement). and_then (walk_all vs (length h) h (f.statements_of y)) (λ after. join_all vs (length h) place (ends ++ after ∷ [])))
+      (sym equal)
 
   -- where its paths meet
-  pub ends_meet : (x : s.Statement) (place : Place) (arms : Vec arm.Arm Global) (otherwise : Vec s.Statement Global) (choices : List arm.Arm) (xs : List s.Statement) (ends others : List Held) (end : Held) → x ≡ s.If place arms otherwise → choices ≡ arms.items → xs ≡ otherwise.items →
+  pub ends_meet : (x : s.Statement) (place : Place) (arms : Vec arm.Arm Global) (otherwise : Vec s.Statement Global) (choices : List arm.Arm)
+      (xs : List s.Statement) (ends others : List Held) (end : Held) → x ≡ s.If place arms otherwise → choices ≡ arms.items → xs ≡ otherwise.items →
       ((behind : List Held → Walked) → walk_arms vs (length h) h [] (f.arms_list_of choices) behind ≡ behind ends) → All (λ y. length y ≡ length h) ends →
       walk_all vs (length h) h (f.statements_of xs) ≡ Behind end → others ≡ ends →
       walk vs (length h) h (f.statement_of x) ≡ join vs (length end) place end others
@@ -244,11 +285,14 @@ module _ (vs : List Variable) (h : Held) where
   pub ends_long : (xs : List s.Statement) (end : Held) (ends others : List Held) → walk_all vs (length h) h (f.statements_of xs) ≡ Behind end → others ≡ ends →
       All (λ y. length y ≡ length h) ends → All (λ y. length y ≡ length end) others
   ends_long xs end ends others reached e long =
-      subst (λ (ys : List Held). All (λ y. length y ≡ length end) ys) (sym e) (subst (λ (n : ℕ). All (λ (y : Held). length y ≡ n) ends) (sym (walked_all_length (f.statements_of xs) end reached)) long)
+      subst (λ (ys : List Held). All (λ y. length y ≡ length end) ys) (sym e)
+      (subst (λ (n : ℕ). All (λ (y : Held). length y ≡ n) ends) (sym (walked_all_length (f.statements_of xs) end reached)) long)
 
-  pub if_sets : (x : s.Statement) (place : Place) (arms : Vec arm.Arm Global) (otherwise : Vec s.Statement Global) (choices : List arm.Arm) (xs : List s.Statement) (old one all : List Held) → x ≡ s.If place arms otherwise → choices ≡ arms.items → xs ≡ otherwise.items →
+  pub if_sets : (x : s.Statement) (place : Place) (arms : Vec arm.Arm Global) (otherwise : Vec s.Statement Global) (choices : List arm.Arm)
+      (xs : List s.Statement) (old one all : List Held) → x ≡ s.If place arms otherwise → choices ≡ arms.items → xs ≡ otherwise.items →
       one ≡ old ++ sets_in_arms h (f.arms_list_of choices) → all ≡ one ++ sets_in_all h (f.statements_of xs) → all ≡ old ++ sets_in h (f.statement_of x)
   if_sets x place arms otherwise choices xs old one all is same equal p q =
-      q ∙ ap (λ (ys : List Held). ys ++ sets_in_all h (f.statements_of xs)) p ∙ append_assoc old (sets_in_arms h (f.arms_list_of choices)) (sets_in_all h (f.statements_of xs))
+      q ∙ ap (λ (ys : List Held). ys ++ sets_in_all h (f.statements_of xs)) p
+      ∙ append_assoc old (sets_in_arms h (f.arms_list_of choices)) (sets_in_all h (f.statements_of xs))
       ∙ ap₂ (λ (a : List arm.Arm) (b : List s.Statement). old ++ (sets_in_arms h (f.arms_list_of a) ++ sets_in_all h (f.statements_of b))) same equal
       ∙ ap (λ (y : f.Statement). old ++ sets_in h y) (sym (ap f.statement_of is ∙ of_if place arms otherwise))

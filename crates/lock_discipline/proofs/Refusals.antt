@@ -21,15 +21,18 @@ refuses_then w v next e is h =
 pub refuses_as : (w v : Walked) (e : LockError) → v ≡ w → Refuses w e → Refuses v e
 refuses_as w v e is h = subst (λ x. Refuses x e) (sym is) h
 
-pub refuses_any : (w : Walked) (v : (List Held → Walked) → Walked) (next : (List Held → Walked) → Held → Walked) (e : LockError) → ((behind : List Held → Walked) → v behind ≡ and_then w (next behind)) → Refuses w e → RefusesAny v e
+pub refuses_any : (w : Walked) (v : (List Held → Walked) → Walked) (next : (List Held → Walked) → Held → Walked) (e : LockError) →
+    ((behind : List Held → Walked) → v behind ≡ and_then w (next behind)) → Refuses w e → RefusesAny v e
 refuses_any w v next e is h =
-    same_fault (fault_of e) (λ x. w ≡ Broken x) (λ x. (behind : List Held → Walked) → v behind ≡ Broken x) (λ x p behind. is behind ∙ ap (λ y. and_then y (next behind)) p) h
+    same_fault (fault_of e) (λ x. w ≡ Broken x) (λ x. (behind : List Held → Walked) → v behind ≡ Broken x)
+    (λ x p behind. is behind ∙ ap (λ y. and_then y (next behind)) p) h
 
 pub refuses_one : (v : (List Held → Walked) → Walked) (w : Walked) (behind : List Held → Walked) (e : LockError) → w ≡ v behind → RefusesAny v e → Refuses w e
 refuses_one v w behind e is h =
     same_fault (fault_of e) (λ x. (behind : List Held → Walked) → v behind ≡ Broken x) (λ x. w ≡ Broken x) (λ x p. is ∙ p behind) h
 
-pub matches_as : {A : Type 0} (r : Result A LockError) (w v : Walked) (f : A → Held) → v ≡ w → MatchResult r (λ x. w ≡ Behind (f x)) (Refuses w) → MatchResult r (λ x. v ≡ Behind (f x)) (Refuses v)
+pub matches_as : {A : Type 0} (r : Result A LockError) (w v : Walked) (f : A → Held) → v ≡ w → MatchResult r (λ x. w ≡ Behind (f x)) (Refuses w) →
+    MatchResult r (λ x. v ≡ Behind (f x)) (Refuses v)
 matches_as r w v f is h = subst (λ x. MatchResult r (λ y. x ≡ Behind (f y)) (Refuses x)) (sym is) h
 
 either : {A : Type 0} (a b : Option A) (fault : A → Fault) (h : Held) → none_or (option_or a b) fault h ≡ and_then (none_or a fault h) (λ _. none_or b fault h)
@@ -37,12 +40,14 @@ either None b fault h = refl
 either (Some x) b fault h = refl
 
 -- uses after uses
-pub uses_append : (vs : List Variable) (n : ℕ) (h : Held) (us ws : List Use) → walk_uses vs n h (us ++ ws) ≡ and_then (walk_uses vs n h us) (λ _. walk_uses vs n h ws)
+pub uses_append : (vs : List Variable) (n : ℕ) (h : Held) (us ws : List Use) →
+    walk_uses vs n h (us ++ ws) ≡ and_then (walk_uses vs n h us) (λ _. walk_uses vs n h ws)
 uses_append vs n h us ws =
     let missing = λ (u : Use). not (is_guarded vs h u) in
     let fault : Use → Fault = λ u. record { rule = rule.Unheld; place = u.place; mutex = guard_of vs u.variable } in
     ap (λ (o : Option Use). none_or o fault h) (find-append missing us ws) ∙ either (find missing us) (find missing ws) fault h
 
 -- the same of a list that is put together
-pub uses_split : (vs : List Variable) (n : ℕ) (h : Held) (us xs ys : List Use) → us ≡ xs ++ ys → walk_uses vs n h us ≡ and_then (walk_uses vs n h xs) (λ _. walk_uses vs n h ys)
+pub uses_split : (vs : List Variable) (n : ℕ) (h : Held) (us xs ys : List Use) → us ≡ xs ++ ys →
+    walk_uses vs n h us ≡ and_then (walk_uses vs n h xs) (λ _. walk_uses vs n h ys)
 uses_split vs n h us xs ys e = ap (walk_uses vs n h) e ∙ uses_append vs n h xs ys

@@ -149,7 +149,8 @@ and_truth : (a : Bool) → a ≡ (a && true)
 and_truth true = refl
 and_truth false = refl
 
-any_differ : (b : Bool) (k : ℕ) (xs : List Held) → list_any (λ x. differ b (holds x k)) xs ≡ ((b || list_any (λ x. holds x k) xs) && not (b && list_all (λ x. holds x k) xs))
+any_differ : (b : Bool) (k : ℕ) (xs : List Held) → list_any (λ x. differ b (holds x k)) xs ≡
+    ((b || list_any (λ x. holds x k) xs) && not (b && list_all (λ x. holds x k) xs))
 any_differ true k xs = some_not k xs
 any_differ false k xs = and_truth (list_any (λ x. holds x k) xs)
 

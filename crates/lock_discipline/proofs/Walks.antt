@@ -62,12 +62,14 @@ module _ (vs : List Variable) where
     pub behind_guarded : (h k : Held) (us : List Use) → walk_uses vs mutexes h us ≡ Behind k → AreGuarded vs h us × (h ≡ k)
     behind_guarded h k us e = none_behind (find (λ u. not (is_guarded vs h u)) us) _ h k e
 
-    pub behind_join : (place : Place) (h k : Held) (hs : List Held) → length h ≡ mutexes → AllLong mutexes hs → join vs mutexes place h hs ≡ Behind k → (h ≡ k) × AllAre h hs
+    pub behind_join : (place : Place) (h k : Held) (hs : List Held) → length h ≡ mutexes → AllLong mutexes hs → join vs mutexes place h hs ≡ Behind k →
+        (h ≡ k) × AllAre h hs
     behind_join place h k hs l ls e =
         let both = none_behind (least_difference mutexes (h ∷ hs)) _ h k e in
         (both.1, same_where_none mutexes h hs l ls both.0)
 
-    behind_join_all : (place : Place) (after k : Held) (hs : List Held) → length after ≡ mutexes → AllLong mutexes hs → join_all vs mutexes place (hs ++ after ∷ []) ≡ Behind k → (after ≡ k) × AllAre after hs
+    behind_join_all : (place : Place) (after k : Held) (hs : List Held) → length after ≡ mutexes → AllLong mutexes hs →
+        join_all vs mutexes place (hs ++ after ∷ []) ≡ Behind k → (after ≡ k) × AllAre after hs
     behind_join_all place after k [] l ls e = ((behind_join place after k [] l tt e).0, tt)
     behind_join_all place after k (h ∷ hs) l ls e =
         let both = behind_join place h k (hs ++ after ∷ []) ls.0 (AllLong-append mutexes hs (after ∷ []) ls.1 (l, tt)) e in
@@ -80,7 +82,8 @@ module _ (vs : List Variable) where
           let both = behind_guarded h k (assign_uses target value) e in
           subst (λ x. Keeps vs h (f.Assign place target value) x) both.1 (assign place target value both.0)
       behind_keeps (f.If place arms otherwise) h k l e =
-          let walked = behind_keep_arms arms h [] (λ left. and_then (walk_all vs mutexes h otherwise) (λ after. join_all vs mutexes place (left ++ after ∷ []))) k l e in
+          let walked = behind_keep_arms arms h [] (λ left. and_then (walk_all vs mutexes h otherwise)
+          (λ after. join_all vs mutexes place (left ++ after ∷ []))) k l e in
           let rest = behind_both (walk_all vs mutexes h otherwise) _ k walked.1 in
           let kept = behind_keep_all otherwise h rest.0 l rest.1 in
           let joined = behind_join_all place rest.0 k walked.0 (keep_all_length kept ∙ l) walked.2 rest.2 in
@@ -91,7 +94,8 @@ module _ (vs : List Variable) where
           let rest = behind_both (walk_all vs mutexes h body) _ k tested.2 in
           let kept = behind_keep_all body h rest.0 l rest.1 in
           let joined = behind_join place h k (rest.0 ∷ []) l (keep_all_length kept ∙ l, tt) rest.2 in
-          subst (λ x. Keeps vs h (f.While place condition body) x) joined.0 (repeat place condition body guarded.0 (subst (λ x. KeepAll vs h body x) joined.1.0 kept))
+          subst (λ x. Keeps vs h (f.While place condition body) x) joined.0
+          (repeat place condition body guarded.0 (subst (λ x. KeepAll vs h body x) joined.1.0 kept))
       behind_keeps (f.Do place body condition) h k l e =
           let rest = behind_both (walk_all vs mutexes h body) _ k e in
           let kept = behind_keep_all body h rest.0 l rest.1 in
@@ -99,7 +103,8 @@ module _ (vs : List Variable) where
           let guarded = behind_guarded rest.0 tested.0 (expr_uses condition.expr) tested.1 in
           let joined = behind_join place h k (rest.0 ∷ []) l (keep_all_length kept ∙ l, tt) tested.2 in
           subst (λ x. Keeps vs h (f.Do place body condition) x) joined.0
-          (again place body condition (subst (λ x. KeepAll vs h body x) joined.1.0 kept) (subst (λ x. AreGuarded vs x (expr_uses condition.expr)) joined.1.0 guarded.0))
+          (again place body condition (subst (λ x. KeepAll vs h body x) joined.1.0 kept)
+          (subst (λ x. AreGuarded vs x (expr_uses condition.expr)) joined.1.0 guarded.0))
       behind_keeps (f.Lock place mutex) h k l e =
           let both = unless_behind (holds h mutex) _ (set h mutex true) k e in
           subst (λ x. Keeps vs h (f.Lock place mutex) x) both.1 (lock place mutex both.0)
@@ -114,7 +119,8 @@ module _ (vs : List Variable) where
           let kept = behind_keeps x h both.0 l both.1 in
           then x rest kept (behind_keep_all rest both.0 k (keeps_length kept ∙ l) both.2)
 
-      behind_keep_arms : (arms : f.Arms) (h : Held) (left : List Held) (behind : List Held → Walked) (k : Held) → length h ≡ mutexes → walk_arms vs mutexes h left arms behind ≡ Behind k →
+      behind_keep_arms : (arms : f.Arms) (h : Held) (left : List Held) (behind : List Held → Walked) (k : Held) → length h ≡ mutexes →
+          walk_arms vs mutexes h left arms behind ≡ Behind k →
           (ends : List Held) × (behind (left ++ ends) ≡ Behind k) × AllLong mutexes ends × ((after : Held) → AllAre after ends → KeepArms vs h arms after)
       behind_keep_arms f.no_arm h left behind k l e = ([], ap behind (append-nil left) ∙ e, tt, λ after p. no_more_arms)
       behind_keep_arms (f.arm_and condition body rest) h left behind k l e =
@@ -148,17 +154,21 @@ module _ (vs : List Variable) where
       keeps_behind (assign {h = h} place target value g) = guarded_behind h (assign_uses target value) g
       keeps_behind (choose {h = h} {after = after} place arms otherwise p q) =
           let walked = keep_arms_behind p [] (λ left. and_then (walk_all vs mutexes h otherwise) (λ after. join_all vs mutexes place (left ++ after ∷ []))) in
-          walked.2 ∙ behind_then _ (λ after. join_all vs mutexes place (walked.0 ++ after ∷ [])) after (keep_all_behind q) ∙ same_behind_all place after walked.0 walked.1
+          walked.2 ∙ behind_then _ (λ after. join_all vs mutexes place (walked.0 ++ after ∷ [])) after (keep_all_behind q)
+          ∙ same_behind_all place after walked.0 walked.1
       keeps_behind (repeat {h = h} place condition body g p) =
-          behind_then _ _ h (guarded_behind h (expr_uses condition.expr) g) ∙ behind_then _ (λ after. join vs mutexes place h (after ∷ [])) h (keep_all_behind p) ∙ same_behind place h (h ∷ []) (refl, tt)
+          behind_then _ _ h (guarded_behind h (expr_uses condition.expr) g)
+          ∙ behind_then _ (λ after. join vs mutexes place h (after ∷ [])) h (keep_all_behind p) ∙ same_behind place h (h ∷ []) (refl, tt)
       keeps_behind (again {h = h} place body condition p g) =
-          behind_then _ _ h (keep_all_behind p) ∙ behind_then _ (λ _. join vs mutexes place h (h ∷ [])) h (guarded_behind h (expr_uses condition.expr) g) ∙ same_behind place h (h ∷ []) (refl, tt)
+          behind_then _ _ h (keep_all_behind p) ∙ behind_then _ (λ _. join vs mutexes place h (h ∷ [])) h (guarded_behind h (expr_uses condition.expr) g)
+          ∙ same_behind place h (h ∷ []) (refl, tt)
       keeps_behind (lock {h = h} place mutex free) = ap (λ b. cond b (broken vs mutexes rule.Again place mutex) (Behind (set h mutex true))) free
       keeps_behind (unlock {h = h} place mutex held) = ap (λ b. cond b (Behind (set h mutex false)) (broken vs mutexes rule.NotHeld place mutex)) held
 
       keep_all_behind : {h after : Held} {ss : f.Statements} → KeepAll vs h ss after → walk_all vs mutexes h ss ≡ Behind after
       keep_all_behind no_more = refl
-      keep_all_behind (then {between = between} x rest p q) = behind_then _ (λ after. walk_all vs mutexes after rest) between (keeps_behind p) ∙ keep_all_behind q
+      keep_all_behind (then {between = between} x rest p q) = behind_then _ (λ after. walk_all vs mutexes after rest) between (keeps_behind p)
+          ∙ keep_all_behind q
 
       keep_arms_behind : {h after : Held} {arms : f.Arms} → KeepArms vs h arms after → (left : List Held) (behind : List Held → Walked) →
           (ends : List Held) × AllAre after ends × (walk_arms vs mutexes h left arms behind ≡ behind (left ++ ends))
@@ -167,7 +177,8 @@ module _ (vs : List Variable) where
           let more = keep_arms_behind q (left ++ after ∷ []) behind in (
             after ∷ more.0,
             (refl, more.1),
-            behind_then _ (λ _. and_then (walk_all vs mutexes h body) (λ after. walk_arms vs mutexes h (left ++ after ∷ []) rest behind)) h (guarded_behind h (expr_uses condition.expr) g)
+            behind_then _ (λ _. and_then (walk_all vs mutexes h body) (λ after. walk_arms vs mutexes h (left ++ after ∷ []) rest behind)) h
+                (guarded_behind h (expr_uses condition.expr) g)
                 ∙ behind_then _ (λ after. walk_arms vs mutexes h (left ++ after ∷ []) rest behind) after (keep_all_behind p)
                 ∙ more.2 ∙ ap behind (append_assoc left (after ∷ []) more.0),
           )

@@ -1,6 +1,7 @@
 pub mod Masks
 pub mod Steps
-pub mod Flow
-pub mod Uses
+pub mod links
 pub mod Faults
 pub mod Discipline
+pub mod Standing
+pub mod FormLaws

@@ -35,4 +35,5 @@ nothing (suc w) h = absurd (not-suc-le-zero (le_of_suc-le-suc h))
 pub mask_of-held_of : (n w : ℕ) → w < 2 ^ n → mask_of (held_of n w) ≡ w
 mask_of-held_of zero w h = nothing w h
 mask_of-held_of (suc n) w h =
-    ap₂ ◌+◌ (digit (w % 2) (mod-lt w (lit< tt))) (ap (λ (m : ℕ). 2 * m) (mask_of-held_of n (w / 2) ((div-lt_iff_lt-mul (lit< tt)).1 (subst (λ (p : ℕ). w < p) (pow-suc 2 n) h)))) ∙ mod-add-div w 2
+    ap₂ ◌+◌ (digit (w % 2) (mod-lt w (lit< tt))) (ap (λ (m : ℕ). 2 * m) (mask_of-held_of n (w / 2)
+    ((div-lt_iff_lt-mul (lit< tt)).1 (subst (λ (p : ℕ). w < p) (pow-suc 2 n) h)))) ∙ mod-add-div w 2

@@ -44,25 +44,35 @@ module _ (vs : List Variable) where
   mutual
     pub data HeldIn : Held → f.Statement → (step : ℕ) → Held → Type 0 where
       evaluate : {h : Held} (place : Place) (target : e.Target) (value : e.Placed) → HeldIn h (f.Assign place target value) 0 h
-      store_variable : {h : Held} (place : Place) (name : Place) (variable : ℕ) (kind : Kind) (value : e.Placed) → HeldIn h (f.Assign place (e.ToVariable name variable kind) value) 1 h
-      store_element : {h : Held} (place : Place) (name : Place) (variable : ℕ) (kind : Kind) (index : e.Placed) (value : e.Placed) → HeldIn h (f.Assign place (e.ToElement name variable kind index) value) 1 h
-      in_arms : {h k : Held} {n : ℕ} (place : Place) (arms : f.Arms) (otherwise : f.Statements) → HeldInArms h arms n k → HeldIn h (f.If place arms otherwise) n k
-      in_otherwise : {h k : Held} {n : ℕ} (place : Place) (arms : f.Arms) (otherwise : f.Statements) → HeldInAll h otherwise n k → HeldIn h (f.If place arms otherwise) (steps_of_arms arms + n) k
+      store_variable : {h : Held} (place : Place) (name : Place) (variable : ℕ) (kind : Kind) (value : e.Placed) →
+          HeldIn h (f.Assign place (e.ToVariable name variable kind) value) 1 h
+      store_element : {h : Held} (place : Place) (name : Place) (variable : ℕ) (kind : Kind) (index : e.Placed) (value : e.Placed) →
+          HeldIn h (f.Assign place (e.ToElement name variable kind index) value) 1 h
+      in_arms : {h k : Held} {n : ℕ} (place : Place) (arms : f.Arms) (otherwise : f.Statements) → HeldInArms h arms n k →
+          HeldIn h (f.If place arms otherwise) n k
+      in_otherwise : {h k : Held} {n : ℕ} (place : Place) (arms : f.Arms) (otherwise : f.Statements) → HeldInAll h otherwise n k →
+          HeldIn h (f.If place arms otherwise) (steps_of_arms arms + n) k
       test_first : {h : Held} (place : Place) (condition : e.Placed) (body : f.Statements) → HeldIn h (f.While place condition body) 0 h
-      in_while : {h k : Held} {n : ℕ} (place : Place) (condition : e.Placed) (body : f.Statements) → HeldInAll h body n k → HeldIn h (f.While place condition body) (suc n) k
-      in_do : {h k : Held} {n : ℕ} (place : Place) (body : f.Statements) (condition : e.Placed) → HeldInAll h body n k → HeldIn h (f.Do place body condition) n k
-      test_last : {h k : Held} (place : Place) (body : f.Statements) (condition : e.Placed) → KeepAll vs h body k → HeldIn h (f.Do place body condition) (steps_of_all body) k
+      in_while : {h k : Held} {n : ℕ} (place : Place) (condition : e.Placed) (body : f.Statements) → HeldInAll h body n k →
+          HeldIn h (f.While place condition body) (suc n) k
+      in_do : {h k : Held} {n : ℕ} (place : Place) (body : f.Statements) (condition : e.Placed) → HeldInAll h body n k →
+          HeldIn h (f.Do place body condition) n k
+      test_last : {h k : Held} (place : Place) (body : f.Statements) (condition : e.Placed) → KeepAll vs h body k →
+          HeldIn h (f.Do place body condition) (steps_of_all body) k
       take : {h : Held} (place : Place) (mutex : ℕ) → HeldIn h (f.Lock place mutex) 0 h
       give : {h : Held} (place : Place) (mutex : ℕ) → HeldIn h (f.Unlock place mutex) 0 h
 
     pub data HeldInAll : Held → f.Statements → (step : ℕ) → Held → Type 0 where
       in_first : {h k : Held} {n : ℕ} (x : f.Statement) (rest : f.Statements) → HeldIn h x n k → HeldInAll h (f.statement_and x rest) n k
-      in_rest : {h between k : Held} {n : ℕ} (x : f.Statement) (rest : f.Statements) → Keeps vs h x between → HeldInAll between rest n k → HeldInAll h (f.statement_and x rest) (steps x + n) k
+      in_rest : {h between k : Held} {n : ℕ} (x : f.Statement) (rest : f.Statements) → Keeps vs h x between → HeldInAll between rest n k →
+          HeldInAll h (f.statement_and x rest) (steps x + n) k
 
     pub data HeldInArms : Held → f.Arms → (step : ℕ) → Held → Type 0 where
       test_arm : {h : Held} (condition : e.Placed) (body : f.Statements) (rest : f.Arms) → HeldInArms h (f.arm_and condition body rest) 0 h
-      in_arm : {h k : Held} {n : ℕ} (condition : e.Placed) (body : f.Statements) (rest : f.Arms) → HeldInAll h body n k → HeldInArms h (f.arm_and condition body rest) (suc n) k
-      in_other_arms : {h k : Held} {n : ℕ} (condition : e.Placed) (body : f.Statements) (rest : f.Arms) → HeldInArms h rest n k → HeldInArms h (f.arm_and condition body rest) (suc (steps_of_all body + n)) k
+      in_arm : {h k : Held} {n : ℕ} (condition : e.Placed) (body : f.Statements) (rest : f.Arms) → HeldInAll h body n k →
+          HeldInArms h (f.arm_and condition body rest) (suc n) k
+      in_other_arms : {h k : Held} {n : ℕ} (condition : e.Placed) (body : f.Statements) (rest : f.Arms) → HeldInArms h rest n k →
+          HeldInArms h (f.arm_and condition body rest) (suc (steps_of_all body + n)) k
 
 -- a thread begins with no mutex held
 pub data HeldBefore (x : f.Flat) (t : f.Thread) : (step : ℕ) → Held → Type 0 where

@@ -57,7 +57,8 @@ impl Held {
 
 /// Walks through the threads in order, each from its beginning, to the first fault: a variable that is used while
 /// its mutex isn't held, a mutex that is locked while it is held or unlocked while it isn't, paths that meet with
-/// different mutexes held, or a thread that ends with one held.
+/// different mutexes held, or a thread that ends with one held. A well formed flat form has no more than 64 mutexes
+/// (`laws::well_formed_has_few_mutexes`).
 pub fn check(alloc: Global, flat: &Flat) -> Result<Held, LockError>
     requires { length flat.now.mutexes.items ≤ 64 }
     ensures accepts { IfOk result (λ _. lock_fault (flat_of flat.now) ≡ None) }

@@ -5,8 +5,6 @@ mod error;
 mod held;
 pub mod laws;
 mod set;
-#[cfg(test)]
-mod tests;
 mod uses;
 mod walk;
 

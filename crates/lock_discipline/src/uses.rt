@@ -4,7 +4,7 @@ ghost use Rattle.c_tree.specs.Programs.{variable_of};
 ghost use Rattle.c_tree.specs.Exprs.{expr_of, target_of};
 ghost use Rattle.c_tree.specs.Locking.{Behind, guard_of, walk_uses, expr_uses, target_uses};
 ghost use Rattle.lock_discipline.specs.Faults.{Refuses};
-ghost use Rattle.lock_discipline.specs.Uses.{use_of};
+ghost use Rattle.lock_discipline.specs.links.Uses.{use_of};
 
 use crate::error::LockError;
 use crate::set::MutexSet;

@@ -5,7 +5,7 @@ ghost use Rattle.c_tree.specs.Programs.{variable_of};
 ghost use Rattle.c_tree.specs.Flats.{statement_of, statements_of, arms_list_of, thread_of};
 ghost use Rattle.c_tree.specs.Locking.{Held, Walked, Behind, least_difference, join, walk, walk_all, walk_arms, walk_thread};
 ghost use Rattle.lock_discipline.specs.Faults.{Refuses, RefusesAny};
-ghost use Rattle.lock_discipline.specs.Flow.{sets_in, sets_in_all, sets_in_arms, thread_sets};
+ghost use Rattle.lock_discipline.specs.links.Flow.{sets_in, sets_in_all, sets_in_arms, thread_sets};
 
 use crate::error::LockError;
 use crate::set::MutexSet;

@@ -1,5 +1,10 @@
+mod Cuts
+mod Doable
 mod Gaps
+mod Lines
 mod Numbers
+mod Reading
 mod Runs
+mod Stepping
 mod Steps
 mod Worked

@@ -1,7 +1,8 @@
 -- What is read of a schedule, run by run.
 use Rattle.std.proofs.Common.{◌≡◌, ℕ, ◌+◌, List, [], ◌∷◌, ◌++◌, length, drop, replicate, refl, sym, ◌∙◌, ap, append_assoc}
 use Rattle.std.proofs.lemmas.List.{append-nil}
-use Rattle.run_scripts.specs.Schedules.{Word, words_at, Read, Steps, Refused, before_steps, steps_from}
+use Rattle.run_scripts.specs.Pieces.{Piece, words_at}
+use Rattle.run_scripts.specs.Schedules.{Read, Steps, Refused, before_steps, steps_from}
 use Rattle.run_scripts.specs.WordLengths.{behind_steps}
 
 pub behind_none : (r : Read) → behind_steps [] r ≡ r
@@ -12,10 +13,10 @@ behind_run : (done : List ℕ) (thread count : ℕ) (r : Read) → behind_steps 
 behind_run done thread count (Steps ts) = ap Steps (sym (append_assoc done (replicate count thread) ts))
 behind_run done thread count (Refused fault) = refl
 
-pub goes_on : (text done new : List ℕ) (whole : Read) (place thread count middle next : ℕ) (w : Word)
+pub goes_on : (text done new : List ℕ) (whole : Read) (place thread count middle next : ℕ) (w : Piece)
     → whole ≡ behind_steps done (steps_from (length done) (words_at place (drop place text)))
     → words_at place (drop place text) ≡ w ∷ words_at middle (drop middle text)
-    → ((ws : List Word) → steps_from (length done) (w ∷ ws) ≡ before_steps thread count (steps_from (length done + count) ws))
+    → ((ws : List Piece) → steps_from (length done) (w ∷ ws) ≡ before_steps thread count (steps_from (length done + count) ws))
     → words_at middle (drop middle text) ≡ words_at next (drop next text)
     → new ≡ done ++ replicate count thread
     → length new ≡ length done + count

@@ -2,6 +2,9 @@
 use Rattle.std.specs.Prelude.{◌≡◌, [], ◌∷◌, refl, codes, pos, negsuc}
 use Rattle.std.specs.Fmt.{digits}
 use Rattle.run_scripts.specs.Reports.{variable_line, element_text, ended_line, ended_lines, schedule_line, run_text, hart_text, unsettled_line}
+use Rattle.run_scripts.specs.Scripts as s
+use Rattle.run_scripts.specs.declared.script.Command.TheVariants.{Point, Evict}
+use Rattle.run_scripts.specs.declared.script.Command.TheVariants.{Steps as StepsOf}
 use Rattle.run_scripts.specs.Schedules.{read, Steps, Refused, BadWord, BadNumber, TooMany}
 
 -- ---- Reports
@@ -75,3 +78,39 @@ great_thread_without_steps = refl
 too_many_steps : read (codes "0*1 1*4000000") ≡ Refused (TooMany 4)
 unfolding read
 too_many_steps = refl
+
+-- ---- Scripts
+
+lines_are_read : s.read 1 (codes "b 0\r\n\ne 1024 01\ns 0 100000") ≡ s.Lines (
+    record { place = 0; command = Point 0 } ∷ record { place = 6; command = Evict 1024 1 } ∷ record { place = 16; command = StepsOf 0 100000 } ∷ []
+    )
+unfolding s.read
+lines_are_read = refl
+
+hart_before_word : s.read 1 (codes "s 9x 1") ≡ s.Refused (s.NoHart 2)
+unfolding s.read
+hart_before_word = refl
+
+number_before_word : s.read 9 (codes "c\ns 4294967296x") ≡ s.Refused (s.BadNumber 4)
+unfolding s.read
+number_before_word = refl
+
+great_mask : s.read 1 (codes "e 0 256") ≡ s.Refused (s.BadNumber 4)
+unfolding s.read
+great_mask = refl
+
+no_line : s.read 1 (codes "e 1040 1") ≡ s.Refused (s.NoLine 2)
+unfolding s.read
+no_line = refl
+
+too_short : s.read 1 (codes "s 0\r\nc") ≡ s.Refused (s.BadWord 3)
+unfolding s.read
+too_short = refl
+
+return_at_the_end : s.read 1 (codes "c\r") ≡ s.Refused (s.BadWord 1)
+unfolding s.read
+return_at_the_end = refl
+
+two_spaces : s.read 1 (codes "s  0 1") ≡ s.Refused (s.BadWord 2)
+unfolding s.read
+two_spaces = refl

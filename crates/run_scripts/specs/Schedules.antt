@@ -1,33 +1,9 @@
 -- A schedule as it is written: `schedule 0*4 1*2`, the first word being optional.
-use Rattle.std.specs.Prelude.{ℕ, ◌+◌, List, [], ◌∷◌, ◌++◌, length, replicate, Bool, true, false, not, nat_eq, nat_lt, ◌==◌, ◌&&◌, ◌||◌, if◌then◌else◌, codes}
+use Rattle.std.specs.Prelude.{ℕ, ◌+◌, List, [], ◌∷◌, ◌++◌, length, replicate, Bool, not, nat_eq, nat_lt, ◌==◌, ◌&&◌, if◌then◌else◌, codes}
 use Rattle.std.specs.List.{list_all, before_first, after_first}
 use Rattle.std.specs.Cmp.Lexicographic.{pointwise}
 use Rattle.std.specs.Str.Parse.{digits_value}
-use Rattle.ido_base.specs.Places.{line_feed}
-
--- ---- Words
-
--- a word and where its first byte stands
-pub record Word : Type 0 where
-  pub place : ℕ
-  pub bytes : List ℕ
-
--- a space, an LF, or a CR with an LF behind it
-abbrev pub begins_gap : List ℕ → Bool
-begins_gap [] = true
-begins_gap (c ∷ []) = c == 32 || c == line_feed
-begins_gap (c ∷ d ∷ cs) = c == 32 || c == line_feed || (c == 13 && d == line_feed)
-
--- a byte before words: it begins a word of its own where a gap follows it
-abbrev pub with_byte : (place byte : ℕ) → (gap_follows : Bool) → List Word → List Word
-with_byte place c true ws = record { place = place; bytes = c ∷ [] } ∷ ws
-with_byte place c false [] = record { place = place; bytes = c ∷ [] } ∷ []
-with_byte place c false (w ∷ ws) = record { place = place; bytes = c ∷ w.bytes } ∷ ws
-
--- the words of a text that stands at a place
-abbrev pub words_at : (place : ℕ) → List ℕ → List Word
-words_at place [] = []
-words_at place (c ∷ cs) = if begins_gap (c ∷ cs) then words_at (place + 1) cs else with_byte place c (begins_gap cs) (words_at (place + 1) cs)
+use Rattle.run_scripts.specs.Pieces.{Piece, words_at}
 
 -- ---- What a word says
 
@@ -81,7 +57,7 @@ abbrev pub count_number : List ℕ → ℕ
 count_number bytes = digits_value 10 (count_text bytes)
 
 -- where the count begins
-abbrev pub count_place : Word → ℕ
+abbrev pub count_place : Piece → ℕ
 count_place w = w.place + length (thread_text w.bytes) + 1
 
 abbrev pub before_steps : (thread count : ℕ) → Read → Read
@@ -89,7 +65,7 @@ before_steps thread count (Steps ts) = Steps (replicate count thread ++ ts)
 before_steps thread count (Refused fault) = Refused fault
 
 -- behind so many steps
-abbrev pub steps_from : (done : ℕ) → List Word → Read
+abbrev pub steps_from : (done : ℕ) → List Piece → Read
 steps_from done [] = Steps []
 steps_from done (w ∷ ws) =
     if not (is_run w.bytes) then Refused (BadWord w.place)
@@ -99,7 +75,7 @@ steps_from done (w ∷ ws) =
     else before_steps (thread_number w.bytes) (count_number w.bytes) (steps_from (done + count_number w.bytes) ws)
 
 -- the first word may be `schedule`
-abbrev pub steps_of_words : List Word → Read
+abbrev pub steps_of_words : List Piece → Read
 steps_of_words [] = Steps []
 steps_of_words (w ∷ ws) = if pointwise nat_eq w.bytes (codes "schedule") then steps_from 0 ws else steps_from 0 (w ∷ ws)
 

@@ -1,18 +1,8 @@
--- How far a gap and a word reach, and what is read behind steps.
-use Rattle.std.specs.Prelude.{ℕ, ◌+◌, List, [], ◌∷◌, ◌++◌, Option, Some, None, if◌then◌else◌}
+-- What is read behind steps, and what an error tells.
+use Rattle.std.specs.Prelude.{ℕ, List, ◌++◌, Option, Some, None}
 use Rattle.run_scripts.specs.declared.schedule.ScheduleError.{ScheduleError}
 use Rattle.run_scripts.specs.declared.schedule.ScheduleError.TheVariants as e
-use Rattle.run_scripts.specs.Schedules.{begins_gap, Fault, BadWord, BadNumber, TooMany, Read, Steps, Refused}
-
--- bytes before the first that begins no gap
-abbrev pub gap_length : List ℕ → ℕ
-gap_length [] = 0
-gap_length (c ∷ cs) = if begins_gap (c ∷ cs) then 1 + gap_length cs else 0
-
--- bytes before the first gap
-abbrev pub word_length : List ℕ → ℕ
-word_length [] = 0
-word_length (c ∷ cs) = if begins_gap (c ∷ cs) then 0 else 1 + word_length cs
+use Rattle.run_scripts.specs.Schedules.{Fault, BadWord, BadNumber, TooMany, Read, Steps, Refused}
 
 -- steps before what is read
 abbrev pub behind_steps : List ℕ → Read → Read

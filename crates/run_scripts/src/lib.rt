@@ -1,7 +1,10 @@
-//! What is read and written around a run: schedules, and the report of a state.
+//! What is read and written around a run: schedules, scripts and their play on a core, and the report of a
+//! state.
 #![tactic(auto)]
 
+mod number;
+mod piece;
+pub mod play;
 pub mod report;
 pub mod schedule;
-#[cfg(test)]
-mod tests;
+pub mod script;

@@ -7,6 +7,7 @@ use Rattle.ido_base.specs.declared.event.Reply.TheVariants.{Moved, Drained, Wait
 use Rattle.ido_base.specs.declared.event.Cause.{Cause}
 use Rattle.ido_base.specs.declared.event.Cause.TheVariants.{Illegal, Outside, Unaligned, NoCode, NoCall, NoLock, NotHeld, EndHolding}
 use Rattle.ido_base.specs.Words.{Word, Entry, word_of, word_at, live_value, durable_value, loaded, stored, entry_of, drained, evicted}
+use Rattle.ido_base.specs.Cores.{IsValid}
 use Rattle.ido_base.specs.Locks.{is_held_by, least_held, holds_none, missing_from}
 use Rattle.ido_base.specs.Layout.{in_range, aligned, byte_number, word_number, point_at, slot_at, bank_bytes, line_bytes, line_count, initial_words, spread_words}
 use Rattle.rv64_isa.specs.declared.object.Object.{Object}
@@ -186,22 +187,20 @@ resumed w h hart = moved w h (record hart {
   phase = Run;
 })
 
--- a release in recovery that leaves the hart with nothing makes it done
-abbrev pub done_if : Bool → Hart → Hart
-done_if over hart = if over then record hart { phase = Done } else hart
-
+-- in recovery, hart h held a lock before a step and holds none after it
 abbrev pub over_after : World → World → ℕ → Bool
 over_after before after h = before.recovering && (not (holds_none before.holders h) && holds_none after.holders h)
 
-abbrev pub settled_hart : World → ℕ → Option Hart → World → World
-settled_hart before h None after = after
-settled_hart before h (Some hart) after = if over_after before after h then with_hart after h (record hart { phase = Done }) else after
+-- a release in recovery that leaves the hart with nothing makes it done
+abbrev pub done_if_over : World → ℕ → Option Hart → World → World
+done_if_over before h None after = after
+done_if_over before h (Some hart) after = if over_after before after h then with_hart after h (record hart { phase = Done }) else after
 
 -- a step of hart h in the phase Run: in recovery it may be the one that makes it done
 abbrev pub run_step : List (List Slot) → World → ℕ → Hart → Outcome
 run_step program w h hart =
     let outcome = hart_step program w h hart in
-    (settled_hart w h (slice_get outcome.0.harts h) outcome.0, outcome.1)
+    (done_if_over w h (slice_get outcome.0.harts h) outcome.0, outcome.1)
 
 -- a step of hart h, by its phase
 abbrev pub phase_step : List (List Slot) → World → ℕ → Hart → Phase → Outcome
@@ -264,16 +263,13 @@ abbrev pub after_events : List (List Slot) → World → List Event → World
 after_events program w [] = w
 after_events program w (event ∷ events) = after_events program (after_event program w event) events
 
--- the replies to events, from a world on
-abbrev pub replies_to : List (List Slot) → World → List Event → List Reply
-replies_to program w [] = []
-replies_to program w (event ∷ events) = reply_to program w event ∷ replies_to program (after_event program w event) events
+-- the line exists, and its mask has eight bits
+abbrev pub IsEviction : (threads line mask : ℕ) → Type 0
+IsEviction threads line mask = (line < line_count threads) × (mask ≤ 255)
 
--- a hart exists, or a line exists and its mask has eight bits, or it is a crash
+-- the event may happen to a machine of so many threads
 abbrev pub IsValidEvent : (threads : ℕ) → Event → Type 0
-IsValidEvent threads (Step h) = h < threads
-IsValidEvent threads (Evict line mask) = (line < line_count threads) × (mask ≤ 255)
-IsValidEvent threads Crash = Unit {0}
+IsValidEvent threads event = IsValid threads (IsEviction threads) event
 
 abbrev pub AreValidEvents : (threads : ℕ) → List Event → Type 0
 AreValidEvents threads [] = Unit {0}

@@ -107,6 +107,71 @@ impl Register {
     }
 }
 
+// Each named register is the one of its number.
+const _: () = prove!(Register::X0.number == 0);
+
+const _: () = prove!(Register::X1.number == 1);
+
+const _: () = prove!(Register::X2.number == 2);
+
+const _: () = prove!(Register::X3.number == 3);
+
+const _: () = prove!(Register::X4.number == 4);
+
+const _: () = prove!(Register::X5.number == 5);
+
+const _: () = prove!(Register::X6.number == 6);
+
+const _: () = prove!(Register::X7.number == 7);
+
+const _: () = prove!(Register::X8.number == 8);
+
+const _: () = prove!(Register::X9.number == 9);
+
+const _: () = prove!(Register::X10.number == 10);
+
+const _: () = prove!(Register::X11.number == 11);
+
+const _: () = prove!(Register::X12.number == 12);
+
+const _: () = prove!(Register::X13.number == 13);
+
+const _: () = prove!(Register::X14.number == 14);
+
+const _: () = prove!(Register::X15.number == 15);
+
+const _: () = prove!(Register::X16.number == 16);
+
+const _: () = prove!(Register::X17.number == 17);
+
+const _: () = prove!(Register::X18.number == 18);
+
+const _: () = prove!(Register::X19.number == 19);
+
+const _: () = prove!(Register::X20.number == 20);
+
+const _: () = prove!(Register::X21.number == 21);
+
+const _: () = prove!(Register::X22.number == 22);
+
+const _: () = prove!(Register::X23.number == 23);
+
+const _: () = prove!(Register::X24.number == 24);
+
+const _: () = prove!(Register::X25.number == 25);
+
+const _: () = prove!(Register::X26.number == 26);
+
+const _: () = prove!(Register::X27.number == 27);
+
+const _: () = prove!(Register::X28.number == 28);
+
+const _: () = prove!(Register::X29.number == 29);
+
+const _: () = prove!(Register::X30.number == 30);
+
+const _: () = prove!(Register::X31.number == 31);
+
 /// A 12-bit immediate of the formats I and S, in two's complement: 0 to 4095 stand for 0 to 2047 and
 /// -2048 to -1.
 #[derive(Clone, Copy, Debug, PartialEq, Eq, Drop)]
@@ -161,6 +226,8 @@ impl Immediate {
         self.bits
     }
 }
+
+const _: () = prove!(Immediate::ZERO.bits == 0);
 
 /// A 20-bit immediate of the format U, the upper 20 of 32 bits.
 #[derive(Clone, Copy, Debug, PartialEq, Eq, Drop)]

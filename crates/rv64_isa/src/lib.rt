@@ -4,11 +4,8 @@
 
 pub mod field;
 pub mod instr;
+pub mod laws;
 pub mod object;
 pub mod phase;
 mod table;
-#[cfg(test)]
-mod tests;
-#[cfg(test)]
-mod vectors;
 pub mod word;

@@ -14,7 +14,7 @@ use Rattle.c_tree.specs.declared.flat.Statement as s
 use Rattle.c_tree.specs.Source.{opened, opened_all}
 use Rattle.source_machine.specs.declared.code.Node.{Node}
 use Rattle.source_machine.specs.declared.code.Node.TheVariants as node
-use Rattle.source_machine.specs.Codes.{Lefts, At, behind, chooses, repeats, Does, IsCode, IsPushed, Extends, Emits, EmitsArms, EmitsTest, EmitsLoop}
+use Rattle.source_machine.specs.links.Codes.{Lefts, At, behind, chooses, repeats, Does, IsCode, IsPushed, Extends, Emits, EmitsArms, EmitsTest, EmitsLoop}
 
 -- ---- Lists
 
@@ -71,7 +71,8 @@ does_still lefts all g node.Never left d = d
 
 -- ---- Code that grows
 
-pub nothing_more : (before : List Node) (lefts : Lefts) (next : ℕ) (rest : List f.Statement) → length lefts ≡ length before → At lefts next rest → Extends before before lefts next rest
+pub nothing_more : (before : List Node) (lefts : Lefts) (next : ℕ) (rest : List f.Statement) → length lefts ≡ length before → At lefts next rest →
+    Extends before before lefts next rest
 nothing_more before lefts next rest size at = record {
   all = lefts;
   grown = λ k l h. h;
@@ -82,7 +83,8 @@ nothing_more before lefts next rest size at = record {
   entered = at;
 }
 
-pub node_more : (before after : List Node) (lefts : Lefts) (n : Node) (position : ℕ) (left : List f.Statement) → length lefts ≡ length before → IsPushed before after n position →
+pub node_more : (before after : List Node) (lefts : Lefts) (n : Node) (position : ℕ) (left : List f.Statement) → length lefts ≡ length before →
+    IsPushed before after n position →
     ((all : Lefts) → Grows lefts all → Does all n left) → Extends before after lefts position left
 node_more before after lefts n position left size p does =
     let all : Lefts = lefts ++ left ∷ [] in
@@ -102,7 +104,8 @@ node_more before after lefts n position left size p does =
       entered = subst (λ (k : ℕ). At all k left) (size ∙ sym p.at) (get_end lefts left);
     }
 
-pub both : (before mid after : List Node) (lefts : Lefts) (one two : ℕ) (l m : List f.Statement) (x : Extends before mid lefts one l) → Extends mid after x.all two m → Extends before after lefts two m
+pub both : (before mid after : List Node) (lefts : Lefts) (one two : ℕ) (l m : List f.Statement) (x : Extends before mid lefts one l) →
+    Extends mid after x.all two m → Extends before after lefts two m
 both before mid after lefts one two l m x y = record {
   all = y.all;
   grown = λ k there h. y.grown k there (x.grown k there h);
@@ -121,8 +124,10 @@ both before mid after lefts one two l m x y = record {
 }
 
 -- a node in place of one that was put there for the time being
-pub patched : (before mid after final : List Node) (lefts : Lefts) (held n : Node) (position entry inner : ℕ) (l there left : List f.Statement) → length lefts ≡ length before → IsPushed before mid held position →
-    (y : Extends mid after (lefts ++ l ∷ []) inner there) → final ≡ slice_set after position n → Does y.all n l → At y.all entry left → Extends before final lefts entry left
+pub patched : (before mid after final : List Node) (lefts : Lefts) (held n : Node) (position entry inner : ℕ) (l there left : List f.Statement) →
+    length lefts ≡ length before → IsPushed before mid held position →
+    (y : Extends mid after (lefts ++ l ∷ []) inner there) → final ≡ slice_set after position n → Does y.all n l → At y.all entry left →
+    Extends before final lefts entry left
 patched before mid after final lefts held n position entry inner l there left size p y is does at =
     let long : length mid ≡ length before + 1 = ap length p.nodes ∙ length-append before (held ∷ []) in
     let sized : length final ≡ length after = ap length is ∙ length-set after position n in
@@ -133,11 +138,13 @@ patched before mid after final lefts held n position entry inner l there left si
       count = y.count ∙ sym sized;
       longer = omega (arith, y.longer, long, sized);
       kept = λ k h.
-          ap (λ ns. slice_get ns k) is ∙ (set_other after position k n (omega (arith, p.at)) ∙ (y.kept k (omega (arith, long)) ∙ (ap (λ ns. slice_get ns k) p.nodes ∙ get_same before (held ∷ []) k h)));
+          ap (λ ns. slice_get ns k) is ∙ (set_other after position k n (omega (arith, p.at))
+          ∙ (y.kept k (omega (arith, long)) ∙ (ap (λ ns. slice_get ns k) p.nodes ∙ get_same before (held ∷ []) k h)));
       each = λ k m o h g a. ⊎_elim
           (λ same.
           let found = set_same after position n (omega (arith, y.longer, long, p.at)) in
-          let at_position : slice_get (slice_set after position n) position ≡ Some m = ap (slice_get (slice_set after position n)) (sym same) ∙ (sym (ap (λ ns. slice_get ns k) is) ∙ g) in
+          let at_position : slice_get (slice_set after position n) position ≡ Some m = ap (slice_get (slice_set after position n)) (sym same)
+          ∙ (sym (ap (λ ns. slice_get ns k) is) ∙ g) in
           let is_node : n ≡ m = cc in
           let is_left : l ≡ o = once y.all position l o here (ap (slice_get y.all) (sym same) ∙ a) in
           let P : Node → Type 0 = λ x. Does y.all x o in
@@ -156,9 +163,13 @@ emits_none before next = record { each = λ lefts rest size at. nothing_more bef
 
 pub emits_node : (before after : List Node) (n : Node) (position : ℕ) (does : List f.Statement) (next : ℕ) → IsPushed before after n position →
     ((all : Lefts) (rest : List f.Statement) → At all next rest → Does all n (does ++ rest)) → Emits before after does next position
-emits_node before after n position does next p d = record { each = λ lefts rest size at. node_more before after lefts n position (does ++ rest) size p (λ all g. d all rest (g next rest at)) }
+emits_node before after n position does next p d = record {
+  each = λ lefts rest size at. node_more before after lefts n position (does ++ rest) size p
+      (λ all g. d all rest (g next rest at));
+}
 
-pub emits_then : (before mid after : List Node) (later first : List f.Statement) (next one two : ℕ) → Emits before mid later next one → Emits mid after first one two → Emits before after (first ++ later) next two
+pub emits_then : (before mid after : List Node) (later first : List f.Statement) (next one two : ℕ) → Emits before mid later next one →
+    Emits mid after first one two → Emits before after (first ++ later) next two
 emits_then before mid after later first next one two e k = record {
   each = λ lefts rest size at.
       let x = e.each lefts rest size at in
@@ -167,7 +178,8 @@ emits_then before mid after later first next one two e k = record {
       subst P (sym (append_assoc first later rest)) (both before mid after lefts one two (later ++ rest) (first ++ (later ++ rest)) x y);
 }
 
-pub emits_longer : (before after : List Node) (does : List f.Statement) (next entry : ℕ) → Emits before after does next entry → next < length before → length before ≤ length after
+pub emits_longer : (before after : List Node) (does : List f.Statement) (next entry : ℕ) → Emits before after does next entry → next < length before →
+    length before ≤ length after
 emits_longer before after does next entry e h =
     let empty : List f.Statement = [] in
     let lefts : Lefts = replicate (length before) empty in
@@ -176,10 +188,13 @@ emits_longer before after does next entry e h =
 
 -- ---- Of an `if`
 
-pub emits_never : (before after : List Node) (place : Place) (otherwise : f.Statements) (next position : ℕ) → IsPushed before after node.Never position → Emits before after (f.If place f.no_arm otherwise ∷ []) next position
-emits_never before after place otherwise next position p = emits_node before after node.Never position (f.If place f.no_arm otherwise ∷ []) next p (λ all rest at. record { place = place; otherwise = otherwise; rest = rest; is = refl })
+pub emits_never : (before after : List Node) (place : Place) (otherwise : f.Statements) (next position : ℕ) → IsPushed before after node.Never position →
+    Emits before after (f.If place f.no_arm otherwise ∷ []) next position
+emits_never before after place otherwise next position p = emits_node before after node.Never position (f.If place f.no_arm otherwise ∷ []) next p
+    (λ all rest at. record { place = place; otherwise = otherwise; rest = rest; is = refl })
 
-pub emits_test : (before mid after : List Node) (condition : Bor code.Placed) (body : f.Statements) (holds fails next entry : ℕ) → Emits before mid (opened_all body) next holds → IsPushed mid after (node.Test condition holds fails) entry →
+pub emits_test : (before mid after : List Node) (condition : Bor code.Placed) (body : f.Statements) (holds fails next entry : ℕ) →
+    Emits before mid (opened_all body) next holds → IsPushed mid after (node.Test condition holds fails) entry →
     EmitsTest before after (placed_of condition.now) body fails next entry
 emits_test before mid after condition body holds fails next entry e p = record {
   each = λ lefts place arms otherwise rest size at failing.
@@ -191,9 +206,13 @@ emits_test before mid after condition body holds fails next entry e p = record {
 }
 
 pub no_arms : (before : List Node) (last next : ℕ) → EmitsArms before before f.no_arm last next last
-no_arms before last next = record { each = λ lefts place otherwise rest size at there. nothing_more before lefts last (opened_all otherwise ++ rest) size there }
+no_arms before last next = record {
+  each = λ lefts place otherwise rest size at there. nothing_more before lefts last
+      (opened_all otherwise ++ rest) size there;
+}
 
-pub emits_arm : (before mid after : List Node) (condition : Placed) (body : f.Statements) (arms : f.Arms) (last fails next entry : ℕ) → EmitsArms before mid arms last next fails → EmitsTest mid after condition body fails next entry →
+pub emits_arm : (before mid after : List Node) (condition : Placed) (body : f.Statements) (arms : f.Arms) (last fails next entry : ℕ) →
+    EmitsArms before mid arms last next fails → EmitsTest mid after condition body fails next entry →
     EmitsArms before after (f.arm_and condition body arms) last next entry
 emits_arm before mid after condition body arms last fails next entry e k = record {
   each = λ lefts place otherwise rest size at there.
@@ -202,26 +221,33 @@ emits_arm before mid after condition body arms last fails next entry e k = recor
       (k.each x.all place arms otherwise rest x.count (x.grown next rest at) x.entered);
 }
 
-emits_behind : (before mid after : List Node) (place : Place) (arms : f.Arms) (otherwise : f.Statements) (last next entry : ℕ) → Emits before mid (opened_all otherwise) next last → EmitsArms mid after arms last next entry → Emits before after (behind place arms otherwise) next entry
+emits_behind : (before mid after : List Node) (place : Place) (arms : f.Arms) (otherwise : f.Statements) (last next entry : ℕ) →
+    Emits before mid (opened_all otherwise) next last → EmitsArms mid after arms last next entry → Emits before after (behind place arms otherwise) next entry
 emits_behind before mid after place arms otherwise last next entry e k = record {
   each = λ lefts rest size at.
       let x = e.each lefts rest size at in
-      both before mid after lefts last entry (opened_all otherwise ++ rest) (behind place arms otherwise ++ rest) x (k.each x.all place otherwise rest x.count (x.grown next rest at) x.entered);
+      both before mid after lefts last entry (opened_all otherwise ++ rest) (behind place arms otherwise ++ rest) x
+      (k.each x.all place otherwise rest x.count (x.grown next rest at) x.entered);
 }
 
-pub emits_if : (before mid after : List Node) (place : Place) (arms : List arm.Arm) (otherwise : f.Statements) (last next entry : ℕ) → 0 < length arms → Emits before mid (opened_all otherwise) next last → EmitsArms mid after (f.arms_list_of arms) last next entry →
+pub emits_if : (before mid after : List Node) (place : Place) (arms : List arm.Arm) (otherwise : f.Statements) (last next entry : ℕ) → 0 < length arms →
+    Emits before mid (opened_all otherwise) next last → EmitsArms mid after (f.arms_list_of arms) last next entry →
     Emits before after (f.If place (f.arms_list_of arms) otherwise ∷ []) next entry
 emits_if before mid after place [] otherwise last next entry h e k = absurd (omega arith)
-emits_if before mid after place (x ∷ xs) otherwise last next entry h e k = emits_behind before mid after place (f.arms_list_of (x ∷ xs)) otherwise last next entry e k
+emits_if before mid after place (x ∷ xs) otherwise last next entry h e k =
+    emits_behind before mid after place (f.arms_list_of (x ∷ xs)) otherwise last next entry e k
 
-pub emits_if_none : (before after : List Node) (place : Place) (arms : List arm.Arm) (otherwise : f.Statements) (next position : ℕ) → length arms ≡ 0 → IsPushed before after node.Never position → Emits before after (f.If place (f.arms_list_of arms) otherwise ∷ []) next position
+pub emits_if_none : (before after : List Node) (place : Place) (arms : List arm.Arm) (otherwise : f.Statements) (next position : ℕ) → length arms ≡ 0 →
+    IsPushed before after node.Never position → Emits before after (f.If place (f.arms_list_of arms) otherwise ∷ []) next position
 emits_if_none before after place [] otherwise next position h p = emits_never before after place otherwise next position p
 emits_if_none before after place (x ∷ xs) otherwise next position h p = absurd (omega arith)
 
 -- ---- Of a loop
 
-module _ (before mid after final : List Node) (condition : Bor code.Placed) (body : f.Statements) (next test begin : ℕ) (p : IsPushed before mid node.Never test) (e : Emits mid after (opened_all body) test begin)
-    (is : final ≡ slice_set after test (node.Test condition begin next)) (lefts : Lefts) (place : Place) (rest : List f.Statement) (size : length lefts ≡ length before) (at : At lefts next rest) where
+module _ (before mid after final : List Node) (condition : Bor code.Placed) (body : f.Statements) (next test begin : ℕ)
+    (p : IsPushed before mid node.Never test) (e : Emits mid after (opened_all body) test begin)
+    (is : final ≡ slice_set after test (node.Test condition begin next)) (lefts : Lefts) (place : Place) (rest : List f.Statement)
+    (size : length lefts ≡ length before) (at : At lefts next rest) where
   abbrev again : List f.Statement
   again = f.While place (placed_of condition.now) body ∷ rest
 
@@ -246,39 +272,55 @@ module _ (before mid after final : List Node) (condition : Bor code.Placed) (bod
   pub from_body : Extends before final lefts begin (opened_all body ++ again)
   from_body =
       let y = body_of in
-      patched before mid after final lefts node.Never (node.Test condition begin next) test begin begin again (opened_all body ++ again) (opened_all body ++ again) size p y is
+      patched before mid after final lefts node.Never (node.Test condition begin next) test begin begin again (opened_all body ++ again)
+      (opened_all body ++ again) size p y is
       (repeats place body rest y.entered (y.grown next rest (get_front lefts (again ∷ []) next rest at)) refl) y.entered
 
-pub emits_loop : (before mid after final : List Node) (condition : Bor code.Placed) (body : f.Statements) (next test begin : ℕ) → IsPushed before mid node.Never test → Emits mid after (opened_all body) test begin →
-    final ≡ slice_set after test (node.Test condition begin next) → EmitsLoop before final (placed_of condition.now) body next (record { test = test; body = begin })
+pub emits_loop : (before mid after final : List Node) (condition : Bor code.Placed) (body : f.Statements) (next test begin : ℕ) →
+    IsPushed before mid node.Never test → Emits mid after (opened_all body) test begin →
+    final ≡ slice_set after test (node.Test condition begin next) → EmitsLoop before final (placed_of condition.now) body next
+    (record { test = test; body = begin })
 emits_loop before mid after final condition body next test begin p e is = record {
   tests = λ place. record { each = λ lefts rest size at. from_test before mid after final condition body next test begin p e is lefts place rest size at };
   begins = λ place. record {
     each = λ lefts rest size at.
         let P : List f.Statement → Type 0 = λ l. Extends before final lefts begin l in
-        subst P (sym (append_assoc (opened_all body) (f.While place (placed_of condition.now) body ∷ []) rest)) (from_body before mid after final condition body next test begin p e is lefts place rest size at);
+        subst P (sym (append_assoc (opened_all body) (f.While place (placed_of condition.now) body ∷ []) rest))
+        (from_body before mid after final condition body next test begin p e is lefts place rest size at);
   };
 }
 
 -- ---- The same under `Ok`
 
-pub ok_node : {Y : Type 0} (r : Result ℕ Y) (before after : List Node) (n : Node) (does : List f.Statement) (next : ℕ) → IfOk r (λ position. IsPushed before after n position) →
+pub ok_node : {Y : Type 0} (r : Result ℕ Y) (before after : List Node) (n : Node) (does : List f.Statement) (next : ℕ) →
+    IfOk r (λ position. IsPushed before after n position) →
     ((all : Lefts) (rest : List f.Statement) → At all next rest → Does all n (does ++ rest)) → IfOk r (λ entry. Emits before after does next entry)
-ok_node r before after n does next h d = IfOk-weaker r (λ position. IsPushed before after n position) (λ entry. Emits before after does next entry) (λ position p. emits_node before after n position does next p d) h
+ok_node r before after n does next h d = IfOk-weaker r (λ position. IsPushed before after n position) (λ entry. Emits before after does next entry)
+    (λ position p. emits_node before after n position does next p d) h
 
-pub ok_never : {Y : Type 0} (r : Result ℕ Y) (before after : List Node) (place : Place) (arms : List arm.Arm) (otherwise : f.Statements) (next : ℕ) → length arms ≡ 0 → IfOk r (λ position. IsPushed before after node.Never position) →
+pub ok_never : {Y : Type 0} (r : Result ℕ Y) (before after : List Node) (place : Place) (arms : List arm.Arm) (otherwise : f.Statements) (next : ℕ) →
+    length arms ≡ 0 → IfOk r (λ position. IsPushed before after node.Never position) →
     IfOk r (λ entry. Emits before after (f.If place (f.arms_list_of arms) otherwise ∷ []) next entry)
-ok_never r before after place arms otherwise next e h = IfOk-weaker r (λ position. IsPushed before after node.Never position) (λ entry. Emits before after (f.If place (f.arms_list_of arms) otherwise ∷ []) next entry) (λ position p. emits_if_none before after place arms otherwise next position e p) h
+ok_never r before after place arms otherwise next e h = IfOk-weaker r (λ position. IsPushed before after node.Never position)
+    (λ entry. Emits before after (f.If place (f.arms_list_of arms) otherwise ∷ []) next entry)
+    (λ position p. emits_if_none before after place arms otherwise next position e p) h
 
-pub ok_if : {Y : Type 0} (r : Result ℕ Y) (before mid after : List Node) (place : Place) (arms : List arm.Arm) (otherwise : f.Statements) (last next : ℕ) → 0 < length arms → Emits before mid (opened_all otherwise) next last →
-    IfOk r (λ entry. EmitsArms mid after (f.arms_list_of arms) last next entry) → IfOk r (λ entry. Emits before after (f.If place (f.arms_list_of arms) otherwise ∷ []) next entry)
+pub ok_if : {Y : Type 0} (r : Result ℕ Y) (before mid after : List Node) (place : Place) (arms : List arm.Arm) (otherwise : f.Statements) (last next : ℕ) →
+    0 < length arms → Emits before mid (opened_all otherwise) next last →
+    IfOk r (λ entry. EmitsArms mid after (f.arms_list_of arms) last next entry) →
+    IfOk r (λ entry. Emits before after (f.If place (f.arms_list_of arms) otherwise ∷ []) next entry)
 ok_if r before mid after place arms otherwise last next some e h =
-    IfOk-weaker r (λ entry. EmitsArms mid after (f.arms_list_of arms) last next entry) (λ entry. Emits before after (f.If place (f.arms_list_of arms) otherwise ∷ []) next entry) (λ entry k. emits_if before mid after place arms otherwise last next entry some e k) h
+    IfOk-weaker r (λ entry. EmitsArms mid after (f.arms_list_of arms) last next entry)
+    (λ entry. Emits before after (f.If place (f.arms_list_of arms) otherwise ∷ []) next entry)
+    (λ entry k. emits_if before mid after place arms otherwise last next entry some e k) h
 
-pub ok_test : {Y : Type 0} (r : Result ℕ Y) (before mid after : List Node) (condition : Bor code.Placed) (body : f.Statements) (holds fails next : ℕ) → Emits before mid (opened_all body) next holds → IfOk r (λ position. IsPushed mid after (node.Test condition holds fails) position) →
+pub ok_test : {Y : Type 0} (r : Result ℕ Y) (before mid after : List Node) (condition : Bor code.Placed) (body : f.Statements) (holds fails next : ℕ) →
+    Emits before mid (opened_all body) next holds → IfOk r (λ position. IsPushed mid after (node.Test condition holds fails) position) →
     IfOk r (λ entry. EmitsTest before after (placed_of condition.now) body fails next entry)
 ok_test r before mid after condition body holds fails next e h =
-    IfOk-weaker r (λ position. IsPushed mid after (node.Test condition holds fails) position) (λ entry. EmitsTest before after (placed_of condition.now) body fails next entry) (λ entry p. emits_test before mid after condition body holds fails next entry e p) h
+    IfOk-weaker r (λ position. IsPushed mid after (node.Test condition holds fails) position)
+    (λ entry. EmitsTest before after (placed_of condition.now) body fails next entry)
+    (λ entry p. emits_test before mid after condition body holds fails next entry e p) h
 
 -- ---- From the end of a list
 
@@ -287,11 +329,13 @@ all_none before xs next =
     let P : List s.Statement → Type 0 = λ ys. Emits before before (opened_all (f.statements_of ys)) next next in
     subst P (sym (drop_all (length xs) xs (omega arith))) (emits_none before next)
 
-pub all_more : (before mid after : List Node) (xs : List s.Statement) (i : ℕ) (x : s.Statement) (next one two : ℕ) → 0 < i → i ≤ length xs → x ≡ get_or xs (i - 1) x → Emits before mid (opened_all (f.statements_of (drop i xs))) next one →
+pub all_more : (before mid after : List Node) (xs : List s.Statement) (i : ℕ) (x : s.Statement) (next one two : ℕ) → 0 < i → i ≤ length xs →
+    x ≡ get_or xs (i - 1) x → Emits before mid (opened_all (f.statements_of (drop i xs))) next one →
     Emits mid after (opened (f.statement_of x)) one two → Emits before after (opened_all (f.statements_of (drop (i - 1) xs))) next two
 all_more before mid after xs i x next one two some within is e k =
     let P : List s.Statement → Type 0 = λ ys. Emits before after (opened_all (f.statements_of ys)) next two in
-    let cut : drop (i - 1) xs ≡ x ∷ drop i xs = drop_more xs (i - 1) x (omega arith) ∙ (ap (λ y. y ∷ drop (i - 1 + 1) xs) (sym is) ∙ ap (λ n. x ∷ drop n xs) (omega arith)) in
+    let cut : drop (i - 1) xs ≡ x ∷ drop i xs = drop_more xs (i - 1) x (omega arith)
+    ∙ (ap (λ y. y ∷ drop (i - 1 + 1) xs) (sym is) ∙ ap (λ n. x ∷ drop n xs) (omega arith)) in
     subst P (sym cut) (emits_then before mid after (opened_all (f.statements_of (drop i xs))) (opened (f.statement_of x)) next one two e k)
 
 pub arms_none : (before : List Node) (xs : List arm.Arm) (last next : ℕ) → EmitsArms before before (f.arms_list_of (drop (length xs) xs)) last next last
@@ -299,16 +343,20 @@ arms_none before xs last next =
     let P : List arm.Arm → Type 0 = λ ys. EmitsArms before before (f.arms_list_of ys) last next last in
     subst P (sym (drop_all (length xs) xs (omega arith))) (no_arms before last next)
 
-pub arms_more : (before mid after : List Node) (xs : List arm.Arm) (i : ℕ) (x : arm.Arm) (last next one two : ℕ) → 0 < i → i ≤ length xs → x ≡ get_or xs (i - 1) x → EmitsArms before mid (f.arms_list_of (drop i xs)) last next one →
-    EmitsTest mid after (placed_of x.condition) (f.statements_of x.body.items) one next two → EmitsArms before after (f.arms_list_of (drop (i - 1) xs)) last next two
+pub arms_more : (before mid after : List Node) (xs : List arm.Arm) (i : ℕ) (x : arm.Arm) (last next one two : ℕ) → 0 < i → i ≤ length xs →
+    x ≡ get_or xs (i - 1) x → EmitsArms before mid (f.arms_list_of (drop i xs)) last next one →
+    EmitsTest mid after (placed_of x.condition) (f.statements_of x.body.items) one next two →
+    EmitsArms before after (f.arms_list_of (drop (i - 1) xs)) last next two
 arms_more before mid after xs i x last next one two some within is e k =
     let P : List arm.Arm → Type 0 = λ ys. EmitsArms before after (f.arms_list_of ys) last next two in
-    let cut : drop (i - 1) xs ≡ x ∷ drop i xs = drop_more xs (i - 1) x (omega arith) ∙ (ap (λ y. y ∷ drop (i - 1 + 1) xs) (sym is) ∙ ap (λ n. x ∷ drop n xs) (omega arith)) in
+    let cut : drop (i - 1) xs ≡ x ∷ drop i xs = drop_more xs (i - 1) x (omega arith)
+    ∙ (ap (λ y. y ∷ drop (i - 1 + 1) xs) (sym is) ∙ ap (λ n. x ∷ drop n xs) (omega arith)) in
     subst P (sym cut) (emits_arm before mid after (placed_of x.condition) (f.statements_of x.body.items) (f.arms_list_of (drop i xs)) last one next two e k)
 
 -- ---- A whole body
 
-pub compiled : (before after : List Node) (body : f.Statements) (start : ℕ) → before ≡ node.End ∷ [] → Emits before after (opened_all body) 0 start → (lefts : Lefts) × IsCode after lefts × At lefts start (opened_all body)
+pub compiled : (before after : List Node) (body : f.Statements) (start : ℕ) → before ≡ node.End ∷ [] → Emits before after (opened_all body) 0 start →
+    (lefts : Lefts) × IsCode after lefts × At lefts start (opened_all body)
 compiled before after body start is e =
     let none : List f.Statement = [] in
     let ends : Lefts = none ∷ [] in

@@ -69,7 +69,8 @@ ends_taken hs m u k h = ⊎_elim
     (λ other. none_ends (holds_none hs k) (holds_none (slice_set hs m (Some u)) k) (sym (ap is_none (held_more 0 hs m u k other h))))
     (cases_eq k u)
 
-pub ends_freed : (hs : List (Option ℕ)) (m u k : ℕ) → slice_get hs m ≡ Some (Some u) → holds_none (slice_set hs m None) u ≡ true → is_one u k ≡ ends hs (slice_set hs m None) k
+pub ends_freed : (hs : List (Option ℕ)) (m u k : ℕ) → slice_get hs m ≡ Some (Some u) → holds_none (slice_set hs m None) u ≡ true →
+    is_one u k ≡ ends hs (slice_set hs m None) k
 ends_freed hs m u k h e = ⊎_elim
     (λ same.
     let P : ℕ → Type 0 = λ j. is_one u j ≡ ends hs (slice_set hs m None) j in
@@ -79,7 +80,8 @@ ends_freed hs m u k h e = ⊎_elim
     rw (not_equal u k apart) (sym (none_ends (holds_none hs k) (holds_none (slice_set hs m None) k) (sym (ap is_none (held_less 0 hs m u k other h))))))
     (cases_eq k u)
 
-pub ends_freed_none : (hs : List (Option ℕ)) (m u k : ℕ) → slice_get hs m ≡ Some (Some u) → holds_none (slice_set hs m None) u ≡ false → ends hs (slice_set hs m None) k ≡ 0
+pub ends_freed_none : (hs : List (Option ℕ)) (m u k : ℕ) → slice_get hs m ≡ Some (Some u) → holds_none (slice_set hs m None) u ≡ false →
+    ends hs (slice_set hs m None) k ≡ 0
 ends_freed_none hs m u k h e = ⊎_elim
     (λ same.
     let P : ℕ → Type 0 = λ j. ends hs (slice_set hs m None) j ≡ 0 in
@@ -92,7 +94,8 @@ ends_freed_none hs m u k h e = ⊎_elim
 pub counted_same : (sections : List ℕ) (ended f : ℕ → ℕ) → ((k : ℕ) → f k ≡ 0) → AreCounted sections ended → AreCounted sections (λ k. ended k + f k)
 counted_same sections ended f z c k l = c k l ∙ ap (λ n. min n (2 ^ 64 - 1)) (omega (arith, z k))
 
-pub counted_as : (sections : List ℕ) (ended f g : ℕ → ℕ) → ((k : ℕ) → f k ≡ g k) → AreCounted sections (λ k. ended k + f k) → AreCounted sections (λ k. ended k + g k)
+pub counted_as : (sections : List ℕ) (ended f g : ℕ → ℕ) → ((k : ℕ) → f k ≡ g k) → AreCounted sections (λ k. ended k + f k) →
+    AreCounted sections (λ k. ended k + g k)
 counted_as sections ended f g z c k l = c k l ∙ ap (λ n. min (ended k + n) (2 ^ 64 - 1)) (z k)
 
 -- a read of a holder

@@ -1,5 +1,5 @@
 -- What a thread holds, and the values that it reads under it.
-use Rattle.std.proofs.Common.{◌≡◌, ◌≢◌, refl, ℕ, zero, suc, List, [], ◌∷◌, ◌++◌, sym, ◌∙◌, ap, ap₂, Bool, true, false, Option, Some, None, slice_set, map, replicate, arith}
+use Rattle.std.proofs.Common.{◌≡◌, ◌≢◌, refl, ℕ, zero, suc, List, [], ◌∷◌, ◌++◌, sym, ◌∙◌, ap, ap₂, Bool, true, false, Option, Some, None, slice_set, replicate, arith}
 use Rattle.std.specs.Prelude.{slice_get, slice_index_or, ℤ, pos, not, find, if◌then◌else◌}
 use Rattle.std.specs.Option.{option_map, option_or, unwrap_or}
 use Rattle.std.proofs.lemmas.Bool.{eqb-true, eq-eqb}
@@ -15,12 +15,9 @@ use Rattle.c_tree.specs.Exprs as e
 use Rattle.c_tree.specs.Programs.{Variable}
 use Rattle.c_tree.specs.Values.{element_number, element_at, value}
 use Rattle.c_tree.specs.Locking.{Held, holds, Use, expr_uses, guard_of, is_guarded, AreGuarded}
+use Rattle.source_machine.specs.Mutexes.{held_by}
 
 -- ---- What a thread holds
-
--- of each mutex whether the thread holds it
-abbrev pub held_by : (thread : ℕ) → List (Option ℕ) → Held
-held_by t hs = map (is_held_by t) hs
 
 -- a mutex that is in the set is held by the thread
 pub held_found : (t : ℕ) (hs : List (Option ℕ)) (k : ℕ) → holds (held_by t hs) k ≡ true → slice_get hs k ≡ Some (Some t)
@@ -42,7 +39,8 @@ pub held_given : (t : ℕ) (hs : List (Option ℕ)) (k : ℕ) → held_by t (sli
 held_given t hs k = map-set (is_held_by t) hs k None
 
 -- a holder that the thread can't tell from the one before leaves its set as it is
-pub held_kept : (u : ℕ) (hs : List (Option ℕ)) (k : ℕ) (before after : Option ℕ) → slice_get hs k ≡ Some before → is_held_by u after ≡ is_held_by u before → held_by u (slice_set hs k after) ≡ held_by u hs
+pub held_kept : (u : ℕ) (hs : List (Option ℕ)) (k : ℕ) (before after : Option ℕ) → slice_get hs k ≡ Some before → is_held_by u after ≡ is_held_by u before →
+    held_by u (slice_set hs k after) ≡ held_by u hs
 held_kept u hs k before after g e = map-set_same (is_held_by u) hs k after None (e ∙ ap (is_held_by u) (sym (get_or_from_slice_get hs k before None g)))
 
 -- nothing is held where all is free
@@ -110,7 +108,8 @@ pub written_same : (xs ys : List (List ℤ)) (k : ℕ) (g : List ℤ → List �
     slice_get (slice_set ys k (g (slice_index_or ys k []))) k ≡ slice_get (slice_set xs k (g (slice_index_or xs k []))) k
 written_same xs ys k g h = written ys k g ∙ (ap (option_map g) h ∙ sym (written xs k g))
 
-module _ (variables : List Variable) (h : Held) (ls : List ℤ) (vs ws : List (List ℤ)) (same : (v : ℕ) → holds h (guard_of variables v) ≡ true → slice_get ws v ≡ slice_get vs v) where
+module _ (variables : List Variable) (h : Held) (ls : List ℤ) (vs ws : List (List ℤ))
+    (same : (v : ℕ) → holds h (guard_of variables v) ≡ true → slice_get ws v ≡ slice_get vs v) where
   -- an element of a guarded variable
   element_same : (v n m : ℕ) → holds h (guard_of variables v) ≡ true → n ≡ m → element_number ws v n ≡ element_number vs v m
   element_same v n m g is = ap (element_number ws v) is ∙ ap (λ (xs : List ℤ). slice_index_or xs m (pos 0)) (index_same vs ws v (same v g))
@@ -121,15 +120,20 @@ module _ (variables : List Variable) (h : Held) (ls : List ℤ) (vs ws : List (L
   value_same (e.Local local kind) g = refl
   value_same (e.Variable place v kind) g = ap (typed kind) (element_same v 0 0 (guarded_first variables h _ [] g) refl)
   value_same (e.Element place v kind index_place index) g =
-      ap (typed kind) (element_same v _ _ (guarded_first variables h _ (expr_uses index) g) (ap element_at (value_same index (guarded_rest variables h _ (expr_uses index) g))))
+      ap (typed kind) (element_same v _ _ (guarded_first variables h _ (expr_uses index) g)
+      (ap element_at (value_same index (guarded_rest variables h _ (expr_uses index) g))))
   value_same (e.Unary operator operand) g = ap (unary_of operator) (value_same operand g)
   value_same (e.Cast kind operand) g = ap (λ (y : Typed). converted y kind) (value_same operand g)
   value_same (e.Converted kind operand) g = ap (λ (y : Typed). converted y kind) (value_same operand g)
   value_same (e.Binary operator left right) g =
-      ap₂ (binary_of operator) (value_same left (guarded_left variables h (expr_uses left) (expr_uses right) g)) (value_same right (guarded_right variables h (expr_uses left) (expr_uses right) g))
+      ap₂ (binary_of operator) (value_same left (guarded_left variables h (expr_uses left) (expr_uses right) g))
+      (value_same right (guarded_right variables h (expr_uses left) (expr_uses right) g))
   value_same (e.Conditional kind condition chosen otherwise) g =
       let first = guarded_left variables h (expr_uses condition ++ expr_uses chosen) (expr_uses otherwise) g in
       let pick = λ (c y n : Typed). converted (if is_zero c.number then n else y) kind in
-      ap (λ (c : Typed). pick c (value ls ws chosen) (value ls ws otherwise)) (value_same condition (guarded_left variables h (expr_uses condition) (expr_uses chosen) first))
-      ∙ (ap (λ (y : Typed). pick (value ls vs condition) y (value ls ws otherwise)) (value_same chosen (guarded_right variables h (expr_uses condition) (expr_uses chosen) first))
-      ∙ ap (pick (value ls vs condition) (value ls vs chosen)) (value_same otherwise (guarded_right variables h (expr_uses condition ++ expr_uses chosen) (expr_uses otherwise) g)))
+      ap (λ (c : Typed). pick c (value ls ws chosen) (value ls ws otherwise))
+      (value_same condition (guarded_left variables h (expr_uses condition) (expr_uses chosen) first))
+      ∙ (ap (λ (y : Typed). pick (value ls vs condition) y (value ls ws otherwise))
+      (value_same chosen (guarded_right variables h (expr_uses condition) (expr_uses chosen) first))
+      ∙ ap (pick (value ls vs condition) (value ls vs chosen)) (value_same otherwise
+      (guarded_right variables h (expr_uses condition ++ expr_uses chosen) (expr_uses otherwise) g)))

@@ -8,5 +8,13 @@ pub mod Starting
 pub mod Others
 pub mod Guarding
 pub mod Keeping
+pub mod Changes
 pub mod Discipline
+pub mod Guarded
+pub mod Before
 pub mod Single
+pub mod Appending
+pub mod Swapping
+pub mod Exchanging
+pub mod Hands
+pub mod FormedSteps

@@ -28,7 +28,8 @@ record Writes (s next : m.State) (t : ℕ) : Type 0 where
   same_sizes : sizes next ≡ sizes s
 
 module _ (s next : m.State) (t : ℕ) (thread : m.Thread) where
-  by_some : (before : m.State) (x : m.Thread) → before.threads ≡ s.threads → sizes before ≡ sizes s → Some (m.with_thread before t x) ≡ Some next → Writes s next t
+  by_some : (before : m.State) (x : m.Thread) → before.threads ≡ s.threads → sizes before ≡ sizes s → Some (m.with_thread before t x) ≡ Some next →
+      Writes s next t
   by_some before x same sized h =
       let made = some_is (m.with_thread before t x) next h in
       record {
@@ -42,7 +43,8 @@ module _ (s next : m.State) (t : ℕ) (thread : m.Thread) where
   lock_by mutex rest (Some None) = Some (m.with_thread (m.with_holder s mutex (Some t)) t (record thread { left = rest }))
   lock_by mutex rest (Some (Some u)) = None
 
-  lock_is : (place : Place) (mutex : ℕ) (rest : List f.Statement) (o : Option (Option ℕ)) → slice_get s.holders mutex ≡ o → m.statement_step s t thread (f.Lock place mutex) rest ≡ lock_by mutex rest o
+  lock_is : (place : Place) (mutex : ℕ) (rest : List f.Statement) (o : Option (Option ℕ)) → slice_get s.holders mutex ≡ o →
+      m.statement_step s t thread (f.Lock place mutex) rest ≡ lock_by mutex rest o
   lock_is place mutex rest None e = rw (m.statement_step, e) refl
   lock_is place mutex rest (Some None) e = rw (m.statement_step, e) refl
   lock_is place mutex rest (Some (Some u)) e = rw (m.statement_step, e) refl
@@ -58,10 +60,12 @@ module _ (s next : m.State) (t : ℕ) (thread : m.Thread) where
   by_statement (f.If place (f.arm_and condition body arms) otherwise) rest h = by_some s _ refl refl h
   by_statement (f.While place condition body) rest h = by_some s _ refl refl h
   by_statement (f.Do place body condition) rest h = cc
-  by_statement (f.Lock place mutex) rest h = by_lock mutex rest (slice_get s.holders mutex) (sym (lock_is place mutex rest (slice_get s.holders mutex) refl) ∙ h)
+  by_statement (f.Lock place mutex) rest h = by_lock mutex rest (slice_get s.holders mutex)
+      (sym (lock_is place mutex rest (slice_get s.holders mutex) refl) ∙ h)
   by_statement (f.Unlock place mutex) rest h = by_some (m.with_holder s mutex None) (record thread { left = rest }) refl refl h
 
-  by_end : (ended : Bool) → (let o : Option m.State = if ended then None else Some (m.with_thread s t (record thread { ended = true })) in o ≡ Some next) → Writes s next t
+  by_end : (ended : Bool) → (let o : Option m.State = if ended then None else Some (m.with_thread s t (record thread { ended = true })) in o ≡ Some next) →
+      Writes s next t
   by_end true h = cc
   by_end false h = by_some s (record thread { ended = true }) refl refl h
 
@@ -96,19 +100,22 @@ others s next t u h n =
     let w = written s next t h in
     ap (λ ts. slice_get ts u) w.is ∙ set_other s.threads t u w.thread n
 
-resting_by : (s : m.State) (t : ℕ) (ts : List ℕ) (u : ℕ) (o : Option m.State) → source_step s t ≡ o → u ≢ t → ((next : m.State) → slice_get (m.after_from next ts).threads u ≡ slice_get next.threads u) → slice_get (after_by ts s o).threads u ≡ slice_get s.threads u
+resting_by : (s : m.State) (t : ℕ) (ts : List ℕ) (u : ℕ) (o : Option m.State) → source_step s t ≡ o → u ≢ t →
+    ((next : m.State) → slice_get (m.after_from next ts).threads u ≡ slice_get next.threads u) → slice_get (after_by ts s o).threads u ≡ slice_get s.threads u
 resting_by s t ts u None e n more = refl
 resting_by s t ts u (Some next) e n more = more next ∙ others s next t u e n
 
 pub resting : (s : m.State) (schedule : List ℕ) (u : ℕ) → (Contains schedule u → ⊥) → slice_get (m.after_from s schedule).threads u ≡ slice_get s.threads u
 resting s [] u n = refl
-resting s (t ∷ ts) u n = resting_by s t ts u (source_step s t) refl (λ e. n (0, omega arith, sym e)) (λ next. resting next ts u (λ h. n (suc h.0, omega (arith, h.1), h.2)))
+resting s (t ∷ ts) u n = resting_by s t ts u (source_step s t) refl (λ e. n (0, omega arith, sym e))
+    (λ next. resting next ts u (λ h. n (suc h.0, omega (arith, h.1), h.2)))
 
 -- as many threads, and as many elements of each variable
 abbrev SameSizes : m.State → m.State → Type 0
 SameSizes s after = (length after.threads ≡ length s.threads) × (sizes after ≡ sizes s)
 
-sizes_by : (s : m.State) (t : ℕ) (ts : List ℕ) (o : Option m.State) → source_step s t ≡ o → ((next : m.State) → SameSizes next (m.after_from next ts)) → SameSizes s (after_by ts s o)
+sizes_by : (s : m.State) (t : ℕ) (ts : List ℕ) (o : Option m.State) → source_step s t ≡ o → ((next : m.State) → SameSizes next (m.after_from next ts)) →
+    SameSizes s (after_by ts s o)
 sizes_by s t ts None e more = (refl, refl)
 sizes_by s t ts (Some next) e more =
     let w = written s next t e in

@@ -120,7 +120,8 @@ minus : (p : Kind) (z : ℤ) → promoted p ≡ p → typed (promoted p) (reduce
 minus p z e = rw e (ap (typed p) (reduced-neg p z))
 
 complement : (p : Kind) (z : ℤ) → promoted p ≡ p → typed (promoted p) (reduced (promoted p) (negsuc 0 -ℤ reduced p z)) ≡ typed p (reduced p (negsuc 0 -ℤ z))
-complement p z e = rw e (ap (typed p) (reduced-same p _ _ (Same-add (modulus_of p) (negsuc 0) (negsuc 0) (neg_ℤ (reduced p z)) (neg_ℤ z) (Same_refl (modulus_of p) (negsuc 0)) (Same-neg (modulus_of p) _ z (Same-reduced p z)))))
+complement p z e = rw e (ap (typed p) (reduced-same p _ _ (Same-add (modulus_of p) (negsuc 0) (negsuc 0) (neg_ℤ (reduced p z)) (neg_ℤ z)
+    (Same_refl (modulus_of p) (negsuc 0)) (Same-neg (modulus_of p) _ z (Same-reduced p z)))))
 
 pub unary_reduced : (op : un.Unary) (v : Typed) → op ≢ u.Not → unary_of op (typed_reduced (promoted v.kind) v.number) ≡ unary_of op v
 unary_reduced u.Plus v n = plus (promoted v.kind) v.number (promoted-promoted v.kind)
@@ -130,28 +131,44 @@ unary_reduced u.Not v n = absurd (n refl)
 
 -- ---- Two operands, in the common kind
 
-arithmetic : (f : Kind → ℤ → ℤ → ℤ) (c : Kind) (x y : ℤ) → common_of c c ≡ c → typed (common_of c c) (in_common f c (reduced c x) c (reduced c y)) ≡ typed c (f c (reduced c x) (reduced c y))
+arithmetic : (f : Kind → ℤ → ℤ → ℤ) (c : Kind) (x y : ℤ) → common_of c c ≡ c →
+    typed (common_of c c) (in_common f c (reduced c x) c (reduced c y)) ≡ typed c (f c (reduced c x) (reduced c y))
 arithmetic f c x y e = rw e (ap₂ (λ (m n : ℤ). typed c (f c m n)) (reduced-reduced c x) (reduced-reduced c y))
 
-comparison : (f : Kind → ℤ → ℤ → ℤ) (c : Kind) (x y : ℤ) → common_of c c ≡ c → typed Int (in_common f c (reduced c x) c (reduced c y)) ≡ typed Int (f c (reduced c x) (reduced c y))
+comparison : (f : Kind → ℤ → ℤ → ℤ) (c : Kind) (x y : ℤ) → common_of c c ≡ c →
+    typed Int (in_common f c (reduced c x) c (reduced c y)) ≡ typed Int (f c (reduced c x) (reduced c y))
 comparison f c x y e = rw e (ap₂ (λ (m n : ℤ). typed Int (f c m n)) (reduced-reduced c x) (reduced-reduced c y))
 
 pub binary_reduced : (op : bin.Binary) (v w : Typed) → op ≢ b.LogicalAnd → op ≢ b.LogicalOr → op ≢ b.ShiftLeft → op ≢ b.ShiftRight →
     binary_of op (typed_reduced (common_of v.kind w.kind) v.number) (typed_reduced (common_of v.kind w.kind) w.number) ≡ binary_of op v w
-binary_reduced b.Mul v w p q r s = arithmetic (λ (c : Kind) (x y : ℤ). reduced c (x *ℤ y)) (common_of v.kind w.kind) v.number w.number (common-common v.kind w.kind)
-binary_reduced b.Div v w p q r s = arithmetic (λ (c : Kind) (x y : ℤ). reduced c (quotient x y)) (common_of v.kind w.kind) v.number w.number (common-common v.kind w.kind)
-binary_reduced b.Rem v w p q r s = arithmetic (λ (c : Kind) (x y : ℤ). reduced c (remainder x y)) (common_of v.kind w.kind) v.number w.number (common-common v.kind w.kind)
-binary_reduced b.Add v w p q r s = arithmetic (λ (c : Kind) (x y : ℤ). reduced c (x +ℤ y)) (common_of v.kind w.kind) v.number w.number (common-common v.kind w.kind)
-binary_reduced b.Sub v w p q r s = arithmetic (λ (c : Kind) (x y : ℤ). reduced c (x -ℤ y)) (common_of v.kind w.kind) v.number w.number (common-common v.kind w.kind)
-binary_reduced b.And v w p q r s = arithmetic (λ (c : Kind) (x y : ℤ). reduced c (bitwise bit_and c x y)) (common_of v.kind w.kind) v.number w.number (common-common v.kind w.kind)
-binary_reduced b.Xor v w p q r s = arithmetic (λ (c : Kind) (x y : ℤ). reduced c (bitwise bit_xor c x y)) (common_of v.kind w.kind) v.number w.number (common-common v.kind w.kind)
-binary_reduced b.Or v w p q r s = arithmetic (λ (c : Kind) (x y : ℤ). reduced c (bitwise bit_or c x y)) (common_of v.kind w.kind) v.number w.number (common-common v.kind w.kind)
-binary_reduced b.Less v w p q r s = comparison (λ (c : Kind) (x y : ℤ). truth (int_lt x y)) (common_of v.kind w.kind) v.number w.number (common-common v.kind w.kind)
-binary_reduced b.Greater v w p q r s = comparison (λ (c : Kind) (x y : ℤ). truth (int_lt y x)) (common_of v.kind w.kind) v.number w.number (common-common v.kind w.kind)
-binary_reduced b.LessEqual v w p q r s = comparison (λ (c : Kind) (x y : ℤ). truth (int_le x y)) (common_of v.kind w.kind) v.number w.number (common-common v.kind w.kind)
-binary_reduced b.GreaterEqual v w p q r s = comparison (λ (c : Kind) (x y : ℤ). truth (int_le y x)) (common_of v.kind w.kind) v.number w.number (common-common v.kind w.kind)
-binary_reduced b.Equal v w p q r s = comparison (λ (c : Kind) (x y : ℤ). truth (int_eq x y)) (common_of v.kind w.kind) v.number w.number (common-common v.kind w.kind)
-binary_reduced b.NotEqual v w p q r s = comparison (λ (c : Kind) (x y : ℤ). truth (not (int_eq x y))) (common_of v.kind w.kind) v.number w.number (common-common v.kind w.kind)
+binary_reduced b.Mul v w p q r s = arithmetic (λ (c : Kind) (x y : ℤ). reduced c (x *ℤ y)) (common_of v.kind w.kind) v.number w.number
+    (common-common v.kind w.kind)
+binary_reduced b.Div v w p q r s = arithmetic (λ (c : Kind) (x y : ℤ). reduced c (quotient x y)) (common_of v.kind w.kind) v.number w.number
+    (common-common v.kind w.kind)
+binary_reduced b.Rem v w p q r s = arithmetic (λ (c : Kind) (x y : ℤ). reduced c (remainder x y)) (common_of v.kind w.kind) v.number w.number
+    (common-common v.kind w.kind)
+binary_reduced b.Add v w p q r s = arithmetic (λ (c : Kind) (x y : ℤ). reduced c (x +ℤ y)) (common_of v.kind w.kind) v.number w.number
+    (common-common v.kind w.kind)
+binary_reduced b.Sub v w p q r s = arithmetic (λ (c : Kind) (x y : ℤ). reduced c (x -ℤ y)) (common_of v.kind w.kind) v.number w.number
+    (common-common v.kind w.kind)
+binary_reduced b.And v w p q r s = arithmetic (λ (c : Kind) (x y : ℤ). reduced c (bitwise bit_and c x y)) (common_of v.kind w.kind) v.number w.number
+    (common-common v.kind w.kind)
+binary_reduced b.Xor v w p q r s = arithmetic (λ (c : Kind) (x y : ℤ). reduced c (bitwise bit_xor c x y)) (common_of v.kind w.kind) v.number w.number
+    (common-common v.kind w.kind)
+binary_reduced b.Or v w p q r s = arithmetic (λ (c : Kind) (x y : ℤ). reduced c (bitwise bit_or c x y)) (common_of v.kind w.kind) v.number w.number
+    (common-common v.kind w.kind)
+binary_reduced b.Less v w p q r s = comparison (λ (c : Kind) (x y : ℤ). truth (int_lt x y)) (common_of v.kind w.kind) v.number w.number
+    (common-common v.kind w.kind)
+binary_reduced b.Greater v w p q r s = comparison (λ (c : Kind) (x y : ℤ). truth (int_lt y x)) (common_of v.kind w.kind) v.number w.number
+    (common-common v.kind w.kind)
+binary_reduced b.LessEqual v w p q r s = comparison (λ (c : Kind) (x y : ℤ). truth (int_le x y)) (common_of v.kind w.kind) v.number w.number
+    (common-common v.kind w.kind)
+binary_reduced b.GreaterEqual v w p q r s = comparison (λ (c : Kind) (x y : ℤ). truth (int_le y x)) (common_of v.kind w.kind) v.number w.number
+    (common-common v.kind w.kind)
+binary_reduced b.Equal v w p q r s = comparison (λ (c : Kind) (x y : ℤ). truth (int_eq x y)) (common_of v.kind w.kind) v.number w.number
+    (common-common v.kind w.kind)
+binary_reduced b.NotEqual v w p q r s = comparison (λ (c : Kind) (x y : ℤ). truth (not (int_eq x y))) (common_of v.kind w.kind) v.number w.number
+    (common-common v.kind w.kind)
 binary_reduced b.LogicalAnd v w p q r s = absurd (p refl)
 binary_reduced b.LogicalOr v w p q r s = absurd (q refl)
 binary_reduced b.ShiftLeft v w p q r s = absurd (r refl)
@@ -164,7 +181,8 @@ same_rest : (n : ℕ) (y z : ℤ) → 0 < n → Same n y z → int_rem_euclid y 
 same_rest n y z h s =
     let g = split y n h in
     let k = split z n h in
-    let rests : Same n (pos g.rest) (pos k.rest) = Same_trans n (pos g.rest) y (pos k.rest) g.same (Same_trans n y z (pos k.rest) s (Same_sym n (pos k.rest) z k.same)) in
+    let rests : Same n (pos g.rest) (pos k.rest) = Same_trans n (pos g.rest) y (pos k.rest) g.same
+    (Same_trans n y z (pos k.rest) s (Same_sym n (pos k.rest) z k.same)) in
     let within_g : InRange (pos 0) n (pos g.rest) = record { low = omega (arith, ints); high = omega (arith, ints, g.below) } in
     let within_k : InRange (pos 0) n (pos k.rest) = record { low = omega (arith, ints); high = omega (arith, ints, k.below) } in
     g.rest_is ∙ (InRange_unique (pos 0) (pos g.rest) (pos k.rest) n h within_g within_k rests ∙ sym k.rest_is)
@@ -189,13 +207,17 @@ width UnsignedLong = record { positive = omega arith; times = 2 ^ 58; product = 
 places-long : (k : Kind) (z : ℤ) → places k (reduced Long z) ≡ places k z
 places-long k z =
     let d = width k in
-    ap unsigned_abs (same_rest (bits_of k) (reduced Long z) z d.positive (Same-factor (bits_of k) d.times (reduced Long z) z (rw d.product (Same-reduced Long z))))
+    ap unsigned_abs (same_rest (bits_of k) (reduced Long z) z d.positive
+    (Same-factor (bits_of k) d.times (reduced Long z) z (rw d.product (Same-reduced Long z))))
 
-shifts : (g : ℤ → ℕ → ℤ) (p : Kind) (x y : ℤ) → promoted p ≡ p → typed (promoted p) (reduced (promoted p) (g (reduced (promoted p) (reduced p x)) (places (promoted p) (reduced Long y)))) ≡ typed p (reduced p (g (reduced p x) (places p y)))
+shifts : (g : ℤ → ℕ → ℤ) (p : Kind) (x y : ℤ) → promoted p ≡ p → typed (promoted p)
+    (reduced (promoted p) (g (reduced (promoted p) (reduced p x)) (places (promoted p) (reduced Long y)))) ≡ typed p (reduced p (g (reduced p x) (places p y)))
 shifts g p x y e = rw e (ap₂ (λ (m : ℤ) (n : ℕ). typed p (reduced p (g m n))) (reduced-reduced p x) (places-long p y))
 
-pub shift_left_reduced : (v w : Typed) → binary_of b.ShiftLeft (typed_reduced (promoted v.kind) v.number) (typed_reduced Long w.number) ≡ binary_of b.ShiftLeft v w
+pub shift_left_reduced : (v w : Typed) → binary_of b.ShiftLeft (typed_reduced (promoted v.kind) v.number)
+    (typed_reduced Long w.number) ≡ binary_of b.ShiftLeft v w
 shift_left_reduced v w = shifts (λ (x : ℤ) (n : ℕ). x *ℤ pos (2 ^ n)) (promoted v.kind) v.number w.number (promoted-promoted v.kind)
 
-pub shift_right_reduced : (v w : Typed) → binary_of b.ShiftRight (typed_reduced (promoted v.kind) v.number) (typed_reduced Long w.number) ≡ binary_of b.ShiftRight v w
+pub shift_right_reduced : (v w : Typed) → binary_of b.ShiftRight (typed_reduced (promoted v.kind) v.number)
+    (typed_reduced Long w.number) ≡ binary_of b.ShiftRight v w
 shift_right_reduced v w = shifts (λ (x : ℤ) (n : ℕ). int_shr x n) (promoted v.kind) v.number w.number (promoted-promoted v.kind)

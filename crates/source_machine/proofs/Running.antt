@@ -15,7 +15,9 @@ use Rattle.source_machine.specs.declared.answers.Refused.{Refused}
 use Rattle.source_machine.specs.declared.thread.ThreadState.{ThreadState}
 use Rattle.source_machine.specs.declared.state.SourceState.{SourceState}
 use Rattle.source_machine.specs.Sections.{AreCounted, ends}
-use Rattle.source_machine.specs.Threads.{IsLeft, model_of, state_in, lock_ahead, answer_of, reached, IsMade}
+use Rattle.source_machine.specs.Answers.{answer_of}
+use Rattle.source_machine.specs.links.Threads.{IsLeft, model_of, state_in, reached, IsMade}
+use Rattle.source_machine.specs.Mutexes.{lock_ahead}
 use Rattle.source_machine.specs.Runs.{ThreadStands, Stands, stepped_of, IsAfter, refusal_of, Ran}
 use Rattle.source_machine.proofs.Emission.{set_same, set_other}
 use Rattle.source_machine.proofs.Ends.{ends_same, counted_as}
@@ -74,10 +76,13 @@ answer_by s t o = elim o [
   | None ↦ Ended
 ]
 
-module _ (before after : SourceState) (s : m.State) (ended : ℕ → ℕ) (n : ℕ) (it it' : ThreadState) (answer : Stepped) (st : Stands before s ended) (here : slice_get before.threads.items n ≡ Some it)
+module _ (before after : SourceState) (s : m.State) (ended : ℕ → ℕ) (n : ℕ) (it it' : ThreadState) (answer : Stepped) (st : Stands before s ended)
+    (here : slice_get before.threads.items n ≡ Some it)
     (set : after.threads.items ≡ slice_set before.threads.items n it')
-    (makes : (left : List f.Statement) (threads : List m.Thread) → IsLeft it left → IsMade it it' before.variables after.variables before.holders.items after.holders.items answer n threads left)
-    (counts : (ended : ℕ → ℕ) → AreCounted before.sections.items ended → AreCounted after.sections.items (λ k. ended k + ends before.holders.items after.holders.items k)) where
+    (makes : (left : List f.Statement) (threads : List m.Thread) → IsLeft it left →
+    IsMade it it' before.variables after.variables before.holders.items after.holders.items answer n threads left)
+    (counts : (ended : ℕ → ℕ) → AreCounted before.sections.items ended →
+    AreCounted after.sections.items (λ k. ended k + ends before.holders.items after.holders.items k)) where
   within : n < length before.threads.items
   within = slice_get_within before.threads.items n it here
 
@@ -99,7 +104,8 @@ module _ (before after : SourceState) (s : m.State) (ended : ℕ → ℕ) (n : �
       let arrives : reached (source_step s n) s ≡ target = (λ i. reached (stepping i) ((same_state ∙ kept) i)) ∙ made.state in
       let arrived : m.after_from s (n ∷ []) ≡ target = one_reached s (source_step s n) ∙ arrives in
       let f : ℕ → ℕ = λ k. m.ended_from s (n ∷ []) k in
-      let ending : (k : ℕ) → ends before.holders.items after.holders.items k ≡ f k = λ k. sym (ended_one s k (source_step s n) ∙ (λ i. ends (st.holders i) ((arrives i).holders) k)) in
+      let ending : (k : ℕ) → ends before.holders.items after.holders.items k ≡ f k =
+      λ k. sym (ended_one s k (source_step s n) ∙ (λ i. ends (st.holders i) ((arrives i).holders) k)) in
       let P : m.State → Type 0 = λ z. Stands after z (λ k. ended k + f k) in
       record {
         answered = made.answered ∙ sym (ap (answer_by s n) found ∙ (λ i. answer_of (ts.is i) (stepping i)));
@@ -109,14 +115,18 @@ module _ (before after : SourceState) (s : m.State) (ended : ℕ → ℕ) (n : �
           count = length-set s.threads n _ ∙ (st.count ∙ sym (ap length set ∙ length-set before.threads.items n it'));
           each = λ k thread mo g h. ⊎_elim
               (λ same.
-              let g' : slice_get (slice_set before.threads.items n it') n ≡ Some thread = ap (slice_get (slice_set before.threads.items n it')) (sym same) ∙ (ap (λ ts. slice_get ts k) (sym set) ∙ g) in
-              let h' : slice_get (slice_set s.threads n (model_of it' made.left_after)) n ≡ Some mo = ap (slice_get (slice_set s.threads n (model_of it' made.left_after))) (sym same) ∙ h in
+              let g' : slice_get (slice_set before.threads.items n it') n ≡ Some thread = ap (slice_get (slice_set before.threads.items n it')) (sym same)
+              ∙ (ap (λ ts. slice_get ts k) (sym set) ∙ g) in
+              let h' : slice_get (slice_set s.threads n (model_of it' made.left_after)) n ≡ Some mo =
+              ap (slice_get (slice_set s.threads n (model_of it' made.left_after))) (sym same) ∙ h in
               let is_it : it' ≡ thread = let there = set_same before.threads.items n it' within in cc in
-              let is_model : model_of it' made.left_after ≡ mo = let there = set_same s.threads n (model_of it' made.left_after) (slice_get_within s.threads n model_found.0 found) in cc in
+              let is_model : model_of it' made.left_after ≡ mo = let there =
+              set_same s.threads n (model_of it' made.left_after) (slice_get_within s.threads n model_found.0 found) in cc in
               let Q : ThreadState → Type 0 = λ x. ThreadStands x mo in
               subst Q is_it (record { left = made.left_after; code = made.code; is = sym is_model }))
               (λ other.
-              st.each k thread mo (sym (ap (λ ts. slice_get ts k) set ∙ set_other before.threads.items n k it' other) ∙ g) (sym (set_other s.threads n k (model_of it' made.left_after) other) ∙ h))
+              st.each k thread mo (sym (ap (λ ts. slice_get ts k) set ∙ set_other before.threads.items n k it' other) ∙ g)
+              (sym (set_other s.threads n k (model_of it' made.left_after) other) ∙ h))
               (cases_eq k n);
           sections = counted_as after.sections.items ended (ends before.holders.items after.holders.items) f ending (counts ended st.sections);
         });
@@ -136,7 +146,7 @@ after_by ts s o = elim o [
   | Some next ↦ m.after_from next ts
 ]
 
-abbrev ends_by : List ℕ → m.State → (thread : ℕ) → Option m.State → ℕ
+abbrev pub ends_by : List ℕ → m.State → (thread : ℕ) → Option m.State → ℕ
 ends_by ts s k o = elim o [
   | None ↦ 0
   | Some next ↦ m.ends_section s next k + m.ended_from next ts k
@@ -149,7 +159,8 @@ pub record GoesOn (s : m.State) (xs ys : List ℕ) : Type 0 where
   pub ended : (k : ℕ) → m.ended_from s (xs ++ ys) k ≡ m.ended_from s xs k + m.ended_from (m.after_from s xs) ys k
 
 go_by : (s : m.State) (xs ys : List ℕ) (o : Option m.State) → ((next : m.State) → m.runs_from next xs ≡ true → GoesOn next xs ys) → runs_by xs o ≡ true →
-    (after_by (xs ++ ys) s o ≡ m.after_from (after_by xs s o) ys) × (runs_by (xs ++ ys) o ≡ m.runs_from (after_by xs s o) ys) × ((k : ℕ) → ends_by (xs ++ ys) s k o ≡ ends_by xs s k o + m.ended_from (after_by xs s o) ys k)
+    (after_by (xs ++ ys) s o ≡ m.after_from (after_by xs s o) ys) × (runs_by (xs ++ ys) o ≡ m.runs_from (after_by xs s o) ys) ×
+    ((k : ℕ) → ends_by (xs ++ ys) s k o ≡ ends_by xs s k o + m.ended_from (after_by xs s o) ys k)
 go_by s xs ys None more h = cc
 go_by s xs ys (Some next) more h =
     let g = more next h in
@@ -184,12 +195,14 @@ not_did : (o : Option ℕ) → (let a : Stepped = elim o [ Some mutex ↦ Waits 
 not_did (Some mutex) h = cc
 not_did None h = cc
 
-did_by : (th : Option m.Thread) (o : Option m.State) → (let a : Stepped = elim th [ Some thread ↦ answer_of thread o | None ↦ Ended ] in Did ≡ a) → runs_by [] o ≡ true
+did_by : (th : Option m.Thread) (o : Option m.State) → (let a : Stepped = elim th [ Some thread ↦ answer_of thread o | None ↦ Ended ] in Did ≡ a) →
+    runs_by [] o ≡ true
 did_by None o h = cc
 did_by (Some thread) None h = absurd (not_did (lock_ahead thread) h)
 did_by (Some thread) (Some next) h = refl
 
-pub did_more : (now next : SourceState) (s : m.State) (ended : ℕ → ℕ) (done : List ℕ) (t : ℕ) → Going now s ended done → IsAfter next Did (m.after_from s done) (λ k. ended k + m.ended_from s done k) t → Going next s ended (done ++ t ∷ [])
+pub did_more : (now next : SourceState) (s : m.State) (ended : ℕ → ℕ) (done : List ℕ) (t : ℕ) → Going now s ended done →
+    IsAfter next Did (m.after_from s done) (λ k. ended k + m.ended_from s done k) t → Going next s ended (done ++ t ∷ [])
 did_more now next s ended done t g a =
     let on = goes_on s done (t ∷ []) g.runs in
     let runs = did_by (slice_get (m.after_from s done).threads t) (source_step (m.after_from s done) t) a.answered in
@@ -213,12 +226,14 @@ locked_by o = elim o [
   | None ↦ Ended
 ]
 
-waits_by : (thread : m.Thread) (l : Option ℕ) (mutex : ℕ) (o : Option m.State) → lock_ahead thread ≡ l → Waits mutex ≡ answer_of thread o → (o ≡ None) × (kind.Waits ≡ reason_by l)
+waits_by : (thread : m.Thread) (l : Option ℕ) (mutex : ℕ) (o : Option m.State) → lock_ahead thread ≡ l → Waits mutex ≡ answer_of thread o →
+    (o ≡ None) × (kind.Waits ≡ reason_by l)
 waits_by thread l mutex (Some next) e h = cc
 waits_by thread (Some x) mutex None e h = (refl, refl)
 waits_by thread None mutex None e h = let there : answer_of thread None ≡ Ended = ap locked_by e in cc
 
-ended_by_answer : (thread : m.Thread) (l : Option ℕ) (o : Option m.State) → lock_ahead thread ≡ l → Ended ≡ answer_of thread o → (o ≡ None) × (kind.Ended ≡ reason_by l)
+ended_by_answer : (thread : m.Thread) (l : Option ℕ) (o : Option m.State) → lock_ahead thread ≡ l → Ended ≡ answer_of thread o →
+    (o ≡ None) × (kind.Ended ≡ reason_by l)
 ended_by_answer thread l (Some next) e h = cc
 ended_by_answer thread (Some x) None e h = let there : answer_of thread None ≡ Waits x = ap locked_by e in cc
 ended_by_answer thread None None e h = (refl, refl)
@@ -257,8 +272,10 @@ module _ (now : SourceState) (s : m.State) (ended : ℕ → ℕ) (t : ℕ) (st :
 pub ran_all : (now : SourceState) (s : m.State) (ended : ℕ → ℕ) (schedule : List ℕ) → Going now s ended schedule → Ran now (Ok tt) s ended schedule
 ran_all now s ended schedule g = record { stands = g.stands; ok = sym g.runs; refused = tt }
 
-pub ran_refused : (now : SourceState) (s : m.State) (ended : ℕ → ℕ) (schedule before : List ℕ) (t : ℕ) (behind : List ℕ) (e : Refused) → schedule ≡ before ++ t ∷ behind → m.runs_from s before ≡ true →
-    Stuck (m.after_from s before) t e.kind → e.step ≡ length before + 1 → Stands now (m.after_from s before) (λ k. ended k + m.ended_from s before k) → Ran now (Err e) s ended schedule
+pub ran_refused : (now : SourceState) (s : m.State) (ended : ℕ → ℕ) (schedule before : List ℕ) (t : ℕ) (behind : List ℕ) (e : Refused) →
+    schedule ≡ before ++ t ∷ behind → m.runs_from s before ≡ true →
+    Stuck (m.after_from s before) t e.kind → e.step ≡ length before + 1 → Stands now (m.after_from s before) (λ k. ended k + m.ended_from s before k) →
+    Ran now (Err e) s ended schedule
 ran_refused now s ended schedule before t behind e is runs stuck step st =
     let on = goes_on s before (t ∷ behind) runs in
     let s' = m.after_from s before in
@@ -275,8 +292,10 @@ ran_refused now s ended schedule before t behind e is runs stuck step st =
     }
 
 -- the same behind a step that wasn't made
-pub ran_stuck : (now next : SourceState) (s : m.State) (ended : ℕ → ℕ) (schedule before : List ℕ) (t : ℕ) (behind : List ℕ) (e : Refused) (answer : Stepped) → schedule ≡ before ++ t ∷ behind → Going now s ended before →
-    Stuck (m.after_from s before) t e.kind → e.step ≡ length before + 1 → IsAfter next answer (m.after_from s before) (λ k. ended k + m.ended_from s before k) t → Ran next (Err e) s ended schedule
+pub ran_stuck : (now next : SourceState) (s : m.State) (ended : ℕ → ℕ) (schedule before : List ℕ) (t : ℕ) (behind : List ℕ) (e : Refused) (answer : Stepped) →
+    schedule ≡ before ++ t ∷ behind → Going now s ended before →
+    Stuck (m.after_from s before) t e.kind → e.step ≡ length before + 1 →
+    IsAfter next answer (m.after_from s before) (λ k. ended k + m.ended_from s before k) t → Ran next (Err e) s ended schedule
 ran_stuck now next s ended schedule before t behind e answer is g stuck step a =
     let s' = m.after_from s before in
     let stays : m.after_from s' (t ∷ []) ≡ s' = ap (after_by [] s') stuck.none in
@@ -290,7 +309,8 @@ ran_stuck now next s ended schedule before t behind e answer is g stuck step a =
 pub split_at : (xs : List ℕ) (i : ℕ) → i < length xs → xs ≡ take i xs ++ get_or xs i 0 ∷ drop (i + 1) xs
 split_at xs i h = sym (take-append-drop i xs) ∙ ap (λ ys. take i xs ++ ys) (drop_more xs i 0 h)
 
-pub one_more : (now : SourceState) (s : m.State) (ended : ℕ → ℕ) (xs : List ℕ) (i : ℕ) → i < length xs → Going now s ended (take i xs ++ get_or xs i 0 ∷ []) → Going now s ended (take (i + 1) xs)
+pub one_more : (now : SourceState) (s : m.State) (ended : ℕ → ℕ) (xs : List ℕ) (i : ℕ) → i < length xs → Going now s ended (take i xs ++ get_or xs i 0 ∷ []) →
+    Going now s ended (take (i + 1) xs)
 one_more now s ended xs i h g =
     let P : List ℕ → Type 0 = λ ys. Going now s ended ys in
     subst P (sym (take_more xs i 0 h)) g

@@ -19,7 +19,8 @@ not_made : (s next : m.State) (t : ℕ) → source_step s t ≡ None → source_
 not_made s next t e f = let both : None ≡ Some next = sym e ∙ f in cc both
 
 -- where two fronts of a schedule are stepped whole and no step behind them can be made, they are one
-one_front : (s : m.State) (xs : List ℕ) (t : ℕ) (more ys : List ℕ) (u : ℕ) (past : List ℕ) → xs ++ t ∷ more ≡ ys ++ u ∷ past → m.runs_from s xs ≡ true → m.runs_from s ys ≡ true
+one_front : (s : m.State) (xs : List ℕ) (t : ℕ) (more ys : List ℕ) (u : ℕ) (past : List ℕ) → xs ++ t ∷ more ≡ ys ++ u ∷ past → m.runs_from s xs ≡ true →
+    m.runs_from s ys ≡ true
     → source_step (m.after_from s xs) t ≡ None → source_step (m.after_from s ys) u ≡ None → (xs ≡ ys) × (t ≡ u)
 one_front s [] t more [] u past e h k n o = let same : t ≡ u = cc in (refl, same)
 one_front s [] t more (y ∷ ys) u past e h k n o =

@@ -14,7 +14,7 @@ use Rattle.c_tree.specs.declared.program.Variable as variable
 use Rattle.source_machine.specs.declared.thread.ThreadState.{ThreadState}
 use Rattle.source_machine.specs.declared.state.SourceState.{SourceState}
 use Rattle.source_machine.specs.Sections.{AreCounted}
-use Rattle.source_machine.specs.Threads.{IsStarted}
+use Rattle.source_machine.specs.links.Threads.{IsStarted}
 use Rattle.source_machine.specs.Runs.{Stands}
 use Rattle.source_machine.proofs.Emission.{get_same, get_only}
 
@@ -29,9 +29,11 @@ map_found g (x ∷ xs) (suc k) y h = map_found g xs k y h
 
 -- each thread of the first ones is at its start
 pub record AreStarted (threads : List ThreadState) (sources : List source.Thread) : Type 0 where
-  pub each : (k : ℕ) (thread : ThreadState) (source : source.Thread) → slice_get threads k ≡ Some thread → slice_get sources k ≡ Some source → IsStarted thread (f.thread_of source)
+  pub each : (k : ℕ) (thread : ThreadState) (source : source.Thread) → slice_get threads k ≡ Some thread → slice_get sources k ≡ Some source →
+      IsStarted thread (f.thread_of source)
 
-pub one_started : (threads threads' : List ThreadState) (sources : List source.Thread) (i : ℕ) (x : ThreadState) (y : source.Thread) → length threads ≡ i → threads' ≡ threads ++ x ∷ [] → i < length sources → y ≡ get_or sources i y → IsStarted x (f.thread_of y) →
+pub one_started : (threads threads' : List ThreadState) (sources : List source.Thread) (i : ℕ) (x : ThreadState) (y : source.Thread) → length threads ≡ i →
+    threads' ≡ threads ++ x ∷ [] → i < length sources → y ≡ get_or sources i y → IsStarted x (f.thread_of y) →
     AreStarted threads sources → AreStarted threads' sources
 one_started threads threads' sources i x y size more within is started before = record {
   each = λ k thread src g h.
@@ -48,10 +50,13 @@ one_started threads threads' sources i x y size more within is started before = 
       (cases_lt k (length threads));
 }
 
-pub starts : (state : SourceState) (x : flat.Flat) → state.variables ≡ map (λ (v : variable.Variable). (variable_of v).initial) x.variables.items → state.holders.items ≡ replicate (length x.mutexes.items) None →
-    length state.threads.items ≡ length x.threads.items → state.sections.items ≡ replicate (length x.threads.items) 0 → AreStarted state.threads.items x.threads.items → Stands state (m.start (f.flat_of x)) (λ _. 0)
+pub starts : (state : SourceState) (x : flat.Flat) → state.variables ≡ map (λ (v : variable.Variable). (variable_of v).initial) x.variables.items →
+    state.holders.items ≡ replicate (length x.mutexes.items) None →
+    length state.threads.items ≡ length x.threads.items → state.sections.items ≡ replicate (length x.threads.items) 0 →
+    AreStarted state.threads.items x.threads.items → Stands state (m.start (f.flat_of x)) (λ _. 0)
 starts state x variables holders count sections started =
-    let zeros : AreCounted (replicate (length x.threads.items) 0) (λ _. 0) = λ k l. get_or-replicate (length x.threads.items) k 0 0 (omega (arith, length-replicate {A = ℕ} (length x.threads.items) 0)) in
+    let zeros : AreCounted (replicate (length x.threads.items) 0) (λ _. 0) =
+    λ k l. get_or-replicate (length x.threads.items) k 0 0 (omega (arith, length-replicate {A = ℕ} (length x.threads.items) 0)) in
     let P : List ℕ → Type 0 = λ ns. AreCounted ns (λ _. 0) in
     record {
       variables = map_map (λ (v : Variable). v.initial) variable_of x.variables.items ∙ sym variables;

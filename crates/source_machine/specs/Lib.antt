@@ -1,6 +1,10 @@
-pub mod Spans
-pub mod Codes
+pub mod Answers
+pub mod Mutexes
 pub mod Sections
-pub mod Threads
+pub mod links
 pub mod Runs
 pub mod Laws
+pub mod Appending
+pub mod Discipline
+pub mod Exchange
+pub mod Formed

@@ -11,7 +11,9 @@ use Rattle.source_machine.specs.declared.answers.Refused.{Refused}
 use Rattle.source_machine.specs.declared.thread.ThreadState.{ThreadState}
 use Rattle.source_machine.specs.declared.state.SourceState.{SourceState}
 use Rattle.source_machine.specs.Sections.{AreCounted}
-use Rattle.source_machine.specs.Threads.{IsLeft, model_of, lock_ahead, answer_of}
+use Rattle.source_machine.specs.Answers.{answer_of}
+use Rattle.source_machine.specs.links.Threads.{IsLeft, model_of}
+use Rattle.source_machine.specs.Mutexes.{lock_ahead}
 
 -- ---- What a state stands for
 
@@ -29,7 +31,8 @@ pub record Stands (state : SourceState) (s : m.State) (ended : ℕ → ℕ) : Ty
   pub variables : s.variables ≡ state.variables
   pub holders : s.holders ≡ state.holders.items
   pub count : length s.threads ≡ length state.threads.items
-  pub each : (k : ℕ) (thread : ThreadState) (model : m.Thread) → slice_get state.threads.items k ≡ Some thread → slice_get s.threads k ≡ Some model → ThreadStands thread model
+  pub each : (k : ℕ) (thread : ThreadState) (model : m.Thread) → slice_get state.threads.items k ≡ Some thread → slice_get s.threads k ≡ Some model →
+      ThreadStands thread model
   pub sections : AreCounted state.sections.items ended
 
 -- ---- Steps

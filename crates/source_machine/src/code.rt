@@ -4,7 +4,7 @@ ghost use Rattle.ido_base.specs.declared.place.Place.{Place};
 ghost use Rattle.c_tree.specs.Exprs.{placed_of};
 ghost use Rattle.c_tree.specs.Flats.{statement_of, statements_of, arms_list_of};
 ghost use Rattle.c_tree.specs.Source.{opened, opened_all};
-ghost use Rattle.source_machine.specs.Codes.{Emits, EmitsTest, EmitsLoop, EmitsArms, IsPushed, IsCodeOf};
+ghost use Rattle.source_machine.specs.links.Codes.{Emits, EmitsArm, EmitsArms, EmitsLoop, IsPushed, IsCodeOf};
 
 use c_tree::expr::{Placed, Target};
 use c_tree::flat::{Arm, Statement};
@@ -170,7 +170,7 @@ fn emit_arm<'a>(
     fails: usize,
     next: usize,
 ) -> Result<usize, Memory>
-    ensures { IfOk result (λ entry. EmitsTest nodes.old.items nodes.new.items (placed_of arm.now.condition) (statements_of arm.now.body.items) fails next entry) }
+    ensures { IfOk result (λ entry. EmitsArm nodes.old.items nodes.new.items arm.now fails next entry) }
 {
     let holds = emit_all(nodes, &arm.body, next)?;
     push(

@@ -1,5 +1,8 @@
 //! Laws of the source's own steps: nothing is computed here.
-ghost use Rattle.source_machine.specs.Laws.{LeavesOthers, NotWhole, OneStop, OthersStay, ReadsGuarded, RestingStays, SizesStay, WritesGuarded};
+ghost use Rattle.source_machine.specs.Appending.{AfterAppended, EndedAppended, RunsAppended};
+ghost use Rattle.source_machine.specs.Discipline.{HeldIsGiven, LeavesHeld, LeavesOthers, ReachedKeeps, ReadsGuarded, RunKeeps, StartKeeps, StepKeeps, WritesGuarded};
+ghost use Rattle.source_machine.specs.Exchange.{Exchange, Solo, StepAdded, StepsDropped, Swap};
+ghost use Rattle.source_machine.specs.Laws.{NotWhole, OneStop, OthersStay, RestingStays, SizesStay};
 
 /// A thread that isn't stepped keeps its locals, what it has left and its pending store.
 pub fn others_stay()
@@ -12,15 +15,46 @@ pub fn sizes_stay()
     ensures { SizesStay }
 {}
 
-/// Under the lock discipline a step of a thread writes, and reads, only variables whose mutex the thread holds.
-pub fn steps_are_guarded()
-    ensures writes { WritesGuarded }
-    ensures of_others { LeavesOthers }
-    ensures reads { ReadsGuarded }
-{}
-
 /// A schedule is stepped whole, or it is refused at one step for one reason.
 pub fn one_stop()
     ensures stop { OneStop }
     ensures not_whole { NotWhole }
+{}
+
+/// One schedule after another is stepped as the two in turn.
+pub fn schedules_append()
+    ensures after { AfterAppended }
+    ensures runs { RunsAppended }
+    ensures ended { EndedAppended }
+{}
+
+/// States that keep the lock discipline: a form whose threads keep it begins with one, steps lead from one to one, and what the
+/// discipline says that a thread holds is what the holders say.
+pub fn discipline_is_kept()
+    ensures start { StartKeeps }
+    ensures step { StepKeeps }
+    ensures run { RunKeeps }
+    ensures reached { ReachedKeeps }
+    ensures held { HeldIsGiven }
+{}
+
+/// Under the lock discipline a step of a thread writes, and reads, only variables whose mutex the thread holds.
+pub fn steps_are_guarded()
+    ensures writes { WritesGuarded }
+    ensures of_others { LeavesOthers }
+    ensures held { LeavesHeld }
+    ensures reads { ReadsGuarded }
+{}
+
+/// Under the lock discipline steps of different threads may change places, unless a mutex changes hands.
+pub fn steps_exchange()
+    ensures swap { Swap }
+    ensures exchange { Exchange }
+    ensures solo { Solo }
+{}
+
+/// Where no mutex changes hands, none does with one more step that takes none over, nor without the first steps.
+pub fn no_mutex_changes_hands()
+    ensures added { StepAdded }
+    ensures dropped { StepsDropped }
 {}

@@ -5,12 +5,11 @@
 mod answers;
 mod code;
 mod evaluation;
+pub mod formed;
 pub mod laws;
 mod locks;
 mod number;
 mod state;
-#[cfg(test)]
-mod tests;
 mod thread;
 mod variables;
 

@@ -1,10 +1,9 @@
 //! A thread of a run.
-ghost use Rattle.std.specs.Prelude.{◌≡◌, ℕ, ◌+◌, List, Option, IfOk};
+ghost use Rattle.std.specs.Prelude.{◌≡◌, ℕ, ◌+◌, IfOk};
 ghost use Rattle.c_tree.specs.Exprs.{expr_of, target_of};
-ghost use Rattle.c_tree.specs.Flats.{thread_of, Statement};
-ghost use Rattle.c_tree.specs.Source.{Thread as Model, evaluated};
+ghost use Rattle.c_tree.specs.Flats.{thread_of};
 ghost use Rattle.source_machine.specs.Sections.{AreCounted, ends};
-ghost use Rattle.source_machine.specs.Threads.{IsLeft, IsStarted, IsMade, model_of, state_in};
+ghost use Rattle.source_machine.specs.links.Threads.{Evaluates, IsStarted, StepIsMade};
 
 use crate::answers::Stepped;
 use crate::code::{self, Code, Node};
@@ -58,7 +57,7 @@ impl<'a> ThreadState<'a> {
         holders: &mut [Option<u32>],
         sections: &mut [u64],
     ) -> Stepped
-        ensures made { (left : List Statement) (threads : List Model) → IsLeft self.old left → IsMade self.old self.new variables.old variables.new holders.old holders.new result number threads left }
+        ensures made { StepIsMade self.old self.new variables.old variables.new holders.old holders.new result number }
         ensures sections { (ended : ℕ → ℕ) → AreCounted sections.old ended → AreCounted sections.new (λ k. ended k + ends holders.old holders.new k) }
     {
         if let Some(pending) = self.pending {
@@ -114,7 +113,7 @@ impl<'a> ThreadState<'a> {
 
     // Evaluates a value for a target: a local has it, a store of a variable is pending.
     fn assign(&mut self, target: &Target, value: &Expr, variables: &Variables)
-        ensures model { (left : List Statement) (holders : List (Option ℕ)) (threads : List Model) → model_of self.new left ≡ evaluated (state_in variables.now holders threads) (model_of self.old left) (target_of target.now) (expr_of value.now) }
+        ensures model { Evaluates self.old self.new variables.now (target_of target.now) (expr_of value.now) }
         ensures nodes { self.new.nodes ≡ self.old.nodes }
     {
         let value = evaluate(value, &self.locals, variables);

@@ -2,7 +2,7 @@
 ghost use Rattle.std.specs.Prelude.{◌≡◌, ◌<◌, [], length, map, slice_index_or, slice_set, IfOk, IfSome, flat_map};
 ghost use Rattle.c_tree.specs.Programs.{variable_of};
 ghost use Rattle.c_tree.specs.Values.{element_number};
-ghost use Rattle.source_machine.specs.Spans.{AreConsecutive, place_in};
+ghost use Rattle.source_machine.specs.links.Spans.{AreConsecutive, place_in};
 
 use c_tree::program::Variable;
 use ido_base::memory::Memory;
@@ -28,7 +28,7 @@ impl Model for Variables {
 
     ghost Value = { List (List ℤ) };
 
-    ghost use Rattle.source_machine.specs.Spans.{parts, AreConsecutive};
+    ghost use Rattle.source_machine.specs.links.Spans.{parts, AreConsecutive};
 
     ghost view = { λ v. parts v.spans.items v.elements.items };
 

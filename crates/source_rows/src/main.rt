@@ -1,11 +1,15 @@
-//! Answers of the program's `source` to a table of inputs. Standard input has a line `=== NAME` before each input; of
-//! each the name, the status and the output are written.
+//! Looks whether the program answers each row of a table as it should. Standard input has the rows: a line
+//! `=== WORDS: NAME`, the input, and behind `==> ` at the head of a line the status and the output that are wanted.
+//! Rows that are answered in another way are written with their answers, and then how many rows there are.
+//!
+//! In inputs and answers `` `N:TEXT` `` stands for N times the text, in which `#` is the number of the round, from 0,
+//! and `@` the next number.
 #![tactic(auto)]
 
 use ido_base::memory::Memory;
 use ido_cli::alone;
 use ido_outside::{Reading, SureSink, SureSource, Writing, read_all, write_all};
-use std::alloc::{AllocError, Global};
+use std::alloc::Global;
 use std::process::ExitCode;
 
 /// Bytes of the whole table.
@@ -14,75 +18,141 @@ const MOST_BYTES: u64 = 1_000_000;
 /// Bytes of an answer.
 const MOST_OUTPUT: u64 = 100_000;
 
-/// What stands before a name.
-const MARK: &[u8] = b"=== ";
+/// What stands at the head of a row.
+const ROW: &[u8] = b"=== ";
 
-/// What stands up to the first line feed, and behind it.
-fn first_line(text: &[u8]) -> (&[u8], &[u8]) {
+/// What stands before an answer.
+const ANSWER: &[u8] = b"==> ";
+
+/// A row of the table.
+#[derive(Clone, Copy)]
+struct Row<'a> {
+    words: &'a [u8],
+    name: &'a [u8],
+    input: &'a [u8],
+    answer: &'a [u8],
+}
+
+/// What stands up to the first such byte, and behind it.
+fn split(text: &[u8], mark: u8) -> (&[u8], &[u8]) {
     for (i, byte) in text.iter().enumerate() {
-        if *byte == b'\n' {
+        if *byte == mark {
             return (&text[..i], &text[i + 1..]);
         }
     }
     (text, &[])
 }
 
-/// An input, without the line feed before the next mark, and what follows from that mark on.
-fn first_input(text: &[u8]) -> (&[u8], &[u8]) {
+/// What stands up to the line feed before the first line with this head, and that line with all behind it.
+fn before_line<'a>(text: &'a [u8], head: &[u8]) -> (&'a [u8], &'a [u8]) {
     for (i, byte) in text.iter().enumerate() {
-        let behind = &text[i + 1..];
-        if *byte == b'\n' && (behind.is_empty() || behind.starts_with(MARK)) {
-            return (&text[..i], behind);
+        if *byte == b'\n' && text[i + 1..].starts_with(head) {
+            return (&text[..i], &text[i + 1..]);
         }
     }
     (text, &[])
 }
 
-/// The words `ido source`.
-fn words(alloc: Global) -> Result<Vec<String>, AllocError> {
-    let mut words = Vec::new(alloc);
-    for word in ["ido", "source"] {
-        words.push(String::from_str(alloc, word)?)?;
-    }
-    Ok(words)
+/// The first row, and what follows it.
+fn first_row(table: &[u8]) -> Option<(Row<'_>, &[u8])> {
+    let (row, next) = before_line(table, ROW);
+    let (title, body) = split(row.strip_prefix(ROW)?, b'\n');
+    let (words, name) = split(title, b':');
+    let name = name.strip_prefix(b" ").unwrap_or(name);
+    let (input, answer) = before_line(body, ANSWER);
+    let answer = answer.strip_prefix(ANSWER)?;
+    let answer = answer.strip_suffix(b"\n").unwrap_or(answer);
+    let row = Row {
+        words,
+        name,
+        input,
+        answer,
+    };
+    Some((row, next))
 }
 
-/// Adds the line of an answer.
-fn put_answer(
-    alloc: Global,
-    words: &[String],
-    name: &[u8],
-    input: &[u8],
-    answers: &mut Vec<u8>,
-) -> Result<(), Memory> {
-    let mut source = SureSource::new(input.to_vec(alloc)?, 4096);
-    let mut sink = SureSink::new(alloc, MOST_OUTPUT, 4096)?;
-    let status = match alone(alloc, words, &mut source, &mut sink) {
-        Some(status) => format!(in alloc; ": {status} ")?,
-        None => format!(in alloc; ": none ")?,
-    };
-    answers.extend_from_slice(name)?;
-    answers.extend_from_slice(status.as_bytes())?;
-    answers.extend_from_slice(sink.written().unwrap_or(b"too long\n"))?;
+/// Adds the rounds of `N:TEXT`.
+fn put_rounds(alloc: Global, repeated: &[u8], text: &mut Vec<u8>) -> Result<(), Memory> {
+    let (count, part) = split(repeated, b':');
+    let rounds = str::from_utf8(count)
+        .ok()
+        .and_then(|digits| digits.parse::<u32>().ok());
+    for round in 0..rounds.unwrap_or(0) {
+        for byte in part {
+            match *byte {
+                b'#' => text.extend_from_slice(format!(in alloc; "{round}")?.as_bytes())?,
+                b'@' => text.extend_from_slice(format!(in alloc; "{}", round + 1)?.as_bytes())?,
+                other => text.push(other)?,
+            }
+        }
+    }
     Ok(())
 }
 
-/// The answers to all inputs of a table.
-fn answers(alloc: Global, table: &[u8]) -> Result<Vec<u8>, Memory> {
-    let words = words(alloc)?;
-    let mut answers = Vec::new(alloc);
-    let mut rest = table;
-    // There are no more inputs than bytes.
-    for _ in table {
-        let Some(marked) = rest.strip_prefix(MARK) else {
+/// A text with all its rounds.
+fn written_out(alloc: Global, short: &[u8]) -> Result<Vec<u8>, Memory> {
+    let mut text = Vec::new(alloc);
+    let mut rest = short;
+    // There are no more marks than bytes.
+    for _ in short {
+        if rest.is_empty() {
             break;
-        };
-        let (name, behind) = first_line(marked);
-        let (input, next) = first_input(behind);
-        put_answer(alloc, &words, name, input, &mut answers)?;
+        }
+        let (plain, marked) = split(rest, b'`');
+        let (repeated, next) = split(marked, b'`');
+        text.extend_from_slice(plain)?;
+        put_rounds(alloc, repeated, &mut text)?;
         rest = next;
     }
-    Ok(answers)
+    Ok(text)
+}
+
+/// The words of the command line.
+fn words_of(alloc: Global, words: &[u8]) -> Result<Vec<String>, Memory> {
+    let mut all = Vec::new(alloc);
+    all.push(String::from_str(alloc, "ido")?)?;
+    for word in str::from_utf8(words).unwrap_or("").split(' ') {
+        all.push(String::from_str(alloc, word)?)?;
+    }
+    Ok(all)
+}
+
+/// The status and the output that a row gets.
+fn answer_to(alloc: Global, row: &Row<'_>) -> Result<Vec<u8>, Memory> {
+    let words = words_of(alloc, row.words)?;
+    let mut source = SureSource::new(written_out(alloc, row.input)?, 65_536);
+    let mut sink = SureSink::new(alloc, MOST_OUTPUT, 4096)?;
+    let mut answer = Vec::new(alloc);
+    if let Some(status) = alone(alloc, &words, &mut source, &mut sink) {
+        answer.extend_from_slice(format!(in alloc; "{status} ")?.as_bytes())?;
+    }
+    answer.extend_from_slice(sink.written().unwrap_or(b"too long"))?;
+    Ok(answer)
+}
+
+/// What is said of the rows of a table.
+fn findings(alloc: Global, table: &[u8]) -> Result<Vec<u8>, Memory> {
+    let mut said = Vec::new(alloc);
+    let mut rest = table;
+    let mut rows = 0u64;
+    // There are no more rows than bytes.
+    for _ in table {
+        let Some((row, next)) = first_row(rest) else {
+            break;
+        };
+        let mut wanted = written_out(alloc, row.answer)?;
+        wanted.push(b'\n')?;
+        let answer = answer_to(alloc, &row)?;
+        if answer != wanted {
+            said.extend_from_slice(row.name)?;
+            said.extend_from_slice(b": ")?;
+            said.extend_from_slice(&answer)?;
+        }
+        rows = rows.saturating_add(1);
+        rest = next;
+    }
+    said.extend_from_slice(format!(in alloc; "{rows} rows\n")?.as_bytes())?;
+    Ok(said)
 }
 
 fn main(rt: HostRuntime) -> ExitCode {
@@ -92,10 +162,10 @@ fn main(rt: HostRuntime) -> ExitCode {
     let Ok(table) = read_all(alloc, &mut input, MOST_BYTES) else {
         return ExitCode::from(1);
     };
-    let Ok(answers) = answers(alloc, &table) else {
+    let Ok(said) = findings(alloc, &table) else {
         return ExitCode::from(2);
     };
-    match write_all(&mut output, &answers) {
+    match write_all(&mut output, &said) {
         Ok(()) => ExitCode::SUCCESS,
         Err(_) => ExitCode::from(3),
     }

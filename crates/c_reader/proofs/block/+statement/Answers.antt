@@ -1,4 +1,4 @@
-use Rattle.std.proofs.Common.{◌≡◌, ◌-◌, ◌∙◌, rules, arith}
+use Rattle.std.proofs.Common.{◌≡◌, ◌-◌, ◌∙◌, arith}
 use Rattle.std.proofs.lemmas.Grind.{common_steps}
 use Rattle.c_tree.specs.Views.{statements_of}
 use Rattle.c_reader.specs.Rows.{arms_in}
@@ -10,148 +10,148 @@ use Rattle.c_reader.proofs.block.+statement.Goals as goal
 pub do_statement-returns-in_err-place : goal.do_statement-returns-in_err-place
 unfolding parse_do
 do_statement-returns-in_err-place t c =
-    first_of (search rules, grind (arith, common_steps))
+    grind (arith, common_steps)
 
 pub do_statement-returns-in_err-block : goal.do_statement-returns-in_err-block
 unfolding parse_do
 do_statement-returns-in_err-block t c =
-    first_of (search rules, grind (arith, common_steps))
+    grind (arith, common_steps)
 
 pub do_statement-returns-in_err-word : goal.do_statement-returns-in_err-word
 unfolding parse_do
 do_statement-returns-in_err-word t c =
-    first_of (search rules, grind (arith, common_steps))
+    grind (arith, common_steps)
 
 pub do_statement-returns-in_err-condition : goal.do_statement-returns-in_err-condition
 unfolding parse_do
 do_statement-returns-in_err-condition t c =
-    first_of (search rules, grind (arith, common_steps))
+    grind (arith, common_steps)
 
 pub do_statement-returns-in_err-mark : goal.do_statement-returns-in_err-mark
 unfolding parse_do
 do_statement-returns-in_err-mark t c =
-    first_of (search rules, grind (arith, common_steps))
+    grind (arith, common_steps)
 
 pub do_statement-returns : goal.do_statement-returns
 unfolding parse_do
 do_statement-returns t c =
     let e = of_do c.in_ok-place.place c.in_ok-block.block c.in_ok-condition.condition in
-    first_of (search rules, grind (arith, common_steps))
+    grind (arith, common_steps)
 
 pub for_statement-returns-in_err-place : goal.for_statement-returns-in_err-place
 unfolding parse_for
 for_statement-returns-in_err-place t c =
-    first_of (search rules, grind (arith, common_steps))
+    grind (arith, common_steps)
 
 pub for_statement-returns-in_err-mark : goal.for_statement-returns-in_err-mark
 unfolding parse_for
 for_statement-returns-in_err-mark t c =
-    first_of (search rules, grind (arith, common_steps))
+    grind (arith, common_steps)
 
 pub for_statement-returns-in_err-first : goal.for_statement-returns-in_err-first
 unfolding parse_for
 for_statement-returns-in_err-first t c =
-    first_of (search rules, grind (arith, common_steps))
+    grind (arith, common_steps)
 
 pub for_statement-returns-in_err-mark-2 : goal.for_statement-returns-in_err-mark-2
 unfolding parse_for
 for_statement-returns-in_err-mark-2 t c =
-    first_of (search rules, grind (arith, common_steps))
+    grind (arith, common_steps)
 
 pub for_statement-returns-in_err-condition : goal.for_statement-returns-in_err-condition
 unfolding parse_for
 for_statement-returns-in_err-condition t c =
-    first_of (search rules, grind (arith, common_steps))
+    grind (arith, common_steps)
 
 pub for_statement-returns-in_err-mark-3 : goal.for_statement-returns-in_err-mark-3
 unfolding parse_for
 for_statement-returns-in_err-mark-3 t c =
-    first_of (search rules, grind (arith, common_steps))
+    grind (arith, common_steps)
 
 pub for_statement-returns-in_err-last : goal.for_statement-returns-in_err-last
 unfolding parse_for
 for_statement-returns-in_err-last t c =
-    first_of (search rules, grind (arith, common_steps))
+    grind (arith, common_steps)
 
 pub for_statement-returns-in_err-mark-4 : goal.for_statement-returns-in_err-mark-4
 unfolding parse_for
 for_statement-returns-in_err-mark-4 t c =
-    first_of (search rules, grind (arith, common_steps))
+    grind (arith, common_steps)
 
 pub for_statement-returns-in_err-block : goal.for_statement-returns-in_err-block
 unfolding parse_for
 for_statement-returns-in_err-block t c =
-    first_of (search rules, grind (arith, common_steps))
+    grind (arith, common_steps)
 
 pub for_statement-returns : goal.for_statement-returns
 unfolding parse_for
 for_statement-returns t c =
     let e = of_for c.in_ok-place.place c.in_ok-first.first c.in_ok-condition.condition c.in_ok-last.last c.in_ok-block.block in
-    first_of (search rules, grind (arith, common_steps))
+    grind (arith, common_steps)
 
 pub while_statement-returns-in_err-place : goal.while_statement-returns-in_err-place
 unfolding parse_while
 while_statement-returns-in_err-place t c =
-    first_of (search rules, grind (arith, common_steps))
+    grind (arith, common_steps)
 
 pub while_statement-returns-in_err-condition : goal.while_statement-returns-in_err-condition
 unfolding parse_while
 while_statement-returns-in_err-condition t c =
-    first_of (search rules, grind (arith, common_steps))
+    grind (arith, common_steps)
 
 pub while_statement-returns-in_err-block : goal.while_statement-returns-in_err-block
 unfolding parse_while
 while_statement-returns-in_err-block t c =
-    first_of (search rules, grind (arith, common_steps))
+    grind (arith, common_steps)
 
 pub while_statement-returns : goal.while_statement-returns
 unfolding parse_while
 while_statement-returns t c =
     let e = of_while c.in_ok-place.place c.in_ok-condition.condition c.in_ok-block.block in
-    first_of (search rules, grind (arith, common_steps))
+    grind (arith, common_steps)
 
 pub if_statement-returns-in_err-place : goal.if_statement-returns-in_err-place
 if_statement-returns-in_err-place t c =
     let e = if_start c.args.fuel c.args.tokens.now in
-    first_of (search rules, grind (arith, common_steps))
+    grind (arith, common_steps)
 
 pub if_statement-returns-in_err-first_arm : goal.if_statement-returns-in_err-first_arm
 if_statement-returns-in_err-first_arm t c =
     let e = if_start c.args.fuel c.args.tokens.now in
-    first_of (search rules, grind (arith, common_steps))
+    grind (arith, common_steps)
 
 pub if_statement-loop-turn-init : goal.if_statement-loop-turn-init
 if_statement-loop-turn-init t c =
     let e = if_start c.args.fuel c.args.tokens.now in
-    first_of (search rules, grind (arith, common_steps))
+    grind (arith, common_steps)
 
 pub if_statement-returns-then-not-sees_word : goal.if_statement-returns-then-not-sees_word
 if_statement-returns-then-not-sees_word t c =
     let e = arms_some (c.args.fuel - 1) c.args.fuel c.loop-turn.turn c.in_ok-place.place (arms_in c.loop-turn.arms.items) c.loop-turn.tokens c.loop-turn-test.true in
     let s = of_if c.in_ok-place.place c.loop-turn.arms in
-    first_of (search rules, grind (arith, common_steps))
+    grind (arith, common_steps)
 
 pub if_statement-returns-in_err-inside : goal.if_statement-returns-in_err-inside
 if_statement-returns-in_err-inside t c =
     let e = arms_some (c.args.fuel - 1) c.args.fuel c.loop-turn.turn c.in_ok-place.place (arms_in c.loop-turn.arms.items) c.loop-turn.tokens c.loop-turn-test.true in
-    first_of (search rules, grind (arith, common_steps))
+    grind (arith, common_steps)
 
 pub if_statement-returns-then-not-sees_word-2 : goal.if_statement-returns-then-not-sees_word-2
 if_statement-returns-then-not-sees_word-2 t c =
     let e = arms_some (c.args.fuel - 1) c.args.fuel c.loop-turn.turn c.in_ok-place.place (arms_in c.loop-turn.arms.items) c.loop-turn.tokens c.loop-turn-test.true in
     let s = of_if_else c.in_ok-place.place c.loop-turn.arms c.in_ok-inside.inside in
-    first_of (search rules, grind (arith, common_steps))
+    grind (arith, common_steps)
 
 pub if_statement-returns-in_err-next : goal.if_statement-returns-in_err-next
 if_statement-returns-in_err-next t c =
     let e = arms_some (c.args.fuel - 1) c.args.fuel c.loop-turn.turn c.in_ok-place.place (arms_in c.loop-turn.arms.items) c.loop-turn.tokens c.loop-turn-test.true in
-    first_of (search rules, grind (arith, common_steps))
+    grind (arith, common_steps)
 
 pub if_statement-loop-turn-preserved : goal.if_statement-loop-turn-preserved
 if_statement-loop-turn-preserved t c =
     let e = arms_some (c.args.fuel - 1) c.args.fuel c.loop-turn.turn c.in_ok-place.place (arms_in c.loop-turn.arms.items) c.loop-turn.tokens c.loop-turn-test.true in
     let s = push_arm c.loop-turn.arms.items c.in_ok-next.next in
-    first_of (search rules, grind (arith, common_steps))
+    grind (arith, common_steps)
 
 pub if_statement-returns : goal.if_statement-returns
 if_statement-returns t c =
@@ -160,7 +160,7 @@ if_statement-returns t c =
 pub marked_statement-returns-in_ok-inside-in-OpenBrace : goal.marked_statement-returns-in_ok-inside-in-OpenBrace
 marked_statement-returns-in_ok-inside-in-OpenBrace t c =
     let e = of_block c.in_ok-inside-in-OpenBrace.inside in
-    first_of (search rules, grind (arith, common_steps))
+    grind (arith, common_steps)
 
 pub statement-returns-then-fuel-eq0 : goal.statement-returns-then-fuel-eq0
 statement-returns-then-fuel-eq0 t c =
@@ -169,43 +169,43 @@ statement-returns-then-fuel-eq0 t c =
 pub statement-returns-in-Some-Name : goal.statement-returns-in-Some-Name
 statement-returns-in-Some-Name t c =
     let e = statement_some c.args.fuel c.args.tokens.now (omega arith) in
-    first_of (search rules, grind (arith, common_steps))
+    grind (arith, common_steps)
 
 pub statement-returns-in-Some-Punctuator : goal.statement-returns-in-Some-Punctuator
 statement-returns-in-Some-Punctuator t c =
     let e = statement_some c.args.fuel c.args.tokens.now (omega arith) in
-    first_of (search rules, grind (arith, common_steps))
+    grind (arith, common_steps)
 
 pub statement-returns-in-Some-Keyword : goal.statement-returns-in-Some-Keyword
 statement-returns-in-Some-Keyword t c =
     let e = statement_some c.args.fuel c.args.tokens.now (omega arith) in
-    first_of (search rules, grind (arith, common_steps))
+    grind (arith, common_steps)
 
 pub statement-returns-in_default : goal.statement-returns-in_default
 statement-returns-in_default t c =
     let e = statement_some c.args.fuel c.args.tokens.now (omega arith) in
-    first_of (search rules, grind (arith, common_steps))
+    grind (arith, common_steps)
 
 pub statements-loop-turn-init : goal.statements-loop-turn-init
 statements-loop-turn-init t c =
     let e = statements_start c.args.fuel c.args.tokens.now in
-    first_of (search rules, grind (arith, common_steps))
+    grind (arith, common_steps)
 
 pub statements-returns-then-not-sees_statement : goal.statements-returns-then-not-sees_statement
 statements-returns-then-not-sees_statement t c =
     let e = statements_some c.args.fuel c.loop-turn._turn (statements_of c.loop-turn.found.items) c.loop-turn.tokens c.loop-turn-test.true in
-    first_of (search rules, grind (arith, common_steps))
+    grind (arith, common_steps)
 
 pub statements-returns-in_err-next : goal.statements-returns-in_err-next
 statements-returns-in_err-next t c =
     let e = statements_some c.args.fuel c.loop-turn._turn (statements_of c.loop-turn.found.items) c.loop-turn.tokens c.loop-turn-test.true in
-    first_of (search rules, grind (arith, common_steps))
+    grind (arith, common_steps)
 
 pub statements-loop-turn-preserved : goal.statements-loop-turn-preserved
 statements-loop-turn-preserved t c =
     let e = statements_some c.args.fuel c.loop-turn._turn (statements_of c.loop-turn.found.items) c.loop-turn.tokens c.loop-turn-test.true in
     let s = push_statement c.loop-turn.found.items c.in_ok-next.next in
-    first_of (search rules, grind (arith, common_steps))
+    grind (arith, common_steps)
 
 pub statements-returns : goal.statements-returns
 statements-returns t c =

@@ -4,6 +4,7 @@ use Rattle.c_reader.specs.Fronts.{scanned_of}
 use Rattle.c_reader.specs.Tokens.{tokens_of}
 use Rattle.c_reader.specs.Readings.{IsFirstHigh, Parses, reach}
 use Rattle.c_reader.proofs.Refusals.{first_high_told, looked_told, refused_told}
+use Rattle.c_reader.proofs.Depths.{shallow_told}
 use Rattle.c_reader.proofs.reader.read.Goals as goal
 
 pub judge-requires-clause-high : goal.judge-requires-clause-high
@@ -19,3 +20,6 @@ judge-requires-clause-parsed c =
 
 pub returns-clause-refused : goal.returns-clause-refused
 returns-clause-refused c = refused_told c.args.text.now (scanned_of c.in_ok-found.found) _ c.judge.result c.in_ok-found.ensures refl c.judge.ensures.refused
+
+pub returns-clause-shallow : goal.returns-clause-shallow
+returns-clause-shallow c = shallow_told c.args.text.now (scanned_of c.in_ok-found.found) c.judge.result c.in_ok-found.ensures c.judge.ensures.read

@@ -10,6 +10,7 @@ use Rattle.ido_compile.specs.Compilation.{node_marks}
 use Rattle.ido_cli.specs.Steps.{IsAt}
 use Rattle.ido_cli.specs.Sayings.{IsReported}
 use Rattle.ido_cli.proofs.Plays.{is_played, marks_of_first, starts_at, one_thread}
+use Rattle.ido_cli.proofs.Running.{start_running}
 use Rattle.ido_cli.proofs.answer.play.Goals as goal
 
 pub returns : goal.returns
@@ -25,7 +26,7 @@ returns c =
     let m = c.run.new.machine in
     let t = c.run.new.tracker in
     let first : IsAt c.in_ok-machine.machine c.new-tracker.result start (first_steps (length (program_of object)) []) =
-    starts_at c.in_ok-machine.machine c.new-tracker.result start (length (program_of object)) (one_thread f object (node_marks marks) c.requires.compilation) c.in_ok-machine.ensures.stands c.in_ok-machine.ensures.running c.new-tracker.ensures.kept c.new-tracker.ensures.free c.new-tracker.ensures.bound in
+    starts_at c.in_ok-machine.machine c.new-tracker.result start (length (program_of object)) (one_thread f object (node_marks marks) c.requires.compilation) c.in_ok-machine.ensures.stands (start_running (program_of object) object.mutexes object.initial.items) c.new-tracker.ensures.kept c.new-tracker.ensures.free c.new-tracker.ensures.bound in
     let same : node_marks marks ≡ nodes ∷ [] =
     marks_of_first threads _ c.index.result.now c.requires.emitted.nodes ∙ ap (λ (u : ThreadMarks). u.nodes.items ∷ []) (sym c.index.ensures) ∙ ap (λ (ns : List ℕ). ns ∷ []) (sym c.deref.ensures.value) in
     let at : IsAt m t (after_events (program_of object) start (replicate steps (Step 0))) (steps_along (nodes ∷ []) (program_of object) start (replicate steps (Step 0)) (first_steps (length (program_of object)) [])) =

@@ -31,12 +31,15 @@ loop-thread-preserved c =
     let item = c.thread-item.is ∙ ap (λ (xs : List Thread). get_or xs c.loop-thread.thread-index t) c.deref-thread-items.ensures.value in
     let within : c.loop-thread.thread-index < length x.threads.items = omega arith in
     record {
-      walk = thread_keeps x c.loop-thread.thread-index t c.deref.result.now c.len-mutexes.result c.deref.ensures.value count within item c.loop-thread.invariant.walk c.in_ok-walk_thread.ensures.walk;
-      sets = next_row x c.loop-thread.thread-index t c.len-mutexes.result c.in_ok-walk_thread.field-0 _ _ count within item c.in_ok-push.ensures.items c.in_ok-walk_thread.ensures.sets c.loop-thread.invariant.sets;
+      walk = thread_keeps x c.loop-thread.thread-index t c.deref.result.now c.len-mutexes.result c.deref.ensures.value count within item
+          c.loop-thread.invariant.walk c.in_ok-walk_thread.ensures.walk;
+      sets = next_row x c.loop-thread.thread-index t c.len-mutexes.result c.in_ok-walk_thread.field-0 _ _ count within item c.in_ok-push.ensures.items
+          c.in_ok-walk_thread.ensures.sets c.loop-thread.invariant.sets;
     }
 
 pub returns-clause-accepts : goal.returns-clause-accepts
 returns-clause-accepts c = no_thread_breaks c.args.flat.now c.loop-thread.thread-index (omega arith) c.loop-thread.invariant.walk
 
 pub returns-clause-sets : goal.returns-clause-sets
-returns-clause-sets c = all_rows c.args.flat.now c.loop-thread.thread-index c.loop-thread.threads.items (omega arith) c.loop-thread.invariant.walk c.loop-thread.invariant.sets
+returns-clause-sets c = all_rows c.args.flat.now c.loop-thread.thread-index c.loop-thread.threads.items
+    (omega arith) c.loop-thread.invariant.walk c.loop-thread.invariant.sets

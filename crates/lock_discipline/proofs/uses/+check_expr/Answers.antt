@@ -15,7 +15,8 @@ returns-in_err-check_expr-in-Binary t c =
     let left : c.deref-in-Binary.result.now ≡ w.left.value = cc in
     let all : expr_uses (expr_of c.args.expr.now) ≡ expr_uses (expr_of c.deref-in-Binary.result.now) ++ expr_uses (expr_of w.right.value) =
     rw left (ap (λ (x : Expr). expr_uses (expr_of x)) w.is) in
-    rw (p.1, p.2) (refuses_then _ _ _ _ (uses_split (map variable_of c.args.variables.now) (length c.args.held) c.args.held _ _ _ all) c.in_err-check_expr-in-Binary.ensures)
+    rw (p.1, p.2) (refuses_then _ _ _ _ (uses_split (map variable_of c.args.variables.now)
+    (length c.args.held) c.args.held _ _ _ all) c.in_err-check_expr-in-Binary.ensures)
 
 pub returns-in_ok-check_expr-in-Binary : goal.returns-in_ok-check_expr-in-Binary
 returns-in_ok-check_expr-in-Binary t c =
@@ -25,7 +26,8 @@ returns-in_ok-check_expr-in-Binary t c =
     let all : expr_uses (expr_of c.args.expr.now) ≡ expr_uses (expr_of c.deref-in-Binary.result.now) ++ expr_uses (expr_of c.deref-in-Binary-2.result.now) =
     rw (left, right) (ap (λ (x : Expr). expr_uses (expr_of x)) w.is) in
     matches_as c.check_expr-in-Binary-2.result _ _ (λ _. c.args.held)
-    (uses_split (map variable_of c.args.variables.now) (length c.args.held) c.args.held _ _ _ all ∙ behind_then _ _ c.args.held c.in_ok-check_expr-in-Binary.ensures)
+    (uses_split (map variable_of c.args.variables.now) (length c.args.held) c.args.held _ _ _ all
+    ∙ behind_then _ _ c.args.held c.in_ok-check_expr-in-Binary.ensures)
     c.check_expr-in-Binary-2.ensures
 
 pub returns-in_err-check_expr-in-Conditional : goal.returns-in_err-check_expr-in-Conditional
@@ -33,12 +35,14 @@ returns-in_err-check_expr-in-Conditional t c =
     let p = err_from_is_err_and c.from_residual-in_err-check_expr-in-Conditional.result c.from_residual-in_err-check_expr-in-Conditional.ensures.1 in
     let w = c.in-Conditional in
     let condition : c.deref-in-Conditional.result.now ≡ w.condition.value = cc in
-    let all : expr_uses (expr_of c.args.expr.now) ≡ (expr_uses (expr_of c.deref-in-Conditional.result.now) ++ expr_uses (expr_of w.then.value)) ++ expr_uses (expr_of w.otherwise.value) =
+    let all : expr_uses (expr_of c.args.expr.now) ≡ (expr_uses (expr_of c.deref-in-Conditional.result.now) ++ expr_uses (expr_of w.then.value)) ++ expr_uses
+    (expr_of w.otherwise.value) =
     rw condition (ap (λ (x : Expr). expr_uses (expr_of x)) w.is) in
     let vs = map variable_of c.args.variables.now in
     let n = length c.args.held in
     let h = c.args.held in
-    rw (p.1, p.2) (refuses_then _ _ _ _ (uses_split vs n h _ _ _ all) (refuses_then _ _ _ _ (uses_split vs n h _ _ _ refl) c.in_err-check_expr-in-Conditional.ensures))
+    rw (p.1, p.2) (refuses_then _ _ _ _ (uses_split vs n h _ _ _ all) (refuses_then _ _ _ _
+    (uses_split vs n h _ _ _ refl) c.in_err-check_expr-in-Conditional.ensures))
 
 pub returns-in_err-check_expr-in-Conditional-2 : goal.returns-in_err-check_expr-in-Conditional-2
 returns-in_err-check_expr-in-Conditional-2 t c =
@@ -46,13 +50,15 @@ returns-in_err-check_expr-in-Conditional-2 t c =
     let w = c.in-Conditional in
     let condition : c.deref-in-Conditional.result.now ≡ w.condition.value = cc in
     let chosen : c.deref-in-Conditional-2.result.now ≡ w.then.value = cc in
-    let all : expr_uses (expr_of c.args.expr.now) ≡ (expr_uses (expr_of c.deref-in-Conditional.result.now) ++ expr_uses (expr_of c.deref-in-Conditional-2.result.now)) ++ expr_uses (expr_of w.otherwise.value) =
+    let all : expr_uses (expr_of c.args.expr.now) ≡ (expr_uses (expr_of c.deref-in-Conditional.result.now) ++ expr_uses
+    (expr_of c.deref-in-Conditional-2.result.now)) ++ expr_uses (expr_of w.otherwise.value) =
     rw (condition, chosen) (ap (λ (x : Expr). expr_uses (expr_of x)) w.is) in
     let vs = map variable_of c.args.variables.now in
     let n = length c.args.held in
     let h = c.args.held in
     rw (p.1, p.2) (refuses_then _ _ _ _ (uses_split vs n h _ _ _ all)
-    (refuses_as _ _ _ (uses_split vs n h _ _ _ refl ∙ behind_then _ _ h c.in_ok-check_expr-in-Conditional.ensures) c.in_err-check_expr-in-Conditional-2.ensures))
+    (refuses_as _ _ _ (uses_split vs n h _ _ _ refl
+    ∙ behind_then _ _ h c.in_ok-check_expr-in-Conditional.ensures) c.in_err-check_expr-in-Conditional-2.ensures))
 
 pub returns-in_ok-check_expr-in-Conditional-2 : goal.returns-in_ok-check_expr-in-Conditional-2
 returns-in_ok-check_expr-in-Conditional-2 t c =
@@ -60,11 +66,13 @@ returns-in_ok-check_expr-in-Conditional-2 t c =
     let condition : c.deref-in-Conditional.result.now ≡ w.condition.value = cc in
     let chosen : c.deref-in-Conditional-2.result.now ≡ w.then.value = cc in
     let otherwise : c.deref-in-Conditional-3.result.now ≡ w.otherwise.value = cc in
-    let all : expr_uses (expr_of c.args.expr.now) ≡ (expr_uses (expr_of c.deref-in-Conditional.result.now) ++ expr_uses (expr_of c.deref-in-Conditional-2.result.now)) ++ expr_uses (expr_of c.deref-in-Conditional-3.result.now) =
+    let all : expr_uses (expr_of c.args.expr.now) ≡ (expr_uses (expr_of c.deref-in-Conditional.result.now) ++ expr_uses
+    (expr_of c.deref-in-Conditional-2.result.now)) ++ expr_uses (expr_of c.deref-in-Conditional-3.result.now) =
     rw (condition, chosen, otherwise) (ap (λ (x : Expr). expr_uses (expr_of x)) w.is) in
     let vs = map variable_of c.args.variables.now in
     let n = length c.args.held in
     let h = c.args.held in
     matches_as c.check_expr-in-Conditional-3.result _ _ (λ _. h)
-    (uses_split vs n h _ _ _ all ∙ behind_then _ _ h (uses_split vs n h _ _ _ refl ∙ behind_then _ _ h c.in_ok-check_expr-in-Conditional.ensures ∙ c.in_ok-check_expr-in-Conditional-2.ensures))
+    (uses_split vs n h _ _ _ all ∙ behind_then _ _ h (uses_split vs n h _ _ _ refl ∙ behind_then _ _ h c.in_ok-check_expr-in-Conditional.ensures
+    ∙ c.in_ok-check_expr-in-Conditional-2.ensures))
     c.check_expr-in-Conditional-3.ensures

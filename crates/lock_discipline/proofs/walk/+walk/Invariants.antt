@@ -2,7 +2,7 @@ use Rattle.std.proofs.Common.{◌≡◌, ◌++◌, [], List, length, map, drop, 
 use Rattle.c_tree.specs.Programs.{variable_of}
 use Rattle.c_tree.specs.Flats.{statements_of, arms_list_of}
 use Rattle.c_tree.specs.Locking.{Held, Walked, walk_all, walk_arms}
-use Rattle.lock_discipline.specs.Flow.{sets_in_all, sets_in_arms}
+use Rattle.lock_discipline.specs.links.Flow.{sets_in_all, sets_in_arms}
 use Rattle.lock_discipline.proofs.walk.+walk.Given as goal
 
 abbrev pub invariant-walk_statements-loop-statement : goal.invariant-walk_statements-loop-statement

@@ -6,4 +6,8 @@ use Rattle.lock_discipline.proofs.walk.least_difference.Given as goal
 
 abbrev pub invariant-loop-other : goal.invariant-loop-other
 invariant-loop-other l =
-    record { long : length l.differing ≡ length l.first; differs : (m : ℕ) → holds l.differing m ≡ list_any (λ x. differ (holds l.first m) (holds x m)) (take l.other-index l.others) }
+    record {
+      long : length l.differing ≡ length l.first;
+      differs : (m : ℕ) →
+          holds l.differing m ≡ list_any (λ x. differ (holds l.first m) (holds x m)) (take l.other-index l.others);
+    }

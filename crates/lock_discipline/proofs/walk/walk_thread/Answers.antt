@@ -5,12 +5,17 @@ use Rattle.lock_discipline.proofs.walk.walk_thread.Goals as goal
 
 pub returns-in-Some-clause-walk : goal.returns-in-Some-clause-walk
 returns-in-Some-clause-walk c =
-    ends_held (map variable_of c.args.variables.now) c.args.mutexes c.args.thread.now c.none-none.result c.deref.result.now c.in_ok-end.end c.in-Some.mutex c.none-none.ensures c.deref.ensures.value c.in_ok-end.ensures.walk c.in-Some.ensures
+    ends_held (map variable_of c.args.variables.now) c.args.mutexes c.args.thread.now c.none-none.result c.deref.result.now c.in_ok-end.end c.in-Some.mutex
+    c.none-none.ensures c.deref.ensures.value c.in_ok-end.ensures.walk c.in-Some.ensures
 
 pub returns-clause-walk : goal.returns-clause-walk
-returns-clause-walk c =
-    (c.in_ok-end.end, ends_free (map variable_of c.args.variables.now) c.args.mutexes c.args.thread.now c.none-none.result c.deref.result.now c.in_ok-end.end c.none-none.ensures c.deref.ensures.value c.in_ok-end.ensures.walk c.in_default.ensures)
+returns-clause-walk c = (
+  c.in_ok-end.end,
+  ends_free (map variable_of c.args.variables.now) c.args.mutexes c.args.thread.now c.none-none.result c.deref.result.now c.in_ok-end.end
+      c.none-none.ensures c.deref.ensures.value c.in_ok-end.ensures.walk c.in_default.ensures,
+)
 
 pub returns-clause-sets : goal.returns-clause-sets
 returns-clause-sets c =
-    sets_are (map variable_of c.args.variables.now) c.args.mutexes c.args.thread.now c.none-none.result c.deref.result.now c.in_ok-end.end _ _ _ c.none-none.ensures c.deref.ensures.value c.in_ok-end.ensures.walk c.new-sets.ensures.items c.in_ok-end.ensures.sets c.in_ok-push.ensures.items
+    sets_are (map variable_of c.args.variables.now) c.args.mutexes c.args.thread.now c.none-none.result c.deref.result.now c.in_ok-end.end _ _ _
+    c.none-none.ensures c.deref.ensures.value c.in_ok-end.ensures.walk c.new-sets.ensures.items c.in_ok-end.ensures.sets c.in_ok-push.ensures.items

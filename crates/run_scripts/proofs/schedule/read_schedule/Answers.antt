@@ -1,6 +1,7 @@
 use Rattle.std.proofs.Common.{◌≡◌, ◌+◌, ◌++◌, ◌∷◌, ℕ, List, subst, length, drop, replicate, sym, ◌∙◌, ap, arith, length-append}
 use Rattle.std.proofs.lemmas.List.{length-replicate}
-use Rattle.run_scripts.specs.Schedules.{Word, read, words_at, steps_from, before_steps}
+use Rattle.run_scripts.specs.Pieces.{Piece, words_at}
+use Rattle.run_scripts.specs.Schedules.{read, steps_from, before_steps}
 use Rattle.run_scripts.specs.WordLengths.{behind_steps}
 use Rattle.run_scripts.proofs.Steps.{behind_none, goes_on}
 use Rattle.run_scripts.proofs.schedule.read_schedule.Goals as goal
@@ -23,15 +24,15 @@ loop-at-preserved c =
     let new = c.push_run.new.steps.items in
     let run = c.in_ok-run.run' in
     let at = c.loop-at.at in
-    let next = c.next_word-at.result in
+    let next = c.next_piece-at.result in
     let added : new ≡ done ++ replicate run.count run.thread = c.in_ok-push_run.ensures in
-    let w : Word = record { place = at; bytes = c.word_at-word.result.now } in
-    let Runs : ℕ → Type 0 = λ n. (ws : List Word) → steps_from n (w ∷ ws) ≡ before_steps run.thread run.count (steps_from (n + run.count) ws) in
+    let w : Piece = record { place = at; bytes = c.piece_at-word.result.now } in
+    let Runs : ℕ → Type 0 = λ n. (ws : List Piece) → steps_from n (w ∷ ws) ≡ before_steps run.thread run.count (steps_from (n + run.count) ws) in
     let count : c.len.result ≡ length done = omega (arith, c.len.ensures, c.loop-at.steps.ok.0) in
     let longer : length new ≡ length done + run.count = ap length added ∙ length-append done (replicate run.count run.thread) ∙ ap (λ n. length done + n) (length-replicate run.count run.thread) in (
-      goes_on text done new (read text) at run.thread run.count (at + length c.word_at-word.result.now) next w
-          c.loop-at.invariant.0 c.word_at-word.ensures.word (subst Runs count c.in_ok-run.ensures.run) c.next_word-at.ensures.words added longer,
-      c.next_word-at.ensures.bound,
-      c.next_word-at.ensures.word,
+      goes_on text done new (read text) at run.thread run.count (at + length c.piece_at-word.result.now) next w
+          c.loop-at.invariant.0 c.piece_at-word.ensures.piece (subst Runs count c.in_ok-run.ensures.run) c.next_piece-at.ensures.pieces added longer,
+      c.next_piece-at.ensures.bound,
+      c.next_piece-at.ensures.piece,
       omega (arith, longer, count, c.in_ok-run.ensures.bound),
     )

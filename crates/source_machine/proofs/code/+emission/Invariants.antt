@@ -1,7 +1,7 @@
 use Rattle.std.proofs.Common.{drop}
 use Rattle.c_tree.specs.Flats.{statements_of, arms_list_of}
 use Rattle.c_tree.specs.Source.{opened_all}
-use Rattle.source_machine.specs.Codes.{Emits, EmitsArms}
+use Rattle.source_machine.specs.links.Codes.{Emits, EmitsArms}
 use Rattle.source_machine.proofs.code.+emission.Given as goal
 
 abbrev pub invariant-emit_all-loop-i : goal.invariant-emit_all-loop-i

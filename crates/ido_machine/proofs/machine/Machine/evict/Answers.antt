@@ -1,5 +1,6 @@
-use Rattle.ido_machine.proofs.Steps.{evicted_end}
+use Rattle.ido_machine.specs.Machines.{state_of}
+use Rattle.ido_machine.proofs.Steps.{evict_end}
 use Rattle.ido_machine.proofs.machine.Machine.evict.Goals as goal
 
 pub returns-clause-world : goal.returns-clause-world
-returns-clause-world c = λ w s running. let e = evicted_end c.args.self.now.harts.items c.args.self.now.memory c.evict.new.self c.args.self.now.locks c.args.line c.args.mask w c.evict.ensures.stands c.evict.ensures.queues s running in record { replied = e.replied; stands = e.stand; running = e.running }
+returns-clause-world c = λ w s. evict_end c.args.self.now.program (state_of c.args.self.now) c.evict.new.self c.args.line c.args.mask w c.evict.ensures.stands s

@@ -8,14 +8,19 @@ use Rattle.lock_discipline.proofs.set.MutexSet.with.Goals as goal
 pub invariant_of-result-2 : goal.invariant_of-result-2
 invariant_of-result-2 c =
     let s = c.self.inside in
-    let m = c.args.mutex in
-    (c.self.invariant.0, mask_below s.mutexes _ (set (held_of s.mutexes s.mask) m true) (length-set (held_of s.mutexes s.mask) m true ∙ length-held_of s.mutexes s.mask) (mask_with s.mutexes s.mask m (omega arith) c.self.invariant.0 c.self.invariant.1))
+    let m = c.args.mutex in (
+      c.self.invariant.0,
+      mask_below s.mutexes _ (set (held_of s.mutexes s.mask) m true)
+          (length-set (held_of s.mutexes s.mask) m true ∙ length-held_of s.mutexes s.mask)
+          (mask_with s.mutexes s.mask m (omega arith) c.self.invariant.0 c.self.invariant.1),
+    )
 
 pub returns : goal.returns
 returns c =
     let s = c.self.inside in
     let m = c.args.mutex in
-    held_of_same s.mutexes _ (set (held_of s.mutexes s.mask) m true) (length-set (held_of s.mutexes s.mask) m true ∙ length-held_of s.mutexes s.mask) (mask_with s.mutexes s.mask m (omega arith) c.self.invariant.0 c.self.invariant.1)
+    held_of_same s.mutexes _ (set (held_of s.mutexes s.mask) m true) (length-set (held_of s.mutexes s.mask) m true ∙ length-held_of s.mutexes s.mask)
+    (mask_with s.mutexes s.mask m (omega arith) c.self.invariant.0 c.self.invariant.1)
     ∙ ap (λ (h : Held). set h m true) c.self.view_is
 
 pub returns-then-mutex-self : goal.returns-then-mutex-self

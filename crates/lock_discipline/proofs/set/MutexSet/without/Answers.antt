@@ -9,7 +9,8 @@ pub returns : goal.returns
 returns c =
     let s = c.self.inside in
     let m = c.args.mutex in
-    held_of_same s.mutexes _ (set (held_of s.mutexes s.mask) m false) (length-set (held_of s.mutexes s.mask) m false ∙ length-held_of s.mutexes s.mask) (mask_without s.mutexes s.mask m (omega arith) c.self.invariant.0 c.self.invariant.1)
+    held_of_same s.mutexes _ (set (held_of s.mutexes s.mask) m false) (length-set (held_of s.mutexes s.mask) m false ∙ length-held_of s.mutexes s.mask)
+    (mask_without s.mutexes s.mask m (omega arith) c.self.invariant.0 c.self.invariant.1)
     ∙ ap (λ (h : Held). set h m false) c.self.view_is
 
 pub returns-then-mutex-self : goal.returns-then-mutex-self

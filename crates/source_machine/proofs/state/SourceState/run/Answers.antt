@@ -11,8 +11,10 @@ returns-then-thread-len-clause-ran c = λ s ended st.
     let i = c.loop-i.i in
     let g = c.loop-i.invariant.going s ended st in
     let size = length-take-le i xs (omega arith) in
-    ran_refused c.loop-i.self s ended xs (take i xs) (get_or xs i 0) (drop (i + 1) xs) (record { kind = kind.UnknownThread; step = i + 1 }) (split_at xs i c.loop-i-test.true) g.runs
-    (unknown c.loop-i.self _ _ (get_or xs i 0) g.stands (omega (arith, c.len.ensures, c.if-thread-len.true, c.loop-i.self.threads.ok.0))) (omega (arith, size)) g.stands
+    ran_refused c.loop-i.self s ended xs (take i xs) (get_or xs i 0) (drop (i + 1) xs) (record { kind = kind.UnknownThread; step = i + 1 })
+    (split_at xs i c.loop-i-test.true) g.runs
+    (unknown c.loop-i.self _ _ (get_or xs i 0) g.stands (omega (arith, c.len.ensures, c.if-thread-len.true, c.loop-i.self.threads.ok.0)))
+    (omega (arith, size)) g.stands
 
 pub returns-in-Waits-clause-ran : goal.returns-in-Waits-clause-ran
 returns-in-Waits-clause-ran c = λ s ended st.
@@ -21,8 +23,10 @@ returns-in-Waits-clause-ran c = λ s ended st.
     let g = c.loop-i.invariant.going s ended st in
     let size = length-take-le i xs (omega arith) in
     let a = c.in-Waits.ensures.after (after_from s (take i xs)) (λ k. ended k + ended_from s (take i xs) k) g.stands in
-    ran_stuck c.loop-i.self c.step.new.self s ended xs (take i xs) (get_or xs i 0) (drop (i + 1) xs) (record { kind = kind.Waits; step = i + 1 }) _ (split_at xs i c.loop-i-test.true) g
-    (waits_stuck c.loop-i.self _ _ (get_or xs i 0) g.stands c.in-Waits.mutex (omega (arith, c.len.ensures, c.if-thread-len.false, c.loop-i.self.threads.ok.0)) a.answered) (omega (arith, size)) a
+    ran_stuck c.loop-i.self c.step.new.self s ended xs (take i xs) (get_or xs i 0) (drop (i + 1) xs) (record { kind = kind.Waits; step = i + 1 }) _
+    (split_at xs i c.loop-i-test.true) g
+    (waits_stuck c.loop-i.self _ _ (get_or xs i 0) g.stands c.in-Waits.mutex
+    (omega (arith, c.len.ensures, c.if-thread-len.false, c.loop-i.self.threads.ok.0)) a.answered) (omega (arith, size)) a
 
 pub returns-in-Ended-clause-ran : goal.returns-in-Ended-clause-ran
 returns-in-Ended-clause-ran c = λ s ended st.
@@ -31,8 +35,10 @@ returns-in-Ended-clause-ran c = λ s ended st.
     let g = c.loop-i.invariant.going s ended st in
     let size = length-take-le i xs (omega arith) in
     let a = c.in-Ended.ensures.after (after_from s (take i xs)) (λ k. ended k + ended_from s (take i xs) k) g.stands in
-    ran_stuck c.loop-i.self c.step.new.self s ended xs (take i xs) (get_or xs i 0) (drop (i + 1) xs) (record { kind = kind.Ended; step = i + 1 }) _ (split_at xs i c.loop-i-test.true) g
-    (ended_stuck c.loop-i.self _ _ (get_or xs i 0) g.stands (omega (arith, c.len.ensures, c.if-thread-len.false, c.loop-i.self.threads.ok.0)) a.answered) (omega (arith, size)) a
+    ran_stuck c.loop-i.self c.step.new.self s ended xs (take i xs) (get_or xs i 0) (drop (i + 1) xs) (record { kind = kind.Ended; step = i + 1 }) _
+    (split_at xs i c.loop-i-test.true) g
+    (ended_stuck c.loop-i.self _ _ (get_or xs i 0) g.stands (omega (arith, c.len.ensures, c.if-thread-len.false, c.loop-i.self.threads.ok.0)) a.answered)
+    (omega (arith, size)) a
 
 pub loop-i-preserved : goal.loop-i-preserved
 loop-i-preserved c = record {
@@ -42,8 +48,10 @@ loop-i-preserved c = record {
       let i = c.loop-i.i in
       let g = c.loop-i.invariant.going s ended st in
       one_more c.step.new.self s ended xs i c.loop-i-test.true
-      (did_more c.loop-i.self c.step.new.self s ended (take i xs) (get_or xs i 0) g (c.in-Did.ensures.after (after_from s (take i xs)) (λ k. ended k + ended_from s (take i xs) k) g.stands));
+      (did_more c.loop-i.self c.step.new.self s ended (take i xs) (get_or xs i 0) g
+      (c.in-Did.ensures.after (after_from s (take i xs)) (λ k. ended k + ended_from s (take i xs) k) g.stands));
 }
 
 pub returns-clause-ran : goal.returns-clause-ran
-returns-clause-ran c = λ s ended st. ran_all c.loop-i.self s ended c.args.schedule.now (whole c.loop-i.self s ended c.args.schedule.now c.loop-i.i c.loop-i-test.false (c.loop-i.invariant.going s ended st))
+returns-clause-ran c = λ s ended st. ran_all c.loop-i.self s ended c.args.schedule.now
+    (whole c.loop-i.self s ended c.args.schedule.now c.loop-i.i c.loop-i-test.false (c.loop-i.invariant.going s ended st))

@@ -3,23 +3,30 @@ use Rattle.std.specs.Vec.{with_items}
 use Rattle.std.proofs.lemmas.List.{with_items_is}
 use Rattle.std.proofs.lemmas.Option.{slice_get_read}
 use Rattle.source_machine.specs.Sections.{AreCounted, ends}
-use Rattle.source_machine.specs.Threads.{IsMade}
+use Rattle.source_machine.specs.links.Threads.{IsMade}
 use Rattle.source_machine.proofs.Running.{after_step}
 use Rattle.source_machine.proofs.state.SourceState.step.Goals as goal
 
 pub returns-clause-after : goal.returns-clause-after
 returns-clause-after c = λ s ended st.
     let before = c.args.self.now in
-    let here = slice_get_read before.threads.items _ c.args.thread c.index_mut-it.result.now refl (omega (arith, c.requires.exists)) c.index_mut-it.ensures.value in
+    let here = slice_get_read before.threads.items _ c.args.thread c.index_mut-it.result.now refl
+    (omega (arith, c.requires.exists)) c.index_mut-it.ensures.value in
     let held = c.deref_mut.ensures.value in
     let counted = c.deref_mut-2.ensures.value in
-    let held' : (with_items before.holders c.step.new.holders).items ≡ c.step.new.holders = with_items_is before.holders c.step.new.holders (omega (arith, c.step.auto.holders, ap length held, before.holders.ok.0)) in
-    let counted' : (with_items before.sections c.step.new.sections).items ≡ c.step.new.sections = with_items_is before.sections c.step.new.sections (omega (arith, c.step.auto.sections, ap length counted, before.sections.ok.0)) in
+    let held' : (with_items before.holders c.step.new.holders).items ≡ c.step.new.holders =
+    with_items_is before.holders c.step.new.holders (omega (arith, c.step.auto.holders, ap length held, before.holders.ok.0)) in
+    let counted' : (with_items before.sections c.step.new.sections).items ≡ c.step.new.sections =
+    with_items_is before.sections c.step.new.sections (omega (arith, c.step.auto.sections, ap length counted, before.sections.ok.0)) in
     after_step before _ s ended c.args.thread c.index_mut-it.result.now c.step.new.self c.step.result st here refl
     (λ left threads l.
     let made = c.step.ensures.made left threads l in
-    let P : List (Option ℕ) → Type 0 = λ hs. IsMade c.index_mut-it.result.now c.step.new.self before.variables c.step.new.variables hs c.step.new.holders c.step.result c.args.thread threads left in
-    let Q : List (Option ℕ) → Type 0 = λ hs. IsMade c.index_mut-it.result.now c.step.new.self before.variables c.step.new.variables before.holders.items hs c.step.result c.args.thread threads left in
+    let P : List (Option ℕ) → Type 0 =
+    λ hs. IsMade c.index_mut-it.result.now c.step.new.self before.variables c.step.new.variables hs c.step.new.holders c.step.result
+    c.args.thread threads left in
+    let Q : List (Option ℕ) → Type 0 =
+    λ hs. IsMade c.index_mut-it.result.now c.step.new.self before.variables c.step.new.variables before.holders.items hs c.step.result
+    c.args.thread threads left in
     subst Q (sym held') (subst P held made))
     (λ e h.
     let A : List ℕ → Type 0 = λ ss. AreCounted ss e in

@@ -6,7 +6,7 @@ use Rattle.ido_ints.specs.Operators.{is_zero}
 use Rattle.ido_ints.specs.Typed.{Typed}
 use Rattle.source_machine.specs.declared.answers.Stepped.TheVariants.{Did, Waits}
 use Rattle.source_machine.specs.Sections.{ends}
-use Rattle.source_machine.specs.Threads.{IsMade}
+use Rattle.source_machine.specs.links.Threads.{IsMade}
 use Rattle.source_machine.proofs.Ends.{ends_taken, counted_same}
 use Rattle.source_machine.proofs.Steps.{node_read, end_over, end_made, never_made, unlock_made, lock_made, lock_waits, fails_made, holds_made, assign_made}
 use Rattle.source_machine.proofs.thread.ThreadState.step.Goals as goal
@@ -14,61 +14,90 @@ use Rattle.source_machine.proofs.thread.ThreadState.step.Goals.{then-is_zero, el
 
 pub returns-then-self-clause-made : goal.returns-then-self-clause-made
 returns-then-self-clause-made c =
-    let g = node_read c.args.self.now.nodes.items _ c.args.self.now.at c.get.result c.in-Some-copied.node c.in-Some-copied.ensures c.get.ensures.lookup.0 c.get.ensures.lookup.1 c.deref.ensures.value ∙ ap Some c.in-End.is in
+    let g = node_read c.args.self.now.nodes.items _ c.args.self.now.at c.get.result c.in-Some-copied.node c.in-Some-copied.ensures c.get.ensures.lookup.0
+    c.get.ensures.lookup.1 c.deref.ensures.value ∙ ap Some c.in-End.is in
     λ left threads l. end_over c.args.variables.now c.args.holders.now threads c.args.number c.args.self.now left c.in_default.is l g c.if-self.true
 
 pub returns-else-self-clause-made : goal.returns-else-self-clause-made
 returns-else-self-clause-made c =
-    let g = node_read c.args.self.now.nodes.items _ c.args.self.now.at c.get.result c.in-Some-copied.node c.in-Some-copied.ensures c.get.ensures.lookup.0 c.get.ensures.lookup.1 c.deref.ensures.value ∙ ap Some c.in-End.is in
+    let g = node_read c.args.self.now.nodes.items _ c.args.self.now.at c.get.result c.in-Some-copied.node c.in-Some-copied.ensures c.get.ensures.lookup.0
+    c.get.ensures.lookup.1 c.deref.ensures.value ∙ ap Some c.in-End.is in
     λ left threads l. end_made c.args.variables.now c.args.holders.now threads c.args.number c.args.self.now left c.in_default.is l g c.if-self.false
 
 pub returns-in-Assign-clause-made : goal.returns-in-Assign-clause-made
 returns-in-Assign-clause-made c =
-    let g = node_read c.args.self.now.nodes.items _ c.args.self.now.at c.get.result c.in-Some-copied.node c.in-Some-copied.ensures c.get.ensures.lookup.0 c.get.ensures.lookup.1 c.deref.ensures.value ∙ ap Some c.in-Assign.is in
-    λ left threads l. assign_made c.args.variables.now c.args.holders.now threads c.args.number c.args.self.now left c.in_default.is l c.in-Assign.target c.in-Assign.value c.in-Assign.next c.assign.new.self g c.assign.ensures.nodes (c.assign.ensures.model left c.args.holders.now threads)
+    let g = node_read c.args.self.now.nodes.items _ c.args.self.now.at c.get.result c.in-Some-copied.node c.in-Some-copied.ensures c.get.ensures.lookup.0
+    c.get.ensures.lookup.1 c.deref.ensures.value ∙ ap Some c.in-Assign.is in
+    λ left threads l. assign_made c.args.variables.now c.args.holders.now threads c.args.number c.args.self.now left c.in_default.is l c.in-Assign.target
+    c.in-Assign.value c.in-Assign.next c.assign.new.self g c.assign.ensures.nodes (c.assign.ensures.model left c.args.holders.now threads)
 
 pub returns-after-is_zero-clause-made : goal.returns-after-is_zero-clause-made
 returns-after-is_zero-clause-made c =
-    let g = node_read c.args.self.now.nodes.items _ c.args.self.now.at c.get.result c.in-Some-copied.node c.in-Some-copied.ensures c.get.ensures.lookup.0 c.get.ensures.lookup.1 c.deref.ensures.value ∙ ap Some c.in-Test.is in
+    let g = node_read c.args.self.now.nodes.items _ c.args.self.now.at c.get.result c.in-Some-copied.node c.in-Some-copied.ensures c.get.ensures.lookup.0
+    c.get.ensures.lookup.1 c.deref.ensures.value ∙ ap Some c.in-Test.is in
     λ left threads l.
-    let P : ℕ → Type 0 = λ at. IsMade c.args.self.now (record c.args.self.now { at = at }) c.args.variables.now c.args.variables.now c.args.holders.now c.args.holders.now Did c.args.number threads left in
-    let read : c.evaluate-condition.result ≡ value c.args.self.now.locals.items c.args.variables.now (expr_of c.in-Test.condition.now.expr) = c.evaluate-condition.ensures ∙ ap (λ (ls : List ℤ). value ls c.args.variables.now (expr_of c.in-Test.condition.now.expr)) c.deref-in-Test.ensures.value in
+    let P : ℕ → Type 0 = λ at. IsMade c.args.self.now (record c.args.self.now {
+      at =
+          at;
+    }) c.args.variables.now c.args.variables.now c.args.holders.now c.args.holders.now Did c.args.number threads left in
+    let read : c.evaluate-condition.result ≡ value c.args.self.now.locals.items c.args.variables.now (expr_of c.in-Test.condition.now.expr) =
+    c.evaluate-condition.ensures ∙ ap (λ (ls : List ℤ). value ls c.args.variables.now
+    (expr_of c.in-Test.condition.now.expr)) c.deref-in-Test.ensures.value in
     elim c.if-is_zero.branch [
-      | then-is_zero w ↦ subst P (sym w.self-is) (fails_made c.args.variables.now c.args.holders.now threads c.args.number c.args.self.now left c.in_default.is l c.in-Test.condition c.in-Test.holds c.in-Test.fails g (sym (w.if-is_zero.ensures ∙ ap (λ (v : Typed). is_zero v.number) read)))
-      | else-is_zero w ↦ subst P (sym w.self-is) (holds_made c.args.variables.now c.args.holders.now threads c.args.number c.args.self.now left c.in_default.is l c.in-Test.condition c.in-Test.holds c.in-Test.fails g (sym (w.if-is_zero.ensures ∙ ap (λ (v : Typed). is_zero v.number) read)))
+      | then-is_zero w ↦ subst P (sym w.self-is)
+          (fails_made c.args.variables.now c.args.holders.now threads c.args.number c.args.self.now left c.in_default.is l c.in-Test.condition c.in-Test.holds
+          c.in-Test.fails g (sym (w.if-is_zero.ensures ∙ ap (λ (v : Typed). is_zero v.number) read)))
+      | else-is_zero w ↦ subst P (sym w.self-is)
+          (holds_made c.args.variables.now c.args.holders.now threads c.args.number c.args.self.now left c.in_default.is l c.in-Test.condition c.in-Test.holds
+          c.in-Test.fails g (sym (w.if-is_zero.ensures ∙ ap (λ (v : Typed). is_zero v.number) read)))
     ]
 
 pub returns-then-take-clause-made : goal.returns-then-take-clause-made
 returns-then-take-clause-made c =
-    let g = node_read c.args.self.now.nodes.items _ c.args.self.now.at c.get.result c.in-Some-copied.node c.in-Some-copied.ensures c.get.ensures.lookup.0 c.get.ensures.lookup.1 c.deref.ensures.value ∙ ap Some c.in-Lock.is in
+    let g = node_read c.args.self.now.nodes.items _ c.args.self.now.at c.get.result c.in-Some-copied.node c.in-Some-copied.ensures c.get.ensures.lookup.0
+    c.get.ensures.lookup.1 c.deref.ensures.value ∙ ap Some c.in-Lock.is in
     let h = c.if-take.ensures in
     λ left threads l.
-    let P : List (Option ℕ) → Type 0 = λ hs. IsMade c.args.self.now (record c.args.self.now { at = c.in-Lock.next }) c.args.variables.now c.args.variables.now c.args.holders.now hs Did c.args.number threads left in
-    subst P (sym h.taken) (lock_made c.args.variables.now c.args.holders.now threads c.args.number c.args.self.now left c.in_default.is l c.in-Lock.mutex c.in-Lock.next g (h.free.0 refl))
+    let P : List (Option ℕ) → Type 0 = λ hs. IsMade c.args.self.now (record c.args.self.now {
+      at =
+          c.in-Lock.next;
+    }) c.args.variables.now c.args.variables.now c.args.holders.now hs Did c.args.number threads left in
+    subst P (sym h.taken) (lock_made c.args.variables.now c.args.holders.now threads c.args.number c.args.self.now left c.in_default.is l c.in-Lock.mutex
+    c.in-Lock.next g (h.free.0 refl))
 
 pub returns-then-take-clause-sections : goal.returns-then-take-clause-sections
 returns-then-take-clause-sections c =
     let h = c.if-take.ensures in
     λ ended counted.
     let P : List (Option ℕ) → Type 0 = λ hs. (k : ℕ) → ends c.args.holders.now hs k ≡ 0 in
-    counted_same c.args.sections.now ended _ (subst P (sym h.taken) (λ k. ends_taken c.args.holders.now c.in-Lock.mutex c.args.number k (h.free.0 refl))) counted
+    counted_same c.args.sections.now ended _ (subst P (sym h.taken) (λ k. ends_taken c.args.holders.now c.in-Lock.mutex c.args.number k
+    (h.free.0 refl))) counted
 
 pub returns-else-take-clause-made : goal.returns-else-take-clause-made
 returns-else-take-clause-made c =
-    let g = node_read c.args.self.now.nodes.items _ c.args.self.now.at c.get.result c.in-Some-copied.node c.in-Some-copied.ensures c.get.ensures.lookup.0 c.get.ensures.lookup.1 c.deref.ensures.value ∙ ap Some c.in-Lock.is in
+    let g = node_read c.args.self.now.nodes.items _ c.args.self.now.at c.get.result c.in-Some-copied.node c.in-Some-copied.ensures c.get.ensures.lookup.0
+    c.get.ensures.lookup.1 c.deref.ensures.value ∙ ap Some c.in-Lock.is in
     let h = c.if-take.ensures in
     λ left threads l.
-    let P : List (Option ℕ) → Type 0 = λ hs. IsMade c.args.self.now c.args.self.now c.args.variables.now c.args.variables.now c.args.holders.now hs (Waits c.in-Lock.mutex) c.args.number threads left in
-    subst P (sym h.kept) (lock_waits c.args.variables.now c.args.holders.now threads c.args.number c.args.self.now left c.in_default.is l c.in-Lock.mutex c.in-Lock.next g (λ e. let f : false ≡ true = h.free.1 e in cc))
+    let P : List (Option ℕ) → Type 0 = λ hs. IsMade c.args.self.now c.args.self.now c.args.variables.now c.args.variables.now c.args.holders.now hs
+    (Waits c.in-Lock.mutex) c.args.number threads left in
+    subst P (sym h.kept) (lock_waits c.args.variables.now c.args.holders.now threads c.args.number c.args.self.now left c.in_default.is l c.in-Lock.mutex
+    c.in-Lock.next g (λ e. let f : false ≡ true = h.free.1 e in cc))
 
 pub returns-in-Unlock-clause-made : goal.returns-in-Unlock-clause-made
 returns-in-Unlock-clause-made c =
-    let g = node_read c.args.self.now.nodes.items _ c.args.self.now.at c.get.result c.in-Some-copied.node c.in-Some-copied.ensures c.get.ensures.lookup.0 c.get.ensures.lookup.1 c.deref.ensures.value ∙ ap Some c.in-Unlock.is in
+    let g = node_read c.args.self.now.nodes.items _ c.args.self.now.at c.get.result c.in-Some-copied.node c.in-Some-copied.ensures c.get.ensures.lookup.0
+    c.get.ensures.lookup.1 c.deref.ensures.value ∙ ap Some c.in-Unlock.is in
     λ left threads l.
-    let P : List (Option ℕ) → Type 0 = λ hs. IsMade c.args.self.now (record c.args.self.now { at = c.in-Unlock.next }) c.args.variables.now c.args.variables.now c.args.holders.now hs Did c.args.number threads left in
-    subst P (sym c.release.ensures.holders) (unlock_made c.args.variables.now c.args.holders.now threads c.args.number c.args.self.now left c.in_default.is l c.in-Unlock.mutex c.in-Unlock.next g)
+    let P : List (Option ℕ) → Type 0 = λ hs. IsMade c.args.self.now (record c.args.self.now {
+      at =
+          c.in-Unlock.next;
+    }) c.args.variables.now c.args.variables.now c.args.holders.now hs Did c.args.number threads left in
+    subst P (sym c.release.ensures.holders)
+    (unlock_made c.args.variables.now c.args.holders.now threads c.args.number c.args.self.now left c.in_default.is l c.in-Unlock.mutex c.in-Unlock.next g)
 
 pub returns-in-Never-clause-made : goal.returns-in-Never-clause-made
 returns-in-Never-clause-made c =
-    let g = node_read c.args.self.now.nodes.items _ c.args.self.now.at c.get.result c.in-Some-copied.node c.in-Some-copied.ensures c.get.ensures.lookup.0 c.get.ensures.lookup.1 c.deref.ensures.value ∙ ap Some c.in-Never.is in
+    let g = node_read c.args.self.now.nodes.items _ c.args.self.now.at c.get.result c.in-Some-copied.node c.in-Some-copied.ensures c.get.ensures.lookup.0
+    c.get.ensures.lookup.1 c.deref.ensures.value ∙ ap Some c.in-Never.is in
     λ left threads l. never_made c.args.variables.now c.args.holders.now threads c.args.number c.args.self.now left c.in_default.is l g

@@ -1,6 +1,6 @@
 use Rattle.std.proofs.Common.{◌≡◌, map, take, length}
 use Rattle.c_tree.specs.Programs.{variable_of}
-use Rattle.source_machine.specs.Spans.{parts, AreConsecutive}
+use Rattle.source_machine.specs.links.Spans.{parts, AreConsecutive}
 use Rattle.source_machine.proofs.variables.Variables.new.Given as goal
 
 abbrev pub invariant-loop-variable : goal.invariant-loop-variable

@@ -1,0 +1,177 @@
+-- Well formed programs and flat forms: each number names what it is used as, and every element has an initial number of its kind.
+use Rattle.std.specs.Prelude.{◌≡◌, ℕ, ◌<◌, ◌≤◌, List, length, map, slice_get, Option, Some, None, Bool, true, false, is_some}
+use Rattle.std.specs.List.{AllByRecursion}
+use Rattle.ido_base.specs.declared.place.Place.{Place}
+use Rattle.ido_base.specs.declared.location.Shape.{Shape}
+use Rattle.ido_base.specs.Layout.{end_from}
+use Rattle.ido_ints.specs.declared.kinds.Kind.{Kind}
+use Rattle.ido_ints.specs.Kinds.{bytes_of, Holds}
+use Rattle.c_tree.specs.Exprs as e
+use Rattle.c_tree.specs.Programs as p
+use Rattle.c_tree.specs.Flats as f
+use Rattle.c_tree.specs.Ranges.{index_fits}
+use Rattle.c_tree.specs.TypeRules.{most_threads, most_mutexes, most_variable_bytes, most_elements}
+
+-- ---- Variables
+
+-- how many elements a variable of the length has; one that is no array has one element
+abbrev pub elements_in : (length : Option ℕ) → ℕ
+elements_in None = 1
+elements_in (Some n) = n
+
+-- a variable, where there are so many mutexes
+pub record IsVariable (mutexes : ℕ) (v : p.Variable) : Type 0 where
+  pub guarded : v.guard < mutexes
+  pub not_empty : 0 < elements_in v.length
+  pub not_too_long : elements_in v.length ≤ most_elements
+  -- a number for each element, which the kind holds
+  pub count : length v.initial ≡ elements_in v.length
+  pub held : AllByRecursion (Holds v.kind) v.initial
+
+abbrev pub shape_of : p.Variable → Shape
+shape_of v = record { bytes = bytes_of v.kind; length = elements_in v.length }
+
+-- what the threads share
+pub record AreShared (mutex_count thread_count : ℕ) (vs : List p.Variable) : Type 0 where
+  pub mutexes : mutex_count ≤ most_mutexes
+  pub threads : thread_count ≤ most_threads
+  pub variables : AllByRecursion (IsVariable mutex_count) vs
+  pub bytes : end_from 0 (map shape_of vs) ≤ most_variable_bytes
+
+-- ---- Expressions, over variables and locals of these kinds
+
+-- the variable of that number is of the kind, and an array or none
+pub record IsDeclared (vs : List p.Variable) (variable : ℕ) (k : Kind) (is_array : Bool) : Type 0 where
+  pub it : p.Variable
+  pub found : slice_get vs variable ≡ Some it
+  pub kind : it.kind ≡ k
+  pub array : is_some it.length ≡ is_array
+
+module _ (vs : List p.Variable) (ks : List Kind) where
+  -- each local and each variable is there and of its kind, with an index exactly where it is an array
+  abbrev pub IsExpr : e.Expr → Type 0
+  IsExpr (e.Constant value) = Unit {0}
+  IsExpr (e.Local local kind) = slice_get ks local ≡ Some kind
+  IsExpr (e.Variable place variable kind) = IsDeclared vs variable kind false
+  IsExpr (e.Element place variable kind index_place index) = IsDeclared vs variable kind true × IsExpr index
+  IsExpr (e.Unary operator operand) = IsExpr operand
+  IsExpr (e.Cast kind operand) = IsExpr operand
+  IsExpr (e.Converted kind operand) = IsExpr operand
+  IsExpr (e.Binary operator left right) = IsExpr left × IsExpr right
+  IsExpr (e.Conditional kind condition chosen otherwise) = IsExpr condition × IsExpr chosen × IsExpr otherwise
+
+  abbrev pub IsPlaced : e.Placed → Type 0
+  IsPlaced x = IsExpr x.expr
+
+  abbrev pub IsTarget : e.Target → Type 0
+  IsTarget (e.ToLocal local kind) = slice_get ks local ≡ Some kind
+  IsTarget (e.ToVariable place variable kind) = IsDeclared vs variable kind false
+  IsTarget (e.ToElement place variable kind index) = IsDeclared vs variable kind true × IsExpr index.expr
+
+module _ (vs : List p.Variable) where
+  -- the index names an element, whatever its value is
+  abbrev pub IndexFits : (variable : ℕ) → Place → e.Expr → Type 0
+  IndexFits variable place index = index_fits vs (record { variable = variable; place = place; expr = index }) ≡ true
+
+  -- each index does
+  abbrev pub Fits : e.Expr → Type 0
+  Fits (e.Constant value) = Unit {0}
+  Fits (e.Local local kind) = Unit {0}
+  Fits (e.Variable place variable kind) = Unit {0}
+  Fits (e.Element place variable kind index_place index) = IndexFits variable index_place index × Fits index
+  Fits (e.Unary operator operand) = Fits operand
+  Fits (e.Cast kind operand) = Fits operand
+  Fits (e.Converted kind operand) = Fits operand
+  Fits (e.Binary operator left right) = Fits left × Fits right
+  Fits (e.Conditional kind condition chosen otherwise) = Fits condition × Fits chosen × Fits otherwise
+
+  abbrev pub TargetFits : e.Target → Type 0
+  TargetFits (e.ToLocal local kind) = Unit {0}
+  TargetFits (e.ToVariable place variable kind) = Unit {0}
+  TargetFits (e.ToElement place variable kind index) = IndexFits variable index.place index.expr × Fits index.expr
+
+-- ---- Programs, with calls; whether indexes fit is asked apart, by `AllFit`
+
+-- a call of a function that is there: as many arguments as parameters, and a result exactly where one is assigned
+pub record IsCall (fs : List p.Function) (function arguments : ℕ) (assigned : Bool) : Type 0 where
+  pub it : p.Function
+  pub found : slice_get fs function ≡ Some it
+  pub count : arguments ≡ it.parameters
+  pub gives : is_some it.result ≡ assigned
+
+abbrev pub HasProgramArm : p.Arms → Type 0
+HasProgramArm p.no_arm = ⊥
+HasProgramArm (p.arm_and condition body rest) = Unit {0}
+
+module _ (x : p.Program) (ks : List Kind) where
+  abbrev pub IsResult : Option e.Target → Type 0
+  IsResult None = Unit {0}
+  IsResult (Some target) = IsTarget x.variables ks target
+
+  abbrev mutual
+    pub IsStatement : p.Statement → Type 0
+    IsStatement (p.Assign place target value) = IsTarget x.variables ks target × IsPlaced x.variables ks value
+    IsStatement (p.Call place name function arguments result) =
+        IsCall x.functions function (length arguments) (is_some result) × AllByRecursion (IsPlaced x.variables ks) arguments × IsResult result
+    IsStatement (p.If place arms otherwise) = HasProgramArm arms × AreArms arms × AreStatements otherwise
+    IsStatement (p.While place condition body) = IsPlaced x.variables ks condition × AreStatements body
+    IsStatement (p.Do place body condition) = AreStatements body × IsPlaced x.variables ks condition
+    IsStatement (p.Lock place mutex) = mutex < length x.mutexes
+    IsStatement (p.Unlock place mutex) = mutex < length x.mutexes
+
+    pub AreStatements : p.Statements → Type 0
+    AreStatements p.no_statement = Unit {0}
+    AreStatements (p.statement_and s rest) = IsStatement s × AreStatements rest
+
+    pub AreArms : p.Arms → Type 0
+    AreArms p.no_arm = Unit {0}
+    AreArms (p.arm_and condition body rest) = IsPlaced x.variables ks condition × AreStatements body × AreArms rest
+
+  abbrev pub IsReturned : Option p.Returned → Type 0
+  IsReturned None = Unit {0}
+  IsReturned (Some r) = IsPlaced x.variables ks r.value
+
+-- the first locals are the parameters
+pub record IsFunction (x : p.Program) (g : p.Function) : Type 0 where
+  pub parameters : g.parameters ≤ length g.locals
+  pub body : AreStatements x g.locals g.body
+  pub result : IsReturned x g.locals g.result
+
+pub record IsProgram (x : p.Program) : Type 0 where
+  pub shared : AreShared (length x.mutexes) (length x.threads) x.variables
+  pub functions : AllByRecursion (IsFunction x) x.functions
+  pub threads : AllByRecursion (λ (t : p.Thread). AreStatements x t.locals t.body) x.threads
+
+-- ---- Flat forms, in which all indexes fit
+
+abbrev pub HasArm : f.Arms → Type 0
+HasArm f.no_arm = ⊥
+HasArm (f.arm_and condition body rest) = Unit {0}
+
+module _ (x : f.Flat) (ks : List Kind) where
+  abbrev pub IsFlatPlaced : e.Placed → Type 0
+  IsFlatPlaced y = IsExpr x.variables ks y.expr × Fits x.variables y.expr
+
+  abbrev pub IsFlatTarget : e.Target → Type 0
+  IsFlatTarget y = IsTarget x.variables ks y × TargetFits x.variables y
+
+  abbrev mutual
+    pub IsFlatStatement : f.Statement → Type 0
+    IsFlatStatement (f.Assign place target value) = IsFlatTarget target × IsFlatPlaced value
+    IsFlatStatement (f.If place arms otherwise) = HasArm arms × AreFlatArms arms × AreFlatStatements otherwise
+    IsFlatStatement (f.While place condition body) = IsFlatPlaced condition × AreFlatStatements body
+    IsFlatStatement (f.Do place body condition) = AreFlatStatements body × IsFlatPlaced condition
+    IsFlatStatement (f.Lock place mutex) = mutex < length x.mutexes
+    IsFlatStatement (f.Unlock place mutex) = mutex < length x.mutexes
+
+    pub AreFlatStatements : f.Statements → Type 0
+    AreFlatStatements f.no_statement = Unit {0}
+    AreFlatStatements (f.statement_and s rest) = IsFlatStatement s × AreFlatStatements rest
+
+    pub AreFlatArms : f.Arms → Type 0
+    AreFlatArms f.no_arm = Unit {0}
+    AreFlatArms (f.arm_and condition body rest) = IsFlatPlaced condition × AreFlatStatements body × AreFlatArms rest
+
+pub record IsWellFormed (x : f.Flat) : Type 0 where
+  pub shared : AreShared (length x.mutexes) (length x.threads) x.variables
+  pub threads : AllByRecursion (λ (t : f.Thread). AreFlatStatements x t.locals t.body) x.threads

@@ -1,0 +1,7 @@
+use Rattle.std.proofs.Common.{drop, map}
+use Rattle.c_tree.specs.Flats.{thread_of}
+use Rattle.flow_lower.proofs.Growing.{ThreadsLeft}
+use Rattle.flow_lower.proofs.lowering.lower.Given as goal
+
+abbrev pub invariant-loop-thread : goal.invariant-loop-thread
+invariant-loop-thread l = ThreadsLeft l.nodes.items l.threads.items (map thread_of l.flat.threads.items) (map thread_of (drop l.thread-index l.flat.threads.items))

@@ -1,0 +1,213 @@
+//! The nodes of statements, threads and programs.
+ghost use Rattle.std.specs.Prelude.{◌≡◌, ℕ, suc, ◌+◌, ◌++◌, length, IfOk};
+ghost use Rattle.c_tree.specs.Exprs.{placed_of};
+ghost use Rattle.c_tree.specs.Flats.{While, Do, statement_of, statements_of, arms_list_of, thread_of, flat_of};
+ghost use Rattle.flow_graph.specs.Nodes.{graph_of};
+ghost use Rattle.flow_graph.specs.Lowering.{entry, statement_nodes, statements_nodes, arms_nodes, arms_count, statements_count, thread_nodes, part, lowered};
+ghost use Rattle.flow_lower.specs.links.Growth.{Adds};
+
+use crate::counts::{count, count_all, count_arms, sum};
+use crate::nodes::{add_assignment, plain, test};
+use c_tree::expr::Placed;
+use c_tree::flat::{Arm, Flat, Statement, Thread};
+use flow_graph::graph::{Action, Graph, Node, Part};
+use ido_base::memory::Memory;
+use ido_base::place::Place;
+use std::alloc::Global;
+
+// Where a part begins that ends at `end`: one without nodes is passed over.
+fn entry(first: usize, end: usize, next: usize) -> usize
+    ensures { (count : ℕ) → end ≡ first + count → result ≡ entry count first next }
+{
+    if first == end { next } else { first }
+}
+
+// Where the last part of an `if` begins.
+fn last_part(
+    first: usize,
+    arms: &[Arm],
+    otherwise: &[Statement],
+    next: usize,
+) -> Result<usize, Memory>
+    ensures { IfOk result (λ last. last ≡ entry (statements_count (statements_of otherwise.now)) (first + arms_count (arms_list_of arms.now)) next) }
+{
+    let chosen = count_arms(arms)?;
+    let rest = count_all(otherwise)?;
+    let after = sum(first, chosen)?;
+    let end = sum(after, rest)?;
+    Ok(entry(after, end, next))
+}
+
+// The nodes of a statement, behind which the thread goes on at `next`.
+#[cycle(lowering)]
+fn lower_statement<'a>(
+    alloc: Global,
+    nodes: &mut Vec<Node<'a>>,
+    statement: &'a Statement,
+    next: usize,
+) -> Result<(), Memory>
+    ensures { IfOk result (λ _. Adds nodes.old.items nodes.new.items (statement_nodes (statement_of statement.now) (length nodes.old.items) next)) }
+{
+    match statement {
+        Statement::Assign {
+            place,
+            target,
+            value,
+        } => add_assignment(alloc, nodes, *place, target, value, next),
+        Statement::If {
+            place,
+            arms,
+            otherwise,
+        } => {
+            let last = last_part(nodes.len(), arms, otherwise, next)?;
+            lower_arms(alloc, nodes, *place, arms, last, next)?;
+            lower_all(alloc, nodes, otherwise, next)
+        }
+        Statement::While {
+            place,
+            condition,
+            body,
+        } => lower_while(alloc, nodes, *place, condition, body, next),
+        Statement::Do {
+            place,
+            body,
+            condition,
+        } => lower_do(alloc, nodes, *place, condition, body, next),
+        Statement::Lock { place, mutex } => {
+            let action = Action::Lock {
+                mutex: *mutex,
+                next,
+            };
+            nodes.push(plain(alloc, *place, action))?;
+            Ok(())
+        }
+        Statement::Unlock { place, mutex } => {
+            let action = Action::Unlock {
+                mutex: *mutex,
+                next,
+            };
+            nodes.push(plain(alloc, *place, action))?;
+            Ok(())
+        }
+    }
+}
+
+// The nodes of a `while`: its test, and then its body, which goes back to the test.
+#[cycle(lowering)]
+fn lower_while<'a>(
+    alloc: Global,
+    nodes: &mut Vec<Node<'a>>,
+    place: Place,
+    condition: &'a Placed,
+    body: &'a [Statement],
+    next: usize,
+) -> Result<(), Memory>
+    ensures { IfOk result (λ _. Adds nodes.old.items nodes.new.items (statement_nodes (While place (placed_of condition.now) (statements_of body.now)) (length nodes.old.items) next)) }
+{
+    let first = nodes.len();
+    let inside = sum(first, 1)?;
+    let count = count_all(body)?;
+    let end = sum(inside, count)?;
+    let holds = entry(inside, end, first);
+    nodes.push(test(alloc, place, condition, holds, next)?)?;
+    lower_all(alloc, nodes, body, first)
+}
+
+// The nodes of a `do`: its body, and then its test.
+#[cycle(lowering)]
+fn lower_do<'a>(
+    alloc: Global,
+    nodes: &mut Vec<Node<'a>>,
+    place: Place,
+    condition: &'a Placed,
+    body: &'a [Statement],
+    next: usize,
+) -> Result<(), Memory>
+    ensures { IfOk result (λ _. Adds nodes.old.items nodes.new.items (statement_nodes (Do place (statements_of body.now) (placed_of condition.now)) (length nodes.old.items) next)) }
+{
+    let first = nodes.len();
+    let count = count_all(body)?;
+    let behind = sum(first, count)?;
+    lower_all(alloc, nodes, body, behind)?;
+    nodes.push(test(alloc, place, condition, first, next)?)?;
+    Ok(())
+}
+
+// The nodes of statements, each of which goes on at the next one that has any.
+#[cycle(lowering)]
+fn lower_all<'a>(
+    alloc: Global,
+    nodes: &mut Vec<Node<'a>>,
+    statements: &'a [Statement],
+    next: usize,
+) -> Result<(), Memory>
+    ensures { IfOk result (λ _. Adds nodes.old.items nodes.new.items (statements_nodes (statements_of statements.now) (length nodes.old.items) next)) }
+{
+    let all = count_all(statements)?;
+    let end = sum(nodes.len(), all)?;
+    for statement in statements {
+        let own = count(statement)?;
+        let behind = sum(nodes.len(), own)?;
+        lower_statement(alloc, nodes, statement, entry(behind, end, next))?;
+    }
+    Ok(())
+}
+
+// The nodes of the arms of an `if`; where no condition holds the thread goes on at `last`.
+#[cycle(lowering)]
+fn lower_arms<'a>(
+    alloc: Global,
+    nodes: &mut Vec<Node<'a>>,
+    place: Place,
+    arms: &'a [Arm],
+    last: usize,
+    next: usize,
+) -> Result<(), Memory>
+    ensures { IfOk result (λ _. Adds nodes.old.items nodes.new.items (arms_nodes (arms_list_of arms.now) place last (length nodes.old.items) next)) }
+{
+    let all = count_arms(arms)?;
+    let end = sum(nodes.len(), all)?;
+    for arm in arms {
+        let inside = sum(nodes.len(), 1)?;
+        let count = count_all(&arm.body)?;
+        let behind = sum(inside, count)?;
+        let holds = entry(inside, behind, next);
+        let fails = entry(behind, end, last);
+        nodes.push(test(alloc, place, &arm.condition, holds, fails)?)?;
+        lower_all(alloc, nodes, &arm.body, next)?;
+    }
+    Ok(())
+}
+
+// The nodes of a thread, and which they are.
+fn lower_thread<'a>(
+    alloc: Global,
+    nodes: &mut Vec<Node<'a>>,
+    thread: &'a Thread,
+) -> Result<Part, Memory>
+    ensures nodes { IfOk result (λ _. Adds nodes.old.items nodes.new.items (thread_nodes (thread_of thread.now) (length nodes.old.items))) }
+    ensures part { IfOk result (λ p. p ≡ part (thread_of thread.now) (length nodes.old.items)) }
+{
+    let first = nodes.len();
+    let count = count_all(&thread.body)?;
+    let last = sum(first, count)?;
+    lower_all(alloc, nodes, &thread.body, last)?;
+    nodes.push(plain(alloc, thread.closing, Action::End))?;
+    Ok(Part {
+        first,
+        end: nodes.len(),
+        locals: thread.locals.len(),
+    })
+}
+
+/// The flow graph of a flat form: one node for each step of the source, numbered from 0 through all threads.
+pub fn lower<'a>(alloc: Global, flat: &'a Flat) -> Result<Graph<'a>, Memory>
+    ensures { IfOk result (λ graph. graph_of graph ≡ lowered (flat_of flat.now)) }
+{
+    let mut nodes = Vec::new(alloc);
+    let mut threads = Vec::new(alloc);
+    for thread in &flat.threads {
+        threads.push(lower_thread(alloc, &mut nodes, thread)?)?;
+    }
+    Ok(Graph { nodes, threads })
+}

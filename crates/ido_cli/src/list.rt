@@ -1,0 +1,34 @@
+//! The command `list`: the listing of an object.
+ghost use Rattle.std.specs.Prelude.{◌≡◌, ◌≤◌, length, IfOk};
+ghost use Rattle.ido_cli.specs.Answers.{ListAnswer, most_bytes};
+
+use crate::listing::listing;
+use crate::play::Said;
+use crate::refusal::refused_at_byte;
+use ido_base::memory::Memory;
+use ido_base::place::Place;
+use object_format::error::ReadError;
+use object_format::reading::read_object;
+use std::alloc::Global;
+
+/// Where the version stands.
+const VERSION_PLACE: Place = Place(8);
+
+/// The answer to an input of `list`.
+pub fn list_answer(alloc: Global, input: &[u8]) -> Result<Said, Memory>
+    requires { length input.now ≤ most_bytes }
+    ensures { IfOk result (λ said. ListAnswer input.now said.status said.output.items) }
+{
+    match read_object(alloc, input) {
+        Ok(object) => {
+            let output = listing(alloc, &object)?;
+            Ok(Said { status: 0, output })
+        }
+        Err(ReadError::Magic) => refused_at_byte(alloc, "O1", Place(0)),
+        Err(ReadError::Version) => refused_at_byte(alloc, "O2", VERSION_PLACE),
+        Err(ReadError::Cut(place)) => refused_at_byte(alloc, "O3", place),
+        Err(ReadError::Field(place)) => refused_at_byte(alloc, "O4", place),
+        Err(ReadError::Rest(place)) => refused_at_byte(alloc, "O5", place),
+        Err(ReadError::Memory) => Err(Memory),
+    }
+}

@@ -1,0 +1,79 @@
+//! Listings.
+ghost use Rattle.std.specs.Prelude.{◌≡◌, ◌≤◌, ◌+◌, ◌*◌, ◌++◌, ◌<◌, ◌^◌, length, map, IfOk, OnOk, All};
+ghost use Rattle.object_format.specs.Contents.{IsWithinLimits, contents_of, items_of, most_words, most_threads};
+ghost use Rattle.ido_cli.specs.Listing.{word_line, word_lines, thread_line, thread_lines, listing};
+
+use crate::instruction::{hex_word, put, put_instruction};
+use ido_base::memory::Memory;
+use rv64_isa::object::Object;
+use rv64_isa::word::decode;
+use std::alloc::Global;
+
+/// The address of the first thread's first word.
+const CODE_BASE: u32 = 0x0001_0000;
+
+/// Adds the line of a word.
+#[tactic(auto, unfolding(crate::specs::Listing::word_line))]
+fn put_word(alloc: Global, out: &mut Vec<u8>, address: u32, word: u32) -> Result<(), Memory>
+    ensures { OnOk result (out.new.items ≡ out.old.items ++ word_line address word) }
+{
+    put(out, &hex_word(address))?;
+    put(out, b" ")?;
+    put(out, &hex_word(word))?;
+    put(out, b" ")?;
+    if let Some(instr) = decode(word) {
+        put_instruction(alloc, out, address, instr)?;
+    }
+    put(out, b"\n")
+}
+
+/// Adds the lines of words from an address on.
+fn put_words(alloc: Global, out: &mut Vec<u8>, address: u32, words: &[u32]) -> Result<(), Memory>
+    requires { address + 4 * length words.now < 2 ^ 32 }
+    ensures { OnOk result (out.new.items ≡ out.old.items ++ word_lines address words.now) }
+{
+    let mut at = address;
+    for word in words {
+        put_word(alloc, out, at, *word)?;
+        at += 4;
+    }
+    Ok(())
+}
+
+/// Adds the line of a thread.
+#[tactic(auto, unfolding(crate::specs::Listing::thread_line))]
+fn put_thread(alloc: Global, out: &mut Vec<u8>, thread: u32) -> Result<(), Memory>
+    ensures { OnOk result (out.new.items ≡ out.old.items ++ thread_line thread) }
+{
+    let text = format!(in alloc; "thread {thread}\n")?;
+    put(out, text.as_bytes())
+}
+
+/// Adds the code of threads.
+fn put_code(alloc: Global, out: &mut Vec<u8>, code: &[Vec<u32>]) -> Result<(), Memory>
+    requires threads { length code.now ≤ most_threads }
+    requires words { All (λ words. length words.items ≤ most_words) code.now }
+    ensures { OnOk result (out.new.items ≡ out.old.items ++ listing (map items_of code.now)) }
+{
+    let mut address = CODE_BASE;
+    let mut thread = 0;
+    for words in code {
+        put_thread(alloc, out, thread)?;
+        put_words(alloc, out, address, words)?;
+        thread += 1;
+        address += 4 * words.len() as u32;
+    }
+    Ok(())
+}
+
+/// The listing of an object: for each thread the line `thread T`, and a line for each word with its
+/// address, the word and its instruction.
+#[tactic(auto, using(crate::proofs::Listed::few_threads, crate::proofs::Listed::few_words))]
+pub fn listing(alloc: Global, object: &Object) -> Result<Vec<u8>, Memory>
+    requires { IsWithinLimits (contents_of object.now) }
+    ensures { IfOk result (λ text. text.items ≡ listing (contents_of object.now).code) }
+{
+    let mut out = Vec::new(alloc);
+    put_code(alloc, &mut out, &object.code)?;
+    Ok(out)
+}

@@ -1,0 +1,94 @@
+//! The step of a hart: of one that executes instructions, or in recovery.
+ghost use Rattle.std.specs.Prelude.{◌≡◌, ◌&&◌, ◌+◌, ◌^◌, ◌<◌, ◌≤◌, ℕ, not, length, slice_get};
+ghost use Rattle.ido_base.specs.declared.event.Event.TheVariants.{Step};
+ghost use Rattle.ido_base.specs.Locks.{holds_none};
+ghost use Rattle.line_memory.specs.Stands.{threads_of, stores_of};
+ghost use Rattle.rv64_isa.specs.Machine.{Hart as HartModel, World, happens, run_step};
+ghost use Rattle.hart_core.specs.Steps.{Parts, PartsStand, PartsEnd};
+ghost use Rattle.ido_machine.specs.Machines.{State, StateStands, StateEnds};
+
+use hart_core::hart::Hart;
+use hart_core::program::Program;
+use hart_core::step::step;
+use ido_base::event::Reply;
+use line_memory::memory::LineMemory;
+use lock_table::LockTable;
+use resume_recovery::phase_step;
+use rv64_isa::phase::Phase;
+
+/// The machine is in recovery, and the hart holds a lock.
+fn may_end(recovering: bool, number: u32, locks: &LockTable) -> bool
+    ensures { result ≡ (recovering && not (holds_none locks.now number)) }
+{
+    recovering && !locks.holds_none(number)
+}
+
+/// The recovery of a hart that held a lock is over, as it holds none.
+fn is_over(held: bool, number: u32, locks: &LockTable) -> bool
+    ensures { result ≡ (held && holds_none locks.now number) }
+{
+    held && locks.holds_none(number)
+}
+
+/// Makes the step; in recovery, a hart whose release leaves it with nothing is done.
+fn run(
+    number: u32,
+    program: &Program,
+    recovering: bool,
+    phase: &mut Phase,
+    hart: &mut Hart,
+    memory: &mut LineMemory,
+    locks: &mut LockTable,
+) -> Reply
+    requires exists { number < length program.now }
+    requires threads { threads_of memory.old ≡ length program.now }
+    requires room { stores_of memory.old < 2 ^ 63 }
+    ensures step { (w : World) (model : HartModel) → w.recovering ≡ recovering → PartsStand
+        (record { phase = phase.old; hart = hart.old; memory = memory.old; locks = locks.old }) number w model → PartsEnd
+        (record { phase = phase.new; hart = hart.new; memory = memory.new; locks = locks.new }) result number w (run_step program.now w number model) }
+    ensures threads { threads_of memory.new ≡ threads_of memory.old }
+    ensures stores { stores_of memory.new ≤ stores_of memory.old + 1 }
+    ensures locks { length locks.new ≡ length locks.old }
+{
+    let held = may_end(recovering, number, locks);
+    let reply = step(number, program, phase, hart, memory, locks);
+    if is_over(held, number, locks) {
+        *phase = Phase::Done;
+    }
+    reply
+}
+
+/// A step of the hart of this number.
+pub(crate) fn step_one(
+    number: u32,
+    program: &Program,
+    recovering: bool,
+    phases: &mut [Phase],
+    harts: &mut [Hart],
+    memory: &mut LineMemory,
+    locks: &mut LockTable,
+) -> Reply
+    requires exists { number < length program.now }
+    requires few { length program.now ≤ 8 }
+    requires phased { length phases.old ≡ length program.now }
+    requires sized { length harts.old ≡ length program.now }
+    requires threads { threads_of memory.old ≡ length program.now }
+    requires room { stores_of memory.old < 2 ^ 63 }
+    ensures step { (w : World) → StateStands (record { phases = phases.old; harts = harts.old; memory = memory.old; locks = locks.old; recovering = recovering }) w → StateEnds (record { phases = phases.new; harts = harts.new; memory = memory.new; locks = locks.new; recovering = recovering }) result (happens program.now w (Step number)) }
+    ensures threads { threads_of memory.new ≡ threads_of memory.old }
+    ensures stores { stores_of memory.new ≤ stores_of memory.old + 1 }
+{
+    let at = number as usize;
+    match phases[at] {
+        Phase::Run => run(
+            number,
+            program,
+            recovering,
+            &mut phases[at],
+            &mut harts[at],
+            memory,
+            locks,
+        ),
+        _ => phase_step(number, phases, &mut harts[at], memory, locks),
+    }
+}

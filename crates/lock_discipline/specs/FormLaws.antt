@@ -1,0 +1,8 @@
+-- A well formed flat form can be checked.
+use Rattle.std.specs.Prelude.{◌≤◌, length}
+use Rattle.c_tree.specs.Flats.{Flat}
+use Rattle.c_tree.specs.WellFormed.{IsWellFormed}
+
+-- it has no more mutexes than a set of them holds
+abbrev pub HasFewMutexes : Type 0
+HasFewMutexes = (x : Flat) → IsWellFormed x → length x.mutexes ≤ 64

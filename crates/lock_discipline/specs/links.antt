@@ -1,0 +1,3 @@
+-- What links the walk's code to the discipline: nobody has to believe it.
+pub mod Flow
+pub mod Uses

@@ -1,0 +1,4 @@
+pub mod FieldLaws
+pub mod Objects
+pub mod Loop
+mod Worked

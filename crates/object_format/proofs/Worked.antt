@@ -1,0 +1,50 @@
+-- What the definitions compute.
+use Rattle.std.specs.Prelude.{◌≡◌, ℕ, List, [], ◌∷◌, ◌++◌, take, drop, refl, Ok, Err}
+use Rattle.rv64_isa.specs.Formats.{decoded}
+use Rattle.object_format.specs.Contents.{Contents}
+use Rattle.object_format.specs.Spelling.{spelling}
+use Rattle.object_format.specs.Reading.{Magic, Version, Cut, Field, Rest, read, head_at, magic_at, version_at, number_within, initial_at, thread_at, repeated, word_at, number_at}
+
+-- one thread, `addi x5, x0, 1` and `ecall`
+two_words : Contents
+two_words = record { code = (0x0010_0293 ∷ 0x0000_0073 ∷ []) ∷ []; initial = []; mutexes = 0 }
+
+head_bytes : List ℕ
+head_bytes = 0x49 ∷ 0x44 ∷ 0x4F ∷ 0x2D ∷ 0x4F ∷ 0x42 ∷ 0x4A ∷ 0x0A ∷ 1 ∷ 0 ∷ 0 ∷ 0 ∷ 1 ∷ 0 ∷ 0 ∷ 0 ∷ 0 ∷ 0 ∷ 0 ∷ 0 ∷ 0 ∷ 0 ∷ 0 ∷ 0 ∷ []
+
+code_bytes : List ℕ
+code_bytes = 2 ∷ 0 ∷ 0 ∷ 0 ∷ 0x93 ∷ 0x02 ∷ 0x10 ∷ 0 ∷ 0x73 ∷ 0 ∷ 0 ∷ 0 ∷ []
+
+two_words_spelled : spelling two_words ≡ head_bytes ++ code_bytes
+unfolding two_words head_bytes code_bytes
+two_words_spelled = refl
+
+two_words_read : read (head_bytes ++ code_bytes) ≡ Ok two_words
+unfolding two_words head_bytes code_bytes read head_at magic_at version_at number_within initial_at thread_at repeated word_at number_at decoded
+two_words_read = refl
+
+cut_inside_the_last_word : read (head_bytes ++ take 11 code_bytes) ≡ Err (Cut 35)
+unfolding two_words head_bytes code_bytes read head_at magic_at version_at number_within initial_at thread_at repeated word_at number_at decoded
+cut_inside_the_last_word = refl
+
+-- a fault of a whole field comes before the cut behind it
+no_words : read (head_bytes ++ 0 ∷ 0 ∷ 0 ∷ 0 ∷ 1 ∷ []) ≡ Err (Field 24)
+unfolding two_words head_bytes code_bytes read head_at magic_at version_at number_within initial_at thread_at repeated word_at number_at decoded
+no_words = refl
+
+one_byte_more : read (head_bytes ++ code_bytes ++ 0 ∷ []) ≡ Err (Rest 36)
+unfolding two_words head_bytes code_bytes read head_at magic_at version_at number_within initial_at thread_at repeated word_at number_at decoded
+one_byte_more = refl
+
+-- fewer than eight bytes are cut, whatever they are
+few_bytes : read (1 ∷ 2 ∷ []) ≡ Err (Cut 2)
+unfolding two_words head_bytes code_bytes read head_at magic_at version_at number_within initial_at thread_at repeated word_at number_at decoded
+few_bytes = refl
+
+other_bytes : read (0 ∷ drop 1 head_bytes) ≡ Err Magic
+unfolding two_words head_bytes code_bytes read head_at magic_at version_at number_within initial_at thread_at repeated word_at number_at decoded
+other_bytes = refl
+
+other_version : read (take 8 head_bytes ++ 2 ∷ 0 ∷ 0 ∷ 0 ∷ []) ≡ Err Version
+unfolding two_words head_bytes code_bytes read head_at magic_at version_at number_within initial_at thread_at repeated word_at number_at decoded
+other_version = refl

@@ -1,0 +1,28 @@
+-- An object as bytes. Numbers are of four bytes, little-endian.
+use Rattle.std.specs.Prelude.{ℕ, ◌<◌, ◌^◌, List, ◌++◌, length, codes, flat_map}
+use Rattle.std.specs.List.{AllByRecursion}
+use Rattle.std.specs.Int.{w32, to_le_bytes}
+use Rattle.object_format.specs.Contents.{Contents}
+
+-- what stands first
+abbrev pub magic : List ℕ
+magic = codes "IDO-OBJ\n"
+
+abbrev pub version : ℕ
+version = 1
+
+abbrev pub number : ℕ → List ℕ
+number n = to_le_bytes w32 n
+
+-- how many, and the words
+abbrev pub thread_text : (words : List ℕ) → List ℕ
+thread_text words = number (length words) ++ flat_map number words
+
+abbrev pub spelling : Contents → List ℕ
+spelling o = magic ++ number version ++ number (length o.code) ++ number o.mutexes ++ number (length o.initial) ++ o.initial ++ flat_map thread_text o.code
+
+-- four bytes tell each length
+pub record HasLengths (o : Contents) : Type 0 where
+  pub threads : length o.code < 2 ^ 32
+  pub initial : length o.initial < 2 ^ 32
+  pub words : AllByRecursion (λ words. length words < 2 ^ 32) o.code

@@ -1,0 +1,6 @@
+-- What stands before the code, as the code holds it.
+use Rattle.object_format.specs.Reading as r
+use Rattle.object_format.specs.declared.reading.Head.{Head}
+
+abbrev pub head_of : Head → r.Head
+head_of x = record { threads = x.threads; mutexes = x.mutexes; initial = x.initial.now }

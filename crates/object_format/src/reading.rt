@@ -1,0 +1,139 @@
+//! Bytes read as an object.
+ghost use Rattle.std.specs.Prelude.{◌≡◌, ◌≤◌, ◌∷◌, ◌++◌, [], length, map, IfOk, OnOk, Ok};
+ghost use Rattle.object_format.specs.Contents.{Contents, contents_of, items_of, IsWithinLimits};
+ghost use Rattle.object_format.specs.Spelling.{spelling};
+ghost use Rattle.object_format.specs.Reading.{repeated, word_at, thread_at, head_at, read};
+ghost use Rattle.object_format.specs.links.Gives.{Gives};
+ghost use Rattle.object_format.specs.links.Heads.{head_of};
+
+use crate::error::ReadError;
+use crate::fields::{initial_at, magic_at, number_within, place_of, version_at, word_at};
+use crate::limits::{LEAST_WORDS, MOST_MUTEXES, MOST_THREADS, MOST_WORDS};
+use ido_base::memory::Memory;
+use rv64_isa::object::Object;
+use std::alloc::Global;
+
+/// What stands before the code.
+#[derive(Drop)]
+struct Head<'a> {
+    threads: u32,
+    mutexes: u32,
+    initial: &'a [u8],
+}
+
+#[tactic(auto, unfolding(crate::specs::Reading::head_at))]
+fn head_at(total: u32, bytes: &[u8]) -> Result<(Head<'_>, &[u8]), ReadError>
+    ensures { Gives (λ x. (head_of x.0, x.1.now)) result (head_at total bytes.now) }
+{
+    let rest = magic_at(total, bytes)?;
+    let rest = version_at(total, rest)?;
+    let (threads, rest) = number_within(total, 0, MOST_THREADS, rest)?;
+    let (mutexes, rest) = number_within(total, 0, MOST_MUTEXES, rest)?;
+    let (initial, rest) = initial_at(total, rest)?;
+    let head = Head {
+        threads,
+        mutexes,
+        initial,
+    };
+    Ok((head, rest))
+}
+
+/// So many words of instructions.
+fn words_at(
+    alloc: Global,
+    total: u32,
+    count: u32,
+    bytes: &[u8],
+) -> Result<(Vec<u32>, &[u8]), ReadError>
+    ensures { Gives (λ x. (x.0.items, x.1.now)) result (repeated (word_at total) count bytes.now) }
+{
+    let mut words = Vec::new(alloc);
+    let mut rest = bytes;
+    for _ in 0..count {
+        let (word, behind) = word_at(total, rest)?;
+        push(&mut words, word)?;
+        rest = behind;
+    }
+    Ok((words, rest))
+}
+
+/// The code of a thread.
+#[tactic(auto, unfolding(crate::specs::Reading::thread_at))]
+fn thread_at(alloc: Global, total: u32, bytes: &[u8]) -> Result<(Vec<u32>, &[u8]), ReadError>
+    ensures { Gives (λ x. (x.0.items, x.1.now)) result (thread_at total bytes.now) }
+{
+    let (count, rest) = number_within(total, LEAST_WORDS, MOST_WORDS, bytes)?;
+    words_at(alloc, total, count, rest)
+}
+
+/// The code of so many threads.
+fn threads_at(
+    alloc: Global,
+    total: u32,
+    count: u32,
+    bytes: &[u8],
+) -> Result<(Vec<Vec<u32>>, &[u8]), ReadError>
+    ensures { Gives (λ x. (map items_of x.0.items, x.1.now)) result (repeated (thread_at total) count bytes.now) }
+{
+    let mut threads = Vec::new(alloc);
+    let mut rest = bytes;
+    for _ in 0..count {
+        let (words, behind) = thread_at(alloc, total, rest)?;
+        push(&mut threads, words)?;
+        rest = behind;
+    }
+    Ok((threads, rest))
+}
+
+/// Adds an element.
+fn push<T: Drop>(items: &mut Vec<T>, item: T) -> Result<(), Memory>
+    ensures { OnOk result (items.new.items ≡ items.old.items ++ item ∷ []) }
+{
+    items.push(item)?;
+    Ok(())
+}
+
+/// A copy of bytes.
+fn copy(alloc: Global, bytes: &[u8]) -> Result<Vec<u8>, Memory>
+    ensures { IfOk result (λ v. v.items ≡ bytes.now) }
+{
+    let bytes = bytes.to_vec(alloc)?;
+    Ok(bytes)
+}
+
+/// The object of all bytes, or their first fault.
+#[tactic(auto, unfolding(crate::specs::Reading::read))]
+fn read(alloc: Global, bytes: &[u8]) -> Result<Object, ReadError>
+    requires { length bytes.now ≤ 67108864 }
+    ensures { Gives contents_of result (read bytes.now) }
+{
+    let total = bytes.len() as u32;
+    let (head, rest) = head_at(total, bytes)?;
+    let (code, rest) = threads_at(alloc, total, head.threads, rest)?;
+    if !rest.is_empty() {
+        return Err(ReadError::Rest(place_of(total, rest)));
+    }
+    Ok(Object {
+        code,
+        initial: copy(alloc, head.initial)?,
+        mutexes: head.mutexes,
+    })
+}
+
+/// The object that bytes spell.
+///
+/// Numbers are of four bytes, little-endian: 8 bytes `IDO-OBJ` and LF, the version 1, the numbers of
+/// threads, of mutexes and of initial bytes, these bytes, and of each thread the number of its words
+/// and the words. There are at most 8 threads of 1 to 65,536 words that instructions have, 64 mutexes,
+/// and 65,536 initial bytes, a multiple of 8.
+pub fn read_object(alloc: Global, bytes: &[u8]) -> Result<Object, ReadError>
+    requires short { length bytes.now ≤ 67108864 }
+    // What is read is spelled so, and within the limits.
+    ensures found { IfOk result (λ object. IsWithinLimits (contents_of object) × (bytes.now ≡ spelling (contents_of object))) }
+    // What is within the limits and spelled so is read, unless memory runs out.
+    ensures only { (o : Contents) → IsWithinLimits o → bytes.now ≡ spelling o → Gives contents_of result (Ok o) }
+    // Which fault it is: the first in the order of the bytes.
+    ensures exact { Gives contents_of result (read bytes.now) }
+{
+    read(alloc, bytes)
+}

@@ -1,0 +1,71 @@
+//! An object written as bytes.
+ghost use Rattle.std.specs.Prelude.{◌≡◌, ◌++◌, ◌<◌, ◌^◌, length, map, IfOk, OnOk, flat_map, All};
+ghost use Rattle.object_format.specs.Contents.{contents_of, items_of};
+ghost use Rattle.object_format.specs.Spelling.{HasLengths, number, magic, thread_text, spelling};
+
+use ido_base::memory::Memory;
+use rv64_isa::object::Object;
+use std::alloc::Global;
+
+/// Adds bytes.
+fn put(out: &mut Vec<u8>, bytes: &[u8]) -> Result<(), Memory>
+    ensures { OnOk result (out.new.items ≡ out.old.items ++ bytes.now) }
+{
+    out.extend_from_slice(bytes)?;
+    Ok(())
+}
+
+/// Adds a number.
+fn put_number(out: &mut Vec<u8>, n: u32) -> Result<(), Memory>
+    ensures { OnOk result (out.new.items ≡ out.old.items ++ number n) }
+{
+    put(out, &n.to_le_bytes())
+}
+
+/// Adds words.
+fn put_words(out: &mut Vec<u8>, words: &[u32]) -> Result<(), Memory>
+    ensures { OnOk result (out.new.items ≡ out.old.items ++ flat_map number words.now) }
+{
+    for word in words {
+        put_number(out, *word)?;
+    }
+    Ok(())
+}
+
+/// Adds the code of a thread.
+fn put_thread(out: &mut Vec<u8>, words: &[u32]) -> Result<(), Memory>
+    requires { length words.now < 2 ^ 32 }
+    ensures { OnOk result (out.new.items ≡ out.old.items ++ thread_text words.now) }
+{
+    put_number(out, words.len() as u32)?;
+    put_words(out, words)
+}
+
+/// Adds the code of threads.
+fn put_code(out: &mut Vec<u8>, code: &[Vec<u32>]) -> Result<(), Memory>
+    requires { All (λ words. length words.items < 2 ^ 32) code.now }
+    ensures { OnOk result (out.new.items ≡ out.old.items ++ flat_map thread_text (map items_of code.now)) }
+{
+    for words in code {
+        put_thread(out, words)?;
+    }
+    Ok(())
+}
+
+/// The bytes of an object, of which four bytes tell each length. They are read again exactly where the
+/// object is within its limits and each of its words is an instruction's.
+#[tactic(auto, using(crate::proofs::Objects::all_lengths_fit))]
+pub fn write_object(alloc: Global, object: &Object) -> Result<Vec<u8>, Memory>
+    requires { HasLengths (contents_of object.now) }
+    ensures { IfOk result (λ bytes. bytes.items ≡ spelling (contents_of object.now)) }
+{
+    let mut out = Vec::new(alloc);
+    put(&mut out, b"IDO-OBJ\n")?;
+    put_number(&mut out, 1)?;
+    put_number(&mut out, object.code.len() as u32)?;
+    put_number(&mut out, object.mutexes)?;
+    put_number(&mut out, object.initial.len() as u32)?;
+    put(&mut out, &object.initial)?;
+    put_code(&mut out, &object.code)?;
+    Ok(out)
+}

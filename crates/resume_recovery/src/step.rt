@@ -1,0 +1,91 @@
+//! The step of a hart in recovery.
+ghost use Rattle.std.specs.Prelude.{◌≡◌, ◌<◌, ◌^◌, ℕ, List, Option, length, slice_set};
+ghost use Rattle.ido_base.specs.Locks.{missing_from};
+ghost use Rattle.line_memory.specs.declared.memory.LineMemory.{LineMemory};
+ghost use Rattle.line_memory.specs.Stands.{threads_of};
+ghost use Rattle.rv64_isa.specs.declared.phase.Phase.TheVariants.{Take, Wait, Resume, Run};
+ghost use Rattle.rv64_isa.specs.Machine.{Hart as HartModel, World, record_of, taken, waited, taking_from, resumed};
+ghost use Rattle.hart_core.specs.declared.hart.Hart.{Hart};
+ghost use Rattle.hart_core.specs.Steps.{Parts, PartsStand, PartsEnd, IsStep};
+ghost use Rattle.resume_recovery.specs.Steps.{phase_at, phases_of, IsRecoveryStep};
+
+use crate::barrier::least_taking;
+use crate::record::{record_of, resume_address, resumed_registers};
+use hart_core::hart::Hart;
+use ido_base::event::Reply;
+use line_memory::memory::LineMemory;
+use lock_table::LockTable;
+use rv64_isa::phase::Phase;
+
+/// Takes the least lock of the hart's record that it lacks, or waits for its holder; where it lacks none, it goes
+/// on to wait for the others. The phase that it comes to, and the reply.
+fn take(hart: u32, memory: &LineMemory, locks: &mut LockTable) -> (Phase, Reply)
+    requires { hart < threads_of memory.now }
+    ensures step { (it : Hart) → IsStep (λ w model. taken w hart model (missing_from 0 w.holders (record_of w.words hart) hart)) hart
+        (record { phase = Take; hart = it; memory = memory.now; locks = locks.old })
+        (record { phase = result.0; hart = it; memory = memory.now; locks = locks.new }) result.1 }
+    ensures locks { length locks.new ≡ length locks.old }
+{
+    let Some(lock) = locks.least_missing(record_of(hart, memory), hart) else {
+        return (Phase::Wait, Reply::Moved);
+    };
+    if let Some(holder) = locks.held_by(lock) {
+        return (Phase::Take, Reply::Waits { lock, holder });
+    }
+    let _ = locks.try_take(hart, lock);
+    (Phase::Take, Reply::Moved)
+}
+
+/// Goes on where no hart takes locks, else waits for the least that does.
+fn wait(phases: &[Phase]) -> (Phase, Reply)
+    requires { length phases.now < 2 ^ 32 }
+    ensures { (number : ℕ) (hart : Hart) (memory : LineMemory) (locks : List (Option ℕ)) (w : World) (model : HartModel) → PartsStand
+        (record { phase = Wait; hart = hart; memory = memory; locks = locks }) number w model → phases_of w ≡ phases.now → PartsEnd
+        (record { phase = result.0; hart = hart; memory = memory; locks = locks }) result.1 number w (waited w number model (taking_from 0 w.harts)) }
+{
+    match least_taking(phases) {
+        None => (Phase::Resume, Reply::Moved),
+        Some(hart) => (Phase::Wait, Reply::Barrier { hart }),
+    }
+}
+
+/// Sets the registers and the pc from the durable point and its bank.
+fn resume(number: u32, hart: &mut Hart, memory: &LineMemory) -> (Phase, Reply)
+    requires { number < threads_of memory.now }
+    ensures { (locks : List (Option ℕ)) → IsStep (λ w model. resumed w number model) number
+        (record { phase = Resume; hart = hart.old; memory = memory.now; locks = locks })
+        (record { phase = result.0; hart = hart.new; memory = memory.now; locks = locks }) result.1 }
+{
+    hart.registers = resumed_registers(number, memory);
+    hart.pc = resume_address(number, memory);
+    (Phase::Run, Reply::Moved)
+}
+
+/// A step of the hart of this number, which doesn't execute instructions: it takes a lock of its record, waits for
+/// a holder or for the others, or resumes. One that is done or has ended changes nothing. Only its own phase
+/// changes.
+pub fn phase_step(
+    number: u32,
+    phases: &mut [Phase],
+    hart: &mut Hart,
+    memory: &LineMemory,
+    locks: &mut LockTable,
+) -> Reply
+    requires exists { number < length phases.old }
+    requires few { length phases.old < 2 ^ 32 }
+    requires logged { number < threads_of memory.now }
+    requires recovering { phase_at phases.old number ≡ Run → ⊥ }
+    ensures step { IsRecoveryStep number (record { phase = phase_at phases.old number; hart = hart.old; memory = memory.now; locks = locks.old })
+        (record { phase = phase_at phases.new number; hart = hart.new; memory = memory.now; locks = locks.new }) phases.old result }
+    ensures phases { phases.new ≡ slice_set phases.old number (phase_at phases.new number) }
+    ensures locks { length locks.new ≡ length locks.old }
+{
+    let (phase, reply) = match phases[number as usize] {
+        Phase::Take => take(number, memory, locks),
+        Phase::Wait => wait(phases),
+        Phase::Resume => resume(number, hart, memory),
+        still => (still, Reply::Still),
+    };
+    phases[number as usize] = phase;
+    reply
+}

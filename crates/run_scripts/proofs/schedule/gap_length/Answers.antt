@@ -1,8 +1,0 @@
-use Rattle.std.proofs.Common.{sym, ◌∙◌, arith}
-use Rattle.run_scripts.proofs.Gaps.{gap_at}
-use Rattle.run_scripts.proofs.schedule.gap_length.Goals as goal
-
-pub loop-at-preserved : goal.loop-at-preserved
-loop-at-preserved c =
-    let one = gap_at c.args.text.now c.loop-at.at c.loop-at-test.true (sym c.begins_gap.ensures ∙ c.if-begins_gap.true) in
-    (omega (arith, c.loop-at.invariant.0, one), omega (arith, c.loop-at-test.true))

@@ -1,9 +1,0 @@
-use Rattle.std.proofs.Common.{◌≡◌, ◌+◌, ◌-◌, ◌≤◌, length, drop}
-use Rattle.run_scripts.specs.WordLengths.{word_length}
-use Rattle.run_scripts.proofs.schedule.word_length.Given as goal
-
-abbrev pub invariant-loop-at : goal.invariant-loop-at
-invariant-loop-at l = (word_length l.text ≡ l.at + word_length (drop l.at l.text)) × (l.at ≤ length l.text)
-
-abbrev pub decreases-loop-at : goal.decreases-loop-at
-decreases-loop-at l = length l.text - l.at

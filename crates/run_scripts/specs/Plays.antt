@@ -1,0 +1,44 @@
+-- The events of a script, made by a core.
+use Rattle.std.specs.Prelude.{ℕ, zero, suc, ◌-◌, List, [], ◌∷◌, ◌++◌, length, replicate, Option, Some, None, Bool, nat_lt, if◌then◌else◌}
+use Rattle.ido_base.specs.declared.event.Event.{Event}
+use Rattle.ido_base.specs.declared.event.Event.TheVariants as events
+use Rattle.ido_base.specs.Cores.{Behaviour, played}
+use Rattle.run_scripts.specs.declared.script.Command.{Command}
+use Rattle.run_scripts.specs.declared.script.Command.TheVariants.{Steps, Point, Fence, Evict, Crash}
+use Rattle.run_scripts.specs.Scripts.{Line}
+
+-- events that a script may have
+abbrev pub most_events : ℕ
+most_events = 4000000
+
+-- steps that a line `b` or `f` may have
+abbrev pub most_steps_to : ℕ
+most_steps_to = 65536
+
+-- steps of a hart up to the first that passes the test, at most so many; none or no more once the hart is stopped
+unfoldable pub steps_until : {M : Type 0} → Behaviour M → (test : M → Event → Bool) → (hart most : ℕ) → M → List Event
+steps_until b test hart zero m = []
+steps_until b test hart (suc most) m =
+    if b.is_stopped m hart then []
+    else if test m (events.Step hart) then events.Step hart ∷ []
+    else events.Step hart ∷ steps_until b test hart most (b.next m (events.Step hart))
+
+-- the events of a line
+abbrev pub line_events : {M : Type 0} → Behaviour M → M → Command → List Event
+line_events b m (Steps hart count) = replicate count (events.Step hart)
+line_events b m (Point hart) = steps_until b (λ m. b.stores_point m hart) hart most_steps_to m
+line_events b m (Fence hart) = steps_until b (λ m. b.finishes_fence m hart) hart most_steps_to m
+line_events b m (Evict line mask) = events.Evict line mask ∷ []
+line_events b m Crash = events.Crash ∷ []
+
+-- the events of lines, each by what the core stands for before it
+abbrev pub script_events : {M : Type 0} → Behaviour M → M → List Line → List Event
+script_events b m [] = []
+script_events b m (line ∷ lines) = line_events b m line.command ++ script_events b (played b m (line_events b m line.command)) lines
+
+-- the place of the line whose events are the first past so many
+abbrev pub excess_at : {M : Type 0} → Behaviour M → M → (room : ℕ) → List Line → Option ℕ
+excess_at b m room [] = None
+excess_at b m room (line ∷ lines) =
+    let events = line_events b m line.command in
+    if nat_lt room (length events) then Some line.place else excess_at b (played b m events) (room - length events) lines

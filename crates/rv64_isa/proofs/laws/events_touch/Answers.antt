@@ -1,0 +1,8 @@
+use Rattle.rv64_isa.proofs.Frames.{steps_touch, evictions_touch}
+use Rattle.rv64_isa.proofs.laws.events_touch.Goals as goal
+
+pub returns-clause-steps : goal.returns-clause-steps
+returns-clause-steps c = steps_touch
+
+pub returns-clause-evictions : goal.returns-clause-evictions
+returns-clause-evictions c = evictions_touch

@@ -1,0 +1,5 @@
+pub mod Places
+pub mod Lockstep
+pub mod Words
+pub mod Threads
+pub mod LabelSteps

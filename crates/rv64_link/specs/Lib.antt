@@ -1,0 +1,3 @@
+pub mod LabelledCode
+pub mod Linked
+pub mod links

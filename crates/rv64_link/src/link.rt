@@ -1,0 +1,62 @@
+//! Objects of code with labels.
+ghost use Rattle.std.specs.Prelude.{◌≡◌, ◌≤◌, All, IfOk, length, map, sum_by};
+ghost use Rattle.rv64_isa.specs.Programs.{code_base, program_of};
+ghost use Rattle.rv64_link.specs.LabelledCode.{most_words_of};
+ghost use Rattle.rv64_link.specs.Linked.{AreLinked};
+ghost use Rattle.rv64_link.specs.links.Threads.{items_in, slots_in};
+
+use crate::thread::link_thread;
+use ido_base::memory::Memory;
+use rv64_isa::object::{Code, CodeItem, Marks, Object, ThreadMarks};
+use std::alloc::Global;
+
+/// The words and the marks of each thread.
+#[derive(Drop)]
+struct Threads {
+    code: Vec<Vec<u32>>,
+    marks: Vec<ThreadMarks>,
+}
+
+/// The words and the marks of threads, thread after thread.
+fn link_threads(alloc: Global, threads: &[Vec<CodeItem>]) -> Result<Threads, Memory>
+    requires threads { length threads.now ≤ 8 }
+    requires few { All (λ items. sum_by most_words_of items.items ≤ 65536) threads.now }
+    ensures { IfOk result (λ r. AreLinked code_base (map items_in threads.now) (map slots_in r.code.items) r.marks.items) }
+{
+    let mut code = Vec::new(alloc);
+    let mut marks = Vec::new(alloc);
+    let mut first = 0;
+    for items in threads {
+        let (words, thread_marks) = link_thread(alloc, items, first)?;
+        first += words.len() as u32;
+        code.push(words)?;
+        marks.push(thread_marks)?;
+    }
+    Ok(Threads { code, marks })
+}
+
+/// The object of code with labels, and the addresses of its marks. A branch is one word, or over many
+/// items two: one by the inverse condition over a jump. A label stands where it stands first; one that
+/// stands nowhere is the end.
+///
+/// There are at most 8 threads, each of at most 65,536 words, where each branch counts as two.
+pub fn link(alloc: Global, code: Code) -> Result<(Object, Marks), Memory>
+    requires threads { length code.threads.items ≤ 8 }
+    requires few { All (λ items. sum_by most_words_of items.items ≤ 65536) code.threads.items }
+    // The program does, thread after thread, what the code with labels does, and marks are the
+    // addresses of the instructions that they stand before.
+    ensures linked { IfOk result (λ r. AreLinked code_base (map items_in code.threads.items) (program_of r.0) r.1.threads.items) }
+    ensures initial { IfOk result (λ r. r.0.initial ≡ code.initial) }
+    ensures mutexes { IfOk result (λ r. r.0.mutexes ≡ code.mutexes) }
+{
+    let threads = link_threads(alloc, &code.threads)?;
+    let object = Object {
+        code: threads.code,
+        initial: code.initial,
+        mutexes: code.mutexes,
+    };
+    let marks = Marks {
+        threads: threads.marks,
+    };
+    Ok((object, marks))
+}

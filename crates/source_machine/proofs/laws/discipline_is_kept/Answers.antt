@@ -1,0 +1,18 @@
+use Rattle.source_machine.proofs.Discipline.{start_keeps, step_keeps, run_keeps, reached_keeps}
+use Rattle.source_machine.proofs.Before.{held_is_given}
+use Rattle.source_machine.proofs.laws.discipline_is_kept.Goals as goal
+
+pub returns-clause-start : goal.returns-clause-start
+returns-clause-start c = start_keeps
+
+pub returns-clause-step : goal.returns-clause-step
+returns-clause-step c = step_keeps
+
+pub returns-clause-run : goal.returns-clause-run
+returns-clause-run c = run_keeps
+
+pub returns-clause-reached : goal.returns-clause-reached
+returns-clause-reached c = reached_keeps
+
+pub returns-clause-held : goal.returns-clause-held
+returns-clause-held c = held_is_given

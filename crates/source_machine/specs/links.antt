@@ -1,0 +1,4 @@
+-- What links the code of threads to what they have left to do: nobody has to believe it.
+pub mod Spans
+pub mod Codes
+pub mod Threads

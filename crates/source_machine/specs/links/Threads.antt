@@ -1,0 +1,64 @@
+-- What a thread in the code stands for, and what a step of it is.
+use Rattle.std.specs.Prelude.{◌≡◌, ℕ, List, slice_set, Option, Some, None, ℤ}
+use Rattle.std.specs.Option.{option_map}
+use Rattle.c_tree.specs.Exprs.{Expr, Target}
+use Rattle.c_tree.specs.Flats as f
+use Rattle.c_tree.specs.Source as m
+use Rattle.source_machine.specs.Answers.{answer_of}
+use Rattle.source_machine.specs.links.Codes.{Lefts, At, IsCode}
+use Rattle.source_machine.specs.declared.answers.Stepped.{Stepped}
+use Rattle.source_machine.specs.declared.thread.Pending.{Pending}
+use Rattle.source_machine.specs.declared.thread.ThreadState.{ThreadState}
+
+-- ---- Threads and states
+
+abbrev pub pending_of : Pending → m.Pending
+pending_of p = record { variable = p.variable; element = p.element; number = p.number }
+
+-- the thread, where these statements are left to do
+abbrev pub model_of : ThreadState → (left : List f.Statement) → m.Thread
+model_of thread left = record { left = left; locals = thread.locals.items; pending = option_map pending_of thread.pending; ended = thread.ended }
+
+-- by the thread's code these statements are left where it stands
+pub record IsLeft (thread : ThreadState) (left : List f.Statement) : Type 0 where
+  pub lefts : Lefts
+  pub nodes : IsCode thread.nodes.items lefts
+  pub here : At lefts thread.at left
+
+-- the thread is at its start
+pub record IsStarted (thread : ThreadState) (source : f.Thread) : Type 0 where
+  pub left : List f.Statement
+  pub code : IsLeft thread left
+  pub is : model_of thread left ≡ m.thread_start source
+
+abbrev pub state_in : (variables : List (List ℤ)) → (holders : List (Option ℕ)) → List m.Thread → m.State
+state_in variables holders threads = record { variables = variables; holders = holders; threads = threads }
+
+-- ---- A step of a thread
+
+-- the state after a step, or the same where there is none
+abbrev pub reached : (step : Option m.State) → (before : m.State) → m.State
+reached (Some next) before = next
+reached None before = before
+
+pub record IsMade (before after : ThreadState) (variables variables' : List (List ℤ)) (holders holders' : List (Option ℕ)) (answer : Stepped) (number : ℕ)
+    (threads : List m.Thread) (left : List f.Statement) : Type 0 where
+  pub left_after : List f.Statement
+  pub code : IsLeft after left_after
+  pub state : reached (m.thread_step (state_in variables holders threads) number (model_of before left))
+      (m.with_thread (state_in variables holders threads) number (model_of before left)) ≡ state_in variables' holders'
+      (slice_set threads number (model_of after left_after))
+  pub answered : answer ≡ answer_of (model_of before left) (m.thread_step (state_in variables holders threads) number (model_of before left))
+
+-- the step is made so, whatever is left to do by the thread's code
+abbrev pub StepIsMade : (before after : ThreadState) → (variables variables' : List (List ℤ)) → (holders holders' : List (Option ℕ)) → Stepped →
+    (number : ℕ) → Type 0
+StepIsMade before after variables variables' holders holders' answer number =
+    (left : List f.Statement) (threads : List m.Thread) → IsLeft before left →
+    IsMade before after variables variables' holders holders' answer number threads left
+
+-- the thread becomes the one that has evaluated a value for a target
+abbrev pub Evaluates : (before after : ThreadState) → (variables : List (List ℤ)) → Target → Expr → Type 0
+Evaluates before after variables target value =
+    (left : List f.Statement) (holders : List (Option ℕ)) (threads : List m.Thread) →
+    model_of after left ≡ m.evaluated (state_in variables holders threads) (model_of before left) target value
