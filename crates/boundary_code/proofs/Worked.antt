@@ -1,0 +1,46 @@
+-- Worked rows of the definitions: a boundary of the first thread that keeps the mask 1 and no register.
+use Rattle.std.proofs.Common.{◌≡◌, ℕ, List, [], ◌∷◌, refl, pos}
+use Rattle.std.specs.Prelude.{replicate, slice_set}
+use Rattle.rv64_isa.specs.declared.instr.Instr.{Instr}
+use Rattle.rv64_isa.specs.declared.instr.Instr.TheVariants.{Lui, OpImmediate}
+use Rattle.rv64_isa.specs.declared.instr.ImmediateOperation.TheVariants.{Addi}
+use Rattle.rv64_isa.specs.Rows.{Stores, Cleans, Fences, row, read}
+use Rattle.rv64_isa.specs.Arithmetic.{result_of}
+use Rattle.boundary_code.specs.Straight.{effects, registers_after}
+use Rattle.boundary_code.specs.Boundaries.{Boundary, boundary_effects, lines_in_use}
+use Rattle.boundary_code.specs.links.Listing.{boundary_list, last_list}
+
+first : Boundary
+first = record { thread = 0; mask = 1; live = []; resume = pos 0 }
+
+code : List Instr
+code = boundary_list (Lui 31 0x2_0000 ∷ []) (OpImmediate Addi 7 0 1 ∷ []) [] 0
+
+zeros : List ℕ
+zeros = replicate 32 0
+
+seen_of_code : effects code zeros 0x1_0000 ≡
+    Stores 0x2000_0140 8 1 ∷ Cleans 0x2000_0140 ∷ Fences ∷ Stores 0x2000_0000 8 0x1_003D ∷ Cleans 0x2000_0000 ∷ Fences ∷ []
+unfolding code zeros row result_of
+seen_of_code = refl
+
+as_defined : boundary_effects first 1 0x1_003C zeros ≡ effects code zeros 0x1_0000
+unfolding first code zeros row result_of
+as_defined = refl
+
+other_bank : read (registers_after code zeros 0x1_0000) 3 ≡ 256
+unfolding code zeros row result_of
+other_bank = refl
+
+-- from the second bank it is the first's turn
+back : effects code (slice_set zeros 3 256) 0x1_0000 ≡
+    Stores 0x2000_0040 8 1 ∷ Cleans 0x2000_0040 ∷ Fences ∷ Stores 0x2000_0000 8 0x1_003C ∷ Cleans 0x2000_0000 ∷ Fences ∷ []
+unfolding code zeros row result_of
+back = refl
+
+no_bank : effects (last_list (Lui 31 0x2_0000 ∷ [])) zeros 0x1_0000 ≡ Fences ∷ Stores 0x2000_0000 8 0 ∷ Cleans 0x2000_0000 ∷ Fences ∷ []
+unfolding zeros row result_of
+no_bank = refl
+
+lines_of_pending : lines_in_use (0 ∷ 8 ∷ 28 ∷ 29 ∷ []) ≡ 0 ∷ 1 ∷ 3 ∷ []
+lines_of_pending = refl

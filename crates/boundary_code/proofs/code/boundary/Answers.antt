@@ -1,0 +1,115 @@
+use Rattle.std.proofs.Common.{◌≡◌, ◌==◌, ℕ, List, true, false, subst, ap, sym, ◌∙◌, eq-eqb, arith}
+use Rattle.std.specs.Prelude.{ℤ}
+use Rattle.std.specs.Int.{cast_signed, cast_unsigned, w32}
+use Rattle.std.proofs.lemmas.Int.{to_z-of_z}
+use Rattle.std.proofs.lemmas.Bool.Decides.{nat_tests}
+use Rattle.std.proofs.lemmas.Result.{IfOk-weaker}
+use Rattle.ido_base.specs.Layout.{log_of}
+use Rattle.rv64_isa.specs.declared.instr.Instr.{Instr}
+use Rattle.rv64_isa.specs.Signed.{twos_complement}
+use Rattle.boundary_code.specs.Straight.{IsConstant}
+use Rattle.boundary_code.specs.Boundaries.{Boundary, HasEffects, HasOffset, KeepsRegisters}
+use Rattle.boundary_code.specs.links.Listing.{boundary_list, last_list}
+use Rattle.boundary_code.proofs.Whole.{Pieces, boundary-effects, boundary-offset, boundary-others, last-effects, last-offset, last-others}
+use Rattle.boundary_code.proofs.code.boundary.Goals as goal
+
+is_log : (value thread : ℕ) (log : List Instr) → value ≡ log_of thread → IsConstant 31 value log → IsConstant 31 (log_of thread) log
+is_log value thread log e c = subst (λ (n : ℕ). IsConstant 31 n log) e c
+
+no_mask : (mask : ℕ) → mask ≡ 0 → (mask == 0) ≡ true
+no_mask mask e = eq-eqb mask 0 e
+
+some_mask : (mask : ℕ) → (mask ≡ 0 → ⊥) → (mask == 0) ≡ false
+some_mask mask n = grind (arith, nat_tests)
+
+listed : (log log' mask mask' code : List Instr) (live : List ℕ) (resume resume' : ℤ) → log' ≡ log → mask' ≡ mask → resume' ≡ resume →
+    code ≡ boundary_list log' mask' live (twos_complement 32 resume') →
+    code ≡ boundary_list log mask live (twos_complement 32 resume)
+listed log log' mask mask' code live resume resume' e f g k =
+    k ∙ ap (λ (is : List Instr). boundary_list is mask' live (twos_complement 32 resume')) e ∙
+    ap (λ (is : List Instr). boundary_list log is live (twos_complement 32 resume')) f ∙
+    ap (λ (z : ℤ). boundary_list log mask live (twos_complement 32 z)) g
+
+pub returns-then-mask-eq0-clause-effects : goal.returns-then-mask-eq0-clause-effects
+returns-then-mask-eq0-clause-effects c =
+    let b : Boundary = record { thread = c.args.thread; mask = c.args.mask; live = c.args.live.now; resume = c.args.resume } in
+    IfOk-weaker c.emit_last_boundary.result _ _
+    (λ code k. subst (λ (is : List Instr). HasEffects b is) (sym (k ∙ ap (λ (is : List Instr). last_list is) c.deref.ensures.value))
+    (last-effects b c.in_ok-log.log.items c.requires.thread (no_mask c.args.mask c.if-mask-eq0.true)
+    (is_log c.log_of.result c.args.thread c.in_ok-log.log.items c.log_of.ensures c.in_ok-log.ensures)))
+    c.emit_last_boundary.ensures
+
+pub returns-then-mask-eq0-clause-offset : goal.returns-then-mask-eq0-clause-offset
+returns-then-mask-eq0-clause-offset c =
+    let b : Boundary = record { thread = c.args.thread; mask = c.args.mask; live = c.args.live.now; resume = c.args.resume } in
+    IfOk-weaker c.emit_last_boundary.result _ _
+    (λ code k. subst (λ (is : List Instr). HasOffset c.args.mask is) (sym (k ∙ ap (λ (is : List Instr). last_list is) c.deref.ensures.value))
+    (last-offset c.args.mask c.args.thread c.in_ok-log.log.items c.requires.thread (no_mask c.args.mask c.if-mask-eq0.true)
+    (is_log c.log_of.result c.args.thread c.in_ok-log.log.items c.log_of.ensures c.in_ok-log.ensures)))
+    c.emit_last_boundary.ensures
+
+pub returns-then-mask-eq0-clause-others : goal.returns-then-mask-eq0-clause-others
+returns-then-mask-eq0-clause-others c =
+    let b : Boundary = record { thread = c.args.thread; mask = c.args.mask; live = c.args.live.now; resume = c.args.resume } in
+    IfOk-weaker c.emit_last_boundary.result _ _
+    (λ code k. subst (λ (is : List Instr). KeepsRegisters is) (sym (k ∙ ap (λ (is : List Instr). last_list is) c.deref.ensures.value))
+    (last-others c.args.thread c.in_ok-log.log.items c.requires.thread
+    (is_log c.log_of.result c.args.thread c.in_ok-log.log.items c.log_of.ensures c.in_ok-log.ensures)))
+    c.emit_last_boundary.ensures
+
+pub returns-clause-effects : goal.returns-clause-effects
+returns-clause-effects c =
+    let b : Boundary = record { thread = c.args.thread; mask = c.args.mask; live = c.args.live.now; resume = c.args.resume } in
+    let pieces : Pieces b c.in_ok-log.log.items c.in_ok-record.record.items = record {
+      thread = c.requires.thread;
+      some = some_mask c.args.mask c.if-mask-eq0.false;
+      live = c.requires.live;
+      low = c.requires.low;
+      high = c.requires.high;
+      is_log = is_log c.log_of.result c.args.thread c.in_ok-log.log.items c.log_of.ensures c.in_ok-log.ensures;
+      is_mask = c.in_ok-record.ensures;
+    } in
+    IfOk-weaker c.emit_boundary.result _ _
+    (λ code k. subst (λ (is : List Instr). HasEffects b is)
+    (sym (listed c.in_ok-log.log.items c.deref-2.result.now c.in_ok-record.record.items c.deref-3.result.now _ c.args.live.now c.args.resume
+    (cast_signed w32 (cast_unsigned w32 c.args.resume)) c.deref-2.ensures.value c.deref-3.ensures.value (to_z-of_z w32 c.args.resume c.ranges.resume) k))
+    (boundary-effects b c.in_ok-log.log.items c.in_ok-record.record.items pieces))
+    c.emit_boundary.ensures
+
+pub returns-clause-offset : goal.returns-clause-offset
+returns-clause-offset c =
+    let b : Boundary = record { thread = c.args.thread; mask = c.args.mask; live = c.args.live.now; resume = c.args.resume } in
+    let pieces : Pieces b c.in_ok-log.log.items c.in_ok-record.record.items = record {
+      thread = c.requires.thread;
+      some = some_mask c.args.mask c.if-mask-eq0.false;
+      live = c.requires.live;
+      low = c.requires.low;
+      high = c.requires.high;
+      is_log = is_log c.log_of.result c.args.thread c.in_ok-log.log.items c.log_of.ensures c.in_ok-log.ensures;
+      is_mask = c.in_ok-record.ensures;
+    } in
+    IfOk-weaker c.emit_boundary.result _ _
+    (λ code k. subst (λ (is : List Instr). HasOffset c.args.mask is)
+    (sym (listed c.in_ok-log.log.items c.deref-2.result.now c.in_ok-record.record.items c.deref-3.result.now _ c.args.live.now c.args.resume
+    (cast_signed w32 (cast_unsigned w32 c.args.resume)) c.deref-2.ensures.value c.deref-3.ensures.value (to_z-of_z w32 c.args.resume c.ranges.resume) k))
+    (boundary-offset b c.in_ok-log.log.items c.in_ok-record.record.items pieces))
+    c.emit_boundary.ensures
+
+pub returns-clause-others : goal.returns-clause-others
+returns-clause-others c =
+    let b : Boundary = record { thread = c.args.thread; mask = c.args.mask; live = c.args.live.now; resume = c.args.resume } in
+    let pieces : Pieces b c.in_ok-log.log.items c.in_ok-record.record.items = record {
+      thread = c.requires.thread;
+      some = some_mask c.args.mask c.if-mask-eq0.false;
+      live = c.requires.live;
+      low = c.requires.low;
+      high = c.requires.high;
+      is_log = is_log c.log_of.result c.args.thread c.in_ok-log.log.items c.log_of.ensures c.in_ok-log.ensures;
+      is_mask = c.in_ok-record.ensures;
+    } in
+    IfOk-weaker c.emit_boundary.result _ _
+    (λ code k. subst (λ (is : List Instr). KeepsRegisters is)
+    (sym (listed c.in_ok-log.log.items c.deref-2.result.now c.in_ok-record.record.items c.deref-3.result.now _ c.args.live.now c.args.resume
+    (cast_signed w32 (cast_unsigned w32 c.args.resume)) c.deref-2.ensures.value c.deref-3.ensures.value (to_z-of_z w32 c.args.resume c.ranges.resume) k))
+    (boundary-others b c.in_ok-log.log.items c.in_ok-record.record.items pieces))
+    c.emit_boundary.ensures

@@ -1,0 +1,62 @@
+-- What the code of a boundary does.
+use Rattle.std.specs.Prelude.{◌≡◌, ◌≢◌, ℕ, ℤ, ◌+◌, ◌-◌, ◌*◌, ◌/◌, ◌%◌, ◌^◌, ◌<◌, List, [], ◌∷◌, ◌++◌, map, filter, length, false, ◌==◌, if◌then◌else◌}
+use Rattle.std.specs.List.{list_any}
+use Rattle.ido_base.specs.Layout.{point_at, slot_at, bank_bytes}
+use Rattle.rv64_isa.specs.declared.instr.Instr.{Instr}
+use Rattle.rv64_isa.specs.Rows.{Effect, Stores, Cleans, Fences, read}
+use Rattle.rv64_isa.specs.Signed.{twos_complement}
+use Rattle.log_layout.specs.Roles.{bank_offset, is_temporary}
+use Rattle.boundary_code.specs.Straight.{effects, registers_after}
+
+pub record Boundary : Type 0 where
+  pub thread : ℕ
+  -- the locks held behind it, bit i for lock i; 0 ends a section
+  pub mask : ℕ
+  -- the registers that are live behind it
+  pub live : List ℕ
+  -- how far behind its end recovery resumes, in bytes
+  pub resume : ℤ
+
+-- the lines of a bank that have one of these slots
+abbrev pub lines_in_use : (slots : List ℕ) → List ℕ
+lines_in_use slots = filter (λ line. list_any (λ slot. slot / 8 == line) slots) (0 ∷ 1 ∷ 2 ∷ 3 ∷ [])
+
+-- the bank gets the mask and the live registers, and its lines in use are cleaned
+abbrev pub bank_effects : Boundary → (bank : ℕ) → (registers : List ℕ) → List Effect
+bank_effects b bank x =
+    Stores (slot_at b.thread bank 0) 8 b.mask ∷
+    map (λ r. Stores (slot_at b.thread bank r) 8 (read x r)) b.live ++
+    map (λ line. Cleans (slot_at b.thread bank (8 * line))) (lines_in_use (0 ∷ b.live))
+
+-- all that was cleaned is durable, before the point has a value, and then that is
+abbrev pub commit_effects : (thread point : ℕ) → List Effect
+commit_effects thread point = Fences ∷ Stores (point_at thread) 8 point ∷ Cleans (point_at thread) ∷ Fences ∷ []
+
+-- where recovery resumes, where the boundary's code stands at this address
+abbrev pub resume_address : Boundary → List Instr → (pc : ℕ) → ℕ
+resume_address b code pc = (pc + 4 * length code + twos_complement 64 b.resume) % 2 ^ 64
+
+-- what a boundary does to memory, where the other bank has this number
+abbrev pub boundary_effects : Boundary → (bank resume : ℕ) → (registers : List ℕ) → List Effect
+boundary_effects b bank resume x =
+    if b.mask == 0 then commit_effects b.thread 0
+    else bank_effects b bank x ++ commit_effects b.thread ((resume + bank) % 2 ^ 64)
+
+-- registers at a boundary's first instruction, with a bank's offset in x3
+pub record AtBank (bank : ℕ) (x : List ℕ) : Type 0 where
+  pub count : length x ≡ 32
+  pub zero_is : read x 0 ≡ 0
+  pub offset : read x bank_offset ≡ bank_bytes * bank
+  pub exists : bank < 2
+
+-- memory sees these stores, cleans and fences, in this order, and nothing else
+pub record HasEffects (b : Boundary) (code : List Instr) : Type 0 where
+  pub does : (x : List ℕ) (pc bank : ℕ) → AtBank bank x → effects code x pc ≡ boundary_effects b (1 - bank) (resume_address b code pc) x
+
+-- the other bank's offset is in x3 behind it, but the same bank's where no bank was written
+pub record HasOffset (mask : ℕ) (code : List Instr) : Type 0 where
+  pub leaves : (x : List ℕ) (pc bank : ℕ) → AtBank bank x → read (registers_after code x pc) bank_offset ≡ bank_bytes * (if mask == 0 then bank else 1 - bank)
+
+-- every register but x3 and the temporaries is as it was
+pub record KeepsRegisters (code : List Instr) : Type 0 where
+  pub keeps : (x : List ℕ) (pc bank : ℕ) → AtBank bank x → (r : ℕ) → is_temporary r ≡ false → r ≢ bank_offset → read (registers_after code x pc) r ≡ read x r

@@ -1,0 +1,193 @@
+//! A boundary: the bank that the point doesn't name gets what is live, and then the point names it.
+ghost use Rattle.std.specs.Prelude.{◌≡◌, ◌<◌, ◌≤◌, ◌+◌, ◌*◌, ◌^◌, ◌++◌, ◌∷◌, ◌==◌, ◌/◌, [], map, pos, negsuc, ◌≤ℤ◌, IsTrue, IfOk, OnOk};
+ghost use Rattle.std.specs.List.{list_all, list_any};
+ghost use Rattle.rv64_isa.specs.Signed.{twos_complement};
+ghost use Rattle.log_layout.specs.Roles.{is_kept};
+ghost use Rattle.boundary_code.specs.Boundaries.{HasEffects, HasOffset, KeepsRegisters, lines_in_use};
+ghost use Rattle.boundary_code.specs.links.Listing.{keep_slots, clean_lines, clean_where, point, commit, bank_part, boundary_list, last_list};
+
+use crate::constant::constant;
+use crate::instructions::{add, auipc, immediate, sd, shift};
+use ido_base::memory::Memory;
+use log_layout::log::{BANK_BYTES, FIRST_BANK, LINE_SLOTS, SLOT_BYTES, log_of};
+use rv64_isa::field::Register;
+use rv64_isa::instr::{ImmediateOperation, Instr, ShiftOperation};
+use std::alloc::Global;
+
+/// How far the bank in use lies behind the first: x3 from one boundary to the next.
+const BANK_OFFSET: Register = Register::X3;
+
+/// The address of the thread's log, within a boundary.
+const LOG: Register = Register::X31;
+
+/// The address that lies as far before the bank as the log before the first bank; then the point.
+const BANK: Register = Register::X30;
+
+/// What is stored or cleaned next.
+const NEXT: Register = Register::X7;
+
+/// The lines of a bank.
+const LINES: [u8; 4] = [0, 1, 2, 3];
+
+/// Bytes of the instructions from the AUIPC to a boundary's end.
+const POINT_BYTES: i32 = 28;
+
+/// Whether one of the slots in use, the mask's or a live register's, stands in a line of the bank.
+fn is_in_use(line: u8, live: &[Register]) -> bool
+    ensures { result ≡ list_any (λ slot. slot / 8 == line) (0 ∷ live.now) }
+{
+    if line == 0 {
+        return true;
+    }
+    for register in live {
+        if register.number() / LINE_SLOTS == line {
+            return true;
+        }
+    }
+    false
+}
+
+/// The slots of the live registers get them.
+fn emit_slots(code: &mut Vec<Instr>, live: &[Register]) -> Result<(), Memory>
+    ensures { OnOk result (code.new.items ≡ code.old.items ++ keep_slots live.now) }
+{
+    for register in live {
+        let slot = FIRST_BANK as u16 + SLOT_BYTES as u16 * u16::from(register.number());
+        code.push(sd(*register, slot, BANK))?;
+    }
+    Ok(())
+}
+
+/// A line of the bank is cleaned.
+fn clean_line(line: u8) -> [Instr; 2]
+    requires { line < 4 }
+    ensures { result ≡ clean_lines (line ∷ []) }
+{
+    let offset = 64 + 64 * u16::from(line);
+    [
+        immediate(ImmediateOperation::Addi, NEXT, BANK, offset),
+        Instr::CboClean { rs1: NEXT },
+    ]
+}
+
+/// A line of the bank is cleaned where it is in use.
+fn emit_clean(code: &mut Vec<Instr>, line: u8, live: &[Register]) -> Result<(), Memory>
+    requires { line < 4 }
+    ensures { OnOk result (code.new.items ≡ code.old.items ++ clean_where (list_any (λ slot. slot / 8 == line) (0 ∷ live.now)) line) }
+{
+    if is_in_use(line, live) {
+        code.extend_from_slice(&clean_line(line))?;
+    }
+    Ok(())
+}
+
+/// The bank's lines in use are cleaned.
+fn emit_cleans(code: &mut Vec<Instr>, live: &[Register]) -> Result<(), Memory>
+    ensures { OnOk result (code.new.items ≡ code.old.items ++ clean_lines (lines_in_use (0 ∷ live.now))) }
+{
+    for line in LINES {
+        emit_clean(code, line, live)?;
+    }
+    Ok(())
+}
+
+/// The point's new value: the address so far behind the boundary's end, and the number of the bank.
+fn point(resume: i32) -> [Instr; 4]
+    requires low { negsuc 262143 ≤ℤ resume }
+    requires high { resume ≤ℤ pos 262144 }
+    ensures { result ≡ point (twos_complement 32 resume) }
+{
+    let distance = (resume + POINT_BYTES).cast_unsigned();
+    [
+        auipc(BANK, distance.wrapping_add(0x800) / 4096),
+        immediate(
+            ImmediateOperation::Addi,
+            BANK,
+            BANK,
+            (distance % 4096) as u16,
+        ),
+        shift(ShiftOperation::Srli, NEXT, BANK_OFFSET, 8),
+        add(BANK, BANK, NEXT),
+    ]
+}
+
+/// The point is stored from a register, and is durable.
+fn commit(register: Register) -> [Instr; 3]
+    ensures { result ≡ commit register }
+{
+    [
+        sd(register, 0, LOG),
+        Instr::CboClean { rs1: LOG },
+        Instr::Fence,
+    ]
+}
+
+/// A boundary that keeps the mask and the live registers, where these instructions get the address of the log and
+/// the mask.
+fn emit_boundary(
+    alloc: Global,
+    log: &[Instr],
+    mask: &[Instr],
+    live: &[Register],
+    resume: i32,
+) -> Result<Vec<Instr>, Memory>
+    requires low { negsuc 262143 ≤ℤ resume }
+    requires high { resume ≤ℤ pos 262144 }
+    ensures { IfOk result (λ code. code.items ≡ boundary_list log.now mask.now live.now (twos_complement 32 resume)) }
+{
+    let flip = immediate(
+        ImmediateOperation::Xori,
+        BANK_OFFSET,
+        BANK_OFFSET,
+        BANK_BYTES as u16,
+    );
+    let mut code = vec![in alloc; flip]?;
+    code.extend_from_slice(log)?;
+    code.push(add(BANK, LOG, BANK_OFFSET))?;
+    code.extend_from_slice(mask)?;
+    code.push(sd(NEXT, FIRST_BANK as u16, BANK))?;
+    emit_slots(&mut code, live)?;
+    emit_cleans(&mut code, live)?;
+    code.push(Instr::Fence)?;
+    code.extend_from_slice(&point(resume))?;
+    code.extend_from_slice(&commit(BANK))?;
+    Ok(code)
+}
+
+/// A section's last boundary, where these instructions get the address of the log.
+fn emit_last_boundary(alloc: Global, log: &[Instr]) -> Result<Vec<Instr>, Memory>
+    ensures { IfOk result (λ code. code.items ≡ last_list log.now) }
+{
+    let mut code = Vec::from_slice(alloc, log)?;
+    code.push(Instr::Fence)?;
+    code.extend_from_slice(&commit(Register::X0))?;
+    Ok(code)
+}
+
+/// The code of a boundary: the other bank gets the mask of the locks held behind it and the live registers, its
+/// lines in use are cleaned, and a FENCE makes them durable, with what was cleaned before; then the point gets the
+/// address that lies `resume` bytes behind the boundary's end, and the bank, is cleaned, and a FENCE makes it durable.
+/// Where the mask is 0, which ends a section, no bank is written and the point gets 0. It leaves all registers but
+/// x3 and the temporaries as they were.
+pub fn boundary(
+    alloc: Global,
+    thread: u32,
+    mask: u64,
+    live: &[Register],
+    resume: i32,
+) -> Result<Vec<Instr>, Memory>
+    requires thread { thread < 8 }
+    requires live { IsTrue (list_all is_kept live.now) }
+    requires low { negsuc 262143 ≤ℤ resume }
+    requires high { resume ≤ℤ pos 262144 }
+    ensures effects { IfOk result (λ code. HasEffects (record { thread = thread; mask = mask; live = live.now; resume = resume }) code.items) }
+    ensures offset { IfOk result (λ code. HasOffset mask code.items) }
+    ensures others { IfOk result (λ code. KeepsRegisters code.items) }
+{
+    let log = constant(alloc, LOG, log_of(thread))?;
+    if mask == 0 {
+        return emit_last_boundary(alloc, &log);
+    }
+    let record = constant(alloc, NEXT, mask)?;
+    emit_boundary(alloc, &log, &record, live, resume)
+}

@@ -1,0 +1,10 @@
+//! The code of boundaries: what a thread's log is given so that recovery may resume behind them.
+#![tactic(auto)]
+
+mod code;
+pub mod constant;
+mod instructions;
+#[cfg(test)]
+mod tests;
+
+pub use code::boundary;
