@@ -13,11 +13,12 @@ use Rattle.rv64_isa.specs.declared.instr.StoreKind.TheVariants.{Sd}
 use Rattle.rv64_isa.specs.Rows.{Effect, GoesOn, Stores, Cleans, row, read, next, displaced}
 use Rattle.rv64_isa.specs.Arithmetic.{sign_extended, result_of}
 use Rattle.log_layout.specs.Roles.{is_temporary, is_kept}
-use Rattle.boundary_code.specs.Straight.{IsConstant}
+use Rattle.operator_code.specs.Straight.{IsConstant}
 use Rattle.boundary_code.specs.Boundaries.{lines_in_use, AtBank}
 use Rattle.boundary_code.specs.links.Listing.{keep_slots, clean_lines, bank_part}
-use Rattle.boundary_code.proofs.Runs.{Runs, stop, go, store, clean, along, constant_runs}
-use Rattle.boundary_code.proofs.Registers.{Ready, ready, ready_still, read_same, read_other, length-changed, small_immediate, add_small, displaced_small, flip}
+use Rattle.operator_code.proofs.Runs.{Runs, stop, go, store, clean, along, constant_runs}
+use Rattle.operator_code.proofs.Registers.{read_same, read_other, length-changed, small_immediate, add_small, displaced_small}
+use Rattle.boundary_code.proofs.Registers.{Ready, ready, ready_still, flip}
 
 -- ---- Slots
 

@@ -15,8 +15,9 @@ use Rattle.rv64_isa.specs.Arithmetic.{sign_extended, result_of}
 use Rattle.rv64_isa.specs.Signed.{twos_complement}
 use Rattle.log_layout.specs.Roles.{is_temporary}
 use Rattle.boundary_code.specs.links.Listing.{point, commit}
-use Rattle.boundary_code.proofs.Runs.{Runs, stop, go, store, clean, fence}
-use Rattle.boundary_code.proofs.Registers.{Ready, read_same, read_other, length-changed, displaced_small, bank_bit, not_temporary, signed12, signed32}
+use Rattle.operator_code.proofs.Runs.{Runs, stop, go, store, clean, fence}
+use Rattle.operator_code.proofs.Registers.{read_same, read_other, length-changed, displaced_small, signed12, signed32}
+use Rattle.boundary_code.proofs.Registers.{Ready, bank_bit, not_temporary}
 
 -- ---- The distance in two immediates
 

@@ -9,11 +9,12 @@ use Rattle.rv64_isa.specs.declared.instr.Instr.TheVariants.{Fence}
 use Rattle.rv64_isa.specs.Rows.{Effect, Stores, Cleans, Fences, row, read}
 use Rattle.rv64_isa.specs.Signed.{twos_complement}
 use Rattle.log_layout.specs.Roles.{is_kept, is_temporary}
-use Rattle.boundary_code.specs.Straight.{IsConstant, effects, registers_after}
+use Rattle.operator_code.specs.Straight.{IsConstant, effects, registers_after}
 use Rattle.boundary_code.specs.Boundaries.{Boundary, AtBank, HasEffects, HasOffset, KeepsRegisters, boundary_effects, resume_address, lines_in_use}
 use Rattle.boundary_code.specs.links.Listing.{bank_part, point, commit, boundary_list, last_list}
-use Rattle.boundary_code.proofs.Runs.{Runs, along, fence, constant_runs}
-use Rattle.boundary_code.proofs.Registers.{read_same, read_other, not_temporary}
+use Rattle.operator_code.proofs.Runs.{Runs, along, fence, constant_runs}
+use Rattle.operator_code.proofs.Registers.{read_same, read_other}
+use Rattle.boundary_code.proofs.Registers.{not_temporary}
 use Rattle.boundary_code.proofs.Banks.{kept_registers, banked}
 use Rattle.boundary_code.proofs.Points.{close, committed, commit_run}
 

@@ -6,7 +6,7 @@ use Rattle.rv64_isa.specs.declared.instr.Instr.TheVariants.{Lui, OpImmediate}
 use Rattle.rv64_isa.specs.declared.instr.ImmediateOperation.TheVariants.{Addi}
 use Rattle.rv64_isa.specs.Rows.{Stores, Cleans, Fences, row, read}
 use Rattle.rv64_isa.specs.Arithmetic.{result_of}
-use Rattle.boundary_code.specs.Straight.{effects, registers_after}
+use Rattle.operator_code.specs.Straight.{effects, registers_after}
 use Rattle.boundary_code.specs.Boundaries.{Boundary, boundary_effects, lines_in_use}
 use Rattle.boundary_code.specs.links.Listing.{boundary_list, last_list}
 

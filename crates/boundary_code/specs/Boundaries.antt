@@ -6,7 +6,7 @@ use Rattle.rv64_isa.specs.declared.instr.Instr.{Instr}
 use Rattle.rv64_isa.specs.Rows.{Effect, Stores, Cleans, Fences, read}
 use Rattle.rv64_isa.specs.Signed.{twos_complement}
 use Rattle.log_layout.specs.Roles.{bank_offset, is_temporary}
-use Rattle.boundary_code.specs.Straight.{effects, registers_after}
+use Rattle.operator_code.specs.Straight.{effects, registers_after}
 
 pub record Boundary : Type 0 where
   pub thread : ℕ

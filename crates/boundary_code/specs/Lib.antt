@@ -1,3 +1,2 @@
-pub mod Straight
 pub mod Boundaries
 pub mod links

@@ -6,10 +6,10 @@ ghost use Rattle.log_layout.specs.Roles.{is_kept};
 ghost use Rattle.boundary_code.specs.Boundaries.{HasEffects, HasOffset, KeepsRegisters, lines_in_use};
 ghost use Rattle.boundary_code.specs.links.Listing.{keep_slots, clean_lines, clean_where, point, commit, bank_part, boundary_list, last_list};
 
-use crate::constant::constant;
-use crate::instructions::{add, auipc, immediate, sd, shift};
 use ido_base::memory::Memory;
 use log_layout::log::{BANK_BYTES, FIRST_BANK, LINE_SLOTS, SLOT_BYTES, log_of};
+use operator_code::constant::constant;
+use operator_code::instructions::{add, auipc, immediate, sd, shift};
 use rv64_isa::field::Register;
 use rv64_isa::instr::{ImmediateOperation, Instr, ShiftOperation};
 use std::alloc::Global;

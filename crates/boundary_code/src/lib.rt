@@ -2,8 +2,6 @@
 #![tactic(auto)]
 
 mod code;
-pub mod constant;
-mod instructions;
 #[cfg(test)]
 mod tests;
 

@@ -1,6 +1,6 @@
 //! Boundaries and constants with memory for them.
 use crate::boundary;
-use crate::constant::constant;
+use operator_code::constant::constant;
 use rv64_isa::field::Register;
 use rv64_isa::word::encode;
 use std::test::Fail;

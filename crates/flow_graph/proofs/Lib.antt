@@ -1,1 +1,10 @@
+pub mod Words
+pub mod Standing
+pub mod Lockstep
+pub mod Shapes
+pub mod Lying
+pub mod Paths
 pub mod Worked
+pub mod WorkedSets
+pub mod WorkedColours
+pub mod WorkedActions

@@ -1,13 +1,19 @@
 -- Idempotent cuts: where a thread can be resumed, so that what is run again reads nothing that it has overwritten.
-use Rattle.std.specs.Prelude.{◌≡◌, ◌⊎◌, ◌<◌, ℕ, List, [], ◌∷◌, slice_get, Contains, Some, IsTrue}
+use Rattle.std.specs.Prelude.{◌≡◌, ◌⊎◌, ◌<◌, ℕ, List, [], ◌∷◌, slice_get, slice_set, Contains, Some, Bool, true, false, IsTrue}
 use Rattle.ido_base.specs.declared.location.Location.{Location}
 use Rattle.ido_base.specs.Locations.{overlap, same}
-use Rattle.flow_graph.specs.Nodes.{Lock, Unlock, Node, Graph, successors}
+use Rattle.ido_ints.specs.declared.kinds.Kind.{Kind}
+use Rattle.flow_graph.specs.declared.cuts.Cuts.{Cuts}
+use Rattle.flow_graph.specs.Nodes.{Store, Lock, Unlock, Node, Graph, successors}
 use Rattle.flow_graph.specs.Liveness.{NodeAt}
 
--- the nodes that are chosen: a boundary stands before each of them
-abbrev pub Chosen : Type 0
-Chosen = List ℕ
+-- of each node whether a boundary stands before it, and of each that takes a mutex whether one stands behind it
+pub record Boundaries : Type 0 where
+  pub before : List Bool
+  pub after_lock : List Bool
+
+abbrev pub boundaries_of : Cuts → Boundaries
+boundaries_of x = record { before = x.before.items; after_lock = x.after_lock.items }
 
 pub record IsEdge (g : Graph) (from to : ℕ) : Type 0 where
   pub is : Node
@@ -22,22 +28,32 @@ pub data IsLock (g : Graph) (node : ℕ) : Type 0 where
 pub data IsUnlock (g : Graph) (node : ℕ) : Type 0 where
   unlocks : (x : Node) (mutex next : ℕ) → NodeAt g node x → x.action ≡ Unlock mutex next → IsUnlock g node
 
--- on the way from the one node to the other a boundary is passed: behind a lock, before an unlock or before a chosen node
-abbrev pub IsBoundary : Graph → Chosen → (from to : ℕ) → Type 0
-IsBoundary g chosen from to = IsLock g from ⊎ (IsUnlock g to ⊎ Contains chosen to)
+pub data IsStore (g : Graph) (node : ℕ) : Type 0 where
+  stores : (x : Node) (variable : ℕ) (kind : Kind) (next : ℕ) → NodeAt g node x → x.action ≡ Store variable kind next → IsStore g node
+
+abbrev pub HasBefore : Boundaries → (node : ℕ) → Type 0
+HasBefore b node = slice_get b.before node ≡ Some true
+
+-- the node takes a mutex, and a boundary stands behind it
+pub record HasBehind (g : Graph) (b : Boundaries) (node : ℕ) : Type 0 where
+  pub locks : IsLock g node
+  pub stands : slice_get b.after_lock node ≡ Some true
+
+-- on the way from the one node to the other a boundary is passed
+abbrev pub IsBoundary : Graph → Boundaries → (from to : ℕ) → Type 0
+IsBoundary g b from to = HasBehind g b from ⊎ HasBefore b to
 
 -- a region begins at the node
-pub data Begins (g : Graph) (chosen : Chosen) (node : ℕ) : Type 0 where
-  behind_lock : (from : ℕ) → IsLock g from → IsEdge g from node → Begins g chosen node
-  at_unlock : IsUnlock g node → Begins g chosen node
-  at_chosen : Contains chosen node → Begins g chosen node
+pub data Begins (g : Graph) (b : Boundaries) (node : ℕ) : Type 0 where
+  behind_lock : (from : ℕ) → HasBehind g b from → IsEdge g from node → Begins g b node
+  at_boundary : HasBefore b node → Begins g b node
 
 -- ---- Paths
 
 -- the nodes of a path that passes no boundary
-pub data IsInside (g : Graph) (chosen : Chosen) : List ℕ → Type 0 where
-  stays : (node : ℕ) → IsInside g chosen (node ∷ [])
-  goes_on : (from to : ℕ) (rest : List ℕ) → IsEdge g from to → ¬ (IsBoundary g chosen from to) → IsInside g chosen (to ∷ rest) → IsInside g chosen (from ∷ to ∷ rest)
+pub data IsInside (g : Graph) (b : Boundaries) : List ℕ → Type 0 where
+  stays : (node : ℕ) → IsInside g b (node ∷ [])
+  goes_on : (from to : ℕ) (rest : List ℕ) → IsEdge g from to → ¬ (IsBoundary g b from to) → IsInside g b (to ∷ rest) → IsInside g b (from ∷ to ∷ rest)
 
 -- the path's node at this position reads the elements, or writes one of them
 pub record ReadsAt (g : Graph) (path : List ℕ) (position : ℕ) (elements : Location) : Type 0 where
@@ -63,7 +79,27 @@ pub record IsWrittenBefore (g : Graph) (path : List ℕ) (position : ℕ) (eleme
   pub is : IsTrue (same written element)
 
 -- no region overwrites what it has read, unless it had written that element before it read it
-abbrev pub IsIdempotent : Graph → Chosen → Type 0
-IsIdempotent g chosen = (from : ℕ) (path : List ℕ) → Begins g chosen from → IsInside g chosen (from ∷ path) →
+abbrev pub IsIdempotent : Graph → Boundaries → Type 0
+IsIdempotent g b = (from : ℕ) (path : List ℕ) → Begins g b from → IsInside g b (from ∷ path) →
     (i j : ℕ) (read written : Location) → i < j → ReadsAt g (from ∷ path) i read → WritesAt g (from ∷ path) j written → IsTrue (overlap written read) →
     IsWrittenBefore g (from ∷ path) i read
+
+-- ---- Cuts
+
+-- a boundary stands behind each lock and before each unlock, and regions may be run again
+pub record AreCuts (g : Graph) (b : Boundaries) : Type 0 where
+  pub behind_locks : (node : ℕ) → IsLock g node → HasBehind g b node
+  pub before_unlocks : (node : ℕ) → IsUnlock g node → HasBefore b node
+  pub idempotent : IsIdempotent g b
+
+-- a boundary that stands there by choice
+pub record IsChosen (g : Graph) (b : Boundaries) (node : ℕ) : Type 0 where
+  pub stands : HasBefore b node
+  pub free : ¬ (IsUnlock g node)
+
+abbrev pub without : Boundaries → (node : ℕ) → Boundaries
+without b node = record b { before = slice_set b.before node false }
+
+-- with any chosen boundary taken away a region could not be run again
+abbrev pub IsMinimal : Graph → Boundaries → Type 0
+IsMinimal g b = (node : ℕ) → IsChosen g b node → ¬ (IsIdempotent g (without b node))

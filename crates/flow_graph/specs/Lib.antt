@@ -1,5 +1,12 @@
 pub mod Nodes
 pub mod Lowering
+pub mod Actions
+pub mod Lockstep
 pub mod Liveness
+pub mod LocalSets
+pub mod Colours
 pub mod Cutting
+pub mod Paths
+pub mod Cleaning
 pub mod Refusals
+pub mod links

@@ -83,3 +83,19 @@ pub record Clash (g : Graph) (colours : Colouring) (node a b : ℕ) : Type 0 whe
   pub different : a < b
   pub first : Spans g part a node
   pub second : Spans g part b node
+
+abbrev pub HasNoClash : Graph → Colouring → Type 0
+HasNoClash g colours = (node a b : ℕ) → ¬ (Clash g colours node a b)
+
+-- the least node at which locals clash, there the least one that has a greater one to clash with, and the least one of these
+pub record IsFirstClash (g : Graph) (colours : Colouring) (node a b : ℕ) : Type 0 where
+  pub is : Clash g colours node a b
+  pub first : (other c d : ℕ) → Clash g colours other c d → node ≤ other
+  pub least : (c d : ℕ) → Clash g colours node c d → a ≤ c
+  pub second : (d : ℕ) → Clash g colours node a d → b ≤ d
+
+-- each local of each thread has one of the registers
+pub record AreRegisters (g : Graph) (colours : Colouring) : Type 0 where
+  pub threads : length colours ≡ length g.threads
+  pub locals : (thread : ℕ) (part : Part) (own : List ℕ) → slice_get g.threads thread ≡ Some part → slice_get colours thread ≡ Some own → length own ≡ part.locals
+  pub exist : (thread register : ℕ) (own : List ℕ) → slice_get colours thread ≡ Some own → Contains own register → register < registers

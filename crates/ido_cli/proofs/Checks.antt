@@ -1,7 +1,6 @@
 -- What a text that keeps the rules of names has: few mutexes and few threads.
-use Rattle.std.proofs.Common.{◌≡◌, refl, ℕ, zero, suc, ◌+◌, ◌≤◌, List, [], ◌∷◌, ◌++◌, length, flat_map, ap, arith}
+use Rattle.std.proofs.Common.{◌≡◌, refl, ℕ, zero, suc, ◌≤◌, List, [], ◌∷◌, ◌++◌, length, flat_map, ap, arith}
 use Rattle.std.proofs.lemmas.List.{length-map}
-use Rattle.c_tree.specs.Checking.{IsChecked}
 use Rattle.c_tree.specs.Flats as f
 use Rattle.c_tree.specs.Flats.{flat_of}
 use Rattle.c_tree.specs.Inlining.{flat_form, flat_thread}
@@ -14,6 +13,7 @@ use Rattle.c_tree.specs.Typing.{program_from, typed_program}
 use Rattle.c_tree.specs.declared.rule.Rule as r
 use Rattle.c_tree.specs.declared.rule.Rule.TheVariants as rule
 use Rattle.c_tree.specs.declared.flat.Flat.{Flat}
+use Rattle.flow_graph.specs.Refusals.{IsAccepted}
 
 no_front : {X : Type 0} (xs ys : List X) → xs ++ ys ≡ [] → xs ≡ []
 no_front [] ys h = refl
@@ -71,12 +71,13 @@ few_mutexes xs x flat faultless typed flattened =
     let e = length-map flat.mutexes.items name_of in
     omega (arith, a, b, c, d, e)
 
-pub few_threads : (text : List ℕ) (flat : Flat) → IsChecked text (flat_of flat) → length flat.threads.items ≤ 8
+pub few_threads : (text : List ℕ) (flat : Flat) → IsAccepted text (flat_of flat) → length flat.threads.items ≤ 8
 few_threads text flat is =
-    let it = is.flattened.ranged.typed in
+    let flattened = is.checked.flattened in
+    let it = flattened.ranged.typed in
     let a = (few_of it.items it.faultless).0 in
     let b = ap (λ (q : p.Program). length q.threads) it.typed in
-    let c = (flat_counts is.flattened.program).0 in
-    let d = ap (λ (y : f.Flat). length y.threads) is.flattened.flattened in
+    let c = (flat_counts flattened.program).0 in
+    let d = ap (λ (y : f.Flat). length y.threads) flattened.flattened in
     let e = length-map flat.threads.items f.thread_of in
     omega (arith, a, b, c, d, e)

@@ -13,7 +13,7 @@ use Rattle.object_format.specs.Reading as o
 use Rattle.ido_cli.specs.Listing.{listing}
 use Rattle.ido_cli.specs.Runs.{RunAnswer, ran, stopped}
 use Rattle.ido_cli.specs.Inputs.{source_of}
-use Rattle.ido_cli.specs.Answers.{SourceAnswer, faulty, no_schedule, of_schedule, rest_begins, ListAnswer, no_object, of_object, AnswerToInput, past_limits, within_limits, wrong_words, taken_words}
+use Rattle.ido_cli.specs.Answers.{SourceAnswer, unaccepted, no_schedule, of_schedule, rest_begins, ListAnswer, no_object, of_object, AnswerToInput, past_limits, within_limits, wrong_words, taken_words}
 use Rattle.ido_cli.specs.Laws.{OneFlat, OneFault, NotBoth, OneAnswer}
 
 abbrev fails : o.Fault → Result Contents o.Fault
@@ -39,23 +39,23 @@ module _ (one_flat : OneFlat) (one_fault : OneFault) (not_both : NotBoth) (one_s
   -- ---- An input of `source`
 
   one_source : (input : List ℕ) (status other : ℕ) (output written : List ℕ) → SourceAnswer input status output → SourceAnswer input other written → Same status other output written
-  one_source input status other output written (faulty found place is (e, told)) (faulty again elsewhere also (h, more)) =
+  one_source input status other output written (unaccepted found place is (e, told)) (unaccepted again elsewhere also (h, more)) =
       let both = one_fault (source_of input) found again place elsewhere is also in
       (e ∙ sym h, told ∙ ap₂ (λ rule (at : Place). line_at (code_of rule) (source_of input) at.0) both.0 both.1 ∙ sym more)
-  one_source input status other output written (faulty found place is told) (no_schedule flat checked x read more) = absurd (not_both (source_of input) flat found place checked is)
-  one_source input status other output written (faulty found place is told) (of_schedule flat checked schedule read more) = absurd (not_both (source_of input) flat found place checked is)
-  one_source input status other output written (no_schedule flat checked x read told) (faulty found place is more) = absurd (not_both (source_of input) flat found place checked is)
-  one_source input status other output written (of_schedule flat checked schedule read told) (faulty found place is more) = absurd (not_both (source_of input) flat found place checked is)
-  one_source input status other output written (no_schedule flat checked x read (e, told)) (no_schedule flat' checked' y read' (h, more)) =
+  one_source input status other output written (unaccepted found place is told) (no_schedule flat accepted x read more) = absurd (not_both (source_of input) flat found place accepted is)
+  one_source input status other output written (unaccepted found place is told) (of_schedule flat accepted schedule read more) = absurd (not_both (source_of input) flat found place accepted is)
+  one_source input status other output written (no_schedule flat accepted x read told) (unaccepted found place is more) = absurd (not_both (source_of input) flat found place accepted is)
+  one_source input status other output written (of_schedule flat accepted schedule read told) (unaccepted found place is more) = absurd (not_both (source_of input) flat found place accepted is)
+  one_source input status other output written (no_schedule flat accepted x read (e, told)) (no_schedule flat' accepted' y read' (h, more)) =
       let both : s.Refused x ≡ s.Refused y = sym read ∙ read' in
       let same : x ≡ y = cc both in
       (e ∙ sym h, told ∙ ap (λ z. line_at (fault_code z) input (rest_begins input + fault_place z)) same ∙ sym more)
-  one_source input status other output written (no_schedule flat checked x read told) (of_schedule flat' checked' schedule read' more) = let both : s.Refused x ≡ s.Steps schedule = sym read ∙ read' in cc both
-  one_source input status other output written (of_schedule flat checked schedule read told) (no_schedule flat' checked' x read' more) = let both : s.Steps schedule ≡ s.Refused x = sym read ∙ read' in cc both
-  one_source input status other output written (of_schedule flat checked schedule read told) (of_schedule flat' checked' schedule' read' more) =
+  one_source input status other output written (no_schedule flat accepted x read told) (of_schedule flat' accepted' schedule read' more) = let both : s.Refused x ≡ s.Steps schedule = sym read ∙ read' in cc both
+  one_source input status other output written (of_schedule flat accepted schedule read told) (no_schedule flat' accepted' x read' more) = let both : s.Steps schedule ≡ s.Refused x = sym read ∙ read' in cc both
+  one_source input status other output written (of_schedule flat accepted schedule read told) (of_schedule flat' accepted' schedule' read' more) =
       let both : s.Steps schedule ≡ s.Steps schedule' = sym read ∙ read' in
       let same : schedule ≡ schedule' = cc both in
-      let forms : flat ≡ flat' = one_flat (source_of input) flat flat' checked checked' in
+      let forms : flat ≡ flat' = one_flat (source_of input) flat flat' accepted accepted' in
       one_run flat' schedule' status other output written (subst (λ z. RunAnswer flat' z status output) same (subst (λ z. RunAnswer z schedule status output) forms told)) more
 
   -- ---- An input of `list`

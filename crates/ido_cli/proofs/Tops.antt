@@ -11,7 +11,7 @@ use Rattle.ido_cli.specs.declared.command.Command.{Command}
 use Rattle.ido_cli.specs.declared.command.Command.TheVariants as command
 use Rattle.ido_cli.specs.Commands.{command_of}
 use Rattle.ido_cli.specs.Runs.{RunAnswer, ran, stopped, run_state, status_by}
-use Rattle.ido_cli.specs.Answers.{CheckedAnswer, of_no_form, played, PlayAnswer, unplayed, checked, SourceAnswer, faulty, no_schedule, of_schedule, CommandAnswer, ListAnswer, no_object, of_object, IsPastLimits, AnswerToInput, past_limits, within_limits, Answer, wrong_words, taken_words, IsAnswer, IsAnswered, Outside, answered, sink_failed, most_bytes, steps_of_first}
+use Rattle.ido_cli.specs.Answers.{AcceptedAnswer, of_no_form, played, PlayAnswer, unplayed, accepted, SourceAnswer, unaccepted, no_schedule, of_schedule, CommandAnswer, ListAnswer, no_object, of_object, IsPastLimits, AnswerToInput, past_limits, within_limits, Answer, wrong_words, taken_words, IsAnswer, IsAnswered, Outside, answered, sink_failed, most_bytes, steps_of_first}
 use Rattle.ido_cli.specs.Deliveries.{IsSaidToInput, IsDelivered, whole, broken}
 
 -- ---- Inputs that the source may not tell
@@ -51,9 +51,9 @@ settled_or_not false status e = inr e
 not_four_or_seven : (status n : ℕ) → status ≡ n → (n < 4) ⊎ (n ≡ 6) → (status ≡ 4) ⊎ (status ≡ 7) → ⊥
 not_four_or_seven status n e small h = omega arith
 
-of_checked : (source script : List ℕ) (status : ℕ) (output : List ℕ) → CheckedAnswer source script status output → (status ≡ 4) ⊎ (status ≡ 7) → ⊥
-of_checked source script status output (of_no_form other refused) h = not_four_or_seven status 6 refused.0 (inr refl) h
-of_checked source script status output (played form steps is p) h =
+of_accepted : (source script : List ℕ) (status : ℕ) (output : List ℕ) → AcceptedAnswer source script status output → (status ≡ 4) ⊎ (status ≡ 7) → ⊥
+of_accepted source script status output (of_no_form other refused) h = not_four_or_seven status 6 refused.0 (inr refl) h
+of_accepted source script status output (played form steps is p) h =
     elim (settled_or_not (is_settled (machine p.object (steps_of_first steps))) status p.status_is) [
       | inl e ↦ not_four_or_seven status 0 e (inl (omega arith)) h
       | inr e ↦ not_four_or_seven status 3 e (inl (omega arith)) h
@@ -61,7 +61,7 @@ of_checked source script status output (played form steps is p) h =
 
 of_play : (source script : List ℕ) (status : ℕ) (output : List ℕ) → PlayAnswer source script status output → (status ≡ 4) ⊎ (status ≡ 7) → ⊥
 of_play source script status output (unplayed found place is refused) h = not_four_or_seven status 1 refused.0 (inl (omega arith)) h
-of_play source script status output (checked flat is answer) h = of_checked source script status output answer h
+of_play source script status output (accepted flat is answer) h = of_accepted source script status output answer h
 
 by_unsettled : (unsettled : List ℕ) (status : ℕ) → status ≡ status_by unsettled → (status ≡ 4) ⊎ (status ≡ 7) → ⊥
 by_unsettled [] status e h = not_four_or_seven status 0 e (inl (omega arith)) h
@@ -72,7 +72,7 @@ of_run x schedule status output (ran runs reported) h = by_unsettled (run_state 
 of_run x schedule status output (stopped stop is e out) h = not_four_or_seven status 6 e (inr refl) h
 
 of_source : (input : List ℕ) (status : ℕ) (output : List ℕ) → SourceAnswer input status output → (status ≡ 4) ⊎ (status ≡ 7) → ⊥
-of_source input status output (faulty found place is refused) h = not_four_or_seven status 1 refused.0 (inl (omega arith)) h
+of_source input status output (unaccepted found place is refused) h = not_four_or_seven status 1 refused.0 (inl (omega arith)) h
 of_source input status output (no_schedule flat is x read refused) h = not_four_or_seven status 6 refused.0 (inr refl) h
 of_source input status output (of_schedule flat is schedule read answer) h = of_run flat schedule status output answer h
 

@@ -1,4 +1,4 @@
--- A text is checked and has one flat form, or it breaks one rule first, at one place: check after check.
+-- A text is accepted and has one flat form, or it is refused by one rule, at one place: check after check.
 use Rattle.std.proofs.Common.{◌≡◌, ◌⊎◌, inl, inr, refl, ℕ, ◌<◌, ◌≤◌, List, [], length, Option, Some, None, true, false, sym, ap, ap₂, ◌∙◌, subst, arith}
 use Rattle.ido_base.specs.declared.place.Place.{Place}
 use Rattle.c_tree.specs.Checking.{HasNoBack, IsTyped, IsRanged, IsFlattened, IsChecked, IsFaulty, unread, mistyped, unfit, leads_back, too_long, undisciplined}
@@ -10,7 +10,7 @@ use Rattle.c_tree.specs.Programs as p
 use Rattle.c_tree.specs.Ranges.{AllFit, Index, IsFirstUnfit}
 use Rattle.c_tree.specs.Reading.{IsRead, IsRefused}
 use Rattle.c_tree.specs.Scanning.{Fault}
-use Rattle.c_tree.specs.Temporaries.{price_fault}
+use Rattle.c_tree.specs.Temporaries.{price_fault, temporaries_fault}
 use Rattle.c_tree.specs.Trees.{Item}
 use Rattle.c_tree.specs.TypeRules.{IsFirst, type_faults}
 use Rattle.c_tree.specs.Typing.{typed_program}
@@ -18,12 +18,16 @@ use Rattle.c_tree.specs.declared.rule.Rule as r
 use Rattle.c_tree.specs.declared.rule.Rule.TheVariants as rule
 use Rattle.c_reader.specs.Laws as reader
 use Rattle.c_typer.specs.Laws.{OneFirst}
+use Rattle.flow_graph.specs.Liveness.{NodeAt, HasRoom, IsFirstCrowded}
+use Rattle.flow_graph.specs.Lowering.{lowered}
+use Rattle.flow_graph.specs.Nodes.{Node, Graph}
+use Rattle.flow_graph.specs.Refusals.{IsAccepted, IsRefusedBy, faulty, crowded, too_deep}
 use Rattle.ido_cli.specs.Laws as laws
 
 -- ---- Verdicts
 
 data Verdict : Type 0 where
-  Checked : f.Flat → Verdict
+  Accepted : f.Flat → Verdict
   Refused : r.Rule → Place → Verdict
 
 abbrev IsOne : (Verdict → Type 0) → Type 0
@@ -46,19 +50,57 @@ one_some o x y e h = let both : Some x ≡ Some y = sym e ∙ h in cc both
 not_none : {X : Type 0} (o : Option X) (x : X) → o ≡ Some x → o ≡ None → ⊥
 not_none o x e h = let both : Some x ≡ None = sym e ∙ h in cc both
 
+-- ---- Temporaries
+
+abbrev TemporariesStop : f.Flat → Verdict → Type 0
+TemporariesStop flat v = (place : Place) × (temporaries_fault flat ≡ Some place) × (v ≡ Refused rule.Temporaries place)
+
+abbrev ByTemporaries : f.Flat → Verdict → Type 0
+ByTemporaries flat = Check (TemporariesStop flat) (temporaries_fault flat ≡ None) (λ v. v ≡ Accepted flat)
+
+one_by_temporaries : (flat : f.Flat) → IsOne (ByTemporaries flat)
+one_by_temporaries flat = one_check (TemporariesStop flat) (temporaries_fault flat ≡ None) (λ v. v ≡ Accepted flat)
+    (λ v w s t. s.2 ∙ ap (Refused rule.Temporaries) (one_some (temporaries_fault flat) s.0 t.0 s.1 t.1) ∙ sym t.2)
+    (λ v s e. not_none (temporaries_fault flat) s.0 s.1 e)
+    (λ v w e h. e ∙ sym h)
+
+-- ---- Registers
+
+abbrev RoomStop : f.Flat → Verdict → Type 0
+RoomStop flat v = (place : Place) × (wanted : ℕ) × IsFirstCrowded (lowered flat) place wanted × (v ≡ Refused rule.Locals place)
+
+abbrev ByRoom : f.Flat → Verdict → Type 0
+ByRoom flat = Check (RoomStop flat) (HasRoom (lowered flat)) (ByTemporaries flat)
+
+one_node : (g : Graph) (n m : ℕ) (x y : Node) → n ≡ m → NodeAt g n x → NodeAt g m y → x ≡ y
+one_node g n m x y e a b = let there : NodeAt g n y = subst (λ k. NodeAt g k y) (sym e) b in one_some _ x y a there
+
+one_crowded : (g : Graph) (place other : Place) (wanted more : ℕ) → IsFirstCrowded g place wanted → IsFirstCrowded g other more → place ≡ other
+one_crowded g place other wanted more x y =
+    let sooner : ¬ (x.node < y.node) = λ h. (let few = y.first x.part x.node wanted h x.own x.spanning in absurd (omega (arith, few, x.crowded))) in
+    let later : ¬ (y.node < x.node) = λ h. (let few = x.first y.part y.node more h y.own y.spanning in absurd (omega (arith, few, y.crowded))) in
+    let same : x.node ≡ y.node = omega (arith, sooner, later) in
+    x.there ∙ ap (λ (z : Node). z.place) (one_node g x.node y.node x.is y.is same x.at y.at) ∙ sym y.there
+
+one_by_room : (flat : f.Flat) → IsOne (ByRoom flat)
+one_by_room flat = one_check (RoomStop flat) (HasRoom (lowered flat)) (ByTemporaries flat)
+    (λ v w s t. s.3 ∙ ap (Refused rule.Locals) (one_crowded (lowered flat) s.0 t.0 s.1 t.1 s.2 t.2) ∙ sym t.3)
+    (λ v s room. let few = room s.2.part s.2.node s.1 s.2.own s.2.spanning in absurd (omega (arith, few, s.2.crowded)))
+    (one_by_temporaries flat)
+
 -- ---- The lock discipline
 
 abbrev LockStop : f.Flat → Verdict → Type 0
 LockStop flat v = (x : l.Fault) × (lock_fault flat ≡ Some x) × (v ≡ Refused x.rule x.place)
 
 abbrev ByLocks : f.Flat → Verdict → Type 0
-ByLocks flat = Check (LockStop flat) (lock_fault flat ≡ None) (λ v. v ≡ Checked flat)
+ByLocks flat = Check (LockStop flat) (lock_fault flat ≡ None) (ByRoom flat)
 
 one_by_locks : (flat : f.Flat) → IsOne (ByLocks flat)
-one_by_locks flat = one_check (LockStop flat) (lock_fault flat ≡ None) (λ v. v ≡ Checked flat)
+one_by_locks flat = one_check (LockStop flat) (lock_fault flat ≡ None) (ByRoom flat)
     (λ v w s t. s.2 ∙ ap (λ (x : l.Fault). Refused x.rule x.place) (one_some (lock_fault flat) s.0 t.0 s.1 t.1) ∙ sym t.2)
     (λ v s e. not_none (lock_fault flat) s.0 s.1 e)
-    (λ v w e h. e ∙ sym h)
+    (one_by_room flat)
 
 -- ---- The price
 
@@ -150,8 +192,11 @@ ranged_then text x v is by = typed_then text x v is.typed (passes is.fits by)
 flattened_then : (text : List ℕ) (flat : f.Flat) (v : Verdict) → IsFlattened text flat → ByLocks flat v → ByReading text v
 flattened_then text flat v is by = ranged_then text is.program v is.ranged (passes is.ends (passes is.short (subst (λ y. ByLocks y v) is.flattened by)))
 
-checked_by : (text : List ℕ) (flat : f.Flat) → IsChecked text flat → ByReading text (Checked flat)
-checked_by text flat is = flattened_then text flat (Checked flat) is.flattened (passes is.disciplined refl)
+checked_then : (text : List ℕ) (flat : f.Flat) (v : Verdict) → IsChecked text flat → ByRoom flat v → ByReading text v
+checked_then text flat v is by = flattened_then text flat v is.flattened (passes is.disciplined by)
+
+accepted_by : (text : List ℕ) (flat : f.Flat) → IsAccepted text flat → ByReading text (Accepted flat)
+accepted_by text flat is = checked_then text flat (Accepted flat) is.checked (passes is.room (passes is.shallow refl))
 
 faulty_by : (text : List ℕ) (found : r.Rule) (place : Place) → IsFaulty text found place → ByReading text (Refused found place)
 faulty_by text found place (unread is) = no_tree (found, place, is, refl)
@@ -160,6 +205,11 @@ faulty_by text found place (unfit x i is first e at) = typed_then text x (Refuse
 faulty_by text found place (leads_back x is first e) = ranged_then text x (Refused found place) is (stops (place, first, ap (λ y. Refused y place) e))
 faulty_by text found place (too_long x is ends long e) = ranged_then text x (Refused found place) is (passes ends (stops (place, long, ap (λ y. Refused y place) e)))
 faulty_by text found place (undisciplined flat x is broken e at) = flattened_then text flat (Refused found place) is (stops (x, broken, ap₂ Refused e at))
+
+refused_by : (text : List ℕ) (found : r.Rule) (place : Place) → IsRefusedBy text found place → ByReading text (Refused found place)
+refused_by text found place (faulty is) = faulty_by text found place is
+refused_by text found place (crowded flat wanted is first e) = checked_then text flat (Refused found place) is (stops (place, wanted, first, ap (λ y. Refused y place) e))
+refused_by text found place (too_deep flat is room deep e) = checked_then text flat (Refused found place) is (passes room (stops (place, deep, ap (λ y. Refused y place) e)))
 
 module _ (one_tree : reader.OneTree) (one_refusal : reader.OneRefusal) (not_both : reader.NotBoth) (one_first : OneFirst) where
   one_by_types : (xs : List Item) → IsOne (ByTypes xs)
@@ -176,13 +226,13 @@ module _ (one_tree : reader.OneTree) (one_refusal : reader.OneRefusal) (not_both
   one_by_reading text v w (tree xs read by) (tree ys also as_well) = one_by_types ys v w (subst (λ zs. ByTypes zs v) (one_tree text xs ys read also) by) as_well
 
   pub one_flat : laws.OneFlat
-  one_flat text x y is also = let both : Checked x ≡ Checked y = one_by_reading text (Checked x) (Checked y) (checked_by text x is) (checked_by text y also) in cc both
+  one_flat text x y is also = let both : Accepted x ≡ Accepted y = one_by_reading text (Accepted x) (Accepted y) (accepted_by text x is) (accepted_by text y also) in cc both
 
   pub one_fault : laws.OneFault
   one_fault text found other place elsewhere is also =
-      let both : Refused found place ≡ Refused other elsewhere = one_by_reading text (Refused found place) (Refused other elsewhere) (faulty_by text found place is) (faulty_by text other elsewhere also) in
+      let both : Refused found place ≡ Refused other elsewhere = one_by_reading text (Refused found place) (Refused other elsewhere) (refused_by text found place is) (refused_by text other elsewhere also) in
       (cc both, cc both)
 
   pub never_both : laws.NotBoth
   never_both text x found place is also =
-      let both : Checked x ≡ Refused found place = one_by_reading text (Checked x) (Refused found place) (checked_by text x is) (faulty_by text found place also) in cc both
+      let both : Accepted x ≡ Refused found place = one_by_reading text (Accepted x) (Refused found place) (accepted_by text x is) (refused_by text found place also) in cc both

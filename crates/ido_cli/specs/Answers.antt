@@ -1,9 +1,9 @@
 -- What the program answers: a status and the bytes that it writes.
 use Rattle.std.specs.Prelude.{◌≡◌, ◌⊎◌, ℕ, ◌+◌, ◌-◌, ◌<◌, List, [], ◌∷◌, ◌++◌, length, replicate, Option, Some, None, Ok, Err, if◌then◌else◌, IsTrue, codes, IfSome}
 use Rattle.ido_base.specs.declared.place.Place.{Place}
-use Rattle.c_tree.specs.Checking.{IsChecked, IsFaulty}
 use Rattle.c_tree.specs.Flats as f
 use Rattle.c_tree.specs.declared.rule.Rule as r
+use Rattle.flow_graph.specs.Refusals.{IsAccepted, IsRefusedBy}
 use Rattle.run_scripts.specs.Schedules as s
 use Rattle.ido_cli.specs.declared.command.Command.{Command}
 use Rattle.ido_cli.specs.declared.command.Command.TheVariants as command
@@ -78,15 +78,15 @@ pub record IsPlayed (form : Form) (steps status : ℕ) (output : List ℕ) : Typ
   pub output_is : output ≡ report (machine_state (form.variable ∷ []) (start_state form) (machine object (steps_of_first steps)) (steps_compared (compared form object marks) (machine_start object) (steps_of_first steps)).kept)
   pub settled : status ≡ 0 → IsSourceRun form output
 
--- what a source that is checked and a script are answered: status and output
-pub data CheckedAnswer (source script : List ℕ) (status : ℕ) (output : List ℕ) : Type 0 where
-  of_no_form : ((form : Form) (steps : ℕ) → IsOfForm source script form steps → ⊥) → Refuses 6 status (codes "form") output → CheckedAnswer source script status output
-  played : (form : Form) (steps : ℕ) → IsOfForm source script form steps → IsPlayed form steps status output → CheckedAnswer source script status output
+-- what a source that is accepted and a script are answered: status and output
+pub data AcceptedAnswer (source script : List ℕ) (status : ℕ) (output : List ℕ) : Type 0 where
+  of_no_form : ((form : Form) (steps : ℕ) → IsOfForm source script form steps → ⊥) → Refuses 6 status (codes "form") output → AcceptedAnswer source script status output
+  played : (form : Form) (steps : ℕ) → IsOfForm source script form steps → IsPlayed form steps status output → AcceptedAnswer source script status output
 
 -- what a source and a script are answered
 pub data PlayAnswer (source script : List ℕ) (status : ℕ) (output : List ℕ) : Type 0 where
-  unplayed : (found : r.Rule) (place : Place) → IsFaulty source found place → IsRefusedAt 1 (code_of found) source place.0 status output → PlayAnswer source script status output
-  checked : (flat : f.Flat) → IsChecked source flat → CheckedAnswer source script status output → PlayAnswer source script status output
+  unplayed : (found : r.Rule) (place : Place) → IsRefusedBy source found place → IsRefusedAt 1 (code_of found) source place.0 status output → PlayAnswer source script status output
+  accepted : (flat : f.Flat) → IsAccepted source flat → AcceptedAnswer source script status output → PlayAnswer source script status output
 
 -- ---- `source`
 
@@ -96,9 +96,9 @@ rest_begins input = length input - length (rest_of input)
 
 -- what an input of a source and a schedule is answered: status and output
 pub data SourceAnswer (input : List ℕ) (status : ℕ) (output : List ℕ) : Type 0 where
-  faulty : (found : r.Rule) (place : Place) → IsFaulty (source_of input) found place → IsRefusedAt 1 (code_of found) (source_of input) place.0 status output → SourceAnswer input status output
-  no_schedule : (flat : f.Flat) → IsChecked (source_of input) flat → (x : s.Fault) → s.read (rest_of input) ≡ s.Refused x → IsRefusedAt 6 (fault_code x) input (rest_begins input + fault_place x) status output → SourceAnswer input status output
-  of_schedule : (flat : f.Flat) → IsChecked (source_of input) flat → (schedule : List ℕ) → s.read (rest_of input) ≡ s.Steps schedule → RunAnswer flat schedule status output → SourceAnswer input status output
+  unaccepted : (found : r.Rule) (place : Place) → IsRefusedBy (source_of input) found place → IsRefusedAt 1 (code_of found) (source_of input) place.0 status output → SourceAnswer input status output
+  no_schedule : (flat : f.Flat) → IsAccepted (source_of input) flat → (x : s.Fault) → s.read (rest_of input) ≡ s.Refused x → IsRefusedAt 6 (fault_code x) input (rest_begins input + fault_place x) status output → SourceAnswer input status output
+  of_schedule : (flat : f.Flat) → IsAccepted (source_of input) flat → (schedule : List ℕ) → s.read (rest_of input) ≡ s.Steps schedule → RunAnswer flat schedule status output → SourceAnswer input status output
 
 -- ---- `list`
 

@@ -1,13 +1,14 @@
 -- What holds of the flat form of every text that is accepted, and of each run of it.
 use Rattle.std.specs.Prelude.{ℕ, List}
 use Rattle.std.specs.List.{AllByRecursion}
-use Rattle.c_tree.specs.Checking.{IsFlattened, IsChecked}
+use Rattle.c_tree.specs.Checking.{IsFlattened}
 use Rattle.c_tree.specs.Exprs.{Placed}
 use Rattle.c_tree.specs.Flats.{Flat, Statement}
 use Rattle.c_tree.specs.Source.{Thread, start, after_from}
 use Rattle.c_tree.specs.WellFormed.{IsWellFormed}
 use Rattle.c_ranges.specs.Keeping.{IsStateOf, IsElement, IsNext, step_exprs, step_indexes}
 use Rattle.c_ranges.specs.Laws.{IsForeseen}
+use Rattle.flow_graph.specs.Refusals.{IsAccepted}
 
 -- it is well formed
 abbrev pub FlattenedIsFormed : Type 0
@@ -15,16 +16,16 @@ FlattenedIsFormed = (text : List ℕ) (flat : Flat) → IsFlattened text flat �
 
 -- values keep to their kinds in every run
 abbrev pub AcceptedRuns : Type 0
-AcceptedRuns = (text : List ℕ) (flat : Flat) (schedule : List ℕ) → IsChecked text flat → IsStateOf flat (after_from (start flat) schedule)
+AcceptedRuns = (text : List ℕ) (flat : Flat) (schedule : List ℕ) → IsAccepted text flat → IsStateOf flat (after_from (start flat) schedule)
 
 -- every value that a step evaluates lies in its range
 abbrev pub AcceptedValues : Type 0
-AcceptedValues = (text : List ℕ) (flat : Flat) (schedule : List ℕ) (thread : ℕ) (it : Thread) (y : Statement) (rest : List Statement) → IsChecked text flat →
+AcceptedValues = (text : List ℕ) (flat : Flat) (schedule : List ℕ) (thread : ℕ) (it : Thread) (y : Statement) (rest : List Statement) → IsAccepted text flat →
     IsNext (after_from (start flat) schedule) thread it y rest →
     AllByRecursion (λ (z : Placed). IsForeseen it.locals (after_from (start flat) schedule).variables z.expr) (step_exprs y)
 
 -- and no index is out of range
 abbrev pub AcceptedIndexes : Type 0
-AcceptedIndexes = (text : List ℕ) (flat : Flat) (schedule : List ℕ) (thread : ℕ) (it : Thread) (y : Statement) (rest : List Statement) → IsChecked text flat →
+AcceptedIndexes = (text : List ℕ) (flat : Flat) (schedule : List ℕ) (thread : ℕ) (it : Thread) (y : Statement) (rest : List Statement) → IsAccepted text flat →
     IsNext (after_from (start flat) schedule) thread it y rest →
     AllByRecursion (IsElement flat.variables it.locals (after_from (start flat) schedule).variables) (step_indexes y)

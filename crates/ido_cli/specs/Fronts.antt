@@ -1,6 +1,5 @@
 -- What is answered to a text: its flat form, or the first rule that it breaks.
 use Rattle.std.specs.Prelude.{ℕ, List, Result, Ok, Err}
-use Rattle.c_tree.specs.Checking.{IsChecked, IsFaulty}
 use Rattle.c_tree.specs.Flats.{flat_of}
 use Rattle.c_tree.specs.declared.flat.Flat.{Flat}
 use Rattle.c_tree.specs.declared.rule.Rule.TheVariants as rule
@@ -11,14 +10,18 @@ use Rattle.c_typer.specs.declared.error.TypeError.TheVariants as type_error
 use Rattle.c_ranges.specs.declared.indexes.IndexError.{IndexError}
 use Rattle.c_inline.specs.declared.inline.InlineError as inline
 use Rattle.c_inline.specs.declared.inline.InlineError.TheVariants as inline_error
+use Rattle.c_temporaries.specs.declared.temporaries.TemporariesError.{TemporariesError}
+use Rattle.flow_graph.specs.Refusals.{IsAccepted, IsRefusedBy}
 use Rattle.lock_discipline.specs.declared.error.LockError as lock
 use Rattle.lock_discipline.specs.declared.error.LockError.TheVariants as lock_error
+use Rattle.reg_colour.specs.declared.colouring.ColourRefusal as colours
+use Rattle.reg_colour.specs.declared.colouring.ColourRefusal.TheVariants as colour_refusal
 use Rattle.ido_cli.specs.declared.front.FrontError.{FrontError}
 use Rattle.ido_cli.specs.declared.front.FrontError.TheVariants as e
 
 abbrev pub IsFrontAnswer : (text : List ℕ) → Result Flat FrontError → Type 0
-IsFrontAnswer text (Ok flat) = IsChecked text (flat_of flat)
-IsFrontAnswer text (Err (e.Refused found place)) = IsFaulty text found place
+IsFrontAnswer text (Ok flat) = IsAccepted text (flat_of flat)
+IsFrontAnswer text (Err (e.Refused found place)) = IsRefusedBy text found place
 IsFrontAnswer text (Err e.Memory) = Unit {0}
 
 -- ---- The same error, of each check
@@ -46,3 +49,10 @@ of_lock (lock_error.NotHeld place mutex) = e.Refused rule.NotHeld place
 of_lock (lock_error.Join place mutex) = e.Refused rule.Join place
 of_lock (lock_error.EndHeld place mutex) = e.Refused rule.EndHeld place
 of_lock lock_error.Memory = e.Memory
+
+abbrev pub of_colours : colours.ColourRefusal → FrontError
+of_colours (colour_refusal.Locals place wanted) = e.Refused rule.Locals place
+of_colours colour_refusal.Memory = e.Memory
+
+abbrev pub of_temporaries : TemporariesError → FrontError
+of_temporaries x = e.Refused rule.Temporaries x.place

@@ -1,26 +1,26 @@
 -- What a text comes to, and what words and an input are answered, is at most one thing.
 use Rattle.std.specs.Prelude.{◌≡◌, ◌≢◌, ℕ, List, Some}
 use Rattle.ido_base.specs.declared.place.Place.{Place}
-use Rattle.c_tree.specs.Checking.{IsChecked, IsFaulty}
 use Rattle.c_tree.specs.Flats.{Flat}
 use Rattle.c_tree.specs.declared.rule.Rule.{Rule}
+use Rattle.flow_graph.specs.Refusals.{IsAccepted, IsRefusedBy}
 use Rattle.ido_cli.specs.declared.command.Command.TheVariants as command
 use Rattle.ido_cli.specs.Commands.{command_of}
 use Rattle.ido_cli.specs.Answers.{Answer}
 
 -- ---- Texts
 
--- a checked text has at most one flat form
+-- an accepted text has one flat form
 abbrev pub OneFlat : Type 0
-OneFlat = (text : List ℕ) (x y : Flat) → IsChecked text x → IsChecked text y → x ≡ y
+OneFlat = (text : List ℕ) (x y : Flat) → IsAccepted text x → IsAccepted text y → x ≡ y
 
--- a text breaks at most one rule first, at one place
+-- a refused text is so by one rule, at one place
 abbrev pub OneFault : Type 0
-OneFault = (text : List ℕ) (found other : Rule) (place elsewhere : Place) → IsFaulty text found place → IsFaulty text other elsewhere → (found ≡ other) × (place ≡ elsewhere)
+OneFault = (text : List ℕ) (found other : Rule) (place elsewhere : Place) → IsRefusedBy text found place → IsRefusedBy text other elsewhere → (found ≡ other) × (place ≡ elsewhere)
 
 -- and none is both
 abbrev pub NotBoth : Type 0
-NotBoth = (text : List ℕ) (x : Flat) (found : Rule) (place : Place) → IsChecked text x → ¬ (IsFaulty text found place)
+NotBoth = (text : List ℕ) (x : Flat) (found : Rule) (place : Place) → IsAccepted text x → ¬ (IsRefusedBy text found place)
 
 -- ---- Answers
 

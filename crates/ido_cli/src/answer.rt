@@ -4,7 +4,7 @@ ghost use Rattle.ido_compile.specs.Form.{Form, IsForm, form_of};
 ghost use Rattle.ido_compile.specs.Emitted.{IsEmitted};
 ghost use Rattle.ido_compile.specs.Compilation.{Compilation, node_marks};
 ghost use Rattle.ido_cli.specs.declared.command.Command.TheVariants as command;
-ghost use Rattle.ido_cli.specs.Answers.{IsPlayed, CheckedAnswer, PlayAnswer, AnswerToInput, most_bytes, most_source_bytes};
+ghost use Rattle.ido_cli.specs.Answers.{IsPlayed, AcceptedAnswer, PlayAnswer, AnswerToInput, most_bytes, most_source_bytes};
 
 use crate::command::Command;
 use crate::front::{FrontError, front};
@@ -48,9 +48,9 @@ fn play(alloc: Global, compiled: &Compiled, steps: u64) -> Result<Said, Memory>
     Ok(said)
 }
 
-/// The answer to a source text that is checked, and a script.
-fn checked_answer(alloc: Global, source: &[u8], script: &[u8]) -> Result<Said, Memory>
-    ensures { IfOk result (λ said. CheckedAnswer source.now script.now said.status said.output.items) }
+/// The answer to a source text that is accepted, and a script.
+fn accepted_answer(alloc: Global, source: &[u8], script: &[u8]) -> Result<Said, Memory>
+    ensures { IfOk result (λ said. AcceptedAnswer source.now script.now said.status said.output.items) }
 {
     let compiled = match compile(alloc, source) {
         Ok(compiled) => compiled,
@@ -72,7 +72,7 @@ fn play_answer(alloc: Global, source: &[u8], script: &[u8]) -> Result<Said, Memo
     ensures { IfOk result (λ said. PlayAnswer source.now script.now said.status said.output.items) }
 {
     match front(alloc, source) {
-        Ok(_) => checked_answer(alloc, source, script),
+        Ok(_) => accepted_answer(alloc, source, script),
         Err(FrontError::Refused { rule, place }) => {
             refused_at(alloc, 1, code_of(rule), source, u64::from(place.0))
         }

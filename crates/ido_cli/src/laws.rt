@@ -5,7 +5,7 @@ use c_reader::laws::one_reading;
 use c_typer::laws::one_first;
 use source_machine::laws::one_stop;
 
-/// A text has at most one flat form as a checked one, or breaks at most one rule first, at one place, and never both.
+/// A text is accepted with one flat form or refused by one rule, at one place, and never both.
 pub fn one_verdict()
     ensures flat { OneFlat }
     ensures fault { OneFault }

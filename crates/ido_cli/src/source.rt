@@ -1,6 +1,6 @@
 //! The command `source`: the source's own run.
 ghost use Rattle.std.specs.Prelude.{◌≡◌, ◌+◌, ◌-◌, ◌<◌, ◌≤◌, ◌^◌, ℕ, length, map, take, drop, IfOk, IfSome, IsSome};
-ghost use Rattle.c_tree.specs.Checking.{IsChecked};
+ghost use Rattle.flow_graph.specs.Refusals.{IsAccepted};
 ghost use Rattle.c_tree.specs.Flats.{flat_of};
 ghost use Rattle.c_tree.specs.Programs.{variable_of};
 ghost use Rattle.c_tree.specs.Source as m;
@@ -168,7 +168,7 @@ fn flat_answer(alloc: Global, flat: &Flat, input: &[u8], rest: &[u8]) -> Result<
     requires few { length flat.now.threads.items ≤ 8 }
     requires short { length input.now ≤ most_bytes }
     requires rest { rest.now ≡ rest_of input.now }
-    ensures { IfOk result (λ said. IsChecked (source_of input.now) (flat_of flat.now) → SourceAnswer input.now said.status said.output.items) }
+    ensures { IfOk result (λ said. IsAccepted (source_of input.now) (flat_of flat.now) → SourceAnswer input.now said.status said.output.items) }
 {
     match read_schedule(alloc, rest) {
         Ok(schedule) => run_answer(alloc, flat, schedule),

@@ -5,6 +5,7 @@ use Rattle.std.proofs.lemmas.Bool.{cases_lt, cases_eq, cond_both}
 use Rattle.ido_base.specs.Words.{Word, Entry, word_of, word_at, last_position, with_value, written_back, stored, raised, drained, evicted_from, evicted}
 use Rattle.line_memory.specs.Cells.{Remembers}
 use Rattle.line_memory.specs.Queues.{SnapshotStands, QueueStands}
+use Rattle.line_memory.specs.declared.queue.Saved.{Saved}
 use Rattle.line_memory.specs.declared.queue.Snapshot.{Snapshot}
 use Rattle.line_memory.specs.declared.queue.Queue.{Queue}
 
@@ -79,8 +80,8 @@ Grows-evicted_from words at mask (suc count) = Grows-trans _ _ _ (Grows-evicted_
 pub Grows-evicted : (words : List Word) (line mask : ℕ) → Grows words (evicted words line mask)
 Grows-evicted words line mask = Grows-evicted_from words (8 * line) mask 8
 
-pub Remembers-grows : (versions values : List ℕ) (at : ℕ) (old new : List Word) → Grows old new → Remembers versions values at old → Remembers versions values at new
-Remembers-grows versions values at old new g r = record {
+pub Remembers-grows : (saved : List Saved) (at : ℕ) (old new : List Word) → Grows old new → Remembers saved at old → Remembers saved at new
+Remembers-grows saved at old new g r = record {
   within = λ k h. (g.each (at + k)).within _ (r.within k h);
   same = λ k h. r.same k h ∙ sym ((g.each (at + k)).same _ (r.within k h));
 }
@@ -90,7 +91,7 @@ SnapshotStands-grows snapshot entry old new g s = record {
   line = s.line;
   exists = omega (arith, g.size, s.exists);
   positions = s.positions;
-  kept = Remembers-grows _ _ _ old new g s.kept;
+  kept = Remembers-grows _ _ old new g s.kept;
 }
 
 pub QueueStands-grows : (queue : Queue) (entries : List Entry) (old new : List Word) → Grows old new → QueueStands queue entries old → QueueStands queue entries new

@@ -5,7 +5,8 @@ use Rattle.std.proofs.lemmas.List.{get_or-map, ext_get_or, length-map}
 use Rattle.std.proofs.lemmas.Nat.{shr-shr}
 use Rattle.ido_base.specs.Words.{Word, word_of, word_at, written_back, last_position, raised, evicted_from, after_crash, entry_of, line_words}
 use Rattle.line_memory.specs.declared.cell.Cell.{Cell}
-use Rattle.line_memory.specs.Cells.{cell_of, cell_at, CellStands, CellsStand, Remembers}
+use Rattle.line_memory.specs.declared.queue.Saved.{Saved}
+use Rattle.line_memory.specs.Cells.{cell_of, cell_at, newest_of, saved_at, versions_in, CellStands, CellsStand, Remembers}
 use Rattle.line_memory.specs.declared.changes.Changes.{Changes}
 use Rattle.line_memory.specs.Changes.{IsListed, HasChanged}
 use Rattle.line_memory.specs.Queues.{SnapshotStands}
@@ -53,12 +54,16 @@ raised-suc words at (p ∷ ps) (suc k) below =
     let e : at + 1 + k ≡ at + suc k = omega arith in
     raised-suc (raised_at words at p) (at + 1) ps k (omega (arith, below)) ∙ ap (λ (i : ℕ). raised_at (raised (raised_at words at p) (at + 1) (take k ps)) i (get_or ps k 0)) e
 
+pub version_at : (saved : List Saved) (k : ℕ) → k < length saved → get_or (versions_in saved) k 0 ≡ (saved_at saved k).version
+version_at saved k below = get_or-map (λ (one : Saved). one.version) saved k (record { value = 0; version = 0 }) 0 below
+
 module _ (cells : List Cell) (words : List Word) (stores at k : ℕ) where
-  pub raise_step : (versions values : List ℕ) (cell : Cell) → k < 8 → length versions ≡ 8 → at + k < length cells → Remembers versions values at words → CellsStand cells (raised words at (take k versions)) stores → ((word : Word) (n : ℕ) → CellStands (cell_at cells (at + k)) word n → get_or versions k 0 < length word.values → get_or values k 0 ≡ get_or word.values (get_or versions k 0) 0 → CellStands cell (written_back word (get_or versions k 0)) n) → CellsStand (set cells (at + k) cell) (raised words at (take (k + 1) versions)) stores
-  raise_step versions values cell below eight in_cells kept s f =
-      let so_far = raised words at (take k versions) in
-      let now = Remembers-grows versions values at words so_far (Grows-raised words at (take k versions)) kept in
-      let e : raised words at (take (suc k) versions) ≡ raised_at so_far (at + k) (get_or versions k 0) = raised-suc words at versions k (omega arith) in
+  pub raise_step : (saved : List Saved) (cell : Cell) → k < 8 → length saved ≡ 8 → at + k < length cells → Remembers saved at words → CellsStand cells (raised words at (take k (versions_in saved))) stores → ((word : Word) (n : ℕ) → CellStands (cell_at cells (at + k)) word n → (saved_at saved k).version < length word.values → (saved_at saved k).value ≡ get_or word.values (saved_at saved k).version 0 → CellStands cell (written_back word (saved_at saved k).version) n) → CellsStand (set cells (at + k) cell) (raised words at (take (k + 1) (versions_in saved))) stores
+  raise_step saved cell below eight in_cells kept s f =
+      let so_far = raised words at (take k (versions_in saved)) in
+      let now = Remembers-grows saved at words so_far (Grows-raised words at (take k (versions_in saved))) kept in
+      let long : k < length (versions_in saved) = omega (arith, length-map saved (λ (one : Saved). one.version), below, eight) in
+      let e : raised words at (take (suc k) (versions_in saved)) ≡ raised_at so_far (at + k) (saved_at saved k).version = raised-suc words at (versions_in saved) k long ∙ ap (λ (p : ℕ). raised_at so_far (at + k) p) (version_at saved k (omega (arith, below, eight))) in
       rw (add-one) (rw e (CellsStand-set cells so_far stores (at + k) cell _ s (f (word_at so_far (at + k)) stores (s.each (at + k) in_cells) (now.within k below) (now.same k below))))
 
 -- ---- Evictions
@@ -204,7 +209,7 @@ module _ (old cells : List Cell) (numbers : List ℕ) (count : ℕ) (a : AreCras
 
 -- ---- Snapshots
 
-module _ (cells : List Cell) (words : List Word) (stores line : ℕ) (versions values : List ℕ) (exists : 8 * line + 8 ≤ length cells) (s : CellsStand cells words stores) where
+module _ (cells : List Cell) (words : List Word) (stores line : ℕ) (saved : List Saved) (exists : 8 * line + 8 ≤ length cells) (s : CellsStand cells words stores) where
   here : (k : ℕ) → k < 8 → CellStands (cell_at cells (8 * line + k)) (word_at words (8 * line + k)) stores
   here k below = s.each (8 * line + k) (omega (arith, below, exists))
 
@@ -216,17 +221,23 @@ module _ (cells : List Cell) (words : List Word) (stores line : ℕ) (versions v
   length-line_words : length (map last_position (line_words words line)) ≡ 8
   length-line_words = length-map (line_words words line) last_position ∙ length-take-le 8 (drop (8 * line) words) (omega (arith, length-drop (8 * line) words, exists, s.size))
 
-  pub snapshot_stands : length versions ≡ 8 → ((k : ℕ) → k < 8 → get_or versions k 0 ≡ (cell_at cells (8 * line + k)).version) → ((k : ℕ) → k < 8 → get_or values k 0 ≡ (cell_at cells (8 * line + k)).live) → SnapshotStands (record { line = line; versions = versions; values = values }) (entry_of words line) words
-  snapshot_stands eight same_versions same_values = record {
+  pub snapshot_stands : length saved ≡ 8 → ((k : ℕ) → k < 8 → saved_at saved k ≡ newest_of (cell_at cells (8 * line + k))) → SnapshotStands (record { line = line; words = saved }) (entry_of words line) words
+  snapshot_stands eight newest = record {
     line = refl;
     exists = omega (arith, exists, s.size);
-    positions = ext_get_or 0 _ versions (length-line_words ∙ sym eight) (λ k below.
+    positions = ext_get_or 0 _ (versions_in saved) (length-line_words ∙ sym (length-map saved (λ (one : Saved). one.version) ∙ eight)) (λ k below.
         let in_line : k < 8 = omega (arith, below, length-line_words) in
-        line_words-at k in_line ∙ omega (arith, (here k in_line).version) ∙ sym (same_versions k in_line));
+        line_words-at k in_line ∙ omega (arith, (here k in_line).version) ∙ sym (version_at saved k (omega (arith, in_line, eight)) ∙ same_version k in_line));
     kept = record {
-      within = λ k below. omega (arith, same_versions k below, (here k below).version);
+      within = λ k below. omega (arith, same_version k below, (here k below).version);
       same = λ k below.
-          let position : last_position (word_at words (8 * line + k)) ≡ get_or versions k 0 = omega (arith, (here k below).version, same_versions k below) in
-          same_values k below ∙ (here k below).live ∙ ap (λ (p : ℕ). get_or (word_at words (8 * line + k)).values p 0) position;
+          let position : last_position (word_at words (8 * line + k)) ≡ (saved_at saved k).version = omega (arith, (here k below).version, same_version k below) in
+          same_value k below ∙ (here k below).live ∙ ap (λ (p : ℕ). get_or (word_at words (8 * line + k)).values p 0) position;
     };
   }
+    where
+      same_version : (k : ℕ) → k < 8 → (saved_at saved k).version ≡ (cell_at cells (8 * line + k)).version
+      same_version k below = ap (λ (one : Saved). one.version) (newest k below)
+
+      same_value : (k : ℕ) → k < 8 → (saved_at saved k).value ≡ (cell_at cells (8 * line + k)).live
+      same_value k below = ap (λ (one : Saved). one.value) (newest k below)

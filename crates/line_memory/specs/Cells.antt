@@ -1,7 +1,8 @@
 -- What is kept of words, and which histories it stands for.
-use Rattle.std.specs.Prelude.{◌≡◌, ℕ, ◌+◌, ◌<◌, ◌≤◌, List, length, slice_index, slice_index_or}
+use Rattle.std.specs.Prelude.{◌≡◌, ℕ, ◌+◌, ◌<◌, ◌≤◌, List, length, map, slice_index, slice_index_or}
 use Rattle.ido_base.specs.Words.{Word, word_at, live_value, durable_value}
 use Rattle.line_memory.specs.declared.cell.Cell.{Cell}
+use Rattle.line_memory.specs.declared.queue.Saved.{Saved}
 
 -- what is kept of a word that has this value, durably, and no other past
 abbrev pub cell_of : ℕ → Cell
@@ -25,7 +26,18 @@ pub record CellsStand (cells : List Cell) (words : List Word) (stores : ℕ) : T
   pub size : length cells ≡ length words
   pub each : (i : ℕ) → i < length cells → CellStands (cell_at cells i) (word_at words i) stores
 
+-- a cell's newest value
+abbrev pub newest_of : Cell → Saved
+newest_of cell = record { value = cell.live; version = cell.version }
+
+-- what is saved of the k-th word
+abbrev pub saved_at : List Saved → ℕ → Saved
+saved_at saved k = slice_index_or saved k (record { value = 0; version = 0 })
+
+abbrev pub versions_in : List Saved → List ℕ
+versions_in saved = map (λ one. one.version) saved
+
 -- of each of the eight words from `at` on, the version is a position in its history, and the value stands there
-pub record Remembers (versions values : List ℕ) (at : ℕ) (words : List Word) : Type 0 where
-  pub within : (k : ℕ) → k < 8 → slice_index versions k < length (word_at words (at + k)).values
-  pub same : (k : ℕ) → k < 8 → slice_index values k ≡ slice_index (word_at words (at + k)).values (slice_index versions k)
+pub record Remembers (saved : List Saved) (at : ℕ) (words : List Word) : Type 0 where
+  pub within : (k : ℕ) → k < 8 → (saved_at saved k).version < length (word_at words (at + k)).values
+  pub same : (k : ℕ) → k < 8 → (saved_at saved k).value ≡ slice_index (word_at words (at + k)).values (saved_at saved k).version

@@ -1,7 +1,7 @@
 -- What the snapshots of a queue stand for.
 use Rattle.std.specs.Prelude.{◌≡◌, ℕ, ◌+◌, ◌*◌, ◌%◌, ◌<◌, ◌≤◌, List, [], length, replicate, slice_index_or}
 use Rattle.ido_base.specs.Words.{Word, Entry}
-use Rattle.line_memory.specs.Cells.{Remembers}
+use Rattle.line_memory.specs.Cells.{Remembers, versions_in}
 use Rattle.line_memory.specs.declared.queue.Snapshot.{Snapshot}
 use Rattle.line_memory.specs.declared.queue.Queue.{Queue}
 
@@ -10,7 +10,7 @@ abbrev pub queue_length : Queue → ℕ
 queue_length queue = queue.count
 
 abbrev pub no_snapshot : Snapshot
-no_snapshot = record { line = 0; versions = replicate 8 0; values = replicate 8 0 }
+no_snapshot = record { line = 0; words = replicate 8 (record { value = 0; version = 0 }) }
 
 -- the snapshot of that number, the oldest first
 abbrev pub queued : Queue → ℕ → Snapshot
@@ -26,8 +26,8 @@ entry_at entries i = slice_index_or entries i no_entry
 pub record SnapshotStands (snapshot : Snapshot) (entry : Entry) (words : List Word) : Type 0 where
   pub line : entry.line ≡ snapshot.line
   pub exists : 8 * snapshot.line + 8 ≤ length words
-  pub positions : entry.positions ≡ snapshot.versions
-  pub kept : Remembers snapshot.versions snapshot.values (8 * snapshot.line) words
+  pub positions : entry.positions ≡ versions_in snapshot.words
+  pub kept : Remembers snapshot.words (8 * snapshot.line) words
 
 -- as many snapshots as entries, and each stands for its entry
 pub record QueueStands (queue : Queue) (entries : List Entry) (words : List Word) : Type 0 where

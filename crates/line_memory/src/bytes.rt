@@ -4,16 +4,13 @@ ghost use Rattle.ido_base.specs.Words.{part as part_of, with_part as with_part_o
 ghost use Rattle.ido_base.specs.Layout.{variables_base, byte_number as byte_number_of};
 ghost use Rattle.line_memory.specs.Access.{is_width};
 
-/// The address of the first variable.
-pub const VARIABLES_BASE: u64 = 0x1000_0000;
-/// The address of the first thread's log.
-pub const LOGS_BASE: u64 = 0x2000_0000;
+use log_layout::log::LOGS_BASE;
+use log_layout::variables::VARIABLES_BASE;
+
 /// Bytes of a line.
 pub const LINE_BYTES: u64 = 64;
 /// Bytes of the variables' lines.
 pub const VARIABLE_BYTES: u64 = 0x1_0000;
-/// Bytes of the lines of a thread's log.
-pub const LOG_BYTES: u64 = 0x400;
 
 /// The low bytes of a value, 1, 2, 4 or 8 of them.
 pub fn low_bytes(value: u64, count: u32) -> u64
@@ -43,6 +40,9 @@ pub fn with_part(value: u64, byte: u32, count: u32, new: u64) -> u64
     requires width { IsTrue (is_width count) }
     ensures { result ≡ with_part_of value byte count new }
 {
+    if count == 8 {
+        return new;
+    }
     let shift = 8 * byte;
     let old = part(value, byte, count);
     value - (old << shift) + (low_bytes(new, count) << shift)

@@ -1,4 +1,6 @@
 //! What is kept of a word.
+use crate::queue::Saved;
+
 /// The newest value of a word and its durable one, with their version numbers: version n is the n-th value
 /// since the start or the last crash.
 #[derive(Clone, Copy, Debug, PartialEq, Eq, Drop)]
@@ -12,7 +14,7 @@ pub struct Cell {
 impl Cell {
     ghost use Rattle.std.specs.Prelude.{◌≡◌, ℕ, ◌+◌, ◌^◌, ◌<◌, length, slice_index};
     ghost use Rattle.ido_base.specs.Words.{Word, with_value, written_back, after_crash, last_position};
-    ghost use Rattle.line_memory.specs.Cells.{cell_of, CellStands};
+    ghost use Rattle.line_memory.specs.Cells.{cell_of, newest_of, CellStands};
 
     /// A word that has this value, durably.
     pub fn of(value: u64) -> Cell
@@ -26,41 +28,44 @@ impl Cell {
         }
     }
 
-    /// After a store of a whole word. Versions count the stores, so none wraps.
-    pub fn stored(self, value: u64) -> Cell
-        ensures { (word : Word) (stores : ℕ) → stores < 2 ^ 63 → CellStands self word stores
-            → CellStands result (with_value word value) (stores + 1) }
+    /// Stores a whole word. Versions count the stores, so none wraps.
+    pub fn store(&mut self, value: u64)
+        ensures { (word : Word) (stores : ℕ) → stores < 2 ^ 63 → CellStands self.old word stores
+            → CellStands self.new (with_value word value) (stores + 1) }
     {
-        Cell {
-            live: value,
-            version: self.version.wrapping_add(1),
-            ..self
+        self.live = value;
+        self.version = self.version.wrapping_add(1);
+    }
+
+    /// Writes an earlier value back: it becomes durable where the durable version is older.
+    pub fn write_back(&mut self, saved: Saved)
+        ensures { (word : Word) (stores : ℕ) → CellStands self.old word stores
+            → saved.version < length word.values → saved.value ≡ slice_index word.values saved.version
+            → CellStands self.new (written_back word saved.version) stores }
+    {
+        if self.durable_version < saved.version {
+            self.durable = saved.value;
+            self.durable_version = saved.version;
         }
     }
 
-    /// After a write-back of an earlier value: it becomes durable where the durable version is older.
-    pub fn written_back(self, version: u64, value: u64) -> Cell
-        ensures { (word : Word) (stores : ℕ) → CellStands self word stores
-            → version < length word.values → value ≡ slice_index word.values version
-            → CellStands result (written_back word version) stores }
+    /// Its newest value.
+    pub fn newest(&self) -> Saved
+        ensures { result ≡ newest_of self.now }
     {
-        if self.durable_version < version {
-            Cell {
-                durable: value,
-                durable_version: version,
-                ..self
-            }
-        } else {
-            self
+        Saved {
+            value: self.live,
+            version: self.version,
         }
     }
 
-    /// After its newest value was written back.
-    pub fn evicted(self) -> Cell
-        ensures { (word : Word) (stores : ℕ) → CellStands self word stores
-            → CellStands result (written_back word (last_position word)) stores }
+    /// Writes its newest value back.
+    pub fn evict(&mut self)
+        ensures { (word : Word) (stores : ℕ) → CellStands self.old word stores
+            → CellStands self.new (written_back word (last_position word)) stores }
     {
-        self.written_back(self.version, self.live)
+        let newest = self.newest();
+        self.write_back(newest);
     }
 
     /// After a crash.

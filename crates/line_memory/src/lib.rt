@@ -17,7 +17,6 @@ mod bytes;
 mod cell;
 mod changes;
 mod lines;
-mod log;
 mod making;
 pub mod memory;
 pub mod queue;

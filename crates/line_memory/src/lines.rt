@@ -1,13 +1,13 @@
 //! Lines among the cells of a memory.
 ghost use Rattle.std.specs.Prelude.{◌≡◌, ℕ, ◌+◌, ◌*◌, ◌<◌, ◌≤◌, List, length, map};
 ghost use Rattle.ido_base.specs.Words.{Word, Entry, word_at, entry_of, drained, raised, evicted_from, after_crash};
-ghost use Rattle.line_memory.specs.Cells.{CellsStand, Remembers};
+ghost use Rattle.line_memory.specs.Cells.{CellsStand, Remembers, versions_in};
 ghost use Rattle.line_memory.specs.Changes.{IsListed, HasChanged};
 ghost use Rattle.line_memory.specs.Queues.{SnapshotStands};
 
 use crate::cell::Cell;
 use crate::changes::Changes;
-use crate::queue::Snapshot;
+use crate::queue::{Saved, Snapshot};
 
 /// A line as it is now.
 pub fn snapshot_of(cells: &[Cell], line: u32) -> Snapshot
@@ -16,28 +16,26 @@ pub fn snapshot_of(cells: &[Cell], line: u32) -> Snapshot
         → SnapshotStands result (entry_of words line) words }
 {
     let base = 8 * line as usize;
-    let mut versions = [0; 8];
-    let mut values = [0; 8];
+    let nothing = Saved {
+        value: 0,
+        version: 0,
+    };
+    let mut words = [nothing; 8];
     for k in 0..8 {
-        versions[k] = cells[base + k].version;
-        values[k] = cells[base + k].live;
+        words[k] = cells[base + k].newest();
     }
-    Snapshot {
-        line,
-        versions,
-        values,
-    }
+    Snapshot { line, words }
 }
 
-/// These versions of the eight words from the base on are written back.
-fn write_words_back(cells: &mut [Cell], base: usize, versions: &[u64; 8], values: &[u64; 8])
+/// What is saved of the eight words from the base on is written back.
+fn write_words_back(cells: &mut [Cell], base: usize, saved: &[Saved; 8])
     requires { base + 8 ≤ length cells.old }
     ensures { (words : List Word) (stores : ℕ) → CellsStand cells.old words stores
-        → Remembers versions.now values.now base words
-        → CellsStand cells.new (raised words base versions.now) stores }
+        → Remembers saved.now base words
+        → CellsStand cells.new (raised words base (versions_in saved.now)) stores }
 {
     for k in 0..8 {
-        cells[base + k] = cells[base + k].written_back(versions[k], values[k]);
+        cells[base + k].write_back(saved[k]);
     }
 }
 
@@ -50,7 +48,7 @@ pub fn write_back(cells: &mut [Cell], snapshot: &Snapshot)
 {
     let base = 8 * snapshot.line as usize;
     if base + 8 <= cells.len() {
-        write_words_back(cells, base, &snapshot.versions, &snapshot.values);
+        write_words_back(cells, base, &snapshot.words);
     }
 }
 
@@ -63,7 +61,7 @@ pub fn evict_words(cells: &mut [Cell], base: usize, mask: u32)
 {
     for k in 0..8 {
         if (mask >> k) % 2 == 1 {
-            cells[base + k] = cells[base + k].evicted();
+            cells[base + k].evict();
         }
     }
 }

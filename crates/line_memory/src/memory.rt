@@ -2,12 +2,14 @@
 ghost use Rattle.std.specs.Prelude.{◌≡◌, ◌≤◌, vec_len};
 ghost use Rattle.ido_base.specs.Layout.{word_count};
 
-use crate::bytes::{self, LINE_BYTES, LOG_BYTES, LOGS_BASE, VARIABLE_BYTES, VARIABLES_BASE};
+use crate::bytes::{self, LINE_BYTES, VARIABLE_BYTES};
 use crate::cell::Cell;
 use crate::changes::Changes;
 use crate::queue::Queue;
-use crate::{lines, log, making};
+use crate::{lines, making};
 use ido_base::memory::Memory;
+use log_layout::log::{self, LOG_BYTES, LOGS_BASE};
+use log_layout::variables::VARIABLES_BASE;
 use std::alloc::Global;
 
 /// Words of the variables' lines.
@@ -113,7 +115,15 @@ impl LineMemory {
         requires { IsTrue (is_in_range (threads_of self.now) address bytes) }
         ensures { result ≡ (word_number address == word_number (point_at thread)) }
     {
-        bytes::byte_number(address) / 8 == bytes::byte_number(log::point_address(thread)) / 8
+        bytes::byte_number(address) / 8 == bytes::byte_number(log::point_at(thread)) / 8
+    }
+
+    /// The durable value of the word that has the byte at the address.
+    fn durable_at(&self, address: u64) -> u64
+        requires { IsTrue (is_in_range (threads_of self.now) address 1) }
+        ensures { (words : List Word) → Stands self.now words → result ≡ durable_value (word_at words (word_number address)) }
+    {
+        self.cells[(bytes::byte_number(address) / 8) as usize].durable
     }
 
     /// The durable point of a thread.
@@ -122,7 +132,7 @@ impl LineMemory {
         ensures { (words : List Word) → Stands self.now words
             → result ≡ durable_value (word_at words (word_number (point_at thread))) }
     {
-        self.durable_word(log::point_line(thread), 0)
+        self.durable_at(log::point_at(thread))
     }
 
     /// The durable value of a slot of a bank of a thread's log.
@@ -133,7 +143,7 @@ impl LineMemory {
         ensures { (words : List Word) → Stands self.now words
             → result ≡ durable_value (word_at words (word_number (slot_at thread bank slot))) }
     {
-        self.durable_word(log::slot_line(thread, bank, slot), slot % 8)
+        self.durable_at(log::slot_at(thread, bank, slot))
     }
 
     /// What so many bytes from the address on hold, little-endian.
@@ -166,7 +176,7 @@ impl LineMemory {
         let cell = self.cells[at];
         let word = bytes::with_part(cell.live, (number % 8) as u32, bytes, value);
         self.changes.add_if(cell.version == 0, at as u32);
-        self.cells[at] = cell.stored(word);
+        self.cells[at].store(word);
         self.stores += 1;
     }
 

@@ -1,12 +1,18 @@
 //! What a hart has cleaned and not yet written back.
 ghost use Rattle.std.specs.Prelude.{◌<◌, ◌≤◌};
 
-/// A line as it was when it was cleaned: of each of its words the version and the value.
+/// A value that a word had, and its version.
+#[derive(Clone, Copy, Debug, PartialEq, Eq, Drop)]
+pub struct Saved {
+    pub value: u64,
+    pub version: u64,
+}
+
+/// A line as it was when it was cleaned: of each of its words the value and the version.
 #[derive(Clone, Copy, Debug, PartialEq, Eq, Drop)]
 pub struct Snapshot {
     pub line: u32,
-    pub versions: [u64; 8],
-    pub values: [u64; 8],
+    pub words: [Saved; 8],
 }
 
 /// A queue of at most 16 cleaned lines, the oldest first.
@@ -29,10 +35,13 @@ impl Queue {
         ensures stands { (words : List Word) → QueueStands result [] words }
         ensures length { queue_length result ≡ 0 }
     {
+        let nothing = Saved {
+            value: 0,
+            version: 0,
+        };
         let none = Snapshot {
             line: 0,
-            versions: [0; 8],
-            values: [0; 8],
+            words: [nothing; 8],
         };
         Queue {
             ring: [none; 16],

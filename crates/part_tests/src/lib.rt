@@ -7,6 +7,10 @@ mod arithmetic;
 #[cfg(test)]
 mod arithmetic_vectors;
 #[cfg(test)]
+mod cutting;
+#[cfg(test)]
+mod flows;
+#[cfg(test)]
 mod harts;
 #[cfg(test)]
 mod instruction_vectors;
@@ -26,6 +30,10 @@ mod memory;
 mod objects;
 #[cfg(test)]
 mod places;
+#[cfg(test)]
+mod regions;
+#[cfg(test)]
+mod registers;
 #[cfg(test)]
 mod scripts;
 #[cfg(test)]

@@ -1,5 +1,5 @@
 -- Steps of recovery.
-use Rattle.std.proofs.Common.{◌≡◌, ℕ, zero, suc, ◌+◌, ◌<◌, List, [], ◌∷◌, length, map, get_or, get_or-set_same, arith, slice_get, slice_set, Option, Some, None, Bool, true, false, refl, sym, ◌∙◌, ap, subst, if◌then◌else◌}
+use Rattle.std.proofs.Common.{◌≡◌, ℕ, zero, suc, ◌+◌, ◌<◌, List, [], ◌∷◌, length, map, get_or, get_or-set_same, arith, slice_get, slice_set, Option, Some, None, refl, sym, ◌∙◌, ap, subst, if◌then◌else◌}
 use Rattle.ido_base.specs.declared.event.Reply.{Reply}
 use Rattle.ido_base.specs.declared.event.Reply.TheVariants.{Moved, Waits, Barrier, Still}
 use Rattle.ido_base.specs.Locks.{missing_from}
@@ -9,7 +9,7 @@ use Rattle.line_memory.specs.Stands.{Stands}
 use Rattle.rv64_isa.specs.declared.object.Slot.{Slot}
 use Rattle.rv64_isa.specs.declared.phase.Phase.{Phase}
 use Rattle.rv64_isa.specs.declared.phase.Phase.TheVariants.{Take, Wait, Resume, Run, Done, Ended}
-use Rattle.rv64_isa.specs.Machine.{Hart as HartModel, World, Outcome, record_of, taken, waited, taking_from, is_taking, resumed, resumed_register, resume_of, durable_point, numbers_from, phase_step, moved}
+use Rattle.rv64_isa.specs.Machine.{Hart as HartModel, World, Outcome, record_of, taken, waited, taking_from, is_taking, resumed, resumed_register, resume_of, durable_point, numbers_from, phase_step}
 use Rattle.hart_core.specs.declared.hart.Hart.{Hart}
 use Rattle.hart_core.specs.Steps.{Parts, PartsStand, PartsEnd, IsStep}
 use Rattle.hart_core.proofs.Ends.{same_end, changed_end}

@@ -2,56 +2,65 @@
 ghost use Rattle.std.specs.Prelude.{◌≡◌, ◌<◌, ℕ, List, map};
 ghost use Rattle.ido_base.specs.Words.{Word};
 ghost use Rattle.line_memory.specs.Stands.{Stands, threads_of};
-ghost use Rattle.rv64_isa.specs.Machine.{bank_of, resume_of, durable_point, record_of, phase_after_crash, resumed_register, numbers_from};
+ghost use Rattle.log_layout.specs.Points.{point_of};
+ghost use Rattle.resume_recovery.specs.Points.{bank_in};
+ghost use Rattle.rv64_isa.specs.Machine.{resume_of, durable_point, record_of, phase_after_crash, resumed_register, numbers_from};
 
 use line_memory::memory::LineMemory;
+use log_layout::log::{BANK_BYTES, MASK_SLOT};
+use log_layout::point::{Point, read_point};
+use log_layout::roles::BANK_OFFSET;
 use rv64_isa::phase::Phase;
 
-/// The slot of the mask of held locks; slot r is register r.
-const MASK_SLOT: u32 = 0;
-/// x3, which has the bank's offset.
-const BANK_REGISTER: u32 = 3;
-/// How far the second bank lies behind the first.
-const BANK_BYTES: u64 = 256;
-
-/// The number of the point's bank, 0 or 1.
-fn bank_of(point: u64) -> u32
-    ensures value { result ≡ bank_of point }
-    ensures range { result < 2 }
+/// What the hart's durable point says.
+fn point_of(hart: u32, memory: &LineMemory) -> Point
+    requires { hart < threads_of memory.now }
+    ensures point { (words : List Word) → Stands memory.now words → result ≡ point_of (durable_point words hart) }
+    ensures bank { bank_in result < 2 }
 {
-    (point % 2) as u32
+    read_point(memory.durable_point(hart))
 }
 
-/// The address at which the hart's durable point resumes.
+/// The bank of a point; the first where it is idle.
+fn bank_of(point: Point) -> u32
+    ensures { result ≡ bank_in point }
+{
+    match point {
+        Point::Idle => 0,
+        Point::At { bank, .. } => bank,
+    }
+}
+
+/// The address at which the hart's durable point resumes; 0 where it is idle.
 pub fn resume_address(hart: u32, memory: &LineMemory) -> u64
     requires { hart < threads_of memory.now }
     ensures { (words : List Word) → Stands memory.now words → result ≡ resume_of (durable_point words hart) }
 {
-    let point = memory.durable_point(hart);
-    point - point % 2
+    match point_of(hart, memory) {
+        Point::Idle => 0,
+        Point::At { address, .. } => address,
+    }
 }
 
-/// The mask of the locks that the hart held at its durable point; 0 where that is 0.
+/// The mask of the locks that the hart held at its durable point; 0 where that is idle.
 pub fn record_of(hart: u32, memory: &LineMemory) -> u64
     requires { hart < threads_of memory.now }
     ensures { (words : List Word) → Stands memory.now words → result ≡ record_of words hart }
 {
-    let point = memory.durable_point(hart);
-    if point == 0 {
-        return 0;
+    match point_of(hart, memory) {
+        Point::Idle => 0,
+        Point::At { bank, .. } => memory.durable_slot(hart, bank, MASK_SLOT),
     }
-    memory.durable_slot(hart, bank_of(point), MASK_SLOT)
 }
 
-/// The phase of the hart after a crash: done where its durable point is 0, else it takes its locks.
+/// The phase of the hart after a crash: done where its durable point is idle, else it takes its locks.
 pub fn phase_after_crash(hart: u32, memory: &LineMemory) -> Phase
     requires { hart < threads_of memory.now }
     ensures { (words : List Word) → Stands memory.now words → result ≡ phase_after_crash (durable_point words hart) }
 {
-    if memory.durable_point(hart) == 0 {
-        Phase::Done
-    } else {
-        Phase::Take
+    match point_of(hart, memory) {
+        Point::Idle => Phase::Done,
+        Point::At { .. } => Phase::Take,
     }
 }
 
@@ -61,12 +70,14 @@ fn resumed_register(hart: u32, register: u32, memory: &LineMemory) -> u64
     requires register { register < 32 }
     ensures { (words : List Word) → Stands memory.now words → result ≡ resumed_register words hart register }
 {
-    let bank = bank_of(memory.durable_point(hart));
-    match register {
-        0 => 0,
-        BANK_REGISTER => BANK_BYTES * u64::from(bank),
-        _ => memory.durable_slot(hart, bank, register),
+    let bank = bank_of(point_of(hart, memory));
+    if register == 0 {
+        return 0;
     }
+    if register == u32::from(BANK_OFFSET) {
+        return BANK_BYTES * u64::from(bank);
+    }
+    memory.durable_slot(hart, bank, register)
 }
 
 /// What the registers resume with.

@@ -234,12 +234,16 @@ module _ (all : List CodeItem) (first : ℕ) (few : sum_by most_words_of all ≤
   no_room p MarkNext x e h = let more = next_at p MarkNext e in omega (arith, more)
   no_room p ResumeNext x e h = let more = next_at p ResumeNext e in omega (arith, more)
 
+  word_each : (p : ℕ) (instr : Instr) → slice_get all p ≡ Some (Instruction instr) → address (p + 1) ≡ address p + 4
+  word_each p instr e = let more = next_at p (Instruction instr) e in omega (arith, more)
+
   pub linked : (nodes resumes : List ℕ) → nodes ≡ map address (positions_from 0 is_mark all) → resumes ≡ map address (positions_from 0 is_resume all) → IsLinked start all code nodes resumes
   linked nodes resumes n r = record {
     address_of = address;
     begins = ap (λ k. code_base + 4 * k) (number_first all first 0 all);
     ends = let last = number_last all ns first 0 all in omega (arith, last);
     passes = no_room;
+    takes = word_each;
     lockstep = steps;
     nodes_are = n;
     resumes_are = r;

@@ -2,6 +2,7 @@
 use Rattle.std.specs.Prelude.{◌≡◌, ℕ, ◌+◌, ◌*◌, List, [], ◌∷◌, length, map, slice_get, Some, None}
 use Rattle.rv64_isa.specs.declared.instr.Instr.{Instr}
 use Rattle.rv64_isa.specs.declared.object.CodeItem.{CodeItem}
+use Rattle.rv64_isa.specs.declared.object.CodeItem.TheVariants.{Instruction}
 use Rattle.rv64_isa.specs.declared.object.Slot.{Slot}
 use Rattle.rv64_isa.specs.declared.object.Slot.TheVariants.{Row}
 use Rattle.rv64_isa.specs.declared.object.ThreadMarks.{ThreadMarks}
@@ -25,6 +26,8 @@ pub record IsLinked (start : ℕ) (items : List CodeItem) (code : List Slot) (no
   pub begins : address_of 0 ≡ start
   pub ends : address_of (length items) ≡ start + 4 * length code
   pub passes : (p : ℕ) (item : CodeItem) (x : List ℕ) → slice_get items p ≡ Some item → does items address_of p x item ≡ None → address_of (p + 1) ≡ address_of p
+  -- an instruction takes one word
+  pub takes : (p : ℕ) (instr : Instr) → slice_get items p ≡ Some (Instruction instr) → address_of (p + 1) ≡ address_of p + 4
   pub lockstep : (p : ℕ) (item : CodeItem) (x : List ℕ) (effect : Effect) → slice_get items p ≡ Some item → does items address_of p x item ≡ Some effect → Does start code x (address_of p) effect
   pub nodes_are : nodes ≡ map address_of (positions_from 0 is_mark items)
   pub resumes_are : resumes ≡ map address_of (positions_from 0 is_resume items)

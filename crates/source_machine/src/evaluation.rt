@@ -8,7 +8,7 @@ use crate::variables::Variables;
 use c_tree::expr::Expr;
 
 /// The value of an expression. A local that isn't there is 0, as is an element that isn't.
-pub(crate) fn evaluate(expr: &Expr, locals: &[i128], variables: &Variables) -> Number
+pub fn evaluate(expr: &Expr, locals: &[i128], variables: &Variables) -> Number
     ensures { result ≡ value locals.now variables.now (expr_of expr.now) }
 {
     match expr {
@@ -59,7 +59,7 @@ pub(crate) fn evaluate(expr: &Expr, locals: &[i128], variables: &Variables) -> N
 }
 
 /// The element that an index names.
-pub(crate) fn element_at(index: Number) -> u128
+pub fn element_at(index: Number) -> u128
     ensures { result ≡ element_at index }
 {
     index.number().unsigned_abs()

@@ -4,14 +4,14 @@
 
 mod answers;
 mod code;
-mod evaluation;
+pub mod evaluation;
 pub mod formed;
 pub mod laws;
-mod locks;
-mod number;
+pub mod locks;
+pub mod number;
 mod state;
 mod thread;
-mod variables;
+pub mod variables;
 
 pub use answers::{Refused, RefusedKind, Stepped};
 pub use state::SourceState;

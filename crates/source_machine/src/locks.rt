@@ -8,7 +8,7 @@ use ido_base::memory::Memory;
 use std::alloc::Global;
 
 /// So many mutexes, all free.
-pub(crate) fn free(alloc: Global, mutexes: usize) -> Result<Vec<Option<u32>>, Memory>
+pub fn free(alloc: Global, mutexes: usize) -> Result<Vec<Option<u32>>, Memory>
     ensures { IfOk result (λ holders. holders.items ≡ replicate mutexes None) }
 {
     let holders: Vec<Option<u32>> = vec![in alloc; None; mutexes]?;
@@ -26,7 +26,7 @@ fn is_held(holder: Option<u32>, thread: u32) -> bool
 }
 
 /// The thread holds no mutex.
-pub(crate) fn holds_none(holders: &[Option<u32>], thread: u32) -> bool
+pub fn holds_none(holders: &[Option<u32>], thread: u32) -> bool
     ensures { result ≡ holds_none holders.now thread }
 {
     for holder in holders {
@@ -38,7 +38,7 @@ pub(crate) fn holds_none(holders: &[Option<u32>], thread: u32) -> bool
 }
 
 /// Gives the mutex to the thread where it is free.
-pub(crate) fn take(holders: &mut [Option<u32>], mutex: u32, thread: u32) -> bool
+pub fn take(holders: &mut [Option<u32>], mutex: u32, thread: u32) -> bool
     ensures free { IsTrue result ↔ (slice_get holders.old mutex ≡ Some None) }
     ensures taken { OnTrue result (holders.new ≡ slice_set holders.old mutex (Some thread)) }
     ensures kept { OnFalse result (holders.new ≡ holders.old) }
@@ -52,7 +52,7 @@ pub(crate) fn take(holders: &mut [Option<u32>], mutex: u32, thread: u32) -> bool
 }
 
 /// Frees the mutex, whoever holds it. Where its holder has none left, a section of it has ended.
-pub(crate) fn release(holders: &mut [Option<u32>], sections: &mut [u64], mutex: u32)
+pub fn release(holders: &mut [Option<u32>], sections: &mut [u64], mutex: u32)
     ensures holders { holders.new ≡ slice_set holders.old mutex None }
     ensures sections { (ended : ℕ → ℕ) → AreCounted sections.old ended → AreCounted sections.new (λ k. ended k + ends holders.old holders.new k) }
 {

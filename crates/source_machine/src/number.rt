@@ -11,7 +11,7 @@ use std::marker::Model;
 /// A number with the kind that it is computed in. A local or a variable that is read by another kind than it was
 /// written by may lie outside the kind's range.
 #[derive(Clone, Copy)]
-pub(crate) struct Number {
+pub struct Number {
     kind: Kind,
     number: i128,
 }
@@ -27,14 +27,14 @@ impl Model for Number {
 }
 
 impl Number {
-    pub(crate) fn new(kind: Kind, number: i128) -> Number
+    pub fn new(kind: Kind, number: i128) -> Number
         ensures { result ≡ typed kind number }
     {
         Number { kind, number }
     }
 
-    // A number that its kind holds.
-    pub(crate) fn of(value: Value) -> Number
+    /// A number that its kind holds.
+    pub fn of(value: Value) -> Number
         ensures { result ≡ value }
     {
         Number {
@@ -53,20 +53,20 @@ impl Number {
         }
     }
 
-    pub(crate) fn number(self) -> i128
+    pub fn number(self) -> i128
         ensures { result ≡ self.number }
     {
         self.number
     }
 
-    pub(crate) fn is_zero(self) -> bool
+    pub fn is_zero(self) -> bool
         ensures { result ≡ is_zero self.number }
     {
         self.number == 0
     }
 
-    // The value converted to a kind.
-    pub(crate) fn convert(self, to: Kind) -> Number
+    /// The value converted to a kind.
+    pub fn convert(self, to: Kind) -> Number
         ensures { result ≡ converted self to }
     {
         Number::of(self.reduce(to))
@@ -80,7 +80,7 @@ impl Number {
 }
 
 /// What the operator gives for its operand.
-pub(crate) fn unary(operator: Unary, operand: Number) -> Number
+pub fn unary(operator: Unary, operand: Number) -> Number
     ensures { result ≡ unary_of operator operand }
 {
     match operator {
@@ -97,7 +97,7 @@ fn promoted_unary(operator: Unary, operand: Number) -> Number
 }
 
 /// What the operator gives for its operands.
-pub(crate) fn binary(operator: Binary, left: Number, right: Number) -> Number
+pub fn binary(operator: Binary, left: Number, right: Number) -> Number
     ensures { result ≡ binary_of operator left right }
 {
     match operator {

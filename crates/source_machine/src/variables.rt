@@ -18,7 +18,7 @@ struct Span {
 
 /// The elements of all variables, one variable after another.
 #[derive(Debug, Drop)]
-pub(crate) struct Variables {
+pub struct Variables {
     elements: Vec<i128>,
     spans: Vec<Span>,
 }
@@ -50,8 +50,8 @@ fn place_in(spans: &[Span], end: usize, variable: u32, element: u128) -> Option<
 }
 
 impl Variables {
-    // The variables with their initial numbers.
-    pub(crate) fn new(alloc: Global, variables: &[Variable]) -> Result<Variables, Memory>
+    /// The variables with their initial numbers.
+    pub fn new(alloc: Global, variables: &[Variable]) -> Result<Variables, Memory>
         ensures { IfOk result (λ v. v ≡ map (λ x. (variable_of x).initial) variables.now) }
     {
         let mut elements = Vec::new(alloc);
@@ -66,15 +66,15 @@ impl Variables {
         Ok(Variables { elements, spans })
     }
 
-    // All elements, in order.
-    pub(crate) fn elements(&self) -> &[i128]
+    /// All elements, in order.
+    pub fn elements(&self) -> &[i128]
         ensures { result.now ≡ flat_map (λ xs. xs) self.now }
     {
         &self.elements
     }
 
-    // The number of an element of a variable, or 0 where there is no such element.
-    pub(crate) fn get(&self, variable: u32, element: u128) -> i128
+    /// The number of an element of a variable, or 0 where there is no such element.
+    pub fn get(&self, variable: u32, element: u128) -> i128
         ensures { result ≡ element_number self.now variable element }
     {
         match place_in(&self.spans, self.elements.len(), variable, element) {
@@ -83,8 +83,8 @@ impl Variables {
         }
     }
 
-    // Stores a number in an element of a variable, where there is one.
-    pub(crate) fn set(&mut self, variable: u32, element: u128, number: i128)
+    /// Stores a number in an element of a variable, where there is one.
+    pub fn set(&mut self, variable: u32, element: u128, number: i128)
         ensures { self.new ≡ slice_set self.old variable (slice_set (slice_index_or self.old variable []) element number) }
     {
         if let Some(place) = place_in(&self.spans, self.elements.len(), variable, element) {

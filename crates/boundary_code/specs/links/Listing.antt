@@ -1,10 +1,10 @@
 -- Names for the pieces of the code of boundaries and constants. What they do is said in Boundaries and Straight.
-use Rattle.std.specs.Prelude.{ℕ, ◌+◌, ◌*◌, ◌/◌, ◌%◌, ◌^◌, List, [], ◌∷◌, ◌++◌, ◌==◌, Bool, true, false, if◌then◌else◌}
+use Rattle.std.specs.Prelude.{ℕ, ◌+◌, ◌*◌, ◌/◌, ◌%◌, ◌^◌, List, [], ◌∷◌, ◌++◌, Bool, true, false}
 use Rattle.rv64_isa.specs.declared.instr.Instr.{Instr}
-use Rattle.rv64_isa.specs.declared.instr.Instr.TheVariants.{Auipc, Lui, Store, OpImmediate, ShiftImmediate, Op, CboClean, Fence}
+use Rattle.rv64_isa.specs.declared.instr.Instr.TheVariants.{Auipc, Store, OpImmediate, ShiftImmediate, Op, CboClean, Fence}
 use Rattle.rv64_isa.specs.declared.instr.Operation.TheVariants.{Add}
-use Rattle.rv64_isa.specs.declared.instr.ImmediateOperation.TheVariants.{Addi, Addiw, Xori}
-use Rattle.rv64_isa.specs.declared.instr.ShiftOperation.TheVariants.{Slli, Srli}
+use Rattle.rv64_isa.specs.declared.instr.ImmediateOperation.TheVariants.{Addi, Xori}
+use Rattle.rv64_isa.specs.declared.instr.ShiftOperation.TheVariants.{Srli}
 use Rattle.rv64_isa.specs.declared.instr.StoreKind.TheVariants.{Sd}
 use Rattle.boundary_code.specs.Boundaries.{lines_in_use}
 
@@ -39,12 +39,3 @@ boundary_list log mask live resume = bank_part log mask live ++ Fence ∷ point 
 
 abbrev pub last_list : (log : List Instr) → List Instr
 last_list log = log ++ Fence ∷ commit 0
-
--- a number of 32 bits, sign-extended
-abbrev pub word_code : (rd number : ℕ) → List Instr
-word_code rd number =
-    Lui rd ((number + 2048) % 2 ^ 32 / 4096) ∷ [] ++ (if number % 4096 == 0 then [] else OpImmediate Addiw rd rd (number % 4096) ∷ [])
-
--- one more digit behind the code of the upper ones
-abbrev pub with_digit : (rd count low : ℕ) → List Instr → List Instr
-with_digit rd count low code = code ++ ShiftImmediate Slli rd rd count ∷ [] ++ (if low == 0 then [] else OpImmediate Addi rd rd low ∷ [])

@@ -2,7 +2,7 @@ use Rattle.std.proofs.Common.{List, ℕ, ap, subst, ◌∙◌}
 use Rattle.std.specs.Prelude.{Err}
 use Rattle.std.proofs.lemmas.Result.{IfOk-weaker}
 use Rattle.c_tree.specs.Flats.{flat_of}
-use Rattle.ido_cli.specs.Answers.{checked, unplayed}
+use Rattle.ido_cli.specs.Answers.{accepted, unplayed}
 use Rattle.ido_cli.specs.Fronts.{IsFrontAnswer}
 use Rattle.ido_cli.specs.Refusals.{code_of, line_at}
 use Rattle.ido_cli.specs.declared.front.FrontError.{FrontError}
@@ -15,7 +15,7 @@ returns c =
     let source = c.args.source.now in
     elim c.match-front.branch [
       | in-Ok w ↦
-          rw w.result-is (IfOk-weaker w.checked_answer.result _ _ (λ said is. checked (flat_of w.in-Ok.field-0) w.in-Ok.ensures is) w.checked_answer.ensures)
+          rw w.result-is (IfOk-weaker w.accepted_answer.result _ _ (λ said is. accepted (flat_of w.in-Ok.field-0) w.in-Ok.ensures is) w.accepted_answer.ensures)
       | in-Err-Refused w ↦
           let found = w.in-Err-Refused.rule in
           let place = w.in-Err-Refused.place in

@@ -1,10 +1,10 @@
-use Rattle.c_tree.specs.Checking.{IsTyped, IsRanged, IsFlattened}
+use Rattle.c_tree.specs.Checking.{IsTyped, IsRanged, IsFlattened, IsChecked}
 use Rattle.c_tree.specs.Flats.{flat_of}
 use Rattle.c_tree.specs.Programs.{program_of}
 use Rattle.c_tree.specs.Views.{items_of}
-use Rattle.ido_cli.specs.Fronts.{of_index, of_inline, of_lock, of_read, of_type}
+use Rattle.ido_cli.specs.Fronts.{of_colours, of_index, of_inline, of_lock, of_read, of_temporaries, of_type}
 use Rattle.ido_cli.proofs.Checks.{few_mutexes}
-use Rattle.ido_cli.proofs.Fronts.{by_calls, by_error, by_index, by_locks, by_reading, by_typing}
+use Rattle.ido_cli.proofs.Fronts.{by_calls, by_colours, by_error, by_index, by_locks, by_reading, by_temporaries, by_typing}
 use Rattle.ido_cli.proofs.front.front.Goals as goal
 
 pub returns-in_err-tree : goal.returns-in_err-tree
@@ -41,3 +41,32 @@ returns-in_err-check-2 c =
     record { program = program_of c.in_ok-program.program; ranged = ranged; ends = c.in_ok-flat.ensures.0; short = c.in_ok-flat.ensures.1; flattened = c.in_ok-flat.ensures.2 } in
     by_error c.args.text.now (of_lock c.in_err-check-2.field-0.0) c.from_residual-in_err-check-2.result c.from_residual-in_err-check-2.ensures.1
     (by_locks c.args.text.now (flat_of c.in_ok-flat.flat) c.in_err-check-2.field-0.0 flattened c.in_err-check-2.ensures.refuses)
+
+pub returns-in_err-check_locals : goal.returns-in_err-check_locals
+returns-in_err-check_locals c =
+    let typed : IsTyped c.args.text.now (program_of c.in_ok-program.program) = record { items = items_of c.in_ok-tree.tree; read = c.in_ok-tree.ensures.read; faultless = c.in_ok-program.ensures.0; typed = c.in_ok-program.ensures.1 } in
+    let ranged : IsRanged c.args.text.now (program_of c.in_ok-program.program) = record { typed = typed; fits = c.in_ok-check.ensures } in
+    let flattened : IsFlattened c.args.text.now (flat_of c.in_ok-flat.flat) =
+    record { program = program_of c.in_ok-program.program; ranged = ranged; ends = c.in_ok-flat.ensures.0; short = c.in_ok-flat.ensures.1; flattened = c.in_ok-flat.ensures.2 } in
+    let checked : IsChecked c.args.text.now (flat_of c.in_ok-flat.flat) = record { flattened = flattened; disciplined = c.in_ok-check-2.ensures.accepts } in
+    by_error c.args.text.now (of_colours c.in_err-check_locals.field-0.0) c.from_residual-in_err-check_locals.result c.from_residual-in_err-check_locals.ensures.1
+    (by_colours c.args.text.now (flat_of c.in_ok-flat.flat) c.in_err-check_locals.field-0.0 checked c.in_err-check_locals.ensures.refused)
+
+pub returns-in_err-check-3 : goal.returns-in_err-check-3
+returns-in_err-check-3 c =
+    let typed : IsTyped c.args.text.now (program_of c.in_ok-program.program) = record { items = items_of c.in_ok-tree.tree; read = c.in_ok-tree.ensures.read; faultless = c.in_ok-program.ensures.0; typed = c.in_ok-program.ensures.1 } in
+    let ranged : IsRanged c.args.text.now (program_of c.in_ok-program.program) = record { typed = typed; fits = c.in_ok-check.ensures } in
+    let flattened : IsFlattened c.args.text.now (flat_of c.in_ok-flat.flat) =
+    record { program = program_of c.in_ok-program.program; ranged = ranged; ends = c.in_ok-flat.ensures.0; short = c.in_ok-flat.ensures.1; flattened = c.in_ok-flat.ensures.2 } in
+    let checked : IsChecked c.args.text.now (flat_of c.in_ok-flat.flat) = record { flattened = flattened; disciplined = c.in_ok-check-2.ensures.accepts } in
+    by_error c.args.text.now (of_temporaries c.in_err-check-3.field-0.0) c.from_residual-in_err-check-3.result c.from_residual-in_err-check-3.ensures.1
+    (by_temporaries c.args.text.now (flat_of c.in_ok-flat.flat) c.in_err-check-3.field-0.0 checked c.in_ok-check_locals.ensures.room c.in_err-check-3.ensures)
+
+pub returns : goal.returns
+returns c =
+    let typed : IsTyped c.args.text.now (program_of c.in_ok-program.program) = record { items = items_of c.in_ok-tree.tree; read = c.in_ok-tree.ensures.read; faultless = c.in_ok-program.ensures.0; typed = c.in_ok-program.ensures.1 } in
+    let ranged : IsRanged c.args.text.now (program_of c.in_ok-program.program) = record { typed = typed; fits = c.in_ok-check.ensures } in
+    let flattened : IsFlattened c.args.text.now (flat_of c.in_ok-flat.flat) =
+    record { program = program_of c.in_ok-program.program; ranged = ranged; ends = c.in_ok-flat.ensures.0; short = c.in_ok-flat.ensures.1; flattened = c.in_ok-flat.ensures.2 } in
+    let checked : IsChecked c.args.text.now (flat_of c.in_ok-flat.flat) = record { flattened = flattened; disciplined = c.in_ok-check-2.ensures.accepts } in
+    record { checked = checked; room = c.in_ok-check_locals.ensures.room; shallow = c.in_ok-check-3.ensures }

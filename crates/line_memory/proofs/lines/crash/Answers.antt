@@ -1,4 +1,4 @@
-use Rattle.std.proofs.Common.{ap, refl, sym, ◌∙◌}
+use Rattle.std.proofs.Common.{sym, ◌∙◌}
 use Rattle.line_memory.proofs.Steps.{only_listed}
 use Rattle.line_memory.proofs.lines.crash.Goals as goal
 

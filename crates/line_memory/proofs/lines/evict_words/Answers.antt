@@ -7,7 +7,7 @@ use Rattle.line_memory.proofs.lines.evict_words.Goals.{then-mask-k-eq1, else-mas
 
 pub loop-k-preserved : goal.loop-k-preserved
 loop-k-preserved c = λ words stores s. elim c.if-mask-k-eq1.branch [
-  | then-mask-k-eq1 w ↦ rw w.cells-is (evict_step c.loop-k.cells words stores c.args.base c.args.mask c.loop-k.k w.evicted.result (omega arith) w.if-mask-k-eq1.true (c.loop-k.invariant words stores s) w.evicted.ensures)
+  | then-mask-k-eq1 w ↦ rw w.cells-is (evict_step c.loop-k.cells words stores c.args.base c.args.mask c.loop-k.k w.evict.new.self (omega arith) w.if-mask-k-eq1.true (c.loop-k.invariant words stores s) w.evict.ensures)
   | else-mask-k-eq1 w ↦ rw w.cells-is (skip_step c.loop-k.cells words stores c.args.base c.args.mask c.loop-k.k w.if-mask-k-eq1.false (c.loop-k.invariant words stores s))
 ]
 

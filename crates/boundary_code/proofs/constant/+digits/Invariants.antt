@@ -1,4 +1,0 @@
-use Rattle.boundary_code.proofs.constant.+digits.Given as goal
-
-abbrev pub decreases-digits : goal.decreases-digits
-decreases-digits l = l.bits

@@ -1,6 +1,0 @@
-use Rattle.std.proofs.lemmas.Result.{IfOk-weaker}
-use Rattle.boundary_code.proofs.Steps.{all_digits}
-use Rattle.boundary_code.proofs.constant.constant.Goals as goal
-
-pub returns : goal.returns
-returns c = IfOk-weaker c.digits.result _ _ (λ code k. all_digits c.args.rd c.args.number _ k) c.digits.ensures

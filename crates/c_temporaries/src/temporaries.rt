@@ -1,0 +1,124 @@
+//! The check of what expressions need.
+ghost use Rattle.std.specs.Prelude.{◌≡◌, ◌∷◌, [], map, MatchResult, None, Some};
+ghost use Rattle.c_tree.specs.Exprs.{placed_of, target_of};
+ghost use Rattle.c_tree.specs.Flats.{flat_of, thread_of, statement_of, statements_of, arms_list_of};
+ghost use Rattle.c_tree.specs.Temporaries.{assign_exprs, statement_exprs, statements_exprs, arms_exprs, temporaries_fault};
+ghost use Rattle.c_temporaries.specs.Firsts.{first_deep, threads_exprs};
+
+use c_tree::expr::{Placed, Target};
+use c_tree::flat::{Arm, Flat, Statement, Thread};
+use c_tree::price::need;
+use ido_base::place::Place;
+use thiserror::Error;
+
+/// An expression that needs more temporaries than there are.
+#[derive(Clone, Copy, PartialEq, Eq, Debug, Error)]
+#[error("an expression needs too many temporaries")]
+pub struct TemporariesError {
+    /// The place of its first token.
+    pub place: Place,
+}
+
+/// How many temporaries there are.
+const TEMPORARIES: u32 = 4;
+
+/// Whether no expression of a thread needs more than four temporaries; else the first one that does, in the order of the
+/// steps, where the index of a target comes before the value.
+pub fn check(flat: &Flat) -> Result<(), TemporariesError>
+    ensures { MatchResult result (λ _. temporaries_fault (flat_of flat.now) ≡ None) (λ e. temporaries_fault (flat_of flat.now) ≡ Some e.place) }
+{
+    match of_threads(&flat.threads) {
+        None => Ok(()),
+        Some(place) => Err(TemporariesError { place }),
+    }
+}
+
+// An expression that needs too many.
+fn of_placed(placed: &Placed) -> Option<Place>
+    ensures { result ≡ first_deep (placed_of placed.now ∷ []) }
+{
+    if need(&placed.expr) > TEMPORARIES {
+        Some(placed.place)
+    } else {
+        None
+    }
+}
+
+// The first one of an assignment.
+fn of_assigned(target: &Target, value: &Placed) -> Option<Place>
+    ensures { result ≡ first_deep (assign_exprs (target_of target.now) (placed_of value.now)) }
+{
+    match target {
+        Target::Local { .. } | Target::Variable { .. } => of_placed(value),
+        Target::Element { index, .. } => of_placed(index).or(of_placed(value)),
+    }
+}
+
+// The first one of a condition and of what is done where it holds.
+#[cycle(statements)]
+fn of_tested(condition: &Placed, body: &[Statement]) -> Option<Place>
+    ensures { result ≡ first_deep (placed_of condition.now ∷ statements_exprs (statements_of body.now)) }
+{
+    of_placed(condition).or(of_statements(body))
+}
+
+// The first one of a statement.
+#[cycle(statements)]
+fn of_statement(statement: &Statement) -> Option<Place>
+    ensures { result ≡ first_deep (statement_exprs (statement_of statement.now)) }
+{
+    match statement {
+        Statement::Assign { target, value, .. } => of_assigned(target, value),
+        Statement::If {
+            arms,
+            otherwise,
+            ..
+        } => of_arms(arms).or(of_statements(otherwise)),
+        Statement::While {
+            condition,
+            body,
+            ..
+        } => of_tested(condition, body),
+        Statement::Do {
+            body,
+            condition,
+            ..
+        } => of_statements(body).or(of_placed(condition)),
+        Statement::Lock { .. } | Statement::Unlock { .. } => None,
+    }
+}
+
+// The first one of statements.
+#[cycle(statements)]
+fn of_statements(statements: &[Statement]) -> Option<Place>
+    ensures { result ≡ first_deep (statements_exprs (statements_of statements.now)) }
+{
+    let mut first = None;
+    for statement in statements {
+        first = first.or(of_statement(statement));
+    }
+    first
+}
+
+// The first one of arms.
+#[cycle(statements)]
+fn of_arms(arms: &[Arm]) -> Option<Place>
+    ensures { result ≡ first_deep (arms_exprs (arms_list_of arms.now)) }
+{
+    let mut first = None;
+    for arm in arms {
+        first = first.or(of_tested(&arm.condition, &arm.body));
+    }
+    first
+}
+
+// The first one of threads.
+fn of_threads(threads: &[Thread]) -> Option<Place>
+    ensures { result ≡ first_deep (threads_exprs (map thread_of threads.now)) }
+{
+    let mut first = None;
+    for thread in threads {
+        first = first.or(of_statements(&thread.body));
+    }
+    first
+}

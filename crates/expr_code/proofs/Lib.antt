@@ -1,0 +1,11 @@
+pub mod Running
+pub mod Held
+pub mod ValueKinds
+pub mod Ending
+pub mod Skips
+pub mod Operating
+pub mod Choosing
+pub mod Addresses
+pub mod Loading
+pub mod Needs
+pub mod Selecting

@@ -1,0 +1,13 @@
+use Rattle.std.proofs.Common.{sym, subst, List}
+use Rattle.rv64_isa.specs.declared.instr.Instr.{Instr}
+use Rattle.c_tree.specs.Exprs as e
+use Rattle.expr_code.specs.links.Giving.{IsEvaluation}
+use Rattle.expr_code.proofs.Choosing.{conditional, as_made, conditional_code}
+use Rattle.expr_code.proofs.conditions.conditional.Goals as goal
+
+pub returns : goal.returns
+returns c = λ h k x y z held rd tests chosen otherwise.
+    conditional_code h k x y z held rd c.in_ok-code.code.items
+    (c.in_ok-code.ensures h (conditional k x y z) held rd tests
+    (as_made h k y held rd c.deref.result.now (subst (λ (code : List Instr). IsEvaluation h (e.Converted k y) held rd code) (sym c.deref.ensures.value) chosen))
+    (as_made h k z held rd c.deref-2.result.now (subst (λ (code : List Instr). IsEvaluation h (e.Converted k z) held rd code) (sym c.deref-2.ensures.value) otherwise)))

@@ -1,0 +1,16 @@
+use Rattle.std.proofs.Common.{◌≡◌, ◌<◌, ◌+◌, ◌/◌, ◌%◌, ◌^◌, ◌∷◌, [], sym, subst, List, rules}
+use Rattle.rv64_isa.specs.declared.instr.Instr.{Instr}
+use Rattle.rv64_isa.specs.declared.instr.Instr.TheVariants.{Lui, OpImmediate}
+use Rattle.rv64_isa.specs.declared.instr.ImmediateOperation.TheVariants.{Addi}
+use Rattle.expr_code.specs.Evaluating.{IsVariableAddressCode}
+use Rattle.expr_code.proofs.Loading.{variable_address_code}
+use Rattle.expr_code.proofs.elements.variable_address.Goals as goal
+
+pub returns : goal.returns
+returns c =
+    let small : c.args.rd < 32 = search rules in
+    λ h variable is.
+    let seen : c.in_ok-vec.field-0.items ≡ Lui 31 ((c.args.address + 2048) % 2 ^ 32 / 4096) ∷ OpImmediate Addi c.args.rd 31 (c.args.address % 4096) ∷ [] =
+    cc (c.in_ok-vec.ensures.items, c.upper.ensures, c.immediate.ensures, c.lower.ensures.value) in
+    subst (λ (code : List Instr). IsVariableAddressCode h variable c.args.rd code) (sym seen)
+    (variable_address_code c.args.rd c.args.address c.requires small h variable is)

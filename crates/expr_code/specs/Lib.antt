@@ -1,0 +1,4 @@
+pub mod Running
+pub mod Evaluating
+pub mod Refusing
+pub mod links

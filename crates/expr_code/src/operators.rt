@@ -1,0 +1,178 @@
+//! Constants, locals, conversions and operators on values that stand in registers.
+ghost use Rattle.std.specs.Prelude.{◌≡◌, ◌++◌, ◌<◌, ◌+◌, ℕ, true, slice_index, IfOk, OnOk};
+ghost use Rattle.ido_ints.specs.declared.kinds.Kind.{Kind};
+ghost use Rattle.c_tree.specs.Exprs as e;
+ghost use Rattle.c_tree.specs.Typing.{kind_of};
+ghost use Rattle.rv64_isa.specs.declared.instr.Instr.{Instr};
+ghost use Rattle.log_layout.specs.Roles.{is_local};
+ghost use Rattle.operator_code.specs.Computing.{is_strict, left_kind, right_kind};
+ghost use Rattle.expr_code.specs.Evaluating.{Homes, Gives};
+ghost use Rattle.expr_code.specs.links.Giving.{IsEvaluation, IsOperand, IsPair, IsMade, temporary, truth_of};
+
+use crate::operand::{Operand, Pair};
+use crate::temporaries::temporary;
+use ido_base::memory::Memory;
+use ido_ints::{Kind, Unary, Value, register_form};
+use operator_code::constant::constant;
+use operator_code::{BinaryOperation, binary, convert, copy, keeps_form, truth, unary};
+use rv64_isa::field::Register;
+use rv64_isa::instr::Instr;
+use std::alloc::Global;
+
+/// Code behind code.
+pub(crate) fn append(code: &mut Vec<Instr>, more: &[Instr]) -> Result<(), Memory>
+    ensures { OnOk result (code.new.items ≡ code.old.items ++ more.now) }
+{
+    code.extend_from_slice(more)?;
+    Ok(())
+}
+
+/// A constant into `rd`.
+pub(crate) fn constant_code(alloc: Global, value: Value, rd: Register) -> Result<Vec<Instr>, Memory>
+    requires { 0 < rd }
+    ensures { IfOk result (λ code. (h : Homes) (held : ℕ) → IsEvaluation h (e.Constant value) held rd code.items) }
+{
+    let code = constant(alloc, rd, register_form(value))?;
+    Ok(code)
+}
+
+/// What the operand has, into `rd`.
+pub(crate) fn copied(operand: Operand, rd: Register) -> Result<Vec<Instr>, Memory>
+    requires { 0 < rd }
+    ensures { IfOk result (λ code. (h : Homes) (x : e.Expr) (held : ℕ) →
+        IsOperand h x held operand.register operand.code.items → IsEvaluation h x held rd code.items) }
+{
+    let mut code = operand.code;
+    copy(rd, operand.register).push_to(&mut code)?;
+    Ok(code)
+}
+
+/// What the operator gives for the operand, of this kind, into `rd`.
+pub(crate) fn with_unary(
+    operand: Operand,
+    operator: Unary,
+    kind: Kind,
+    rd: Register,
+) -> Result<Vec<Instr>, Memory>
+    requires { 0 < rd }
+    ensures { IfOk result (λ code. (h : Homes) (x : e.Expr) (held : ℕ) → kind_of x ≡ kind →
+        IsOperand h x held operand.register operand.code.items → IsEvaluation h (e.Unary operator x) held rd code.items) }
+{
+    let mut code = operand.code;
+    unary(operator, kind, rd, operand.register).push_to(&mut code)?;
+    Ok(code)
+}
+
+/// The operand, of the kind `from`, converted to the kind `to`, into `rd`.
+pub(crate) fn with_conversion(
+    operand: Operand,
+    from: Kind,
+    to: Kind,
+    rd: Register,
+) -> Result<Vec<Instr>, Memory>
+    requires { 0 < rd }
+    ensures { IfOk result (λ code. (h : Homes) (x : e.Expr) (held : ℕ) → kind_of x ≡ from →
+        IsOperand h x held operand.register operand.code.items → IsEvaluation h (e.Converted to x) held rd code.items) }
+{
+    let mut code = operand.code;
+    convert(from, to, rd, operand.register).push_to(&mut code)?;
+    Ok(code)
+}
+
+/// The same as an operand: where its form is kept, in its own register.
+pub(crate) fn converted(
+    operand: Operand,
+    from: Kind,
+    to: Kind,
+    held: u32,
+) -> Result<Operand, Memory>
+    requires { held < 4 }
+    ensures { IfOk result (λ y. (h : Homes) (x : e.Expr) → kind_of x ≡ from →
+        IsOperand h x held operand.register operand.code.items → IsOperand h (e.Converted to x) held y.register y.code.items) }
+{
+    if keeps_form(from, to) {
+        return Ok(operand);
+    }
+    let register = temporary(held);
+    let code = with_conversion(operand, from, to, register)?;
+    Ok(Operand { code, register })
+}
+
+/// A local where it stands.
+pub(crate) fn local_operand(alloc: Global, register: Register) -> Operand
+    ensures { (h : Homes) (local : ℕ) (kind : Kind) (held : ℕ) → slice_index h.registers local ≡ register → is_local register ≡ true →
+        IsOperand h (e.Local local kind) held result.register result.code.items }
+{
+    Operand {
+        code: Vec::new(alloc),
+        register,
+    }
+}
+
+/// Code of a value in the next temporary, as an operand.
+pub(crate) fn held_operand(code: Vec<Instr>, held: u32) -> Operand
+    requires { held < 4 }
+    ensures { (h : Homes) (x : e.Expr) → IsEvaluation h x held (temporary held) code.items → IsOperand h x held result.register result.code.items }
+{
+    Operand {
+        code,
+        register: temporary(held),
+    }
+}
+
+/// Two operands, the right one evaluated while the left one is held.
+pub(crate) fn left_first(left: Operand, right: Operand) -> Result<Pair, Memory>
+    ensures { IfOk result (λ p. (h : Homes) (x y : e.Expr) (held : ℕ) →
+        IsOperand h x held left.register left.code.items → IsOperand h y (held + 1) right.register right.code.items → IsPair h x y held p) }
+{
+    let mut code = left.code;
+    append(&mut code, &right.code)?;
+    Ok(Pair {
+        code,
+        left: left.register,
+        right: right.register,
+    })
+}
+
+/// Two operands, the left one evaluated while the right one is held.
+pub(crate) fn right_first(left: Operand, right: Operand) -> Result<Pair, Memory>
+    ensures { IfOk result (λ p. (h : Homes) (x y : e.Expr) (held : ℕ) →
+        IsOperand h x (held + 1) left.register left.code.items → IsOperand h y held right.register right.code.items → IsPair h x y held p) }
+{
+    let mut code = right.code;
+    append(&mut code, &left.code)?;
+    Ok(Pair {
+        code,
+        left: left.register,
+        right: right.register,
+    })
+}
+
+/// What the operator gives for operands that are converted to its kinds, into `rd`; nothing for `&&` and `||`.
+pub(crate) fn with_binary(
+    pair: Pair,
+    operation: BinaryOperation,
+    rd: Register,
+) -> Result<Vec<Instr>, Memory>
+    requires some { 0 < rd }
+    requires strict { is_strict operation.operator ≡ true }
+    ensures { IfOk result (λ code. (h : Homes) (x y : e.Expr) (held : ℕ) → kind_of x ≡ operation.left → kind_of y ≡ operation.right →
+        IsPair h (e.Converted (left_kind operation) x) (e.Converted (right_kind operation) y) held pair →
+        IsEvaluation h (e.Binary operation.operator x y) held rd code.items) }
+{
+    let mut code = pair.code;
+    let last = binary(operation, rd, pair.left, pair.right).unwrap();
+    last.push_to(&mut code)?;
+    Ok(code)
+}
+
+/// 1 into `rd` where the operand isn't 0, else 0.
+pub(crate) fn with_truth(operand: Operand, rd: Register) -> Result<Vec<Instr>, Memory>
+    requires { 0 < rd }
+    ensures { IfOk result (λ code. (h : Homes) (x : e.Expr) (held : ℕ) →
+        IsOperand h x held operand.register operand.code.items → IsMade h x truth_of held rd code.items) }
+{
+    let mut code = operand.code;
+    truth(rd, operand.register).push_to(&mut code)?;
+    Ok(code)
+}

@@ -1,0 +1,122 @@
+//! The code of an expression, of a condition, and of the address of what is assigned.
+ghost use Rattle.std.specs.Prelude.{◌≡◌, ◌↔◌, ◌<◌, ◌≤◌, length, MatchResult, IfOk, IfErr};
+ghost use Rattle.c_tree.specs.Exprs.{expr_of, placed_of};
+ghost use Rattle.c_tree.specs.Prices.{need_of};
+ghost use Rattle.c_tree.specs.Temporaries.{most_temporaries};
+ghost use Rattle.expr_code.specs.Evaluating.{AreAtHome, IsValueCode, IsTestCode, IsElementAddressCode, IsVariableAddressCode, homes_of};
+ghost use Rattle.expr_code.specs.Refusing.{IsRefused};
+
+use crate::elements::{element_address, variable_address};
+use crate::evaluation::{evaluate, operand, test};
+use crate::frame::Frame;
+use crate::halt::Halt;
+use crate::operand::TestCode;
+use crate::temporaries::MOST_HELD;
+use c_tree::expr::Placed;
+use c_tree::price::need;
+use ido_base::memory::Memory;
+use ido_base::place::Place;
+use ido_ints::Kind;
+use rv64_isa::field::Register;
+use rv64_isa::instr::Instr;
+use std::alloc::Global;
+use thiserror::Error;
+
+/// Why there is no code of an expression.
+#[derive(Clone, Copy, Debug, PartialEq, Eq, Drop, Error)]
+pub enum SelectError {
+    /// It needs more than four temporaries. The place is that of its first token.
+    #[error("an expression that needs more than four temporaries")]
+    Temporaries { place: Place },
+    /// An allocation was refused, or code past which it has to jump is longer than a jump reaches: 2^20 bytes, more than a
+    /// thread may have.
+    #[error("out of memory")]
+    Memory,
+}
+
+/// The code of an expression's value, into `destination`.
+pub fn select(
+    alloc: Global,
+    expr: &Placed,
+    frame: &Frame,
+    destination: Register,
+) -> Result<Vec<Instr>, SelectError>
+    requires home { AreAtHome (homes_of frame.now) (expr_of expr.now.expr) }
+    requires destination { 0 < destination }
+    ensures { MatchResult result
+        (λ code. (need_of (expr_of expr.now.expr) ≤ most_temporaries) × IsValueCode (homes_of frame.now) (expr_of expr.now.expr) destination code.items)
+        (λ error. IsRefused (placed_of expr.now) error) }
+{
+    if need(&expr.expr) > MOST_HELD {
+        return Err(SelectError::Temporaries { place: expr.place });
+    }
+    match evaluate(alloc, &expr.expr, frame, destination, 0) {
+        Ok(code) => Ok(code),
+        Err(Halt::Far | Halt::Memory) => Err(SelectError::Memory),
+    }
+}
+
+/// The code of a condition, and a test for the branch behind it.
+pub fn select_test(
+    alloc: Global,
+    condition: &Placed,
+    frame: &Frame,
+) -> Result<TestCode, SelectError>
+    requires home { AreAtHome (homes_of frame.now) (expr_of condition.now.expr) }
+    ensures { MatchResult result
+        (λ x. (need_of (expr_of condition.now.expr) ≤ most_temporaries) × IsTestCode (homes_of frame.now) (expr_of condition.now.expr) x.test x.code.items)
+        (λ error. IsRefused (placed_of condition.now) error) }
+{
+    if need(&condition.expr) > MOST_HELD {
+        return Err(SelectError::Temporaries {
+            place: condition.place,
+        });
+    }
+    match test(alloc, &condition.expr, frame, 0) {
+        Ok(code) => Ok(code),
+        Err(Halt::Far | Halt::Memory) => Err(SelectError::Memory),
+    }
+}
+
+/// The code of the address of a variable that is no array, into `destination`.
+pub fn select_variable_address(
+    alloc: Global,
+    variable: u32,
+    frame: &Frame,
+    destination: Register,
+) -> Result<Vec<Instr>, Memory>
+    requires home { variable < length frame.now.addresses.now }
+    requires destination { 0 < destination }
+    ensures { IfOk result (λ code. IsVariableAddressCode (homes_of frame.now) variable destination code.items) }
+{
+    variable_address(alloc, frame.addresses[variable as usize], destination)
+}
+
+/// The code of the address of an element of an array whose elements are of this kind, into `destination`.
+pub fn select_element_address(
+    alloc: Global,
+    variable: u32,
+    kind: Kind,
+    index: &Placed,
+    frame: &Frame,
+    destination: Register,
+) -> Result<Vec<Instr>, SelectError>
+    requires variable { variable < length frame.now.addresses.now }
+    requires index { AreAtHome (homes_of frame.now) (expr_of index.now.expr) }
+    requires destination { 0 < destination }
+    ensures { MatchResult result
+        (λ code. (need_of (expr_of index.now.expr) ≤ most_temporaries) × IsElementAddressCode (homes_of frame.now) variable kind (placed_of index.now) destination code.items)
+        (λ error. IsRefused (placed_of index.now) error) }
+{
+    if need(&index.expr) > MOST_HELD {
+        return Err(SelectError::Temporaries { place: index.place });
+    }
+    let address = frame.addresses[variable as usize];
+    match operand(alloc, &index.expr, frame, 0) {
+        Ok(index) => match element_address(index, address, kind, destination) {
+            Ok(code) => Ok(code),
+            Err(Memory) => Err(SelectError::Memory),
+        },
+        Err(Halt::Far | Halt::Memory) => Err(SelectError::Memory),
+    }
+}

@@ -1,0 +1,351 @@
+-- A source and the graph of its flat form step alike.
+use Rattle.std.proofs.Common.{◌≡◌, ◌≢◌, ◌<◌, ◌≤◌, ◌⊎◌, inl, inr, ⊎_elim, refl, ℕ, zero, suc, ◌+◌, List, [], ◌∷◌, ◌++◌, length, map, replicate, sym, ◌∙◌, ap, ap₂, subst, arith, Option, Some, None, Bool, true, false, slice_set}
+use Rattle.std.specs.Prelude.{slice_get, is_some, not, if◌then◌else◌, ℤ, pos}
+use Rattle.std.proofs.lemmas.Bool.{cases_eq}
+use Rattle.std.proofs.lemmas.Option.{slice_get_within, slice_get_past}
+use Rattle.std.proofs.lemmas.List.{length-set, length-map}
+use Rattle.ido_ints.specs.Operators.{is_zero}
+use Rattle.ido_base.specs.declared.place.Place.{Place}
+use Rattle.c_tree.specs.Exprs as e
+use Rattle.c_tree.specs.Flats as f
+use Rattle.c_tree.specs.Source as m
+use Rattle.c_tree.specs.Source.{Pending, opened_all}
+use Rattle.c_tree.specs.WellFormed.{IsWellFormed}
+use Rattle.flow_graph.specs.declared.graph.Part.{Part}
+use Rattle.flow_graph.specs.Nodes.{Action, Eval, Store, Test, Lock, Unlock, End, Node, Graph}
+use Rattle.flow_graph.specs.Lowering.{lowered, parts, part, thread_count, threads_nodes}
+use Rattle.flow_graph.specs.Actions as g
+use Rattle.flow_graph.specs.Actions.{Walker, FlowState, Effect, graph_step, graph_after, graph_runs, graph_ended, graph_start}
+use Rattle.flow_graph.specs.Lockstep.{Standing, free, threads_standings, WalkerMatches, Matches, StepsMatch, RunsMatch}
+use Rattle.flow_graph.proofs.Standing.{At, Does, chooses, repeats, behind_arms, behind_eval, begins, node_at}
+
+-- ---- Lists
+
+pub set_same : {X : Type 0} (xs : List X) (i : ℕ) (y z : X) → slice_get xs i ≡ Some z → slice_get (slice_set xs i y) i ≡ Some y
+set_same [] i y z h = cc
+set_same (x ∷ xs) zero y z h = refl
+set_same (x ∷ xs) (suc i) y z h = set_same xs i y z h
+
+pub set_other : {X : Type 0} (xs : List X) (i k : ℕ) (y : X) → k ≢ i → slice_get (slice_set xs i y) k ≡ slice_get xs k
+set_other [] i k y h = refl
+set_other (x ∷ xs) zero zero y h = absurd (h refl)
+set_other (x ∷ xs) zero (suc k) y h = refl
+set_other (x ∷ xs) (suc i) zero y h = refl
+set_other (x ∷ xs) (suc i) (suc k) y h = set_other xs i k y (λ e. h (ap suc e))
+
+pub found_in : {X : Type 0} (xs : List X) (k : ℕ) → k < length xs → (x : X) × (slice_get xs k ≡ Some x)
+found_in [] k h = absurd (omega arith)
+found_in (x ∷ xs) zero h = (x, refl)
+found_in (x ∷ xs) (suc k) h = found_in xs k (omega arith)
+
+pub get_cases : {X : Type 0} (xs : List X) (k : ℕ) → (slice_get xs k ≡ None) ⊎ ((x : X) × (slice_get xs k ≡ Some x))
+get_cases [] k = inl refl
+get_cases (x ∷ xs) zero = inr (x, refl)
+get_cases (x ∷ xs) (suc k) = get_cases xs k
+
+pub no_more : {X : Type 0} (xs : List X) (k : ℕ) → slice_get xs k ≡ None → length xs ≤ k
+no_more [] k h = omega arith
+no_more (x ∷ xs) zero h = cc
+no_more (x ∷ xs) (suc k) h = omega (arith, no_more xs k h)
+
+-- ---- One thread changes
+
+abbrev state_of : List (List ℤ) → List (Option ℕ) → List m.Thread → m.State
+state_of variables holders threads = record { variables = variables; holders = holders; threads = threads }
+
+abbrev flow_of : List (List ℤ) → List (Option ℕ) → List Walker → FlowState
+flow_of variables holders walkers = record { variables = variables; holders = holders; walkers = walkers }
+
+module _ (x : f.Flat) (walkers : List Walker) (threads : List m.Thread) (count : length walkers ≡ length threads)
+    (each : (t : ℕ) (walker : Walker) (thread : m.Thread) → slice_get walkers t ≡ Some walker → slice_get threads t ≡ Some thread →
+    WalkerMatches x walker thread)
+    (t : ℕ) (before : Walker) (old : m.Thread) (here : slice_get walkers t ≡ Some before) (there : slice_get threads t ≡ Some old) where
+  one_changes : (vs : List (List ℤ)) (hs : List (Option ℕ)) (walker : Walker) (thread : m.Thread) → WalkerMatches x walker thread →
+      Matches x (flow_of vs hs (slice_set walkers t walker)) (state_of vs hs (slice_set threads t thread))
+  one_changes vs hs walker thread w = record {
+    variables = refl;
+    holders = refl;
+    count = length-set walkers t walker ∙ count ∙ sym (length-set threads t thread);
+    each = λ k one other h i. ⊎_elim
+        (λ same.
+        let h' : slice_get (slice_set walkers t walker) t ≡ Some one = ap (slice_get (slice_set walkers t walker)) (sym same) ∙ h in
+        let i' : slice_get (slice_set threads t thread) t ≡ Some other = ap (slice_get (slice_set threads t thread)) (sym same) ∙ i in
+        let is_walker : walker ≡ one = let set = set_same walkers t walker before here in cc in
+        let is_thread : thread ≡ other = let set = set_same threads t thread old there in cc in
+        let P : Walker → Type 0 = λ z. WalkerMatches x z other in
+        let Q : m.Thread → Type 0 = λ z. WalkerMatches x walker z in
+        subst P is_walker (subst Q is_thread w))
+        (λ differs. each k one other (sym (set_other walkers t k walker differs) ∙ h) (sym (set_other threads t k thread differs) ∙ i))
+        (cases_eq k t);
+  }
+
+  module _ (vs : List (List ℤ)) (hs : List (Option ℕ)) where
+    abbrev flow_now : FlowState
+    flow_now = flow_of vs hs walkers
+
+    abbrev source_now : m.State
+    source_now = state_of vs hs threads
+
+    abbrev all : List Standing
+    all = threads_standings x.threads
+
+    abbrev walker_at : (at : ℕ) → List ℤ → Option Pending → Bool → Walker
+    walker_at at ls p ended = record { at = at; locals = ls; pending = p; ended = ended }
+
+    abbrev thread_with : List f.Statement → List ℤ → Option Pending → Bool → m.Thread
+    thread_with left ls p ended = record { left = left; locals = ls; pending = p; ended = ended }
+
+    abbrev Alike : Option FlowState → Option m.State → Type 0
+    Alike a b = StepsMatch x a b
+
+    -- the graph's step by an action, beside that of a thread with these statements left
+    abbrev Steps : Action → (at : ℕ) → List ℤ → Option Pending → Bool → List f.Statement → Type 0
+    Steps a at ls p ended left = Alike (g.effect_step flow_now t (walker_at at ls p ended) (g.effect_of a (g.seen_by flow_now (walker_at at ls p ended))))
+        (m.thread_step source_now t (thread_with left ls p ended))
+
+    moved : (at : ℕ) (left : List f.Statement) (ls : List ℤ) (p : Option Pending) (ended : Bool) → At all at (record { left = left; owes = is_some p }) →
+        WalkerMatches x (walker_at at ls p ended) (thread_with left ls p ended)
+    moved at left ls p ended a = record { locals = refl; pending = refl; ended = refl; stands = a }
+
+    evals : (target : e.Target) (value : e.Placed) (next at : ℕ) (ls : List ℤ) (ended : Bool) (place : Place) (rest : List f.Statement) →
+        At all next (behind_eval target rest) → Steps (Eval target value next) at ls None ended (f.Assign place target value ∷ rest)
+    evals (e.ToLocal local kind) value next at ls ended place rest a = one_changes vs hs _ _ (moved next rest _ None ended a)
+    evals (e.ToVariable name variable kind) value next at ls ended place rest a = one_changes vs hs _ _ (moved next rest ls (Some _) ended a)
+    evals (e.ToElement name variable kind index) value next at ls ended place rest a = one_changes vs hs _ _ (moved next rest ls (Some _) ended a)
+
+    after_test : (zero_value : Bool) (holds fails : ℕ) (place : Place) (body : f.Statements) (arms : f.Arms) (otherwise : f.Statements)
+        (rest : List f.Statement) →
+        At all holds (free (opened_all body ++ rest)) → At all fails (free (behind_arms place arms otherwise ++ rest)) →
+        At all (if zero_value then fails else holds)
+        (free (m.tested (not zero_value) (opened_all body) (f.If place arms otherwise ∷ []) (opened_all otherwise) arms ++ rest))
+    after_test true holds fails place body f.no_arm otherwise rest a b = b
+    after_test true holds fails place body (f.arm_and condition inner arms) otherwise rest a b = b
+    after_test false holds fails place body f.no_arm otherwise rest a b = a
+    after_test false holds fails place body (f.arm_and condition inner arms) otherwise rest a b = a
+
+    after_loop : (zero_value : Bool) (holds fails : ℕ) (again rest : List f.Statement) → At all holds (free again) → At all fails (free rest) →
+        At all (if zero_value then fails else holds) (free (if not zero_value then again else rest))
+    after_loop true holds fails again rest a b = b
+    after_loop false holds fails again rest a b = a
+
+    takes : (o : Option (Option ℕ)) (mutex next at : ℕ) (ls : List ℤ) (ended : Bool) (rest : List f.Statement) → At all next (free rest) →
+        Alike
+        (elim o [ Some None ↦ Some (g.with_walker (g.with_holder flow_now mutex (Some t)) t (walker_at next ls None ended)) | _ ↦ None ])
+        (elim o [ Some None ↦ Some (m.with_thread (m.with_holder source_now mutex (Some t)) t (thread_with rest ls None ended)) | _ ↦ None ])
+    takes None mutex next at ls ended rest a = tt
+    takes (Some (Some other)) mutex next at ls ended rest a = tt
+    takes (Some None) mutex next at ls ended rest a = one_changes vs (slice_set hs mutex (Some t)) _ _ (moved next rest ls None ended a)
+
+    ends : (at : ℕ) (ls : List ℤ) (ended : Bool) → At all at (free []) → Steps End at ls None ended []
+    ends at ls true a = tt
+    ends at ls false a = one_changes vs hs _ _ (moved at [] ls None true a)
+
+    not_owing : (p : Pending) (left rest : List f.Statement) → (let s : Standing = record { left = left; owes = true } in s ≡ free rest) → ⊥
+    not_owing p left rest h = let b : true ≡ false = ap (λ (s : Standing). s.owes) h in cc
+
+    step_by : (a : Action) (at : ℕ) (ls : List ℤ) (p : Option Pending) (ended : Bool) (left : List f.Statement) →
+        At all at (record { left = left; owes = is_some p }) → Does all a (record { left = left; owes = is_some p }) → Steps a at ls p ended left
+    step_by (Eval target value next) at ls (Some p) ended left s d = absurd (not_owing p left _ d.is)
+    step_by (Eval target value next) at ls None ended left s d =
+        let P : List f.Statement → Type 0 = λ l. Steps (Eval target value next) at ls None ended l in
+        subst P (sym (ap (λ (z : Standing). z.left) d.is)) (evals target value next at ls ended d.place d.rest d.follows)
+    step_by (Store variable kind next) at ls (Some p) ended left s d =
+        let P : List f.Statement → Type 0 = λ l. Steps (Store variable kind next) at ls (Some p) ended l in
+        subst P (sym (ap (λ (z : Standing). z.left) d.is)) (one_changes _ hs _ _ (moved next d.rest ls None ended d.follows))
+    step_by (Store variable kind next) at ls None ended left s d = let b : false ≡ true = ap (λ (z : Standing). z.owes) d.is in cc
+    step_by (Test condition holds fails) at ls (Some p) ended left s d = elim d [
+      | chooses place body arms otherwise rest is h k ↦ absurd (not_owing p left _ is)
+      | repeats place body rest is h k ↦ absurd (not_owing p left _ is)
+    ]
+    step_by (Test condition holds fails) at ls None ended left s d =
+        let P : List f.Statement → Type 0 = λ l. Steps (Test condition holds fails) at ls None ended l in
+        let z : Bool = is_zero (g.number_in (g.seen_by flow_now (walker_at at ls None ended)) condition.expr) in
+        elim d [
+          | chooses place body arms otherwise rest is h k ↦
+              subst P (sym (ap (λ (z : Standing). z.left) is))
+              (one_changes vs hs _ _ (moved _ _ ls None ended (after_test z holds fails place body arms otherwise rest h k)))
+          | repeats place body rest is h k ↦
+              subst P (sym (ap (λ (z : Standing). z.left) is))
+              (one_changes vs hs _ _ (moved _ _ ls None ended (after_loop z holds fails (opened_all body ++ (f.While place condition body ∷ rest)) rest h k)))
+        ]
+    step_by (Lock mutex next) at ls (Some p) ended left s d = absurd (not_owing p left _ d.is)
+    step_by (Lock mutex next) at ls None ended left s d =
+        let P : List f.Statement → Type 0 = λ l. Steps (Lock mutex next) at ls None ended l in
+        subst P (sym (ap (λ (z : Standing). z.left) d.is)) (takes (slice_get hs mutex) mutex next at ls ended d.rest d.follows)
+    step_by (Unlock mutex next) at ls (Some p) ended left s d = absurd (not_owing p left _ d.is)
+    step_by (Unlock mutex next) at ls None ended left s d =
+        let P : List f.Statement → Type 0 = λ l. Steps (Unlock mutex next) at ls None ended l in
+        subst P (sym (ap (λ (z : Standing). z.left) d.is)) (one_changes vs (slice_set hs mutex None) _ _ (moved next d.rest ls None ended d.follows))
+    step_by End at ls (Some p) ended left s d = absurd (not_owing p left _ d)
+    step_by End at ls None ended left s d =
+        let none : left ≡ [] = ap (λ (z : Standing). z.left) d in
+        let P : List f.Statement → Type 0 = λ l. Steps End at ls None ended l in
+        let Q : List f.Statement → Type 0 = λ l. At all at (free l) in
+        subst P (sym none) (ends at ls ended (subst Q none s))
+
+-- ---- A step
+
+abbrev source_by : m.State → ℕ → Option m.Thread → Option m.State
+source_by s t o = elim o [
+  | Some thread ↦ m.thread_step s t thread
+  | None ↦ None
+]
+
+source_is : (s : m.State) (t : ℕ) (o : Option m.Thread) → slice_get s.threads t ≡ o → m.source_step s t ≡ source_by s t o
+unfolding m.source_step
+source_is s t o h = ap (source_by s t) h
+
+pub graph_is : (graph : Graph) (s : FlowState) (t : ℕ) (o : Option Walker) → slice_get s.walkers t ≡ o → graph_step graph s t ≡ g.walker_step graph s t o
+unfolding graph_step
+graph_is graph s t o h = ap (g.walker_step graph s t) h
+
+pub lowered_nodes : (x : f.Flat) → (lowered x).nodes ≡ threads_nodes x.threads 0
+unfolding lowered
+lowered_nodes x = refl
+
+pub lowered_threads : (x : f.Flat) → (lowered x).threads ≡ parts x.threads 0
+unfolding lowered
+lowered_threads x = refl
+
+pub steps_alike : (x : f.Flat) (flow : FlowState) (source : m.State) (thread : ℕ) → IsWellFormed x → Matches x flow source →
+    StepsMatch x (graph_step (lowered x) flow thread) (m.source_step source thread)
+steps_alike x flow source t w h =
+    let P : Option FlowState → Type 0 = λ o. StepsMatch x o (m.source_step source t) in
+    elim (get_cases flow.walkers t) [
+      | inl none ↦
+          let missing = slice_get_past source.threads t (omega (arith, h.count, no_more flow.walkers t none)) in
+          let Q : Option m.State → Type 0 = λ o. StepsMatch x None o in
+          subst P (sym (graph_is (lowered x) flow t None none)) (subst Q (sym (source_is source t None missing)) tt)
+      | inr found ↦
+          let walker = found.0 in
+          let here = found.1 in
+          let there = found_in source.threads t (omega (arith, h.count, slice_get_within flow.walkers t walker here)) in
+          let thread = there.0 in
+          let match = h.each t walker thread here there.1 in
+          let node = node_at x walker.at (record { left = thread.left; owes = is_some thread.pending }) w.threads match.stands in
+          let as_source : m.State = state_of flow.variables flow.holders source.threads in
+          let as_thread : m.Thread = record { left = thread.left; locals = walker.locals; pending = walker.pending; ended = walker.ended } in
+          let same_state : source ≡ as_source = λ i. state_of (sym h.variables i) (sym h.holders i) source.threads in
+          let same_thread : thread ≡ as_thread = λ i. record {
+            left = thread.left;
+            locals = sym match.locals i;
+            pending = sym match.pending i;
+            ended = sym match.ended i;
+          } in
+          let stepping : m.source_step source t ≡ m.thread_step as_source t as_thread =
+          source_is source t (Some thread) there.1 ∙ (λ i. m.thread_step (same_state i) t (same_thread i)) in
+          let at_node : graph_step (lowered x) flow t ≡ g.node_step flow t walker (Some node.0) =
+          graph_is (lowered x) flow t (Some walker) here
+          ∙ ap (g.node_step flow t walker) (ap (λ (ns : List Node). slice_get ns walker.at) (lowered_nodes x) ∙ node.1) in
+          let Q : Option m.State → Type 0 = λ o. StepsMatch x (g.node_step flow t walker (Some node.0)) o in
+          let D : Option Pending → Type 0 = λ p. Does (threads_standings x.threads) node.0.action (record { left = thread.left; owes = is_some p }) in
+          let A : Option Pending → Type 0 = λ p. At (threads_standings x.threads) walker.at (record { left = thread.left; owes = is_some p }) in
+          subst P (sym at_node) (subst Q (sym stepping)
+          (step_by x flow.walkers source.threads h.count h.each t walker thread here there.1 flow.variables flow.holders node.0.action walker.at walker.locals
+          walker.pending walker.ended thread.left (subst A (sym match.pending) match.stands) (subst D (sym match.pending) node.2)))
+    ]
+
+-- ---- The start
+
+started : (x : f.Flat) (ts : List f.Thread) (first k : ℕ) (walker : Walker) (thread : m.Thread) →
+    slice_get (map g.walker_start (parts ts first)) k ≡ Some walker → slice_get (map m.thread_start ts) k ≡ Some thread →
+    (p : Part) × (source : f.Thread) × (slice_get (parts ts first) k ≡ Some p) × (slice_get ts k ≡ Some source) × (walker ≡ g.walker_start p) ×
+    (thread ≡ m.thread_start source) × (p.locals ≡ length source.locals)
+started x [] first k walker thread h i = cc
+started x (t ∷ ts) first zero walker thread h i = (part t first, t, refl, refl, cc, cc, refl)
+started x (t ∷ ts) first (suc k) walker thread h i = started x ts (first + thread_count t) k walker thread h i
+
+length-parts : (ts : List f.Thread) (first : ℕ) → length (parts ts first) ≡ length ts
+length-parts [] first = refl
+length-parts (t ∷ ts) first = ap suc (length-parts ts (first + thread_count t))
+
+pub begins_alike : (x : f.Flat) → IsWellFormed x → Matches x (graph_start (lowered x) x) (m.start x)
+begins_alike x w = record {
+  variables = refl;
+  holders = refl;
+  count = length-map (lowered x).threads g.walker_start ∙ ap length (lowered_threads x) ∙ length-parts x.threads 0
+      ∙ sym (length-map x.threads m.thread_start);
+  each = λ k walker thread h i.
+      let s = started x x.threads 0 k walker thread (ap (λ (ps : List Part). slice_get (map g.walker_start ps) k) (sym (lowered_threads x)) ∙ h) i in
+      let begun : WalkerMatches x (g.walker_start s.0) (m.thread_start s.1) = record {
+        locals = ap (λ (n : ℕ). replicate n (pos 0)) s.6;
+        pending = refl;
+        ended = refl;
+        stands = begins x k s.0 s.1 w.threads s.2 s.3;
+      } in
+      let P : Walker → Type 0 = λ z. WalkerMatches x z thread in
+      let Q : m.Thread → Type 0 = λ z. WalkerMatches x (g.walker_start s.0) z in
+      subst P (sym s.4) (subst Q (sym s.5) begun);
+}
+
+-- ---- Runs
+
+abbrev flow_after : FlowState → List ℕ → Graph → Option FlowState → FlowState
+flow_after s ts graph o = elim o [
+  | None ↦ s
+  | Some next ↦ graph_after graph next ts
+]
+
+abbrev flow_runs : List ℕ → Graph → Option FlowState → Bool
+flow_runs ts graph o = elim o [
+  | None ↦ false
+  | Some next ↦ graph_runs graph next ts
+]
+
+abbrev flow_ended : FlowState → List ℕ → ℕ → Graph → Option FlowState → ℕ
+flow_ended s ts k graph o = elim o [
+  | None ↦ 0
+  | Some next ↦ g.ends_section s next k + graph_ended graph next ts k
+]
+
+abbrev source_after : m.State → List ℕ → Option m.State → m.State
+source_after s ts o = elim o [
+  | None ↦ s
+  | Some next ↦ m.after_from next ts
+]
+
+abbrev source_runs : List ℕ → Option m.State → Bool
+source_runs ts o = elim o [
+  | None ↦ false
+  | Some next ↦ m.runs_from next ts
+]
+
+abbrev source_ended : m.State → List ℕ → ℕ → Option m.State → ℕ
+source_ended s ts k o = elim o [
+  | None ↦ 0
+  | Some next ↦ m.ends_section s next k + m.ended_from next ts k
+]
+
+pub record Together (x : f.Flat) (flow : FlowState) (source : m.State) (schedule : List ℕ) : Type 0 where
+  pub states : Matches x (graph_after (lowered x) flow schedule) (m.after_from source schedule)
+  pub whole : graph_runs (lowered x) flow schedule ≡ m.runs_from source schedule
+  pub sections : (thread : ℕ) → graph_ended (lowered x) flow schedule thread ≡ m.ended_from source schedule thread
+
+same_sections : (x : f.Flat) (flow next : FlowState) (source after : m.State) (k : ℕ) → Matches x flow source → Matches x next after →
+    g.ends_section flow next k ≡ m.ends_section source after k
+same_sections x flow next source after k h i = λ j. m.ends_section (state_of [] (h.holders j) []) (state_of [] (i.holders j) []) k
+
+module _ (x : f.Flat) (ts : List ℕ) (more : (flow : FlowState) (source : m.State) → Matches x flow source → Together x flow source ts)
+    (flow : FlowState) (source : m.State) (h : Matches x flow source) where
+  after_both : (o : Option FlowState) (p : Option m.State) → StepsMatch x o p →
+      Matches x (flow_after flow ts (lowered x) o) (source_after source ts p) × (flow_runs ts (lowered x) o ≡ source_runs ts p)
+      × ((k : ℕ) → flow_ended flow ts k (lowered x) o ≡ source_ended source ts k p)
+  after_both None None s = (h, refl, λ k. refl)
+  after_both None (Some after) s = absurd s
+  after_both (Some next) None s = absurd s
+  after_both (Some next) (Some after) s =
+      let rest = more next after s in
+      (rest.states, rest.whole, λ k. ap₂ ◌+◌ (same_sections x flow next source after k h s) (rest.sections k))
+
+runs_together : (x : f.Flat) (schedule : List ℕ) → IsWellFormed x → (flow : FlowState) (source : m.State) → Matches x flow source →
+    Together x flow source schedule
+runs_together x [] w flow source h = record { states = h; whole = refl; sections = λ k. refl }
+runs_together x (t ∷ ts) w flow source h =
+    let both = after_both x ts (runs_together x ts w) flow source h (graph_step (lowered x) flow t) (m.source_step source t)
+    (steps_alike x flow source t w h) in
+    record { states = both.0; whole = both.1; sections = both.2 }
+
+pub runs_alike : (x : f.Flat) (schedule : List ℕ) → IsWellFormed x → RunsMatch x schedule
+runs_alike x schedule w =
+    let all = runs_together x schedule w (graph_start (lowered x) x) (m.start x) (begins_alike x w) in
+    record { states = all.states; whole = all.whole; sections = all.sections }

@@ -1,0 +1,821 @@
+-- Reads are right: within a region, what is read and is written then or later was written before.
+use Rattle.std.proofs.Common.{◌≡◌, ◌≢◌, ◌⊎◌, inl, inr, ⊎_elim, ◌<◌, ◌≤◌, refl, ℕ, zero, suc, List, [], ◌∷◌, length, map, replicate, ◌∙◌, ap, sym, subst, arith, Option, Some, None, Bool, true, false, slice_set}
+use Rattle.std.specs.Prelude.{slice_get, is_some, Contains, if◌then◌else◌, ℤ}
+use Rattle.std.specs.List.{AllByRecursion, AllZip}
+use Rattle.std.specs.Option.{option_map}
+use Rattle.std.proofs.lemmas.Bool.{cases_eq}
+use Rattle.std.proofs.lemmas.Bool.Decides.{nat_tests}
+use Rattle.std.proofs.lemmas.Option.{slice_get_within}
+use Rattle.ido_base.specs.declared.location.Location.{Location}
+use Rattle.ido_base.specs.Locations.{overlap, same}
+use Rattle.ido_ints.specs.Kinds.{Holds}
+use Rattle.ido_ints.specs.Operators.{is_zero}
+use Rattle.c_tree.specs.Exprs as e
+use Rattle.c_tree.specs.Programs.{Variable}
+use Rattle.c_tree.specs.Flats as f
+use Rattle.c_tree.specs.Source as m
+use Rattle.c_tree.specs.Source.{Pending}
+use Rattle.c_tree.specs.Ranges.{range_of}
+use Rattle.c_tree.specs.TypeRules.{most_elements}
+use Rattle.c_tree.specs.WellFormed.{elements_in, IsVariable, IsWellFormed, IsFlatStatement, IsFlatPlaced}
+use Rattle.c_ranges.specs.Keeping.{AreNumbersOf, IsLeft, IsThreadOf, IsStateOf}
+use Rattle.c_ranges.proofs.Kept.{Pair, zip_found}
+use Rattle.c_ranges.proofs.Keeping.{begins_so, stays_so}
+use Rattle.flow_graph.specs.declared.graph.Part.{Part}
+use Rattle.flow_graph.specs.Nodes.{Action, Eval, Store, Test, Lock, Unlock, End, Node, Graph, successors}
+use Rattle.flow_graph.specs.Lowering.{lowered, threads_nodes, scalar, elements, expr_reads, target_reads}
+use Rattle.flow_graph.specs.Liveness.{NodeAt}
+use Rattle.flow_graph.specs.Actions as g
+use Rattle.flow_graph.specs.Actions.{Seen, Walker, FlowState, Effect, Sets, Owes, Makes, Goes, Takes, Gives, Ends, effect_of, effect_step, node_step, walker_step, seen_by, graph_start, graph_step, graph_after, graph_runs}
+use Rattle.flow_graph.specs.Lockstep.{Standing, free, threads_standings, WalkerMatches, Matches, StepsMatch}
+use Rattle.flow_graph.specs.Cutting.{Boundaries, IsEdge, IsBoundary, Begins, IsInside, stays, goes_on, ReadsAt, WritesAt, IsWrittenBefore, AreCuts}
+use Rattle.flow_graph.specs.Paths.{Element, expr_elements, target_elements, reads_of, stored_element, write_of, Visit, solo_path, ReadsElement, WritesElement, IsWithinRegion, IsReached, Lies, LiesInOne, LiesInWritten, StandsAtNode}
+use Rattle.flow_graph.proofs.Standing.{Does, chooses, repeats, node_at}
+use Rattle.flow_graph.proofs.Lockstep.{set_same, set_other, found_in, graph_is, lowered_nodes, begins_alike, steps_alike}
+use Rattle.flow_graph.proofs.Shapes.{ShapedAs, node_shaped}
+use Rattle.flow_graph.proofs.Lying.{contains_none, one_of_both, lies_scalar, lies_element, lies_expr, lies_target}
+
+-- ---- What a step is
+
+pub record Stepped (graph : Graph) (s next : FlowState) (t : ℕ) : Type 0 where
+  pub walker : Walker
+  pub found : slice_get s.walkers t ≡ Some walker
+  pub node : Node
+  pub at : slice_get graph.nodes walker.at ≡ Some node
+  pub effect : Effect
+  pub does : effect_of node.action (seen_by s walker) ≡ Some effect
+  pub is : g.done s t walker effect ≡ Some next
+
+by_effect : (graph : Graph) (s next : FlowState) (t : ℕ) (walker : Walker) (node : Node) (o : Option Effect) → slice_get s.walkers t ≡ Some walker →
+    slice_get graph.nodes walker.at ≡ Some node → effect_of node.action (seen_by s walker) ≡ o → effect_step s t walker o ≡ Some next → Stepped graph s next t
+by_effect graph s next t walker node None found at does is = cc
+by_effect graph s next t walker node (Some effect) found at does is =
+    record { walker = walker; found = found; node = node; at = at; effect = effect; does = does; is = is }
+
+by_node : (graph : Graph) (s next : FlowState) (t : ℕ) (walker : Walker) (o : Option Node) → slice_get s.walkers t ≡ Some walker →
+    slice_get graph.nodes walker.at ≡ o → node_step s t walker o ≡ Some next → Stepped graph s next t
+by_node graph s next t walker None found at is = cc
+by_node graph s next t walker (Some node) found at is =
+    by_effect graph s next t walker node (effect_of node.action (seen_by s walker)) found at refl is
+
+by_walker : (graph : Graph) (s next : FlowState) (t : ℕ) (o : Option Walker) → slice_get s.walkers t ≡ o → walker_step graph s t o ≡ Some next →
+    Stepped graph s next t
+by_walker graph s next t None found is = cc
+by_walker graph s next t (Some walker) found is = by_node graph s next t walker (slice_get graph.nodes walker.at) found refl is
+
+pub stepped : (graph : Graph) (s next : FlowState) (t : ℕ) → graph_step graph s t ≡ Some next → Stepped graph s next t
+stepped graph s next t h = by_walker graph s next t (slice_get s.walkers t) refl (sym (graph_is graph s t (slice_get s.walkers t) refl) ∙ h)
+
+-- the thread after an effect
+abbrev pub moved : Walker → Effect → Walker
+moved walker (Sets local number next) = record walker { at = next; locals = slice_set walker.locals local number }
+moved walker (Owes store next) = record walker { at = next; pending = Some store }
+moved walker (Makes store next) = record walker { at = next; pending = None }
+moved walker (Goes next) = record walker { at = next }
+moved walker (Takes mutex next) = record walker { at = next }
+moved walker (Gives mutex next) = record walker { at = next }
+moved walker Ends = record walker { ended = true }
+
+walkers_of : (a b : FlowState) → Some a ≡ Some b → b.walkers ≡ a.walkers
+walkers_of a b h = let is : a ≡ b = cc in ap (λ (s : FlowState). s.walkers) (sym is)
+
+after_taking : (s next : FlowState) (t mutex at : ℕ) (walker : Walker) (o : Option (Option ℕ)) →
+    (let step : Option FlowState = elim o [
+      | Some None ↦ Some (g.with_walker (g.with_holder s mutex (Some t)) t
+          (record walker { at = at }))
+      | _ ↦ None
+    ] in step ≡ Some next) →
+    next.walkers ≡ slice_set s.walkers t (record walker { at = at })
+after_taking s next t mutex at walker None h = cc
+after_taking s next t mutex at walker (Some (Some other)) h = cc
+after_taking s next t mutex at walker (Some None) h = walkers_of _ next h
+
+after_ending : (s next : FlowState) (t : ℕ) (walker : Walker) (b : Bool) →
+    (let step : Option FlowState = if b then None else Some (g.with_walker s t (record walker { ended = true })) in step ≡ Some next) →
+    next.walkers ≡ slice_set s.walkers t (record walker { ended = true })
+after_ending s next t walker true h = cc
+after_ending s next t walker false h = walkers_of _ next h
+
+pub walkers_after : (s next : FlowState) (t : ℕ) (walker : Walker) (effect : Effect) → g.done s t walker effect ≡ Some next →
+    next.walkers ≡ slice_set s.walkers t (moved walker effect)
+walkers_after s next t walker (Sets local number at) h = walkers_of _ next h
+walkers_after s next t walker (Owes store at) h = walkers_of _ next h
+walkers_after s next t walker (Makes store at) h = walkers_of _ next h
+walkers_after s next t walker (Goes at) h = walkers_of _ next h
+walkers_after s next t walker (Takes mutex at) h = after_taking s next t mutex at walker (slice_get s.holders mutex) h
+walkers_after s next t walker (Gives mutex at) h = walkers_of _ next h
+walkers_after s next t walker Ends h = after_ending s next t walker walker.ended h
+
+-- ---- Edges
+
+pending_same : (p q : Pending) → Some p ≡ Some q → p ≡ q
+pending_same p q h = cc
+
+effects_same : (a b : Effect) → Some a ≡ Some b → b ≡ a
+effects_same a b h = cc
+
+goes_store : (next : ℕ) (walker : Walker) (effect : Effect) (p : Option Pending) →
+    (let o : Option Effect = elim p [ Some store ↦ Some (Makes store next) | None ↦ None ] in o ≡ Some effect) →
+    Contains (next ∷ []) (moved walker effect).at ⊎ (effect ≡ Ends)
+goes_store next walker effect None h = cc
+goes_store next walker effect (Some store) h =
+    let P : Effect → Type 0 = λ z. Contains (next ∷ []) (moved walker z).at ⊎ (z ≡ Ends) in
+    subst P (sym (effects_same (Makes store next) effect h)) (inl (0, omega arith, refl))
+
+goes_test : (holds fails : ℕ) (walker : Walker) (effect : Effect) (b : Bool) → Some (Goes (if b then fails else holds)) ≡ Some effect →
+    Contains (holds ∷ fails ∷ []) (moved walker effect).at ⊎ (effect ≡ Ends)
+goes_test holds fails walker effect true h =
+    let P : Effect → Type 0 = λ z. Contains (holds ∷ fails ∷ []) (moved walker z).at ⊎ (z ≡ Ends) in
+    subst P (sym (effects_same (Goes fails) effect h)) (inl (1, omega arith, refl))
+goes_test holds fails walker effect false h =
+    let P : Effect → Type 0 = λ z. Contains (holds ∷ fails ∷ []) (moved walker z).at ⊎ (z ≡ Ends) in
+    subst P (sym (effects_same (Goes holds) effect h)) (inl (0, omega arith, refl))
+
+abbrev OnlyNext : ℕ → Walker → Effect → Type 0
+OnlyNext next walker effect = Contains (next ∷ []) (moved walker effect).at ⊎ (effect ≡ Ends)
+
+-- an effect goes on at one of the nodes behind, or it ends
+goes_by : (a : Action) (seen : Seen) (walker : Walker) (effect : Effect) → effect_of a seen ≡ Some effect →
+    Contains (successors a) (moved walker effect).at ⊎ (effect ≡ Ends)
+goes_by (Eval (e.ToLocal local kind) value next) seen walker effect h = subst (OnlyNext next walker) (sym (effects_same _ effect h)) (inl
+    (0, omega arith, refl))
+goes_by (Eval (e.ToVariable place variable kind) value next) seen walker effect h =
+    subst (OnlyNext next walker) (sym (effects_same _ effect h)) (inl (0, omega arith, refl))
+goes_by (Eval (e.ToElement place variable kind index) value next) seen walker effect h =
+    subst (OnlyNext next walker) (sym (effects_same _ effect h)) (inl (0, omega arith, refl))
+goes_by (Store variable kind next) seen walker effect h = goes_store next walker effect seen.pending h
+goes_by (Test condition holds fails) seen walker effect h = goes_test holds fails walker effect (is_zero (g.number_in seen condition.expr)) h
+goes_by (Lock mutex next) seen walker effect h = subst (OnlyNext next walker) (sym (effects_same _ effect h)) (inl (0, omega arith, refl))
+goes_by (Unlock mutex next) seen walker effect h = subst (OnlyNext next walker) (sym (effects_same _ effect h)) (inl (0, omega arith, refl))
+goes_by End seen walker effect h = inr (effects_same Ends effect h)
+
+after_is : (graph : Graph) (s next : FlowState) (t : ℕ) (st : Stepped graph s next t) (after : Walker) → slice_get next.walkers t ≡ Some after →
+    after ≡ moved st.walker st.effect
+after_is graph s next t st after h =
+    let there : slice_get next.walkers t ≡ Some (moved st.walker st.effect) =
+    ap (λ (ws : List Walker). slice_get ws t) (walkers_after s next t st.walker st.effect st.is)
+    ∙ set_same s.walkers t (moved st.walker st.effect) st.walker st.found in cc
+
+not_again : (s next : FlowState) (t : ℕ) (walker : Walker) (b : Bool) → b ≡ true →
+    (let step : Option FlowState = if b then None else Some (g.with_walker s t (record walker { ended = true })) in step ≡ Some next) → ⊥
+not_again s next t walker true e h = cc
+not_again s next t walker false e h = cc
+
+abbrev Done : FlowState → FlowState → ℕ → Walker → Effect → Type 0
+Done s next t walker effect = g.done s t walker effect ≡ Some next
+
+pub steps_go_along_edges : (graph : Graph) (s next : FlowState) (t : ℕ) (walker after : Walker) → graph_step graph s t ≡ Some next →
+    slice_get s.walkers t ≡ Some walker → slice_get next.walkers t ≡ Some after → after.ended ≡ walker.ended → IsEdge graph walker.at after.at
+steps_go_along_edges graph s next t walker after h found there live =
+    let st = stepped graph s next t h in
+    let same_walker : st.walker ≡ walker = let f = st.found in cc in
+    let is = after_is graph s next t st after there in
+    elim (goes_by st.node.action (seen_by s st.walker) st.walker st.effect st.does) [
+      | inl c ↦
+          let P : Walker → Type 0 = λ z. IsEdge graph z.at after.at in
+          let Q : Walker → Type 0 = λ z. Contains (successors st.node.action) z.at in
+          subst P same_walker (record { is = st.node; at = st.at; goes = subst Q (sym is) c })
+      | inr over ↦
+          let ended : after.ended ≡ true = ap (λ (z : Walker). z.ended) is ∙ ap (λ (z : Effect). (moved st.walker z).ended) over in
+          let was : st.walker.ended ≡ true = ap (λ (z : Walker). z.ended) same_walker ∙ (sym live ∙ ended) in
+          absurd (not_again s next t st.walker st.walker.ended was (subst (Done s next t st.walker) over st.is))
+    ]
+
+-- ---- What every run keeps
+
+-- the store that is pending at a node lies in what the node writes
+pub record OwesThere (x : f.Flat) (at : ℕ) (p : Pending) : Type 0 where
+  pub node : Node
+  pub here : slice_get (threads_nodes x.threads 0) at ≡ Some node
+  pub lies : LiesInWritten node.writes (stored_element p)
+
+pub record Good (x : f.Flat) (s : FlowState) : Type 0 where
+  pub source : m.State
+  pub matches : Matches x s source
+  pub formed : IsStateOf x source
+  pub owes : (t : ℕ) (walker : Walker) (p : Pending) → slice_get s.walkers t ≡ Some walker → walker.pending ≡ Some p → OwesThere x walker.at p
+
+all_at : {X : Type 0} (P : X → Type 0) (xs : List X) (k : ℕ) (y : X) → AllByRecursion P xs → slice_get xs k ≡ Some y → P y
+all_at P [] k y h e = cc
+all_at P (x ∷ xs) zero y h e = let is : x ≡ y = cc in subst P is h.0
+all_at P (x ∷ xs) (suc k) y h e = all_at P xs k y h.1 e
+
+bounded : (x : f.Flat) → IsWellFormed x → (variable : ℕ) (it : Variable) → slice_get x.variables variable ≡ Some it → elements_in it.length ≤ most_elements
+bounded x w variable it h = (all_at (IsVariable (length x.mutexes)) x.variables variable it w.shared.variables h).not_too_long
+
+module _ (x : f.Flat) (w : IsWellFormed x) (s : FlowState) (good : Good x s) (t : ℕ) (walker : Walker) (found : slice_get s.walkers t ≡ Some walker) where
+  abbrev all : List Standing
+  all = threads_standings x.threads
+
+  abbrev nodes : List Node
+  nodes = threads_nodes x.threads 0
+
+  abbrev Own : m.Thread → Type 0
+  Own thread = Pair (λ (u : f.Thread) (own : m.Thread). IsThreadOf x u.locals own) x.threads t thread
+
+  pub record Here : Type 0 where
+    pub thread : m.Thread
+    pub match : WalkerMatches x walker thread
+    pub own : Own thread
+
+  here : Here
+  here =
+      let there = found_in good.source.threads t (omega (arith, good.matches.count, slice_get_within s.walkers t walker found)) in
+      record {
+        thread = there.0;
+        match = good.matches.each t walker there.0 found there.1;
+        own = zip_found (λ (u : f.Thread) (own : m.Thread). IsThreadOf x u.locals own) x.threads good.source.threads t there.0 good.formed.threads there.1;
+      }
+
+  abbrev standing : Here → Standing
+  standing h = record { left = h.thread.left; owes = is_some h.thread.pending }
+
+  does_at : (h : Here) (node : Node) → slice_get nodes walker.at ≡ Some node → Does all node.action (standing h)
+  does_at h node at =
+      let n = node_at x walker.at (standing h) w.threads h.match.stands in
+      let same_node : n.0 ≡ node = let e = n.1 in cc in
+      let P : Node → Type 0 = λ z. Does all z.action (standing h) in
+      subst P same_node n.2
+
+  free_idle : (h : Here) (rest : List f.Statement) (q : Pending) → standing h ≡ free rest → walker.pending ≡ Some q → ⊥
+  free_idle h rest q is p =
+      let a : is_some h.thread.pending ≡ false = ap (λ (z : Standing). z.owes) is in
+      let b : true ≡ is_some h.thread.pending = ap is_some (sym p ∙ h.match.pending) in cc
+
+  left_formed : (h : Here) (y : f.Statement) (rest : List f.Statement) → standing h ≡ free (y ∷ rest) → IsFlatStatement x h.own.it.locals y
+  left_formed h y rest is =
+      let left : h.thread.left ≡ y ∷ rest = ap (λ (z : Standing). z.left) is in
+      let kept = subst (AllByRecursion (IsLeft x h.own.it.locals)) left h.own.related.left in
+      kept.0.1
+
+  test_formed : (h : Here) (condition : e.Placed) (holds fails : ℕ) → Does all (Test condition holds fails) (standing h) →
+      IsFlatPlaced x h.own.it.locals condition
+  test_formed h condition holds fails d = elim d [
+    | chooses place body arms otherwise rest is a b ↦ (left_formed h (f.If place (f.arm_and condition body arms) otherwise) rest is).1.0
+    | repeats place body rest is a b ↦ (left_formed h (f.While place condition body) rest is).0
+  ]
+
+  locals_held : (h : Here) → AllZip Holds h.own.it.locals walker.locals
+  locals_held h = let P : List ℤ → Type 0 = λ ls. AllZip Holds h.own.it.locals ls in subst P (sym h.match.locals) h.own.related.locals
+
+  variables_held : AllZip AreNumbersOf x.variables s.variables
+  variables_held = let P : List (List ℤ) → Type 0 = λ ns. AllZip AreNumbersOf x.variables ns in subst P (sym good.matches.variables) good.formed.variables
+
+  -- ---- Locations
+
+  reads_lie_by : (h : Here) (node : Node) (a : Action) (one : Element) → Does all a (standing h) → ShapedAs nodes node a →
+      Contains (reads_of a (seen_by s walker)) one → LiesInOne node.reads one
+  reads_lie_by h node (Eval target value next) one d shape c =
+      let formed = left_formed h (f.Assign d.place target value) d.rest d.is in
+      let ks = h.own.it.locals in
+      let P : List Location → Type 0 = λ ls. LiesInOne ls one in
+      subst P (sym shape.reads) (one_of_both (target_elements target (seen_by s walker)) (expr_elements value.expr (seen_by s walker)) (target_reads target)
+      (expr_reads value.expr) one
+      (lies_target x.variables ks walker.locals s.variables (locals_held h) variables_held (bounded x w) target walker.pending one formed.0.0 formed.0.1)
+      (lies_expr x.variables ks walker.locals s.variables (locals_held h) variables_held (bounded x w) value.expr walker.pending one formed.1.0 formed.1.1) c)
+  reads_lie_by h node (Store variable kind next) one d shape c = absurd (contains_none one c)
+  reads_lie_by h node (Test condition holds fails) one d shape c =
+      let formed = test_formed h condition holds fails d in
+      let P : List Location → Type 0 = λ ls. LiesInOne ls one in
+      subst P (sym shape.reads)
+      (lies_expr x.variables h.own.it.locals walker.locals s.variables (locals_held h) variables_held
+      (bounded x w) condition.expr walker.pending one formed.0 formed.1 c)
+  reads_lie_by h node (Lock mutex next) one d shape c = absurd (contains_none one c)
+  reads_lie_by h node (Unlock mutex next) one d shape c = absurd (contains_none one c)
+  reads_lie_by h node End one d shape c = absurd (contains_none one c)
+
+  pub reads_lie_here : (node : Node) (one : Element) → slice_get nodes walker.at ≡ Some node → Contains (reads_of node.action (seen_by s walker)) one →
+      LiesInOne node.reads one
+  reads_lie_here node one at c = reads_lie_by here node node.action one (does_at here node at) (node_shaped x walker.at node at) c
+
+  stored_lies : (node : Node) (o : Option Pending) (one : Element) → slice_get nodes walker.at ≡ Some node → walker.pending ≡ o →
+      option_map stored_element o ≡ Some one → LiesInWritten node.writes one
+  stored_lies node None one at is h = cc
+  stored_lies node (Some p) one at is h =
+      let owes = good.owes t walker p found is in
+      let same_node : owes.node ≡ node = let e = owes.here in cc in
+      let same_one : stored_element p ≡ one = cc in
+      let P : Node → Type 0 = λ z. LiesInWritten z.writes one in
+      let Q : Element → Type 0 = λ z. LiesInWritten owes.node.writes z in
+      subst P same_node (subst Q same_one owes.lies)
+
+  writes_lie_by : (node : Node) (a : Action) (one : Element) → slice_get nodes walker.at ≡ Some node → write_of a (seen_by s walker) ≡ Some one →
+      LiesInWritten node.writes one
+  writes_lie_by node (Eval target value next) one at h = cc
+  writes_lie_by node (Store variable kind next) one at h = stored_lies node walker.pending one at refl h
+  writes_lie_by node (Test condition holds fails) one at h = cc
+  writes_lie_by node (Lock mutex next) one at h = cc
+  writes_lie_by node (Unlock mutex next) one at h = cc
+  writes_lie_by node End one at h = cc
+
+  pub writes_lie_here : (node : Node) (one : Element) → slice_get nodes walker.at ≡ Some node → write_of node.action (seen_by s walker) ≡ Some one →
+      LiesInWritten node.writes one
+  writes_lie_here node one at h = writes_lie_by node node.action one at h
+
+  -- ---- The store that is pending behind a step
+
+  abbrev Owing : Effect → Type 0
+  Owing effect = (q : Pending) → (moved walker effect).pending ≡ Some q → OwesThere x (moved walker effect).at q
+
+  owes_stored : (next : ℕ) (effect : Effect) (o : Option Pending) →
+      (let step : Option Effect = elim o [ Some store ↦ Some (Makes store next) | None ↦ None ] in step ≡ Some effect) → Owing effect
+  owes_stored next effect None h = cc
+  owes_stored next effect (Some store) h = subst Owing (sym (effects_same (Makes store next) effect h)) (λ q i. cc)
+
+  owes_by : (h : Here) (node : Node) (a : Action) (effect : Effect) → Does all a (standing h) → ShapedAs nodes node a →
+      effect_of a (seen_by s walker) ≡ Some effect →
+      Owing effect
+  owes_by h node (Eval (e.ToLocal local kind) value next) effect d shape is = subst Owing (sym (effects_same _ effect is)) (λ q i. absurd
+      (free_idle h _ q d.is i))
+  owes_by h node (Eval (e.ToVariable place variable kind) value next) effect d shape is = subst Owing (sym (effects_same _ effect is))
+      (λ q i.
+      let P : Pending → Type 0 = λ z. OwesThere x next z in
+      subst P (pending_same _ q i) (record {
+        node = shape.owed.node;
+        here = shape.owed.at;
+        lies = record { location = scalar variable; of = shape.owed.writes; lies = lies_scalar variable };
+      }))
+  owes_by h node (Eval (e.ToElement place variable kind index) value next) effect d shape is = subst Owing (sym (effects_same _ effect is))
+      (λ q i.
+      let formed = left_formed h (f.Assign d.place (e.ToElement place variable kind index) value) d.rest d.is in
+      let P : Pending → Type 0 = λ z. OwesThere x next z in
+      subst P (pending_same _ q i) (record {
+        node = shape.owed.node;
+        here = shape.owed.at;
+        lies = record {
+          location = elements variable (range_of index.expr);
+          of = shape.owed.writes;
+          lies = lies_element x.variables h.own.it.locals walker.locals s.variables (locals_held h) variables_held
+              (bounded x w) variable kind index.place index.expr
+              formed.0.0.0 formed.0.0.1 formed.0.1.0;
+        };
+      }))
+  owes_by h node (Store variable kind next) effect d shape is = owes_stored next effect walker.pending is
+  owes_by h node (Test condition holds fails) effect d shape is = subst Owing (sym (effects_same _ effect is))
+      (λ q i. elim d [
+        | chooses place body arms otherwise rest free a b ↦ absurd (free_idle h _ q free i)
+        | repeats place body rest free a b ↦ absurd (free_idle h _ q free i)
+      ])
+  owes_by h node (Lock mutex next) effect d shape is = subst Owing (sym (effects_same _ effect is)) (λ q i. absurd (free_idle h _ q d.is i))
+  owes_by h node (Unlock mutex next) effect d shape is = subst Owing (sym (effects_same _ effect is)) (λ q i. absurd (free_idle h _ q d.is i))
+  owes_by h node End effect d shape is = subst Owing (sym (effects_same _ effect is)) (λ q i. absurd (free_idle h _ q d i))
+
+  pub owes_here : (node : Node) (effect : Effect) → slice_get nodes walker.at ≡ Some node → effect_of node.action (seen_by s walker) ≡ Some effect →
+      Owing effect
+  owes_here node effect at is = owes_by here node node.action effect (does_at here node at) (node_shaped x walker.at node at) is
+
+-- ---- Runs
+
+nodes_at : (x : f.Flat) (k : ℕ) (node : Node) → NodeAt (lowered x) k node → slice_get (threads_nodes x.threads 0) k ≡ Some node
+nodes_at x k node h = ap (λ (ns : List Node). slice_get ns k) (sym (lowered_nodes x)) ∙ h
+
+at_nodes : (x : f.Flat) (k : ℕ) (node : Node) → slice_get (threads_nodes x.threads 0) k ≡ Some node → NodeAt (lowered x) k node
+at_nodes x k node h = ap (λ (ns : List Node). slice_get ns k) (lowered_nodes x) ∙ h
+
+matched : (x : f.Flat) (next : FlowState) (o : Option m.State) → StepsMatch x (Some next) o → (after : m.State) × (o ≡ Some after) × Matches x next after
+matched x next None h = absurd h
+matched x next (Some after) h = (after, refl, h)
+
+pub good_step : (x : f.Flat) (s next : FlowState) (t : ℕ) → IsWellFormed x → Good x s → graph_step (lowered x) s t ≡ Some next → Good x next
+good_step x s next t w good h =
+    let st = stepped (lowered x) s next t h in
+    let P : Option FlowState → Type 0 = λ o. StepsMatch x o (m.source_step good.source t) in
+    let after = matched x next (m.source_step good.source t) (subst P h (steps_alike x s good.source t w good.matches)) in
+    let set = walkers_after s next t st.walker st.effect st.is in
+    record {
+      source = after.0;
+      matches = after.2;
+      formed = stays_so x good.source after.0 t good.formed after.1;
+      owes = λ k walker p there is. ⊎_elim
+          (λ same_thread.
+          let there' : slice_get next.walkers t ≡ Some walker = ap (slice_get next.walkers) (sym same_thread) ∙ there in
+          let is_moved = after_is (lowered x) s next t st walker there' in
+          let Q : Walker → Type 0 = λ z. OwesThere x z.at p in
+          subst Q (sym is_moved) (owes_here x w s good t st.walker st.found st.node st.effect (nodes_at x st.walker.at st.node st.at) st.does p
+          (ap (λ (z : Walker). z.pending) (sym is_moved) ∙ is)))
+          (λ differs.
+          good.owes k walker p (sym (set_other s.walkers t k (moved st.walker st.effect) differs)
+          ∙ (ap (λ (ws : List Walker). slice_get ws k) (sym set) ∙ there)) is)
+          (cases_eq k t);
+    }
+
+start_idle : (ps : List Part) (k : ℕ) (walker : Walker) → slice_get (map g.walker_start ps) k ≡ Some walker → walker.pending ≡ None
+start_idle [] k walker h = cc
+start_idle (p ∷ ps) zero walker h = let is : g.walker_start p ≡ walker = cc in ap (λ (z : Walker). z.pending) (sym is)
+start_idle (p ∷ ps) (suc k) walker h = start_idle ps k walker h
+
+good_start : (x : f.Flat) → IsWellFormed x → Good x (graph_start (lowered x) x)
+good_start x w = record {
+  source = m.start x;
+  matches = begins_alike x w;
+  formed = begins_so x w;
+  owes = λ t walker p there is. let none = start_idle (lowered x).threads t walker there in cc;
+}
+
+abbrev after_by : Graph → FlowState → List ℕ → Option FlowState → FlowState
+after_by graph s ts o = elim o [
+  | None ↦ s
+  | Some next ↦ graph_after graph next ts
+]
+
+good_by : (x : f.Flat) (s : FlowState) (t : ℕ) (ts : List ℕ) (o : Option FlowState) → IsWellFormed x → Good x s → graph_step (lowered x) s t ≡ o →
+    ((next : FlowState) → Good x next → Good x (graph_after (lowered x) next ts)) → Good x (after_by (lowered x) s ts o)
+good_by x s t ts None w good h more = good
+good_by x s t ts (Some next) w good h more = more next (good_step x s next t w good h)
+
+good_after : (x : f.Flat) (schedule : List ℕ) → IsWellFormed x → (s : FlowState) → Good x s → Good x (graph_after (lowered x) s schedule)
+good_after x [] w s good = good
+good_after x (t ∷ ts) w s good = good_by x s t ts (graph_step (lowered x) s t) w good refl (good_after x ts w)
+
+pub good_reached : (x : f.Flat) (s : FlowState) → IsWellFormed x → IsReached x s → Good x s
+good_reached x s w r = subst (Good x) (sym r.is) (good_after x r.schedule w (graph_start (lowered x) x) (good_start x w))
+
+pub reads_lie : (x : f.Flat) (s : FlowState) (thread : ℕ) (walker : Walker) (node : Node) (read : Element) → IsWellFormed x →
+    StandsAtNode x s thread walker node →
+    Contains (reads_of node.action (seen_by s walker)) read → LiesInOne node.reads read
+reads_lie x s thread walker node read w st c =
+    reads_lie_here x w s (good_reached x s w st.reached) thread walker st.found node read (nodes_at x walker.at node st.at) c
+
+pub writes_lie : (x : f.Flat) (s : FlowState) (thread : ℕ) (walker : Walker) (node : Node) (written : Element) → IsWellFormed x →
+    StandsAtNode x s thread walker node → write_of node.action (seen_by s walker) ≡ Some written → LiesInWritten node.writes written
+writes_lie x s thread walker node written w st h =
+    writes_lie_here x w s (good_reached x s w st.reached) thread walker st.found node written (nodes_at x walker.at node st.at) h
+
+-- ---- Solo paths
+
+ends_store : (next : ℕ) (o : Option Pending) →
+    (let step : Option Effect = elim o [ Some store ↦ Some (Makes store next) | None ↦ None ] in step ≡ Some Ends) → ⊥
+ends_store next None h = cc
+ends_store next (Some p) h = cc
+
+ends_at_end : (a : Action) (seen : Seen) → effect_of a seen ≡ Some Ends → a ≡ End
+ends_at_end (Eval (e.ToLocal local kind) value next) seen h = cc
+ends_at_end (Eval (e.ToVariable place variable kind) value next) seen h = cc
+ends_at_end (Eval (e.ToElement place variable kind index) value next) seen h = cc
+ends_at_end (Store variable kind next) seen h = absurd (ends_store next seen.pending h)
+ends_at_end (Test condition holds fails) seen h = cc
+ends_at_end (Lock mutex next) seen h = cc
+ends_at_end (Unlock mutex next) seen h = cc
+ends_at_end End seen h = refl
+
+-- a visit of a path: the thread stands there in a state that a run may reach, and makes a step
+pub record IsVisit (x : f.Flat) (t : ℕ) (v : Visit) : Type 0 where
+  pub good : Good x v.before
+  pub found : slice_get v.before.walkers t ≡ Some v.walker
+  pub next : FlowState
+  pub step : graph_step (lowered x) v.before t ≡ Some next
+
+abbrev path_by : Graph → FlowState → (t n : ℕ) → Option Walker → Option FlowState → List Visit
+path_by graph s t n o p = elim o [
+  | None ↦ []
+  | Some walker ↦ elim p [
+    | None ↦ []
+    | Some next ↦ record { walker = walker; before = s } ∷ solo_path graph next t n
+  ]
+]
+
+-- the first visit begins in that state
+first_by : (graph : Graph) (s : FlowState) (t n : ℕ) (o : Option Walker) (p : Option FlowState) (v : Visit) →
+    slice_get (path_by graph s t n o p) 0 ≡ Some v → v.before ≡ s
+first_by graph s t n None p v h = cc
+first_by graph s t n (Some walker) None v h = cc
+first_by graph s t n (Some walker) (Some next) v h =
+    let is : (let made : Visit = record { walker = walker; before = s } in made ≡ v) = cc in ap (λ (z : Visit). z.before) (sym is)
+
+first_before : (graph : Graph) (s : FlowState) (t n : ℕ) (v : Visit) → slice_get (solo_path graph s t n) 0 ≡ Some v → v.before ≡ s
+first_before graph s t zero v h = cc
+first_before graph s t (suc n) v h = first_by graph s t n (slice_get s.walkers t) (graph_step graph s t) v h
+
+module _ (x : f.Flat) (w : IsWellFormed x) (t : ℕ) where
+  abbrev of_form : Graph
+  of_form = lowered x
+
+  visit_by : (s : FlowState) (n : ℕ) (o : Option Walker) (p : Option FlowState) → Good x s → slice_get s.walkers t ≡ o → graph_step of_form s t ≡ p →
+      ((next : FlowState) → Good x next → (i : ℕ) (v : Visit) → slice_get (solo_path of_form next t n) i ≡ Some v → IsVisit x t v) →
+      (i : ℕ) (v : Visit) → slice_get (path_by of_form s t n o p) i ≡ Some v → IsVisit x t v
+  visit_by s n None p good found step more i v h = cc
+  visit_by s n (Some walker) None good found step more i v h = cc
+  visit_by s n (Some walker) (Some next) good found step more zero v h =
+      let is : (let made : Visit = record { walker = walker; before = s } in made ≡ v) = cc in
+      subst (IsVisit x t) is (record { good = good; found = found; next = next; step = step })
+  visit_by s n (Some walker) (Some next) good found step more (suc i) v h = more next (good_step x s next t w good step) i v h
+
+  visits : (n : ℕ) (s : FlowState) → Good x s → (i : ℕ) (v : Visit) → slice_get (solo_path of_form s t n) i ≡ Some v → IsVisit x t v
+  visits zero s good i v h = cc
+  visits (suc n) s good i v h = visit_by s n (slice_get s.walkers t) (graph_step of_form s t) good refl refl (visits n) i v h
+
+  -- each visit's step leads to the next
+  link_by : (s : FlowState) (n : ℕ) (o : Option Walker) (p : Option FlowState) → graph_step of_form s t ≡ p →
+      ((next : FlowState) → (i : ℕ) (one other : Visit) → slice_get (solo_path of_form next t n) i ≡ Some one →
+      slice_get (solo_path of_form next t n) (suc i) ≡ Some other →
+      graph_step of_form one.before t ≡ Some other.before) →
+      (i : ℕ) (one other : Visit) → slice_get (path_by of_form s t n o p) i ≡ Some one → slice_get (path_by of_form s t n o p) (suc i) ≡ Some other →
+      graph_step of_form one.before t ≡ Some other.before
+  link_by s n None p step more i one other h k = cc
+  link_by s n (Some walker) None step more i one other h k = cc
+  link_by s n (Some walker) (Some next) step more zero one other h k =
+      let is : (let made : Visit = record { walker = walker; before = s } in made ≡ one) = cc in
+      let P : Visit → Type 0 = λ z. graph_step of_form z.before t ≡ Some other.before in
+      subst P is (step ∙ ap Some (sym (first_before of_form next t n other k)))
+  link_by s n (Some walker) (Some next) step more (suc i) one other h k = more next i one other h k
+
+  links : (n : ℕ) (s : FlowState) (i : ℕ) (one other : Visit) → slice_get (solo_path of_form s t n) i ≡ Some one →
+      slice_get (solo_path of_form s t n) (suc i) ≡ Some other →
+      graph_step of_form one.before t ≡ Some other.before
+  links zero s i one other h k = cc
+  links (suc n) s i one other h k = link_by s n (slice_get s.walkers t) (graph_step of_form s t) refl (links n) i one other h k
+
+  -- at an end that is done there is no step
+  no_more_steps : (s next after : FlowState) (walker : Walker) (st : Stepped of_form s next t) → st.effect ≡ Ends → slice_get next.walkers t ≡ Some walker →
+      graph_step of_form next t ≡ Some after → ⊥
+  no_more_steps s next after walker st over there again =
+      let st' = stepped of_form next after t again in
+      let is : walker ≡ moved st.walker Ends = after_is of_form s next t st walker there ∙ ap (moved st.walker) over in
+      let same_walker : st'.walker ≡ walker = let g = st'.found in cc in
+      let same_at : st'.walker.at ≡ st.walker.at = ap (λ (z : Walker). z.at) (same_walker ∙ is) in
+      let same_node : st'.node ≡ st.node = let a = ap (slice_get of_form.nodes) same_at in let b = st.at in let c = st'.at in cc in
+      let ended : st'.walker.ended ≡ true = ap (λ (z : Walker). z.ended) (same_walker ∙ is) in
+      let action : st.node.action ≡ End = ends_at_end st.node.action (seen_by s st.walker) (st.does ∙ ap Some over) in
+      let over' : st'.effect ≡ Ends =
+      effects_same Ends st'.effect (ap (λ (a : Action). effect_of a (seen_by next st'.walker)) (sym (ap (λ (z : Node). z.action) same_node
+      ∙ action)) ∙ st'.does) in
+      not_again next after t st'.walker st'.walker.ended ended (subst (Done next after t st'.walker) over' st'.is)
+
+  edges : (n : ℕ) (s : FlowState) → Good x s → (i : ℕ) (one other : Visit) → slice_get (solo_path of_form s t n) i ≡ Some one →
+      slice_get (solo_path of_form s t n) (suc i) ≡ Some other → IsEdge of_form one.walker.at other.walker.at
+  edges n s good i one other h k =
+      let v = visits n s good i one h in
+      let u = visits n s good (suc i) other k in
+      let step = links n s i one other h k in
+      let st = stepped of_form one.before other.before t step in
+      let is = after_is of_form one.before other.before t st other.walker u.found in
+      elim (goes_by st.node.action (seen_by one.before st.walker) st.walker st.effect st.does) [
+        | inl c ↦
+            let same_walker : st.walker ≡ one.walker = let g = st.found in let b = v.found in cc in
+            let P : Walker → Type 0 = λ z. IsEdge of_form z.at other.walker.at in
+            let Q : Walker → Type 0 = λ z. Contains (successors st.node.action) z.at in
+            subst P same_walker (record { is = st.node; at = st.at; goes = subst Q (sym is) c })
+        | inr over ↦ absurd (no_more_steps one.before other.before u.next other.walker st over u.found u.step)
+      ]
+
+-- ---- Solo paths and runs
+
+abbrev runs_by : Graph → List ℕ → Option FlowState → Bool
+runs_by graph ts o = elim o [
+  | None ↦ false
+  | Some next ↦ graph_runs graph next ts
+]
+
+pub record RunsTo (graph : Graph) (s : FlowState) (t steps : ℕ) (to : FlowState) : Type 0 where
+  pub whole : graph_runs graph s (replicate steps t) ≡ true
+  pub after : graph_after graph s (replicate steps t) ≡ to
+
+run_by : (graph : Graph) (s : FlowState) (t n : ℕ) (o : Option Walker) (p : Option FlowState) → graph_step graph s t ≡ p →
+    ((next : FlowState) (i : ℕ) (v : Visit) → slice_get (solo_path graph next t n) i ≡ Some v → RunsTo graph next t i v.before) →
+    (i : ℕ) (v : Visit) → slice_get (path_by graph s t n o p) i ≡ Some v → RunsTo graph s t i v.before
+run_by graph s t n None p step more i v h = cc
+run_by graph s t n (Some walker) None step more i v h = cc
+run_by graph s t n (Some walker) (Some next) step more zero v h =
+    let is : (let made : Visit = record { walker = walker; before = s } in made ≡ v) = cc in
+    record { whole = refl; after = ap (λ (z : Visit). z.before) is }
+run_by graph s t n (Some walker) (Some next) step more (suc i) v h =
+    let rest = more next i v h in
+    record {
+      whole = ap (runs_by graph (replicate i t)) step ∙ rest.whole;
+      after = ap (after_by graph s (replicate i t)) step ∙ rest.after;
+    }
+
+-- a visit of a path is behind as many steps as there are before it
+pub path_runs : (graph : Graph) (t n : ℕ) (s : FlowState) (i : ℕ) (v : Visit) → slice_get (solo_path graph s t n) i ≡ Some v → RunsTo graph s t i v.before
+path_runs graph t zero s i v h = cc
+path_runs graph t (suc n) s i v h = run_by graph s t n (slice_get s.walkers t) (graph_step graph s t) refl (path_runs graph t n) i v h
+
+-- only a thread that is there has a step
+abbrev walker_or_none : Option Walker → Option FlowState → Type 0
+walker_or_none None (Some next) = ⊥
+walker_or_none None None = Unit {0}
+walker_or_none (Some walker) p = Unit {0}
+
+steps_of_some : (graph : Graph) (s : FlowState) (t : ℕ) (o : Option Walker) (p : Option FlowState) → slice_get s.walkers t ≡ o → graph_step graph s t ≡ p →
+    walker_or_none o p
+steps_of_some graph s t None None e h = tt
+steps_of_some graph s t None (Some next) e h = let none : graph_step graph s t ≡ None = graph_is graph s t None e in cc
+steps_of_some graph s t (Some walker) p e h = tt
+
+-- where so many steps can be made, the path has so many visits
+length_by : (graph : Graph) (s : FlowState) (t n : ℕ) (o : Option Walker) (p : Option FlowState) → walker_or_none o p →
+    ((next : FlowState) → graph_runs graph next (replicate n t) ≡ true → length (solo_path graph next t n) ≡ n) →
+    runs_by graph (replicate n t) p ≡ true → length (path_by graph s t n o p) ≡ suc n
+length_by graph s t n None None e more h = cc
+length_by graph s t n None (Some next) e more h = absurd e
+length_by graph s t n (Some walker) None e more h = cc
+length_by graph s t n (Some walker) (Some next) e more h = ap suc (more next h)
+
+pub length-solo_path : (graph : Graph) (t n : ℕ) (s : FlowState) → graph_runs graph s (replicate n t) ≡ true → length (solo_path graph s t n) ≡ n
+length-solo_path graph t zero s h = refl
+length-solo_path graph t (suc n) s h =
+    length_by graph s t n (slice_get s.walkers t) (graph_step graph s t) (steps_of_some graph s t (slice_get s.walkers t)
+    (graph_step graph s t) refl refl) (length-solo_path graph t n) h
+
+-- ---- Regions
+
+numbers : List Visit → List ℕ
+numbers path = map (λ (v : Visit). v.walker.at) path
+
+number_at : (path : List Visit) (i : ℕ) (v : Visit) → slice_get path i ≡ Some v → slice_get (numbers path) i ≡ Some v.walker.at
+unfolding numbers
+number_at [] i v h = cc
+number_at (y ∷ path) zero v h = let is : y ≡ v = cc in ap (λ (z : Visit). Some z.walker.at) is
+number_at (y ∷ path) (suc i) v h = number_at path i v h
+
+visit_at : (path : List Visit) (i node : ℕ) → slice_get (numbers path) i ≡ Some node → (v : Visit) × (slice_get path i ≡ Some v) × (v.walker.at ≡ node)
+unfolding numbers
+visit_at [] i node h = cc
+visit_at (y ∷ path) zero node h = (y, refl, cc)
+visit_at (y ∷ path) (suc i) node h = visit_at path i node h
+
+inside : (graph : Graph) (b : Boundaries) (v : Visit) (path : List Visit) →
+    ((i : ℕ) (one next : Visit) → slice_get (v ∷ path) i ≡ Some one → slice_get (v ∷ path) (suc i) ≡ Some next → IsEdge graph one.walker.at next.walker.at) →
+    ((i : ℕ) (one next : Visit) → slice_get (v ∷ path) i ≡ Some one → slice_get (v ∷ path) (suc i) ≡ Some next →
+    ¬ (IsBoundary graph b one.walker.at next.walker.at)) →
+    IsInside graph b (v.walker.at ∷ numbers path)
+unfolding numbers
+inside graph b v [] edge free = stays v.walker.at
+inside graph b v (u ∷ path) edge free =
+    goes_on v.walker.at u.walker.at (numbers path) (edge 0 v u refl refl) (free 0 v u refl refl)
+    (inside graph b u path (λ i one next h k. edge (suc i) one next h k) (λ i one next h k. free (suc i) one next h k))
+
+-- ---- Locations of one element
+
+overlaps : (l r : Location) (one : Element) → Lies l one → Lies r one → overlap l r ≡ true
+overlaps l r one h k =
+    let v : l.variable ≡ r.variable = h.variable ∙ sym k.variable in
+    let a : l.lo ≤ r.hi = omega (arith, h.from_lo, k.to_hi) in
+    let b : r.lo ≤ l.hi = omega (arith, k.from_lo, h.to_hi) in
+    grind (arith, nat_tests)
+
+record IsSame (l r : Location) : Type 0 where
+  variable : l.variable ≡ r.variable
+  left : l.lo ≡ l.hi
+  right : r.lo ≡ r.hi
+  both : l.lo ≡ r.lo
+
+same_is : (l r : Location) → same l r ≡ true → IsSame l r
+same_is l r h = record {
+  variable = grind (arith, nat_tests);
+  left = grind (arith, nat_tests);
+  right = grind (arith, nat_tests);
+  both = grind
+      (arith, nat_tests);
+}
+
+very_same : (l r : Location) (one other : Element) → same l r ≡ true → Lies l one → Lies r other → one ≡ other
+very_same l r one other s h k =
+    let is = same_is l r s in
+    let v : one.variable ≡ other.variable = sym h.variable ∙ (is.variable ∙ k.variable) in
+    let n : one.element ≡ other.element = omega (arith, is.left, is.right, is.both, h.from_lo, h.to_hi, k.from_lo, k.to_hi) in
+    λ i. record { variable = v i; element = n i }
+
+lies_in : (ls : Option Location) (l : Location) (one : Element) → LiesInWritten ls one → ls ≡ Some l → Lies l one
+lies_in ls l one h is =
+    let of = h.of in
+    let same_location : h.location ≡ l = cc in
+    let P : Location → Type 0 = λ z. Lies z one in
+    subst P same_location h.lies
+
+-- ---- Reads are right
+
+lower : (i j : ℕ) → i ≤ j → i ≢ j → i < j
+lower zero zero h d = absurd (d refl)
+lower zero (suc j) h d = omega arith
+lower (suc i) zero h d = absurd (omega arith)
+lower (suc i) (suc j) h d = let below : i < j = lower i j (omega arith) (λ e. d (ap suc e)) in omega arith
+
+not_both : (a : Action) (seen : Seen) (one other : Element) → Contains (reads_of a seen) one → write_of a seen ≡ Some other → ⊥
+not_both (Eval target value next) seen one other c h = cc
+not_both (Store variable kind next) seen one other c h = contains_none one c
+not_both (Test condition holds fails) seen one other c h = cc
+not_both (Lock mutex next) seen one other c h = cc
+not_both (Unlock mutex next) seen one other c h = cc
+not_both End seen one other c h = cc
+
+stored_by : (o : Option Pending) (next : ℕ) (effect : Effect) →
+    (let step : Option Effect = elim o [ Some store ↦ Some (Makes store next) | None ↦ None ] in step ≡ Some effect) →
+    (one : Element) × (option_map stored_element o ≡ Some one)
+stored_by None next effect h = cc
+stored_by (Some p) next effect h = (stored_element p, refl)
+
+-- a node that writes, and makes a step, writes an element
+written_by : (ns : List Node) (a : Action) (node : Node) (seen : Seen) (effect : Effect) (l : Location) → ShapedAs ns node a → node.writes ≡ Some l →
+    effect_of a seen ≡ Some effect →
+    (one : Element) × (write_of a seen ≡ Some one)
+written_by ns (Eval target value next) node seen effect l shape h is = let none = shape.writes in cc
+written_by ns (Store variable kind next) node seen effect l shape h is = stored_by seen.pending next effect is
+written_by ns (Test condition holds fails) node seen effect l shape h is = let none = shape.writes in cc
+written_by ns (Lock mutex next) node seen effect l shape h is = cc
+written_by ns (Unlock mutex next) node seen effect l shape h is = cc
+written_by ns End node seen effect l shape h is = cc
+
+module _ (x : f.Flat) (w : IsWellFormed x) (t : ℕ) (visit : Visit) (v : IsVisit x t visit) (node : Node) (at : NodeAt (lowered x) visit.walker.at node) where
+  does_here : (st : Stepped (lowered x) visit.before v.next t) → effect_of node.action (seen_by visit.before visit.walker) ≡ Some st.effect
+  does_here st =
+      let found = st.found in
+      let same_walker : st.walker ≡ visit.walker = let there = v.found in cc in
+      let same_node : st.node ≡ node = let here = st.at in let moved_at = ap (λ (z : Walker). slice_get (lowered x).nodes z.at) same_walker in cc in
+      let P : Node → Type 0 = λ z. effect_of z.action (seen_by visit.before visit.walker) ≡ Some st.effect in
+      let Q : Walker → Type 0 = λ z. effect_of st.node.action (seen_by visit.before z) ≡ Some st.effect in
+      subst P same_node (subst Q same_walker st.does)
+
+  writes_here : (l : Location) (made : Element) → node.writes ≡ Some l → write_of node.action (seen_by visit.before visit.walker) ≡ Some made → Lies l made
+  writes_here l made is h =
+      lies_in node.writes l made (writes_lie_here x w visit.before v.good t visit.walker v.found node made (nodes_at x visit.walker.at node at) h) is
+
+  written_at : (l r : Location) (one : Element) → node.writes ≡ Some l → same l r ≡ true → Lies r one →
+      write_of node.action (seen_by visit.before visit.walker) ≡ Some one
+  written_at l r one is alike lies =
+      let st = stepped (lowered x) visit.before v.next t v.step in
+      let made = written_by (threads_nodes x.threads 0) node.action node (seen_by visit.before visit.walker) st.effect l
+      (node_shaped x visit.walker.at node (nodes_at x visit.walker.at node at)) is (does_here st) in
+      made.1 ∙ ap Some (very_same l r made.0 one alike (writes_here l made.0 is made.1) lies)
+
+module _ (x : f.Flat) (b : Boundaries) (s : FlowState) (t n : ℕ) (w : IsWellFormed x) (cuts : AreCuts (lowered x) b) (good : Good x s)
+    (region : IsWithinRegion (lowered x) b (solo_path (lowered x) s t n)) where
+  abbrev path : List Visit
+  path = solo_path (lowered x) s t n
+
+  -- a whole path that has a visit is inside of a region
+  region_of : (vs : List Visit) → vs ≡ path → (i : ℕ) (v : Visit) → slice_get vs i ≡ Some v →
+      (from : ℕ) × (rest : List ℕ) × (numbers path ≡ from ∷ rest) × Begins (lowered x) b from × IsInside (lowered x) b (from ∷ rest)
+  unfolding numbers
+  region_of [] is i v h = cc
+  region_of (u ∷ vs) is i v h = (
+    u.walker.at,
+    numbers vs,
+    ap numbers (sym is),
+    region.begins u (ap (λ (p : List Visit). slice_get p 0) (sym is)),
+    inside (lowered x) b u vs
+        (λ j one next a c. edges x w t n s good j one next (ap (λ (p : List Visit). slice_get p j) (sym is)
+        ∙ a) (ap (λ (p : List Visit). slice_get p (suc j)) (sym is) ∙ c))
+        (λ j one next a c. region.inside j one next (ap (λ (p : List Visit). slice_get p j) (sym is)
+        ∙ a) (ap (λ (p : List Visit). slice_get p (suc j)) (sym is) ∙ c)),
+  )
+
+  read_location : (i : ℕ) (one : Element) (r : ReadsElement (lowered x) path i one) → LiesInOne r.is.reads one
+  read_location i one r =
+      let v = visits x w t n s good i r.visit r.there in
+      reads_lie_here x w r.visit.before v.good t r.visit.walker v.found r.is one (nodes_at x r.visit.walker.at r.is r.at) r.reads
+
+  write_location : (j : ℕ) (one : Element) (r : WritesElement (lowered x) path j one) → LiesInWritten r.is.writes one
+  write_location j one r =
+      let v = visits x w t n s good j r.visit r.there in
+      writes_lie_here x w r.visit.before v.good t r.visit.walker v.found r.is one (nodes_at x r.visit.walker.at r.is r.at) r.writes
+
+  apart : (i j : ℕ) (one other : Element) → ReadsElement (lowered x) path i one → WritesElement (lowered x) path j other → i ≢ j
+  apart i j one other r q same_place =
+      let there : slice_get path j ≡ Some r.visit = ap (slice_get path) (sym same_place) ∙ r.there in
+      let same_visit : r.visit ≡ q.visit = let h = q.there in cc in
+      let same_node : r.is ≡ q.is =
+      let a = r.at in let c = q.at in let d = ap (λ (v : Visit). slice_get (lowered x).nodes v.walker.at) same_visit in cc in
+      let P : Node → Type 0 = λ z. write_of z.action (seen_by q.visit.before q.visit.walker) ≡ Some other in
+      let Q : Visit → Type 0 = λ z. write_of r.is.action (seen_by z.before z.walker) ≡ Some other in
+      not_both r.is.action (seen_by r.visit.before r.visit.walker) one other r.reads (subst Q (sym same_visit) (subst P (sym same_node) q.writes))
+
+  -- what was written at a node that writes the very element
+  written_there : (k : ℕ) (l r : Location) (one : Element) → WritesAt (lowered x) (numbers path) k l → same l r ≡ true → Lies r one →
+      WritesElement (lowered x) path k one
+  written_there k l r one q is lies =
+      let found = visit_at path k q.node q.there in
+      let at : NodeAt (lowered x) found.0.walker.at q.is = ap (slice_get (lowered x).nodes) found.2 ∙ q.at in
+      record {
+        visit = found.0;
+        is = q.is;
+        there = found.1;
+        at = at;
+        writes = written_at x w t found.0 (visits x w t n s good k found.0 found.1) q.is at l r one q.writes is lies;
+      }
+
+  right : (i j : ℕ) (one : Element) → i ≤ j → ReadsElement (lowered x) path i one → WritesElement (lowered x) path j one →
+      (k : ℕ) × (k < i) × WritesElement (lowered x) path k one
+  right i j one le r q =
+      let within = region_of path refl i r.visit r.there in
+      let read = read_location i one r in
+      let wrote = write_location j one q in
+      let differs = apart i j one one r q in
+      let earlier : i < j = ⊎_elim (λ same_place. absurd (differs same_place)) (λ other. lower i j le other) (cases_eq i j) in
+      let P : List ℕ → Type 0 = λ ns. ReadsAt (lowered x) ns i read.location in
+      let Q : List ℕ → Type 0 = λ ns. WritesAt (lowered x) ns j wrote.location in
+      let R : List ℕ → Type 0 = λ ns. IsWrittenBefore (lowered x) ns i read.location in
+      let reads : ReadsAt (lowered x) (numbers path) i read.location =
+      record { node = r.visit.walker.at; is = r.is; there = number_at path i r.visit r.there; at = r.at; reads = read.of } in
+      let writes : WritesAt (lowered x) (numbers path) j wrote.location =
+      record { node = q.visit.walker.at; is = q.is; there = number_at path j q.visit q.there; at = q.at; writes = wrote.of } in
+      let before = subst R (sym within.2) (cuts.idempotent within.0 within.1 within.3 within.4 i j read.location wrote.location earlier
+      (subst P within.2 reads)
+      (subst Q within.2 writes) (overlaps wrote.location read.location one wrote.lies read.lies)) in
+      (before.earlier, before.before, written_there before.earlier before.written read.location one before.writes before.is read.lies)
+
+pub reads_are_right : (x : f.Flat) (b : Boundaries) (s : FlowState) (thread steps : ℕ) → IsWellFormed x → AreCuts (lowered x) b → IsReached x s →
+    IsWithinRegion (lowered x) b (solo_path (lowered x) s thread steps) → (i j : ℕ) (one : Element) → i ≤ j →
+    ReadsElement (lowered x) (solo_path (lowered x) s thread steps) i one → WritesElement (lowered x) (solo_path (lowered x) s thread steps) j one →
+    (k : ℕ) × (k < i) × WritesElement (lowered x) (solo_path (lowered x) s thread steps) k one
+reads_are_right x b s thread steps w cuts reached region i j one le r q = right x b s thread steps w cuts (good_reached x s w reached) region i j one le r q

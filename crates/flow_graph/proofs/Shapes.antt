@@ -1,0 +1,221 @@
+-- The nodes of a flat form's graph have the locations that their expressions read, and an evaluation for a variable has its store behind it.
+use Rattle.std.proofs.Common.{◌≡◌, refl, ℕ, zero, suc, ◌+◌, List, [], ◌∷◌, ◌++◌, length, ◌∙◌, ap, ap₂, sym, subst, arith, Some, None, length-append}
+use Rattle.std.specs.Prelude.{slice_get}
+use Rattle.std.specs.List.{AllByRecursion}
+use Rattle.ido_base.specs.declared.place.Place.{Place}
+use Rattle.ido_base.specs.declared.location.Location.{Location}
+use Rattle.c_tree.specs.Exprs as e
+use Rattle.c_tree.specs.Flats as f
+use Rattle.c_tree.specs.Ranges.{range_of}
+use Rattle.flow_graph.specs.Nodes.{Action, Eval, Store, Test, Lock, Unlock, End, Node}
+use Rattle.flow_graph.specs.Lowering.{expr_reads, target_reads, elements, scalar, test_node, plain_node, assign_nodes, assign_count, count, statements_count, arms_count, thread_count, entry, statement_nodes, statements_nodes, arms_nodes, thread_nodes, threads_nodes}
+
+-- ---- As many nodes as are counted
+
+length-assign_nodes : (target : e.Target) (place : Place) (value : e.Placed) (first next : ℕ) →
+    length (assign_nodes place target value first next) ≡ assign_count target
+length-assign_nodes (e.ToLocal local kind) place value first next = refl
+length-assign_nodes (e.ToVariable name variable kind) place value first next = refl
+length-assign_nodes (e.ToElement name variable kind index) place value first next = refl
+
+mutual
+  length-statement_nodes : (x : f.Statement) (first next : ℕ) → length (statement_nodes x first next) ≡ count x
+  length-statement_nodes (f.Assign place target value) first next = length-assign_nodes target place value first next
+  length-statement_nodes (f.If place arms otherwise) first next =
+      let last = entry (statements_count otherwise) (first + arms_count arms) next in
+      length-append (arms_nodes arms place last first next) (statements_nodes otherwise (first + arms_count arms) next)
+      ∙ ap₂ ◌+◌ (length-arms_nodes arms place last first next) (length-statements_nodes otherwise (first + arms_count arms) next)
+  length-statement_nodes (f.While place condition body) first next = ap suc (length-statements_nodes body (suc first) first)
+  length-statement_nodes (f.Do place body condition) first next =
+      omega (
+        arith,
+        length-append (statements_nodes body first (first + statements_count body))
+            (test_node place condition first next ∷ []),
+        length-statements_nodes body first (first + statements_count body),
+      )
+  length-statement_nodes (f.Lock place mutex) first next = refl
+  length-statement_nodes (f.Unlock place mutex) first next = refl
+
+  length-statements_nodes : (xs : f.Statements) (first next : ℕ) → length (statements_nodes xs first next) ≡ statements_count xs
+  length-statements_nodes f.no_statement first next = refl
+  length-statements_nodes (f.statement_and x rest) first next =
+      let behind = entry (statements_count rest) (first + count x) next in
+      length-append (statement_nodes x first behind) (statements_nodes rest (first + count x) next)
+      ∙ ap₂ ◌+◌ (length-statement_nodes x first behind) (length-statements_nodes rest (first + count x) next)
+
+  length-arms_nodes : (xs : f.Arms) (place : Place) (last first next : ℕ) → length (arms_nodes xs place last first next) ≡ arms_count xs
+  length-arms_nodes f.no_arm place last first next = refl
+  length-arms_nodes (f.arm_and condition body rest) place last first next =
+      let behind = suc first + statements_count body in
+      ap suc (length-append (statements_nodes body (suc first) next) (arms_nodes rest place last behind next)
+      ∙ ap₂ ◌+◌ (length-statements_nodes body (suc first) next) (length-arms_nodes rest place last behind next))
+
+length-thread_nodes : (t : f.Thread) (first : ℕ) → length (thread_nodes t first) ≡ thread_count t
+length-thread_nodes t first =
+    let end = first + statements_count t.body in
+    omega (arith, length-append (statements_nodes t.body first end) (plain_node t.closing End ∷ []), length-statements_nodes t.body first end)
+
+-- ---- Nodes among others, from a place on
+
+get_front : {X : Type 0} (xs ys : List X) (k : ℕ) (x : X) → slice_get xs k ≡ Some x → slice_get (xs ++ ys) k ≡ Some x
+get_front [] ys k x h = cc
+get_front (y ∷ xs) ys zero x h = h
+get_front (y ∷ xs) ys (suc k) x h = get_front xs ys k x h
+
+get_back : {X : Type 0} (xs ys : List X) (k : ℕ) (x : X) → slice_get ys k ≡ Some x → slice_get (xs ++ ys) (length xs + k) ≡ Some x
+get_back [] ys k x h = let e : 0 + k ≡ k = omega arith in ap (slice_get ys) e ∙ h
+get_back (y ∷ xs) ys k x h =
+    let e : suc (length xs) + k ≡ suc (length xs + k) = omega arith in
+    ap (slice_get (y ∷ (xs ++ ys))) e ∙ get_back xs ys k x h
+
+at_same : (all : List Node) (n m : ℕ) (s : Node) → n ≡ m → slice_get all n ≡ Some s → slice_get all m ≡ Some s
+at_same all n m s h a = ap (slice_get all) (sym h) ∙ a
+
+record Has (all : List Node) (first : ℕ) (xs : List Node) : Type 0 where
+  each : (k : ℕ) (s : Node) → slice_get xs k ≡ Some s → slice_get all (first + k) ≡ Some s
+
+has_front : (all : List Node) (first : ℕ) (xs ys : List Node) → Has all first (xs ++ ys) → Has all first xs
+has_front all first xs ys h = record { each = λ k s g. h.each k s (get_front xs ys k s g) }
+
+has_back : (all : List Node) (first n : ℕ) (xs ys : List Node) → length xs ≡ n → Has all first (xs ++ ys) → Has all (first + n) ys
+has_back all first n xs ys e h = record {
+  each = λ k s g. at_same all (first + (length xs + k)) (first + n + k) s (omega (arith, e)) (h.each (length xs + k) s (get_back xs ys k s g));
+}
+
+has_tail : (all : List Node) (first : ℕ) (x : Node) (xs : List Node) → Has all first (x ∷ xs) → Has all (suc first) xs
+has_tail all first x xs h = record { each = λ k s g. at_same all (first + suc k) (suc first + k) s (omega arith) (h.each (suc k) s g) }
+
+has_head : (all : List Node) (first : ℕ) (x : Node) (xs : List Node) → Has all first (x ∷ xs) → slice_get all first ≡ Some x
+has_head all first x xs h = at_same all (first + 0) first x (omega arith) (h.each 0 x refl)
+
+-- ---- Shapes
+
+pub record WritesThere (all : List Node) (next : ℕ) (l : Location) : Type 0 where
+  pub node : Node
+  pub at : slice_get all next ≡ Some node
+  pub writes : node.writes ≡ Some l
+
+abbrev pub OwedAt : List Node → e.Target → (next : ℕ) → Type 0
+OwedAt all (e.ToLocal local kind) next = Unit {0}
+OwedAt all (e.ToVariable place variable kind) next = WritesThere all next (scalar variable)
+OwedAt all (e.ToElement place variable kind index) next = WritesThere all next (elements variable (range_of index.expr))
+
+pub record EvalShape (all : List Node) (target : e.Target) (value : e.Placed) (next : ℕ) (n : Node) : Type 0 where
+  pub reads : n.reads ≡ target_reads target ++ expr_reads value.expr
+  pub writes : n.writes ≡ None
+  pub owed : OwedAt all target next
+
+pub record TestShape (condition : e.Placed) (n : Node) : Type 0 where
+  pub reads : n.reads ≡ expr_reads condition.expr
+  pub writes : n.writes ≡ None
+
+abbrev pub ShapedAs : List Node → Node → Action → Type 0
+ShapedAs all n (Eval target value next) = EvalShape all target value next n
+ShapedAs all n (Store variable kind next) = Unit {0}
+ShapedAs all n (Test condition holds fails) = TestShape condition n
+ShapedAs all n (Lock mutex next) = n.writes ≡ None
+ShapedAs all n (Unlock mutex next) = n.writes ≡ None
+ShapedAs all n End = n.writes ≡ None
+
+abbrev pub AllShaped : List Node → List Node → Type 0
+AllShaped all ns = AllByRecursion (λ (n : Node). ShapedAs all n n.action) ns
+
+module _ (all : List Node) where
+  joined : (ns ms : List Node) → AllShaped all ns → AllShaped all ms → AllShaped all (ns ++ ms)
+  joined [] ms h k = k
+  joined (n ∷ ns) ms h k = (h.0, joined ns ms h.1 k)
+
+  shaped_assign : (target : e.Target) (place : Place) (value : e.Placed) (first next : ℕ) → Has all first (assign_nodes place target value first next) →
+      AllShaped all (assign_nodes place target value first next)
+  shaped_assign (e.ToLocal local kind) place value first next h = (record { reads = refl; writes = refl; owed = tt }, tt)
+  shaped_assign (e.ToVariable name variable kind) place value first next h = (
+    record {
+      reads = refl;
+      writes = refl;
+      owed = record {
+        node = _;
+        at = has_head all (suc first) _ _
+            (has_tail all first _ _ h);
+        writes = refl;
+      };
+    },
+    (tt, tt),
+  )
+  shaped_assign (e.ToElement name variable kind index) place value first next h = (
+    record {
+      reads = refl;
+      writes = refl;
+      owed = record {
+        node = _;
+        at = has_head all (suc first) _ _
+            (has_tail all first _ _ h);
+        writes = refl;
+      };
+    },
+    (tt, tt),
+  )
+
+  mutual
+    shaped : (y : f.Statement) (first next : ℕ) → Has all first (statement_nodes y first next) → AllShaped all (statement_nodes y first next)
+    shaped (f.Assign place target value) first next h = shaped_assign target place value first next h
+    shaped (f.If place arms otherwise) first next h =
+        let last = entry (statements_count otherwise) (first + arms_count arms) next in
+        let front = arms_nodes arms place last first next in
+        let back = statements_nodes otherwise (first + arms_count arms) next in
+        joined front back (shaped_arms arms place last first next (has_front all first front back h))
+        (shaped_all otherwise (first + arms_count arms) next (has_back all first (arms_count arms) front back
+        (length-arms_nodes arms place last first next) h))
+    shaped (f.While place condition body) first next h =
+        (record { reads = refl; writes = refl }, shaped_all body (suc first) first (has_tail all first _ _ h))
+    shaped (f.Do place body condition) first next h =
+        let front = statements_nodes body first (first + statements_count body) in
+        joined front (test_node place condition first next ∷ []) (shaped_all body first (first + statements_count body) (has_front all first front _ h))
+        (record { reads = refl; writes = refl }, tt)
+    shaped (f.Lock place mutex) first next h = (refl, tt)
+    shaped (f.Unlock place mutex) first next h = (refl, tt)
+
+    shaped_all : (ys : f.Statements) (first next : ℕ) → Has all first (statements_nodes ys first next) → AllShaped all (statements_nodes ys first next)
+    shaped_all f.no_statement first next h = tt
+    shaped_all (f.statement_and y rest) first next h =
+        let behind = entry (statements_count rest) (first + count y) next in
+        let front = statement_nodes y first behind in
+        let back = statements_nodes rest (first + count y) next in
+        joined front back (shaped y first behind (has_front all first front back h))
+        (shaped_all rest (first + count y) next (has_back all first (count y) front back (length-statement_nodes y first behind) h))
+
+    shaped_arms : (arms : f.Arms) (place : Place) (last first next : ℕ) → Has all first (arms_nodes arms place last first next) →
+        AllShaped all (arms_nodes arms place last first next)
+    shaped_arms f.no_arm place last first next h = tt
+    shaped_arms (f.arm_and condition body rest) place last first next h =
+        let inner = has_tail all first _ _ h in
+        let front = statements_nodes body (suc first) next in
+        let back = arms_nodes rest place last (suc first + statements_count body) next in (
+          record { reads = refl; writes = refl },
+          joined front back (shaped_all body (suc first) next (has_front all (suc first) front back inner))
+              (shaped_arms rest place last (suc first + statements_count body) next
+              (has_back all (suc first) (statements_count body) front back (length-statements_nodes body (suc first) next) inner)),
+        )
+
+  shaped_threads : (ts : List f.Thread) (first : ℕ) → Has all first (threads_nodes ts first) → AllShaped all (threads_nodes ts first)
+  shaped_threads [] first h = tt
+  shaped_threads (t ∷ ts) first h =
+      let own = thread_nodes t first in
+      let back = threads_nodes ts (first + thread_count t) in
+      let front = statements_nodes t.body first (first + statements_count t.body) in
+      joined own back
+      (joined front (plain_node t.closing End ∷ [])
+      (shaped_all t.body first (first + statements_count t.body) (has_front all first front _ (has_front all first own back h))) (refl, tt))
+      (shaped_threads ts (first + thread_count t) (has_back all first (thread_count t) own back (length-thread_nodes t first) h))
+
+shaped_at : (all ns : List Node) (k : ℕ) (n : Node) → AllShaped all ns → slice_get ns k ≡ Some n → ShapedAs all n n.action
+shaped_at all [] k n h g = cc
+shaped_at all (m ∷ ns) zero n h g =
+    let same : m ≡ n = cc in
+    let P : Node → Type 0 = λ z. ShapedAs all z z.action in
+    subst P same h.0
+shaped_at all (m ∷ ns) (suc k) n h g = shaped_at all ns k n h.1 g
+
+pub node_shaped : (x : f.Flat) (k : ℕ) (n : Node) → slice_get (threads_nodes x.threads 0) k ≡ Some n → ShapedAs (threads_nodes x.threads 0) n n.action
+node_shaped x k n g =
+    let all = threads_nodes x.threads 0 in
+    shaped_at all all k n (shaped_threads all x.threads 0 (record { each = λ i s h. at_same all i (0 + i) s (omega arith) h })) g

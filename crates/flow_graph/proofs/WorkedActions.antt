@@ -1,0 +1,118 @@
+-- Worked rows: steps of threads through a graph.
+use Rattle.std.proofs.Common.{◌≡◌, ℕ, [], ◌∷◌, Some, None, true, false, refl, List, map}
+use Rattle.std.specs.Prelude.{pos, codes}
+use Rattle.ido_base.specs.declared.place.Place.{Place}
+use Rattle.ido_ints.specs.declared.kinds.Kind.TheVariants as kind
+use Rattle.ido_ints.specs.declared.operators.Binary.TheVariants as b
+use Rattle.ido_ints.specs.Typed.{typed}
+use Rattle.ido_ints.specs.Reduction.{residue, from_least_on}
+use Rattle.c_tree.specs.Exprs as e
+use Rattle.c_tree.specs.Flats as f
+use Rattle.flow_graph.specs.Nodes.{Eval, Store, Test}
+use Rattle.flow_graph.specs.Lowering.{lowered}
+use Rattle.flow_graph.specs.Actions.{Sets, Owes, Goes, Seen, effect_of, FlowState, graph_start, graph_step, graph_after, graph_runs, graph_ended, seen_by}
+use Rattle.flow_graph.specs.Paths.{Visit, element, reads_of, write_of, solo_path}
+
+abbrev at : ℕ → Place
+at place = record { 0 = place }
+
+abbrev placed : e.Expr → e.Placed
+placed x = record { place = at 0; expr = x }
+
+abbrev int : ℕ → e.Expr
+int n = e.Constant (typed kind.Int (pos n))
+
+-- ---- Effects
+
+-- two locals, no store pending, and one variable of two elements
+abbrev seen : Seen
+seen = record { locals = pos 3 ∷ pos 0 ∷ []; pending = None; variables = (pos 7 ∷ pos 8 ∷ []) ∷ [] }
+
+-- what is kept in a local is converted to its kind
+sets : effect_of (Eval (e.ToLocal 1 kind.UnsignedInt) (placed (e.Binary b.Sub (e.Local 1 kind.Int) (int 1))) 5) seen ≡ Some (Sets 1 (pos 4294967295) 5)
+unfolding residue from_least_on
+sets = refl
+
+-- the index is evaluated with the value
+owes : effect_of (Eval (e.ToElement (at 0) 0 kind.Int (placed (int 1))) (placed (e.Local 0 kind.Int)) 6) seen ≡
+    Some (Owes (record { variable = 0; element = 1; number = pos 3 }) 6)
+unfolding residue from_least_on
+owes = refl
+
+-- no store is pending
+no_store : effect_of (Store 0 kind.Int 7) seen ≡ None
+no_store = refl
+
+fails : effect_of (Test (placed (e.Local 1 kind.Int)) 8 9) seen ≡ Some (Goes 9)
+fails = refl
+
+-- ---- A run
+
+-- `mutex m; persistent(m) long x = 5; thread t { lock(m); x = 6; unlock(m); }`
+abbrev section : f.Flat
+section = record {
+  mutexes = record { text = codes "m"; place = at 6 } ∷ [];
+  variables = record { name = record { text = codes "x"; place = at 28 }; guard = 0; kind = kind.Long; length = None; initial = pos 5 ∷ [] } ∷ [];
+  threads = record {
+    name = record { text = codes "t"; place = at 42 };
+    locals = [];
+    body = f.statement_and (f.Lock (at 46) 0)
+        (f.statement_and (f.Assign (at 55) (e.ToVariable (at 55) 0 kind.Long) (placed (e.Converted kind.Long (int 6))))
+        (f.statement_and (f.Unlock (at 66) 0) f.no_statement));
+    closing = at 77;
+  } ∷ [];
+}
+
+abbrev start : FlowState
+start = graph_start (lowered section) section
+
+-- the value is evaluated by the second step and stored by the third
+evaluated : graph_after (lowered section) start (0 ∷ 0 ∷ []) ≡ record {
+  variables = (pos 5 ∷ []) ∷ [];
+  holders = Some 0 ∷ [];
+  walkers = record { at = 2; locals = []; pending = Some (record { variable = 0; element = 0; number = pos 6 }); ended = false } ∷ [];
+}
+unfolding lowered graph_step residue from_least_on
+evaluated = refl
+
+whole : graph_after (lowered section) start (0 ∷ 0 ∷ 0 ∷ 0 ∷ 0 ∷ []) ≡ record {
+  variables = (pos 6 ∷ []) ∷ [];
+  holders = None ∷ [];
+  walkers = record { at = 4; locals = []; pending = None; ended = true } ∷ [];
+}
+unfolding lowered graph_step residue from_least_on
+whole = refl
+
+-- five steps, and no sixth
+runs : graph_runs (lowered section) start (0 ∷ 0 ∷ 0 ∷ 0 ∷ 0 ∷ []) ≡ true
+unfolding lowered graph_step residue from_least_on
+runs = refl
+
+no_sixth : graph_runs (lowered section) start (0 ∷ 0 ∷ 0 ∷ 0 ∷ 0 ∷ 0 ∷ []) ≡ false
+unfolding lowered graph_step residue from_least_on
+no_sixth = refl
+
+one_section : graph_ended (lowered section) start (0 ∷ 0 ∷ 0 ∷ 0 ∷ 0 ∷ []) 0 ≡ 1
+unfolding lowered graph_step residue from_least_on
+one_section = refl
+
+-- ---- The thread's own way
+
+abbrev way : List Visit
+way = solo_path (lowered section) start 0 9
+
+-- five nodes, and no more
+way_nodes : map (λ (v : Visit). v.walker.at) way ≡ 0 ∷ 1 ∷ 2 ∷ 3 ∷ 4 ∷ []
+unfolding lowered graph_step residue from_least_on
+way_nodes = refl
+
+-- the third writes the element
+written : map (λ (v : Visit). write_of (Store 0 kind.Long 3) (seen_by v.before v.walker)) way ≡ None ∷ None ∷ Some (element 0 0) ∷ None ∷ None ∷ []
+unfolding lowered graph_step residue from_least_on
+written = refl
+
+-- both parts of a choice are read
+read : reads_of (Test (placed (e.Conditional kind.Int (e.Variable (at 0) 0 kind.Int) (e.Element (at 0) 1 kind.Int (at 0) (int 3)) (e.Variable
+    (at 0) 2 kind.Int))) 0 0) seen ≡
+    element 0 0 ∷ element 1 3 ∷ element 2 0 ∷ []
+read = refl

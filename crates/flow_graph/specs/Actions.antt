@@ -1,0 +1,163 @@
+-- What the nodes of a flow graph do, and what a step of a thread through the graph is. No register, no line and no log is in it.
+use Rattle.std.specs.Prelude.{ℕ, ◌+◌, List, [], ◌∷◌, length, map, replicate, slice_get, slice_set, slice_index_or, Option, Some, None, Bool, true, false, not, ◌&&◌, if◌then◌else◌, ℤ, pos}
+use Rattle.ido_base.specs.Locks.{holds_none}
+use Rattle.ido_ints.specs.Operators.{is_zero}
+use Rattle.ido_ints.specs.Reduction.{reduced}
+use Rattle.c_tree.specs.Exprs.{Expr, ToLocal, ToVariable, ToElement}
+use Rattle.c_tree.specs.Values.{element_at, value}
+use Rattle.c_tree.specs.Programs.{Variable}
+use Rattle.c_tree.specs.Flats as f
+use Rattle.c_tree.specs.Source.{Pending}
+use Rattle.flow_graph.specs.declared.graph.Part.{Part}
+use Rattle.flow_graph.specs.Nodes.{Action, Eval, Store, Test, Lock, Unlock, End, Node, Graph}
+
+-- ---- Effects: what a node does, from the numbers of locals and variables and from what store is pending
+
+pub data Effect : Type 0 where
+  -- a local takes the number
+  Sets : (local : ℕ) → (number : ℤ) → (next : ℕ) → Effect
+  -- the store is pending
+  Owes : Pending → (next : ℕ) → Effect
+  -- the pending store is made
+  Makes : Pending → (next : ℕ) → Effect
+  -- nothing but the place changes
+  Goes : (next : ℕ) → Effect
+  Takes : (mutex next : ℕ) → Effect
+  Gives : (mutex next : ℕ) → Effect
+  -- the thread's last step
+  Ends : Effect
+
+-- what a node sees
+pub record Seen : Type 0 where
+  pub locals : List ℤ
+  pub pending : Option Pending
+  pub variables : List (List ℤ)
+
+abbrev pub number_in : Seen → Expr → ℤ
+number_in seen x = (value seen.locals seen.variables x).number
+
+abbrev pub element_in : Seen → Expr → ℕ
+element_in seen x = element_at (value seen.locals seen.variables x)
+
+-- a store is made only where one is pending
+abbrev pub effect_of : Action → Seen → Option Effect
+effect_of (Eval (ToLocal local kind) x next) seen = Some (Sets local (reduced kind (number_in seen x.expr)) next)
+effect_of (Eval (ToVariable place variable kind) x next) seen =
+    Some (Owes (record { variable = variable; element = 0; number = reduced kind (number_in seen x.expr) }) next)
+effect_of (Eval (ToElement place variable kind index) x next) seen =
+    Some (Owes (record { variable = variable; element = element_in seen index.expr; number = reduced kind (number_in seen x.expr) }) next)
+effect_of (Store variable kind next) seen = elim seen.pending [
+  | Some store ↦ Some (Makes store next)
+  | None ↦ None
+]
+effect_of (Test condition holds fails) seen = Some (Goes (if is_zero (number_in seen condition.expr) then fails else holds))
+effect_of (Lock mutex next) seen = Some (Takes mutex next)
+effect_of (Unlock mutex next) seen = Some (Gives mutex next)
+effect_of End seen = Some Ends
+
+-- ---- States
+
+-- a thread on its way through the graph
+pub record Walker : Type 0 where
+  -- the node that it does next
+  pub at : ℕ
+  pub locals : List ℤ
+  pub pending : Option Pending
+  -- its last step is done
+  pub ended : Bool
+
+pub record FlowState : Type 0 where
+  -- of each variable the numbers of its elements
+  pub variables : List (List ℤ)
+  -- of each mutex the thread that holds it, or none
+  pub holders : List (Option ℕ)
+  pub walkers : List Walker
+
+-- a thread begins at its first node; a local is assigned before it is read
+abbrev pub walker_start : Part → Walker
+walker_start part = record { at = part.first; locals = replicate part.locals (pos 0); pending = None; ended = false }
+
+-- the variables and mutexes are those of the flat form: initial numbers, all free
+abbrev pub graph_start : Graph → f.Flat → FlowState
+graph_start g x = record {
+  variables = map (λ (v : Variable). v.initial) x.variables;
+  holders = replicate (length x.mutexes) None;
+  walkers = map walker_start g.threads;
+}
+
+-- ---- Steps
+
+abbrev pub with_walker : FlowState → ℕ → Walker → FlowState
+with_walker s t walker = record s { walkers = slice_set s.walkers t walker }
+
+abbrev pub with_holder : FlowState → (mutex : ℕ) → Option ℕ → FlowState
+with_holder s mutex holder = record s { holders = slice_set s.holders mutex holder }
+
+abbrev pub stored : FlowState → Pending → FlowState
+stored s p = record s { variables = slice_set s.variables p.variable (slice_set (slice_index_or s.variables p.variable []) p.element p.number) }
+
+abbrev pub seen_by : FlowState → Walker → Seen
+seen_by s walker = record { locals = walker.locals; pending = walker.pending; variables = s.variables }
+
+-- the state after what thread t does; none where it can't be done now: a mutex isn't free, or the thread has ended
+abbrev pub done : FlowState → ℕ → Walker → Effect → Option FlowState
+done s t walker (Sets local number next) = Some (with_walker s t (record walker { at = next; locals = slice_set walker.locals local number }))
+done s t walker (Owes store next) = Some (with_walker s t (record walker { at = next; pending = Some store }))
+done s t walker (Makes store next) = Some (with_walker (stored s store) t (record walker { at = next; pending = None }))
+done s t walker (Goes next) = Some (with_walker s t (record walker { at = next }))
+done s t walker (Takes mutex next) = elim (slice_get s.holders mutex) [
+  | Some None ↦ Some (with_walker (with_holder s mutex (Some t)) t (record walker { at = next }))
+  | _ ↦ None
+]
+done s t walker (Gives mutex next) = Some (with_walker (with_holder s mutex None) t (record walker { at = next }))
+done s t walker Ends = if walker.ended then None else Some (with_walker s t (record walker { ended = true }))
+
+abbrev pub effect_step : FlowState → ℕ → Walker → Option Effect → Option FlowState
+effect_step s t walker (Some effect) = done s t walker effect
+effect_step s t walker None = None
+
+abbrev pub node_step : FlowState → ℕ → Walker → Option Node → Option FlowState
+node_step s t walker (Some node) = effect_step s t walker (effect_of node.action (seen_by s walker))
+node_step s t walker None = None
+
+abbrev pub walker_step : Graph → FlowState → ℕ → Option Walker → Option FlowState
+walker_step g s t (Some walker) = node_step s t walker (slice_get g.nodes walker.at)
+walker_step g s t None = None
+
+-- the state after a step of thread t; none where there is no such step
+unfoldable pub graph_step : Graph → FlowState → ℕ → Option FlowState
+graph_step g s t = walker_step g s t (slice_get s.walkers t)
+
+-- ---- Runs
+
+-- the state after the longest front of a schedule that can be stepped
+abbrev pub graph_after : Graph → FlowState → (schedule : List ℕ) → FlowState
+graph_after g s [] = s
+graph_after g s (t ∷ ts) = elim (graph_step g s t) [
+  | None ↦ s
+  | Some next ↦ graph_after g next ts
+]
+
+-- the whole schedule can be stepped
+abbrev pub graph_runs : Graph → FlowState → (schedule : List ℕ) → Bool
+graph_runs g s [] = true
+graph_runs g s (t ∷ ts) = elim (graph_step g s t) [
+  | None ↦ false
+  | Some next ↦ graph_runs g next ts
+]
+
+-- the thread stands between sections
+abbrev pub is_between : FlowState → (thread : ℕ) → Bool
+is_between s thread = holds_none s.holders thread
+
+-- a step from the one state to the other ends a section of the thread
+abbrev pub ends_section : FlowState → FlowState → (thread : ℕ) → ℕ
+ends_section before after thread = if not (is_between before thread) && is_between after thread then 1 else 0
+
+-- how many sections of the thread end in the longest front of a schedule that can be stepped
+abbrev pub graph_ended : Graph → FlowState → (schedule : List ℕ) → (thread : ℕ) → ℕ
+graph_ended g s [] thread = 0
+graph_ended g s (t ∷ ts) thread = elim (graph_step g s t) [
+  | None ↦ 0
+  | Some next ↦ ends_section s next thread + graph_ended g next ts thread
+]

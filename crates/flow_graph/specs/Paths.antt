@@ -1,0 +1,160 @@
+-- The way of one thread alone through a graph, and which elements are read and written on it.
+use Rattle.std.specs.Prelude.{◌≡◌, ℕ, zero, suc, ◌<◌, ◌≤◌, List, [], ◌∷◌, ◌++◌, length, replicate, slice_get, Contains, Option, Some, None, true}
+use Rattle.std.specs.Option.{option_map}
+use Rattle.ido_base.specs.declared.location.Location.{Location}
+use Rattle.c_tree.specs.Exprs as e
+use Rattle.c_tree.specs.Flats as f
+use Rattle.c_tree.specs.Source.{Pending}
+use Rattle.c_tree.specs.WellFormed.{IsWellFormed}
+use Rattle.flow_graph.specs.Nodes.{Action, Eval, Store, Test, Lock, Unlock, End, Node, Graph}
+use Rattle.flow_graph.specs.Lowering.{lowered}
+use Rattle.flow_graph.specs.Liveness.{NodeAt}
+use Rattle.flow_graph.specs.Actions.{Seen, Walker, FlowState, element_in, seen_by, graph_start, graph_step, graph_after, graph_runs}
+use Rattle.flow_graph.specs.Cutting.{Boundaries, IsEdge, IsBoundary, Begins, AreCuts}
+
+-- ---- Elements that are read and written
+
+pub record Element : Type 0 where
+  pub variable : ℕ
+  pub element : ℕ
+
+abbrev pub element : (variable number : ℕ) → Element
+element variable number = record { variable = variable; element = number }
+
+-- all that an expression names, in parts that aren't chosen too
+abbrev pub expr_elements : e.Expr → Seen → List Element
+expr_elements (e.Constant value) seen = []
+expr_elements (e.Local local kind) seen = []
+expr_elements (e.Variable place variable kind) seen = element variable 0 ∷ []
+expr_elements (e.Element place variable kind index_place index) seen = element variable (element_in seen index) ∷ expr_elements index seen
+expr_elements (e.Unary operator operand) seen = expr_elements operand seen
+expr_elements (e.Cast kind operand) seen = expr_elements operand seen
+expr_elements (e.Converted kind operand) seen = expr_elements operand seen
+expr_elements (e.Binary operator left right) seen = expr_elements left seen ++ expr_elements right seen
+expr_elements (e.Conditional kind condition chosen otherwise) seen =
+    expr_elements condition seen ++ expr_elements chosen seen ++ expr_elements otherwise seen
+
+abbrev pub target_elements : e.Target → Seen → List Element
+target_elements (e.ToLocal local kind) seen = []
+target_elements (e.ToVariable place variable kind) seen = []
+target_elements (e.ToElement place variable kind index) seen = expr_elements index.expr seen
+
+-- what a node reads
+abbrev pub reads_of : Action → Seen → List Element
+reads_of (Eval target value next) seen = target_elements target seen ++ expr_elements value.expr seen
+reads_of (Store variable kind next) seen = []
+reads_of (Test condition holds fails) seen = expr_elements condition.expr seen
+reads_of (Lock mutex next) seen = []
+reads_of (Unlock mutex next) seen = []
+reads_of End seen = []
+
+abbrev pub stored_element : Pending → Element
+stored_element p = element p.variable p.element
+
+-- what a node writes: the element of the pending store
+abbrev pub write_of : Action → Seen → Option Element
+write_of (Eval target value next) seen = None
+write_of (Store variable kind next) seen = option_map stored_element seen.pending
+write_of (Test condition holds fails) seen = None
+write_of (Lock mutex next) seen = None
+write_of (Unlock mutex next) seen = None
+write_of End seen = None
+
+-- ---- Solo paths
+
+-- a thread, which stands at its node, and the state in which it does that
+pub record Visit : Type 0 where
+  pub walker : Walker
+  pub before : FlowState
+
+-- what the thread does from the state on, by its own steps alone, so many at most
+abbrev pub solo_path : Graph → FlowState → (thread steps : ℕ) → List Visit
+solo_path g s t zero = []
+solo_path g s t (suc n) = elim (slice_get s.walkers t) [
+  | None ↦ []
+  | Some walker ↦ elim (graph_step g s t) [
+    | None ↦ []
+    | Some next ↦ record { walker = walker; before = s } ∷ solo_path g next t n
+  ]
+]
+
+-- the visit at this position of the path reads the element, or writes it
+pub record ReadsElement (g : Graph) (path : List Visit) (position : ℕ) (read : Element) : Type 0 where
+  pub visit : Visit
+  pub is : Node
+  pub there : slice_get path position ≡ Some visit
+  pub at : NodeAt g visit.walker.at is
+  pub reads : Contains (reads_of is.action (seen_by visit.before visit.walker)) read
+
+pub record WritesElement (g : Graph) (path : List Visit) (position : ℕ) (written : Element) : Type 0 where
+  pub visit : Visit
+  pub is : Node
+  pub there : slice_get path position ≡ Some visit
+  pub at : NodeAt g visit.walker.at is
+  pub writes : write_of is.action (seen_by visit.before visit.walker) ≡ Some written
+
+-- a region begins with the path, and no boundary is passed on it
+pub record IsWithinRegion (g : Graph) (b : Boundaries) (path : List Visit) : Type 0 where
+  pub begins : (first : Visit) → slice_get path 0 ≡ Some first → Begins g b first.walker.at
+  pub inside : (position : ℕ) (one next : Visit) → slice_get path position ≡ Some one → slice_get path (suc position) ≡ Some next →
+      ¬ (IsBoundary g b one.walker.at next.walker.at)
+
+-- ---- Laws
+
+-- a run of the flat form's graph reaches the state
+pub record IsReached (x : f.Flat) (s : FlowState) : Type 0 where
+  pub schedule : List ℕ
+  pub is : s ≡ graph_after (lowered x) (graph_start (lowered x) x) schedule
+
+-- the location has the element
+pub record Lies (l : Location) (one : Element) : Type 0 where
+  pub variable : l.variable ≡ one.variable
+  pub from_lo : l.lo ≤ one.element
+  pub to_hi : one.element ≤ l.hi
+
+pub record LiesInOne (ls : List Location) (one : Element) : Type 0 where
+  pub location : Location
+  pub of : Contains ls location
+  pub lies : Lies location one
+
+pub record LiesInWritten (l : Option Location) (one : Element) : Type 0 where
+  pub location : Location
+  pub of : l ≡ Some location
+  pub lies : Lies location one
+
+-- a thread at a node, in a state that is reached
+pub record StandsAtNode (x : f.Flat) (s : FlowState) (thread : ℕ) (walker : Walker) (node : Node) : Type 0 where
+  pub reached : IsReached x s
+  pub found : slice_get s.walkers thread ≡ Some walker
+  pub at : NodeAt (lowered x) walker.at node
+
+-- what a node reads lies in the locations that it reads
+abbrev pub ReadsLie : Type 0
+ReadsLie = (x : f.Flat) (s : FlowState) (thread : ℕ) (walker : Walker) (node : Node) (read : Element) → IsWellFormed x → StandsAtNode x s thread walker node →
+    Contains (reads_of node.action (seen_by s walker)) read → LiesInOne node.reads read
+
+-- and what it writes in the one that it writes
+abbrev pub WritesLie : Type 0
+WritesLie = (x : f.Flat) (s : FlowState) (thread : ℕ) (walker : Walker) (node : Node) (written : Element) → IsWellFormed x →
+    StandsAtNode x s thread walker node → write_of node.action (seen_by s walker) ≡ Some written → LiesInWritten node.writes written
+
+-- a visit of a solo path is made behind as many steps of the thread as there are before it
+abbrev pub VisitsAreRuns : Type 0
+VisitsAreRuns = (g : Graph) (s : FlowState) (thread steps i : ℕ) (v : Visit) → slice_get (solo_path g s thread steps) i ≡ Some v →
+    (graph_runs g s (replicate i thread) ≡ true) × (graph_after g s (replicate i thread) ≡ v.before)
+
+-- and where so many steps can be made, there are so many visits
+abbrev pub RunsAreVisited : Type 0
+RunsAreVisited = (g : Graph) (s : FlowState) (thread steps : ℕ) → graph_runs g s (replicate steps thread) ≡ true → length (solo_path g s thread steps) ≡ steps
+
+-- a step goes along an edge, but for the last one, which stays at the end
+abbrev pub StepsGoAlongEdges : Type 0
+StepsGoAlongEdges = (g : Graph) (s next : FlowState) (thread : ℕ) (walker after : Walker) → graph_step g s thread ≡ Some next →
+    slice_get s.walkers thread ≡ Some walker → slice_get next.walkers thread ≡ Some after → after.ended ≡ walker.ended → IsEdge g walker.at after.at
+
+-- reads are right: within a region, what is read and is written then or later was written before
+abbrev pub ReadsAreRight : Type 0
+ReadsAreRight = (x : f.Flat) (b : Boundaries) (s : FlowState) (thread steps : ℕ) → IsWellFormed x → AreCuts (lowered x) b → IsReached x s →
+    IsWithinRegion (lowered x) b (solo_path (lowered x) s thread steps) → (i j : ℕ) (one : Element) → i ≤ j →
+    ReadsElement (lowered x) (solo_path (lowered x) s thread steps) i one → WritesElement (lowered x) (solo_path (lowered x) s thread steps) j one →
+    (k : ℕ) × (k < i) × WritesElement (lowered x) (solo_path (lowered x) s thread steps) k one

@@ -1,0 +1,9 @@
+//! Boundaries of a graph.
+
+/// Where the code of threads can be resumed: of each node whether a boundary stands before it, and whether one stands behind
+/// it, which counts where the node takes a mutex.
+#[derive(Debug, Drop)]
+pub struct Cuts {
+    pub before: Vec<bool>,
+    pub after_lock: Vec<bool>,
+}

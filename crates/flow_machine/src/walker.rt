@@ -1,0 +1,152 @@
+//! A thread on its way through a graph.
+ghost use Rattle.std.specs.Prelude.{◌≡◌, ℕ, ◌+◌, IfOk};
+ghost use Rattle.c_tree.specs.Exprs.{placed_of, target_of};
+ghost use Rattle.source_machine.specs.Sections.{AreCounted, ends};
+ghost use Rattle.flow_graph.specs.Nodes.{Eval};
+ghost use Rattle.flow_graph.specs.Actions.{walker_start};
+ghost use Rattle.flow_machine.specs.Walkers.{walker_of};
+ghost use Rattle.flow_machine.specs.links.Hands.{hand_of, DoesEval, StepIsMade};
+
+use c_tree::expr::{Placed, Target};
+use flow_graph::graph::{Action, Graph, Part};
+use ido_base::memory::Memory;
+use source_machine::evaluation::{element_at, evaluate};
+use source_machine::variables::Variables;
+use source_machine::{Stepped, locks};
+use std::alloc::Global;
+
+/// A store that is still to be made.
+#[derive(Clone, Copy)]
+pub(crate) struct Pending {
+    variable: u32,
+    element: u128,
+    number: i128,
+}
+
+/// A thread: the node that it does next, its locals, its pending store, and whether its last step is done.
+#[derive(Drop)]
+pub(crate) struct Walker {
+    at: usize,
+    locals: Vec<i128>,
+    pending: Option<Pending>,
+    ended: bool,
+}
+
+impl Walker {
+    /// A thread at its first node.
+    pub(crate) fn start(alloc: Global, part: Part) -> Result<Walker, Memory>
+        ensures { IfOk result (λ walker. walker_of walker ≡ walker_start part) }
+    {
+        let locals = vec![in alloc; 0; part.locals]?;
+        Ok(Walker {
+            at: part.first,
+            locals,
+            pending: None,
+            ended: false,
+        })
+    }
+
+    /// Does its node, if that can be done now.
+    pub(crate) fn step(
+        &mut self,
+        graph: &Graph,
+        number: u32,
+        variables: &mut Variables,
+        holders: &mut [Option<u32>],
+        sections: &mut [u64],
+    ) -> Stepped
+        ensures made { StepIsMade graph.now number (hand_of self.old variables.old holders.old) (hand_of self.new variables.new holders.new) result }
+        ensures sections { (ended : ℕ → ℕ) → AreCounted sections.old ended → AreCounted sections.new (λ k. ended k + ends holders.old holders.new k) }
+    {
+        let Some(node) = graph.nodes.get(self.at) else {
+            return Stepped::Ended;
+        };
+        match node.action {
+            Action::Eval {
+                target,
+                value,
+                next,
+            } => {
+                self.evaluate_for(target, value, variables, next);
+                Stepped::Did
+            }
+            Action::Store { next, .. } => {
+                let Some(pending) = self.pending else {
+                    return Stepped::Ended;
+                };
+                variables.set(pending.variable, pending.element, pending.number);
+                self.pending = None;
+                self.at = next;
+                Stepped::Did
+            }
+            Action::Test {
+                condition,
+                holds,
+                fails,
+            } => {
+                let condition = evaluate(&condition.expr, &self.locals, variables);
+                self.at = if condition.is_zero() { fails } else { holds };
+                Stepped::Did
+            }
+            Action::Lock { mutex, next } => {
+                if locks::take(holders, mutex, number) {
+                    self.at = next;
+                    Stepped::Did
+                } else {
+                    Stepped::Waits { mutex }
+                }
+            }
+            Action::Unlock { mutex, next } => {
+                locks::release(holders, sections, mutex);
+                self.at = next;
+                Stepped::Did
+            }
+            Action::End => {
+                if self.ended {
+                    return Stepped::Ended;
+                }
+                self.ended = true;
+                Stepped::Did
+            }
+        }
+    }
+
+    // Evaluates a value for a target, and goes on: a local has it, or the store of a variable is pending.
+    fn evaluate_for(&mut self, target: &Target, value: &Placed, variables: &Variables, next: usize)
+        ensures { DoesEval (Eval (target_of target.now) (placed_of value.now) next) (walker_of self.old) (walker_of self.new) variables.now }
+    {
+        let number = evaluate(&value.expr, &self.locals, variables);
+        match target {
+            Target::Local { local, kind } => {
+                let local = *local as usize;
+                let number = number.convert(*kind).number();
+                if local < self.locals.len() {
+                    self.locals[local] = number;
+                }
+            }
+            Target::Variable { variable, kind, .. } => {
+                let number = number.convert(*kind).number();
+                self.pending = Some(Pending {
+                    variable: *variable,
+                    element: 0,
+                    number,
+                });
+            }
+            Target::Element {
+                variable,
+                kind,
+                index,
+                ..
+            } => {
+                let number = number.convert(*kind).number();
+                let element = element_at(evaluate(&index.expr, &self.locals, variables));
+                self.pending = Some(Pending {
+                    variable: *variable,
+                    element,
+                    number,
+                });
+            }
+        }
+        self.at = next;
+    }
+}

@@ -1,0 +1,19 @@
+pub mod Runs
+pub mod Registers
+pub mod Constants
+pub mod Zeros
+pub mod Steps
+pub mod Composing
+pub mod Extending
+pub mod Converting
+pub mod Wrapping
+pub mod Negating
+pub mod Residues
+pub mod Comparing
+pub mod Flags
+pub mod Halves
+pub mod Shifting
+pub mod Dividing
+pub mod Performing
+pub mod Losing
+mod Worked

@@ -1,0 +1,4 @@
+pub mod Computing
+pub mod Sequences
+pub mod Straight
+pub mod links

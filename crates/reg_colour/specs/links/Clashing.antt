@@ -1,0 +1,71 @@
+-- The least clash among those that were looked at.
+use Rattle.std.specs.Prelude.{◌≡◌, ◌⊎◌, ◌<◌, ◌≤◌, ℕ, List, Option, Some, None, MatchOption, slice_get}
+use Rattle.flow_graph.specs.declared.graph.Part.{Part}
+use Rattle.flow_graph.specs.Nodes.{Graph}
+use Rattle.flow_graph.specs.Liveness.{Spans, Colouring}
+use Rattle.reg_colour.specs.declared.checking.Found.{Found}
+use Rattle.reg_colour.specs.declared.intervals.Interval.{Interval}
+use Rattle.reg_colour.specs.links.Intervals.{Intervals, Holds, IsIn}
+
+-- ---- Which is the lesser one
+
+-- it comes before the node and the two locals, or is there and of these
+abbrev pub IsUpTo : Found → (node a b : ℕ) → Type 0
+IsUpTo x node a b = (x.node < node) ⊎ ((x.node ≡ node) × ((x.a < a) ⊎ ((x.a ≡ a) × (x.b ≤ b))))
+
+abbrev pub IsLesser : Option Found → Option Found → Option Found → Type 0
+IsLesser None other x = x ≡ other
+IsLesser (Some one) None x = x ≡ Some one
+IsLesser (Some one) (Some other) x = ((x ≡ Some one) × IsUpTo one other.node other.a other.b) ⊎ ((x ≡ Some other) × IsUpTo other one.node one.a one.b)
+
+pub record IsLeast (is : ℕ → ℕ → ℕ → Type 0) (x : Found) : Type 0 where
+  pub is_one : is x.node x.a x.b
+  pub least : (node a b : ℕ) → is node a b → IsUpTo x node a b
+
+-- the least one, if there is one
+abbrev pub IsLeastOf : (ℕ → ℕ → ℕ → Type 0) → Option Found → Type 0
+IsLeastOf is found = MatchOption found ((node a b : ℕ) → ¬ (is node a b)) (IsLeast is)
+
+-- ---- A thread
+
+abbrev pub AreDisjoint : Option Interval → Option Interval → Type 0
+AreDisjoint one other = (node : ℕ) → IsIn one node → ¬ (IsIn other node)
+
+pub record IsFirstShared (one other : Option Interval) (node : ℕ) : Type 0 where
+  pub in_one : IsIn one node
+  pub in_other : IsIn other node
+  pub first : (later : ℕ) → IsIn one later → IsIn other later → node ≤ later
+
+-- two locals of a thread with these intervals and registers clash at the node
+pub record ClashAt (intervals : Intervals) (given : List ℕ) (node a b : ℕ) : Type 0 where
+  pub register : ℕ
+  pub of_first : slice_get given a ≡ Some register
+  pub of_second : slice_get given b ≡ Some register
+  pub different : a < b
+  pub first : Holds intervals node a
+  pub second : Holds intervals node b
+
+-- of which the first one is this
+pub record ClashOf (intervals : Intervals) (given : List ℕ) (local node a b : ℕ) : Type 0 where
+  pub own : a ≡ local
+  pub clash : ClashAt intervals given node a b
+
+-- which are these
+pub record ClashBoth (intervals : Intervals) (given : List ℕ) (one other node a b : ℕ) : Type 0 where
+  pub first : a ≡ one
+  pub second : b ≡ other
+  pub clash : ClashAt intervals given node a b
+
+-- ---- The first threads
+
+pub record ClashIn (g : Graph) (colours : Colouring) (thread node a b : ℕ) : Type 0 where
+  pub part : Part
+  pub given : List ℕ
+  pub register : ℕ
+  pub own : slice_get g.threads thread ≡ Some part
+  pub of_thread : slice_get colours thread ≡ Some given
+  pub of_first : slice_get given a ≡ Some register
+  pub of_second : slice_get given b ≡ Some register
+  pub different : a < b
+  pub first : Spans g part a node
+  pub second : Spans g part b node

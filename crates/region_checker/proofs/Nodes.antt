@@ -1,0 +1,386 @@
+-- Nodes of the code and of the graph.
+use Rattle.std.proofs.Common.{◌≡◌, ◌⊎◌, ◌↔◌, inl, inr, ℕ, zero, suc, ◌+◌, ◌<◌, ◌≤◌, Bool, true, false, not, MatchBool, List, [], ◌∷◌, ◌++◌, length, get_or, map, Option, Some, None, refl, ap, sym, subst, ◌∙◌, arith}
+use Rattle.std.specs.Prelude.{Contains, IsTrue, slice_get}
+use Rattle.std.specs.Option.{option_map}
+use Rattle.std.proofs.lemmas.List.{length-map, length_push}
+use Rattle.std.proofs.lemmas.Option.{slice_get-map, slice_get_cases, slice_get_within, slice_get_read, get_or_from_slice_get}
+use Rattle.ido_base.specs.declared.location.Location.{Location}
+use Rattle.flow_graph.specs.declared.graph.Node as code
+use Rattle.flow_graph.specs.declared.graph.Graph as declared
+use Rattle.flow_graph.specs.Nodes.{graph_of, Action, Eval, Store, Test, Lock, Unlock, End, Node, Graph, node_of, next_of, other_of, successors}
+use Rattle.flow_graph.specs.Liveness.{NodeAt}
+use Rattle.flow_graph.specs.Cutting.{Boundaries, IsEdge, IsLock, locks, IsUnlock, unlocks, HasBefore, HasBehind, Begins, behind_lock, at_boundary}
+use Rattle.flow_graph.proofs.Words.{same_or_other}
+use Rattle.region_checker.proofs.Spreads.{marked_within}
+use Rattle.region_checker.specs.declared.error.CheckError.{CheckError}
+use Rattle.region_checker.specs.declared.error.CheckError.TheVariants as error
+use Rattle.region_checker.specs.declared.ways.Way.{Way}
+use Rattle.region_checker.specs.Conflicts.{LacksBehind, LacksBefore, AreThereBelow, AreThere}
+use Rattle.region_checker.specs.links.Spreading.{IsMarked, Marks, IsOn, Leads, GoesOn, AreWays}
+use Rattle.region_checker.specs.links.Hitting.{is_lock, is_unlock, writes_over, writes_same, WritesOver, WritesSame, stops_of, AreBegun, Misses, IsFirstMissing}
+
+-- a node of the graph is one of the code's
+pub record IsOf (nodes : List code.Node) (n : ℕ) (x : Node) : Type 0 where
+  pub is : code.Node
+  pub at : slice_get nodes n ≡ Some is
+  pub same : node_of is ≡ x
+
+pub is_of : (nodes : List code.Node) (n : ℕ) (x : Node) → slice_get (map node_of nodes) n ≡ Some x → IsOf nodes n x
+is_of nodes n x at =
+    let all = slice_get-map node_of nodes n in
+    elim (slice_get_cases nodes n).1 [
+      | inl found ↦ (
+          let y = found.0 in
+          let here : slice_get nodes n ≡ Some y = found.2 in
+          let both : Some (node_of y) ≡ Some x = sym (ap (option_map node_of) here) ∙ sym all ∙ at in
+          record { is = y; at = here; same = cc })
+      | inr past ↦ (
+          let none : slice_get nodes n ≡ None = past.1 in
+          let both : None ≡ Some x = sym (ap (option_map node_of) none) ∙ sym all ∙ at in
+          absurd (cc))
+    ]
+
+pub node_at : (nodes : List code.Node) (n : ℕ) (x : code.Node) → slice_get nodes n ≡ Some x → slice_get (map node_of nodes) n ≡ Some (node_of x)
+node_at nodes n x at = slice_get-map node_of nodes n ∙ ap (option_map node_of) at
+
+pub within_map : (nodes : List code.Node) (n : ℕ) (x : Node) → slice_get (map node_of nodes) n ≡ Some x → n < length nodes
+within_map nodes n x at = let k = is_of nodes n x at in slice_get_within nodes n k.is k.at
+
+-- a node that was found by its number
+pub found_at : (nodes ds : List code.Node) (n : ℕ) (x : code.Node) → ds ≡ nodes → n < length ds → x ≡ get_or ds n x → slice_get (map node_of nodes) n ≡ Some (node_of x)
+found_at nodes ds n x e lt is = node_at nodes n x (ap (λ (xs : List code.Node). slice_get xs n) (sym e) ∙ slice_get_read ds (length ds) n x refl lt is)
+
+pub one_node : (nodes : List Node) (n : ℕ) (x y : Node) → slice_get nodes n ≡ Some x → slice_get nodes n ≡ Some y → x ≡ y
+one_node nodes n x y at at' = let both : Some x ≡ Some y = sym at ∙ at' in cc
+
+-- ---- What a node writes
+
+pub over_at : (g : Graph) (n : ℕ) (elements : Location) (x : Node) → NodeAt g n x → IsTrue (writes_over elements x.writes) ↔ WritesOver g elements n
+over_at g n elements x at = (
+  λ t. record { is = x; at = at; writes = t },
+  λ w. subst (λ (y : Node). IsTrue (writes_over elements y.writes)) (one_node g.nodes n w.is x w.at at) w.writes,
+)
+
+pub stops_at : (g : Graph) (nodes : List code.Node) (n : ℕ) (elements : Location) → g.nodes ≡ map node_of nodes → n < length nodes → IsMarked (stops_of elements nodes) n ↔ WritesSame g elements n
+stops_at g nodes n elements e lt =
+    let test : code.Node → Bool = λ x. writes_same elements x.writes in
+    elim (slice_get_cases nodes n).1 [
+      | inl found ↦ (
+          let x = found.0 in
+          let at : slice_get nodes n ≡ Some x = found.2 in
+          let node : NodeAt g n (node_of x) = ap (λ (xs : List Node). slice_get xs n) e ∙ node_at nodes n x at in
+          let there : slice_get (map test nodes) n ≡ Some (test x) = slice_get-map test nodes n ∙ ap (option_map test) at in
+          let value : get_or (map test nodes) n false ≡ test x = get_or_from_slice_get (map test nodes) n (test x) false there in (
+            λ m. record { is = node_of x; at = node; writes = sym value ∙ m },
+            λ w. value ∙ subst (λ (y : Node). IsTrue (writes_same elements y.writes)) (one_node g.nodes n w.is (node_of x) w.at node) w.writes,
+          ))
+      | inr past ↦ absurd (omega (arith, lt, past.0))
+    ]
+
+-- ---- Locks
+
+pub record Locking (a : Action) : Type 0 where
+  pub mutex : ℕ
+  pub next : ℕ
+  pub is : a ≡ Lock mutex next
+
+false_true : IsTrue false → ⊥
+false_true h = cc
+
+locking : (a : Action) → IsTrue (is_lock a) → Locking a
+locking (Lock mutex next) h = record { mutex = mutex; next = next; is = refl }
+locking (Eval target value next) h = absurd (false_true h)
+locking (Store variable kind next) h = absurd (false_true h)
+locking (Test condition holds fails) h = absurd (false_true h)
+locking (Unlock mutex next) h = absurd (false_true h)
+locking End h = absurd (false_true h)
+
+pub record Unlocking (a : Action) : Type 0 where
+  pub mutex : ℕ
+  pub next : ℕ
+  pub is : a ≡ Unlock mutex next
+
+unlocking : (a : Action) → IsTrue (is_unlock a) → Unlocking a
+unlocking (Unlock mutex next) h = record { mutex = mutex; next = next; is = refl }
+unlocking (Eval target value next) h = absurd (false_true h)
+unlocking (Store variable kind next) h = absurd (false_true h)
+unlocking (Test condition holds fails) h = absurd (false_true h)
+unlocking (Lock mutex next) h = absurd (false_true h)
+unlocking End h = absurd (false_true h)
+
+pub lock_at : (g : Graph) (n : ℕ) (x : Node) → NodeAt g n x → IsTrue (is_lock x.action) → IsLock g n
+lock_at g n x at h = let l = locking x.action h in locks x l.mutex l.next at l.is
+
+pub unlock_at : (g : Graph) (n : ℕ) (x : Node) → NodeAt g n x → IsTrue (is_unlock x.action) → IsUnlock g n
+unlock_at g n x at h = let l = unlocking x.action h in unlocks x l.mutex l.next at l.is
+
+pub is_lock_at : (g : Graph) (n : ℕ) (x : Node) → NodeAt g n x → IsLock g n → IsTrue (is_lock x.action)
+is_lock_at g n x at (locks y mutex next at' is) =
+    let same : y ≡ x = one_node g.nodes n y x at' at in
+    subst (λ (z : Node). IsTrue (is_lock z.action)) same (subst (λ (a : Action). IsTrue (is_lock a)) (sym is) refl)
+
+pub is_unlock_at : (g : Graph) (n : ℕ) (x : Node) → NodeAt g n x → IsUnlock g n → IsTrue (is_unlock x.action)
+is_unlock_at g n x at (unlocks y mutex next at' is) =
+    let same : y ≡ x = one_node g.nodes n y x at' at in
+    subst (λ (z : Node). IsTrue (is_unlock z.action)) same (subst (λ (a : Action). IsTrue (is_unlock a)) (sym is) refl)
+
+pub lock_within : (g : Graph) (n : ℕ) → IsLock g n → n < length g.nodes
+lock_within g n (locks x mutex next at is) = slice_get_within g.nodes n x at
+
+pub unlock_within : (g : Graph) (n : ℕ) → IsUnlock g n → n < length g.nodes
+unlock_within g n (unlocks x mutex next at is) = slice_get_within g.nodes n x at
+
+-- a lock's only way is to the next node
+lock_goes : (a : Action) (to : ℕ) → IsTrue (is_lock a) → Contains (successors a) to → next_of a ≡ Some to
+lock_goes (Lock mutex next) to h (i, lt, is) = elim (same_or_other i 0) [
+  | inl e ↦ ap (λ (n : ℕ). Some n) (ap (λ k. get_or (next ∷ []) k to) (sym e) ∙ is)
+  | inr other ↦ absurd (omega (arith, lt))
+]
+lock_goes (Eval target value next) to h k = absurd (false_true h)
+lock_goes (Store variable kind next) to h k = absurd (false_true h)
+lock_goes (Test condition holds fails) to h k = absurd (false_true h)
+lock_goes (Unlock mutex next) to h k = absurd (false_true h)
+lock_goes End to h k = absurd (false_true h)
+
+-- ---- Ways of a node
+
+goes_one : (next to : ℕ) → Contains (next ∷ []) to → Some next ≡ Some to
+goes_one next to (i, lt, is) = elim (same_or_other i 0) [
+  | inl e ↦ ap (λ (n : ℕ). Some n) (ap (λ k. get_or (next ∷ []) k to) (sym e) ∙ is)
+  | inr other ↦ absurd (omega (arith, lt))
+]
+
+goes_two : (holds fails to : ℕ) → Contains (holds ∷ fails ∷ []) to → (Some holds ≡ Some to) ⊎ (Some fails ≡ Some to)
+goes_two holds fails to (i, lt, is) = elim (same_or_other i 0) [
+  | inl e ↦ inl (ap (λ (n : ℕ). Some n) (ap (λ k. get_or (holds ∷ fails ∷ []) k to) (sym e) ∙ is))
+  | inr other ↦ (
+      let e : i ≡ 1 = omega (arith, lt, other) in
+      inr (ap (λ (n : ℕ). Some n) (ap (λ k. get_or (holds ∷ fails ∷ []) k to) (sym e) ∙ is)))
+]
+
+some_same : (a b : ℕ) → Some a ≡ Some b → a ≡ b
+some_same a b e = cc
+
+goes_first : (next to : ℕ) (rest : List ℕ) → Some next ≡ Some to → Contains (next ∷ rest) to
+goes_first next to rest e = (0, omega arith, some_same next to e)
+
+goes_second : (holds fails to : ℕ) → Some fails ≡ Some to → Contains (holds ∷ fails ∷ []) to
+goes_second holds fails to e = (1, omega arith, some_same fails to e)
+
+no_way : (to : ℕ) → None ≡ Some to → ⊥
+no_way to e = cc
+
+pub to_ways : (a : Action) (to : ℕ) → Contains (successors a) to → (next_of a ≡ Some to) ⊎ (other_of a ≡ Some to)
+to_ways (Eval target value next) to k = inl (goes_one next to k)
+to_ways (Store variable kind next) to k = inl (goes_one next to k)
+to_ways (Test condition holds fails) to k = goes_two holds fails to k
+to_ways (Lock mutex next) to k = inl (goes_one next to k)
+to_ways (Unlock mutex next) to k = inl (goes_one next to k)
+to_ways End to k = absurd (omega (arith, k.1))
+
+pub from_ways : (a : Action) (to : ℕ) → (next_of a ≡ Some to) ⊎ (other_of a ≡ Some to) → Contains (successors a) to
+from_ways (Eval target value next) to (inl e) = goes_first next to [] e
+from_ways (Eval target value next) to (inr e) = absurd (no_way to e)
+from_ways (Store variable kind next) to (inl e) = goes_first next to [] e
+from_ways (Store variable kind next) to (inr e) = absurd (no_way to e)
+from_ways (Test condition holds fails) to (inl e) = goes_first holds to (fails ∷ []) e
+from_ways (Test condition holds fails) to (inr e) = goes_second holds fails to e
+from_ways (Lock mutex next) to (inl e) = goes_first next to [] e
+from_ways (Lock mutex next) to (inr e) = absurd (no_way to e)
+from_ways (Unlock mutex next) to (inl e) = goes_first next to [] e
+from_ways (Unlock mutex next) to (inr e) = absurd (no_way to e)
+from_ways End to (inl e) = absurd (no_way to e)
+from_ways End to (inr e) = absurd (no_way to e)
+
+-- the ways of a node behind which no boundary stands
+pub record Inside (b : Boundaries) (from to : Option ℕ) : Type 0 where
+  pub each : (n : ℕ) → (to ≡ Some n) ↔ ((from ≡ Some n) × ¬ (HasBefore b n))
+
+pub ways_go : (g : Graph) (b : Boundaries) (n : ℕ) (x : Node) (way : Way) → NodeAt g n x → ¬ (HasBehind g b n) → Inside b (next_of x.action) way.next → Inside b (other_of x.action) way.other →
+    (to : ℕ) → IsOn way to ↔ GoesOn g b n to
+ways_go g b n x way at open_ p q to = (
+  λ on. elim on [
+    | inl e ↦ (
+        let d = (p.each to).0 e in
+        record { edge = record { is = x; at = at; goes = from_ways x.action to (inl d.0) }; free = λ d'. elim d' [ inl h ↦ open_ h | inr h ↦ d.1 h ] })
+    | inr e ↦ (
+        let d = (q.each to).0 e in
+        record { edge = record { is = x; at = at; goes = from_ways x.action to (inr d.0) }; free = λ d'. elim d' [ inl h ↦ open_ h | inr h ↦ d.1 h ] })
+  ],
+  λ go.
+      let same : go.edge.is ≡ x = one_node g.nodes n go.edge.is x go.edge.at at in
+      let goes : Contains (successors x.action) to = subst (λ (y : Node). Contains (successors y.action) to) same go.edge.goes in
+      elim (to_ways x.action to goes) [
+        | inl e ↦ inl ((p.each to).1 (e, λ h. go.free (inr h)))
+        | inr e ↦ inr ((q.each to).1 (e, λ h. go.free (inr h)))
+      ],
+)
+
+pub ways_closed : (g : Graph) (b : Boundaries) (n : ℕ) (way : Way) → HasBehind g b n → way.next ≡ None → way.other ≡ None → (to : ℕ) → IsOn way to ↔ GoesOn g b n to
+ways_closed g b n way h e e' to = (
+  λ on. elim on [ inl s ↦ absurd (no_way to (sym e ∙ s)) | inr s ↦ absurd (no_way to (sym e' ∙ s)) ],
+  λ go. absurd (go.free (inl h)),
+)
+
+-- ---- What is missing
+
+pub lacks_behind : (g : Graph) (b : Boundaries) (n : ℕ) (x : Node) (stands : Bool) → NodeAt g n x → IsTrue (is_lock x.action) → IsTrue stands ↔ (slice_get b.after_lock n ≡ Some true) →
+    MatchBool (not stands) (LacksBehind g b n) (¬ (LacksBehind g b n))
+lacks_behind g b n x true at is d = λ l. l.lacks (record { locks = l.locks; stands = d.0 refl })
+lacks_behind g b n x false at is d = record { locks = lock_at g n x at is; lacks = λ h. false_true (d.1 h.stands) }
+
+pub lacks_before : (g : Graph) (b : Boundaries) (n : ℕ) (x : Node) (stands : Bool) → NodeAt g n x → IsTrue (is_unlock x.action) → IsTrue stands ↔ (slice_get b.before n ≡ Some true) →
+    MatchBool (not stands) (LacksBefore g b n) (¬ (LacksBefore g b n))
+lacks_before g b n x true at is d = λ l. l.lacks (d.0 refl)
+lacks_before g b n x false at is d = record { unlocks = unlock_at g n x at is; lacks = λ h. false_true (d.1 h) }
+
+pub off : (t : Bool) (P : Type 0) → t ≡ false → ¬ P → MatchBool t P (¬ P)
+off true P e fails = absurd (cc)
+off false P e fails = fails
+
+pub first_missing : (g : Graph) (b : Boundaries) (n : ℕ) (e : CheckError) → AreThereBelow g b n → Misses g b n (Some e) → IsFirstMissing g b e
+first_missing g b n (error.MissingAfterAcquire at) below m = record {
+  lacks = subst (λ (k : ℕ). LacksBehind g b k) (sym m.0) m.1;
+  first = subst (λ (k : ℕ). AreThereBelow g b k) (sym m.0) below;
+}
+first_missing g b n (error.MissingBeforeRelease at) below m = record {
+  lacks = subst (λ (k : ℕ). LacksBefore g b k) (sym m.0) m.1;
+  first = subst (λ (k : ℕ). AreThereBelow g b k) (sym m.0) below;
+}
+first_missing g b n (error.Anti read store) below m = absurd m
+first_missing g b n error.Memory below m = absurd m
+
+pub there_more : (g : Graph) (b : Boundaries) (n : ℕ) → AreThereBelow g b n → ¬ (LacksBehind g b n ⊎ LacksBefore g b n) → AreThereBelow g b (n + 1)
+there_more g b n below none k lt d = elim (same_or_other k n) [
+  | inl e ↦ none (subst (λ (m : ℕ). LacksBehind g b m ⊎ LacksBefore g b m) e d)
+  | inr other ↦ below k (omega (arith, lt)) d
+]
+
+pub there_all : (g : Graph) (b : Boundaries) (n : ℕ) → length g.nodes ≤ n → AreThereBelow g b n → AreThere g b
+there_all g b n le below k d = elim d [
+  | inl h ↦ below k (omega (arith, lock_within g k h.locks)) (inl h)
+  | inr h ↦ below k (omega (arith, unlock_within g k h.unlocks)) (inr h)
+]
+
+-- ---- Where regions begin
+
+-- the first of the nodes have marked where regions begin
+pub record BeganUpTo (g : Graph) (b : Boundaries) (count : ℕ) (begins : List Bool) : Type 0 where
+  pub long : length begins ≡ length g.nodes
+  pub only : (n : ℕ) → IsMarked begins n → Begins g b n
+  pub before : (n : ℕ) → n < count → n < length g.nodes → HasBefore b n → IsMarked begins n
+  pub behind : (from n : ℕ) → from < count → n < length g.nodes → HasBehind g b from → IsEdge g from n → IsMarked begins n
+
+pub lock_next : (g : Graph) (b : Boundaries) (n to : ℕ) (x : Node) → NodeAt g n x → HasBehind g b n → IsEdge g n to → next_of x.action ≡ Some to
+lock_next g b n to x at h edge =
+    let same : edge.is ≡ x = one_node g.nodes n edge.is x edge.at at in
+    lock_goes x.action to (is_lock_at g n x at h.locks) (subst (λ (y : Node). Contains (successors y.action) to) same edge.goes)
+
+-- ---- Nodes within the code's list
+
+pub lock_in : (g : declared.Graph) (n : ℕ) → IsLock (graph_of g) n → n < length g.nodes.items
+lock_in g n (locks x mutex next at is) = within_map g.nodes.items n x at
+
+pub node_in : (g : declared.Graph) (n : ℕ) (x : Node) → NodeAt (graph_of g) n x → n < length g.nodes.items
+node_in g n x at = within_map g.nodes.items n x at
+
+pub length_nodes : (g : declared.Graph) → length (graph_of g).nodes ≡ length g.nodes.items
+length_nodes g = length-map g.nodes.items node_of
+
+pub began_none : (g : declared.Graph) (b : Boundaries) (begins : List Bool) → length begins ≡ length g.nodes.items → ((n : ℕ) → ¬ (IsMarked begins n)) → BeganUpTo (graph_of g) b 0 begins
+began_none g b begins long none = record {
+  long = long ∙ sym (length_nodes g);
+  only = λ n m. absurd (none n m);
+  before = λ n lt. absurd (omega (arith, lt));
+  behind = λ from n lt. absurd (omega (arith, lt));
+}
+
+pub record Begun (g : Graph) (b : Boundaries) (number : ℕ) (before behind : Option ℕ) : Type 0 where
+  pub is_before : (n : ℕ) → (before ≡ Some n) ↔ ((n ≡ number) × HasBefore b n)
+  pub is_behind : (n : ℕ) → (behind ≡ Some n) ↔ (HasBehind g b number × IsEdge g number n)
+
+pub began_more : (g : Graph) (b : Boundaries) (number : ℕ) (before behind : Option ℕ) (old mid new : List Bool) (first second : Bool) → Begun g b number before behind →
+    Marks (λ n. before ≡ Some n) old mid first → Marks (λ n. behind ≡ Some n) mid new second → BeganUpTo g b number old → BeganUpTo g b (number + 1) new
+began_more g b number before behind old mid new first second is p q r = record {
+  long = q.long ∙ p.long ∙ r.long;
+  only = λ n m. elim ((q.has n).0 m) [
+    | inl there ↦ elim ((p.has n).0 there) [
+      | inl was ↦ r.only n was
+      | inr at ↦ at_boundary ((is.is_before n).0 at.1).1
+    ]
+    | inr at ↦ let d = (is.is_behind n).0 at.1 in behind_lock number d.0 d.1
+  ];
+  before = λ n lt within h. elim (same_or_other n number) [
+    | inl e ↦ (q.has n).1 (inl ((p.has n).1 (inr (omega (arith, within, r.long), (is.is_before n).1 (e, h)))))
+    | inr other ↦ (q.has n).1 (inl ((p.has n).1 (inl (r.before n (omega (arith, lt)) within h))))
+  ];
+  behind = λ from n lt within h edge. elim (same_or_other from number) [
+    | inl e ↦ (
+        let here : HasBehind g b number = subst (λ (k : ℕ). HasBehind g b k) e h in
+        let edge_here : IsEdge g number n = subst (λ (k : ℕ). IsEdge g k n) e edge in
+        (q.has n).1 (inr (omega (arith, within, r.long, p.long), (is.is_behind n).1 (here, edge_here))))
+    | inr other ↦ (q.has n).1 (inl ((p.has n).1 (inl (r.behind from n (omega (arith, lt)) within h edge))))
+  ];
+}
+
+marked_where : (g : declared.Graph) (b : Boundaries) (count : ℕ) (begins : List Bool) (n : ℕ) → length g.nodes.items ≤ count → BeganUpTo (graph_of g) b count begins → n < length (graph_of g).nodes →
+    Begins (graph_of g) b n → IsMarked begins n
+marked_where g b count begins n le r lt (behind_lock from h edge) = r.behind from n (omega (arith, lock_in g from h.locks, le)) lt h edge
+marked_where g b count begins n le r lt (at_boundary h) = r.before n (omega (arith, lt, length_nodes g, le)) lt h
+
+pub began_all : (g : declared.Graph) (b : Boundaries) (count : ℕ) (begins : List Bool) → length g.nodes.items ≤ count → BeganUpTo (graph_of g) b count begins → AreBegun (graph_of g) b begins
+began_all g b count begins le r = record {
+  count = r.long;
+  each = λ n. (
+    λ m. (omega (arith, marked_within begins n m, r.long), r.only n m),
+    λ d. marked_where g b count begins n le r d.0 d.1,
+  );
+}
+
+-- ---- Ways, node after node
+
+get_push : (ways : List Way) (way : Way) → slice_get (ways ++ way ∷ []) (length ways) ≡ Some way
+get_push [] way = refl
+get_push (x ∷ ways) way = get_push ways way
+
+get_below : (ways : List Way) (way : Way) (n : ℕ) → n < length ways → slice_get (ways ++ way ∷ []) n ≡ slice_get ways n
+get_below [] way n lt = absurd (omega (arith, lt))
+get_below (x ∷ ways) way zero lt = refl
+get_below (x ∷ ways) way (suc n) lt = get_below ways way n (omega (arith, lt))
+
+pub record AreWaysUpTo (g : Graph) (b : Boundaries) (count : ℕ) (ways : List Way) : Type 0 where
+  pub long : length ways ≡ count
+  pub each : (from to : ℕ) → from < count → Leads ways from to ↔ GoesOn g b from to
+
+pub ways_none : (g : Graph) (b : Boundaries) → AreWaysUpTo g b 0 []
+ways_none g b = record { long = refl; each = λ from to lt. absurd (omega (arith, lt)) }
+
+pub ways_more : (g : Graph) (b : Boundaries) (count : ℕ) (ways : List Way) (way : Way) → AreWaysUpTo g b count ways → ((to : ℕ) → IsOn way to ↔ GoesOn g b count to) → AreWaysUpTo g b (count + 1) (ways ++ way ∷ [])
+ways_more g b count ways way r on = record {
+  long = length_push ways way ∙ ap (λ k. k + 1) r.long;
+  each = λ from to lt. elim (same_or_other from count) [
+    | inl e ↦ (
+        let there : slice_get (ways ++ way ∷ []) from ≡ Some way = ap (λ k. slice_get (ways ++ way ∷ []) k) (e ∙ sym r.long) ∙ get_push ways way in (
+          λ l.
+              let both : Some l.way ≡ Some way = sym l.at ∙ there in
+              let same : l.way ≡ way = cc in
+              subst (λ (k : ℕ). GoesOn g b k to) (sym e) ((on to).0 (subst (λ (w : Way). IsOn w to) same l.goes)),
+          λ go. record { way = way; at = there; goes = (on to).1 (subst (λ (k : ℕ). GoesOn g b k to) e go) },
+        ))
+    | inr other ↦ (
+        let less : from < count = omega (arith, lt) in
+        let there = get_below ways way from (omega (arith, less, r.long)) in (
+          λ l. (r.each from to less).0 (record { way = l.way; at = sym there ∙ l.at; goes = l.goes }),
+          λ go. let l = (r.each from to less).1 go in record { way = l.way; at = there ∙ l.at; goes = l.goes },
+        ))
+  ];
+}
+
+pub ways_all : (g : declared.Graph) (b : Boundaries) (count : ℕ) (ways : List Way) → length g.nodes.items ≤ count → count ≤ length g.nodes.items → AreWaysUpTo (graph_of g) b count ways → AreWays (graph_of g) b ways
+ways_all g b count ways le le' r = record {
+  count = omega (arith, r.long, length_nodes g);
+  each = λ from to. (
+    λ l. (r.each from to (omega (arith, slice_get_within ways from l.way l.at, r.long))).0 l,
+    λ go. (r.each from to (omega (arith, node_in g from go.edge.is go.edge.at, le))).1 go,
+  );
+}

@@ -1,0 +1,69 @@
+//! The check of cuts.
+ghost use Rattle.std.specs.Prelude.{◌≡◌, ◌↔◌, ℕ, IfOk, IfErr, IsTrue, MatchOption};
+ghost use Rattle.flow_graph.specs.Nodes.{graph_of};
+ghost use Rattle.flow_graph.specs.Cutting.{boundaries_of, IsIdempotent, AreCuts};
+ghost use Rattle.region_checker.specs.Conflicts.{IsRefused};
+ghost use Rattle.region_checker.specs.links.Hitting.{IsFirstFound, with_read};
+
+use crate::boundaries::missing;
+use crate::conflicts::{first_read, first_store};
+use crate::error::{CheckError, Idempotent};
+use crate::ways::regions_of;
+use flow_graph::cuts::Cuts;
+use flow_graph::graph::Graph;
+use ido_base::memory::Memory;
+use std::alloc::Global;
+
+/// A node that reads what another one overwrites in the same region.
+#[derive(Clone, Copy, Drop)]
+struct Conflict {
+    read: usize,
+    store: usize,
+}
+
+// The conflict of the store with the read.
+fn with_read(store: usize, read: Option<usize>) -> Option<Conflict>
+    ensures { result ≡ with_read store read }
+{
+    match read {
+        Some(read) => Some(Conflict { read, store }),
+        None => None,
+    }
+}
+
+// The first conflict.
+fn first_conflict(alloc: Global, graph: &Graph, cuts: &Cuts) -> Result<Option<Conflict>, Memory>
+    ensures { IfOk result (IsFirstFound (graph_of graph.now) (boundaries_of cuts.now)) }
+{
+    let regions = regions_of(alloc, graph, cuts)?;
+    match first_store(alloc, graph, &regions)? {
+        Some(store) => {
+            let read = first_read(alloc, graph, &regions, store)?;
+            Ok(with_read(store, read))
+        }
+        None => Ok(None),
+    }
+}
+
+/// Whether each region may be run again: whether none overwrites what it has read, unless it had written it before it read it.
+pub fn is_idempotent(alloc: Global, graph: &Graph, cuts: &Cuts) -> Result<bool, Memory>
+    ensures { IfOk result (λ yes. IsTrue yes ↔ IsIdempotent (graph_of graph.now) (boundaries_of cuts.now)) }
+{
+    let regions = regions_of(alloc, graph, cuts)?;
+    Ok(first_store(alloc, graph, &regions)?.is_none())
+}
+
+/// Whether a boundary stands behind each lock and before each unlock, and each region may be run again. The first boundary that
+/// is missing is reported; where none is, the first store that overwrites what its region has read, and its first such read.
+pub fn check(alloc: Global, graph: &Graph, cuts: &Cuts) -> Result<Idempotent, CheckError>
+    ensures accepted { IfOk result (λ _. AreCuts (graph_of graph.now) (boundaries_of cuts.now)) }
+    ensures refused { IfErr result (IsRefused (graph_of graph.now) (boundaries_of cuts.now)) }
+{
+    if let Some(error) = missing(graph, cuts) {
+        return Err(error);
+    }
+    match first_conflict(alloc, graph, cuts)? {
+        Some(Conflict { read, store }) => Err(CheckError::Anti { read, store }),
+        None => Ok(Idempotent),
+    }
+}

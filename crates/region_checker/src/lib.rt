@@ -1,0 +1,14 @@
+//! Whether cuts are idempotent: whether no region overwrites what it has read, and boundaries stand where they must.
+#![tactic(auto)]
+
+mod boundaries;
+mod checking;
+mod conflicts;
+mod error;
+mod exposure;
+mod locations;
+mod marks;
+mod ways;
+
+pub use checking::{check, is_idempotent};
+pub use error::{CheckError, Idempotent};

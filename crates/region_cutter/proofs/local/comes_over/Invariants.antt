@@ -1,0 +1,15 @@
+use Rattle.std.proofs.Common.{◌≡◌, length}
+use Rattle.flow_graph.specs.Nodes.{graph_of}
+use Rattle.flow_graph.specs.Cutting.{boundaries_of}
+use Rattle.region_cutter.specs.links.Searching.{Comes, Searched, left}
+use Rattle.region_cutter.specs.links.Local.{Inside, WritesOver}
+use Rattle.region_cutter.proofs.local.comes_over.Given as goal
+
+abbrev pub invariant-loop-number : goal.invariant-loop-number
+invariant-loop-number l =
+    Searched (Inside (graph_of l.graph) (boundaries_of l.cuts)) (WritesOver (graph_of l.graph) l.elements) (λ n. l.from ≡ n)
+    (Comes (Inside (graph_of l.graph) (boundaries_of l.cuts)) (WritesOver (graph_of l.graph) l.elements) l.from) l.search.seen.items l.search.waiting.items
+    × (length l.search.seen.items ≡ length l.graph.nodes.items)
+
+abbrev pub decreases-loop-number : goal.decreases-loop-number
+decreases-loop-number l = left l.search.seen.items l.search.waiting.items

@@ -1,0 +1,4 @@
+pub mod Trying
+pub mod Searching
+pub mod Lines
+pub mod Local

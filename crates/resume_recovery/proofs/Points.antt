@@ -1,0 +1,67 @@
+-- A point says at once what the machine's definitions say apart: where recovery goes on, and the bank.
+use Rattle.std.proofs.Common.{◌≡◌, ℕ, ◌-◌, ◌*◌, ◌%◌, ◌<◌, ◌==◌, eqb, List, Bool, true, false, refl, sym, ◌∙◌, ap, arith, if◌then◌else◌}
+use Rattle.std.proofs.lemmas.Bool.{cond-true, cond-false, eq-eqb, ne_eqb}
+use Rattle.ido_base.specs.Layout.{bank_bytes, slot_at}
+use Rattle.ido_base.specs.Words.{Word}
+use Rattle.log_layout.specs.declared.point.Point.TheVariants.{Idle, At}
+use Rattle.log_layout.specs.Points.{point_of}
+use Rattle.rv64_isa.specs.declared.phase.Phase.TheVariants.{Take, Done}
+use Rattle.rv64_isa.specs.Machine.{bank_of, resume_of, durable_at, durable_point, record_of, resumed_register, phase_after_crash}
+use Rattle.resume_recovery.specs.Points.{bank_in}
+
+-- a word that isn't 0, and where it says to go on
+pub record IsAt (word address bank : ℕ) : Type 0 where
+  pub other : (word == 0) ≡ false
+  pub resumes : address ≡ resume_of word
+  pub in_bank : bank ≡ bank_of word
+
+pub idle_is : (word : ℕ) → Idle ≡ point_of word → word ≡ 0
+idle_is word is = zero_is (by_test (word == 0) is)
+  where
+    by_test : (test : Bool) → Idle ≡ (if test then Idle else At (word - word % 2) (word % 2)) → test ≡ true
+    by_test true e = refl
+    by_test false e = cc
+
+    zero_is : (word == 0) ≡ true → word ≡ 0
+    zero_is e = grind arith
+
+pub at_is : (word address bank : ℕ) → At address bank ≡ point_of word → IsAt word address bank
+at_is word address bank is = by_test (word == 0) refl is
+  where
+    by_test : (test : Bool) → (word == 0) ≡ test → At address bank ≡ (if test then Idle else At (word - word % 2) (word % 2)) → IsAt word address bank
+    by_test true t e = cc
+    by_test false t e = record { other = t; resumes = cc; in_bank = cc }
+
+pub bank-is : (word : ℕ) → bank_in (point_of word) ≡ bank_of word
+bank-is word = by_test (word == 0) refl
+  where
+    by_test : (test : Bool) → (word == 0) ≡ test → bank_in (if test then Idle else At (word - word % 2) (word % 2)) ≡ word % 2
+    by_test true t = grind arith
+    by_test false t = refl
+
+pub bank-below : (word : ℕ) → bank_in (point_of word) < 2
+bank-below word = omega (arith, bank-is word)
+
+-- ---- What a thread's log says durably, by its point
+
+module _ (words : List Word) (hart : ℕ) where
+  pub idle_record : durable_point words hart ≡ 0 → 0 ≡ record_of words hart
+  idle_record none = sym (cond-true (eqb (durable_point words hart) 0) 0 _ (eq-eqb _ 0 none))
+
+  pub kept_record : (address bank mask : ℕ) → IsAt (durable_point words hart) address bank → mask ≡ durable_at words (slot_at hart bank 0) → mask ≡ record_of words hart
+  kept_record address bank mask at is = is ∙ ap (λ (b : ℕ). durable_at words (slot_at hart b 0)) at.in_bank ∙ sym (cond-false (eqb (durable_point words hart) 0) 0 _ at.other)
+
+  pub register_0 : (r : ℕ) → r ≡ 0 → 0 ≡ resumed_register words hart r
+  register_0 r zero_ = sym (ap (resumed_register words hart) zero_)
+
+  pub register_3 : (r bank : ℕ) → r ≡ 3 → bank ≡ bank_of (durable_point words hart) → bank_bytes * bank ≡ resumed_register words hart r
+  register_3 r bank three is = ap (λ (b : ℕ). bank_bytes * b) is ∙ sym (ap (resumed_register words hart) three)
+
+  pub register_other : (r bank value : ℕ) → (r ≡ 0 → ⊥) → (r ≡ 3 → ⊥) → bank ≡ bank_of (durable_point words hart) → value ≡ durable_at words (slot_at hart bank r) → value ≡ resumed_register words hart r
+  register_other r bank value not_0 not_3 is read = read ∙ ap (λ (b : ℕ). durable_at words (slot_at hart b r)) is ∙ sym (cond-false (eqb r 0) _ _ (ne_eqb r 0 not_0) ∙ cond-false (eqb r 3) _ _ (ne_eqb r 3 not_3))
+
+pub idle_phase : (point : ℕ) → point ≡ 0 → Done ≡ phase_after_crash point
+idle_phase point none = sym (ap phase_after_crash none)
+
+pub taking_phase : (point : ℕ) → (point == 0) ≡ false → Take ≡ phase_after_crash point
+taking_phase point other = sym (cond-false (eqb point 0) Done Take other)
