@@ -3,3 +3,4 @@ pub mod Banks
 pub mod Points
 pub mod Whole
 mod Worked
+pub mod Lengths

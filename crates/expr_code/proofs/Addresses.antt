@@ -1,5 +1,6 @@
 -- Addresses of elements, in two parts.
-use Rattle.std.proofs.Common.{◌≡◌, ℕ, zero, suc, ◌+◌, ◌-◌, ◌*◌, ◌/◌, ◌%◌, ◌^◌, ◌<◌, ◌≤◌, inl, inr, List, [], ◌∷◌, length, take, get_or, refl, ap, sym, ◌∙◌, arith, subst, Bool, true, false, ◌==◌, lit≤}
+use Rattle.std.proofs.Common.{◌≡◌, ℕ, zero, suc, ◌+◌, ◌-◌, ◌*◌, ◌/◌, ◌%◌, ◌^◌, ◌<◌, ◌≤◌, inl, inr, List, [], ◌∷◌, length, take, get_or, refl, ap, sym, ◌∙◌}
+use Rattle.std.proofs.Common.{arith, subst, Bool, true, false, ◌==◌, lit≤}
 use Rattle.std.proofs.lemmas.List.{length-map}
 use Rattle.std.specs.Prelude.{◌||◌, ℤ, pos, negsuc, map, slice_get, Option, Some, None, nat_le, if◌then◌else◌}
 use Rattle.std.proofs.lemmas.Bool.Decides.{nat_tests}
@@ -57,7 +58,8 @@ signed_neg : (w n : ℕ) → suc n ≤ 2 ^ (w - 1) → 2 ^ w ≡ 2 ^ (w - 1) + 2
     sign_extended w 64 (residue w (negsuc n)) ≡ residue 64 (negsuc n)
 signed_neg w n h d l =
     let e : 2 ^ w - suc n + (2 ^ 64 - 2 ^ w) ≡ 2 ^ 64 - suc n = omega arith in
-    ap (λ (m : ℕ). sign_extended w 64 m) (residue_negsuc w n (omega arith)) ∙ extend_high w (2 ^ w - suc n) (omega arith) ∙ e ∙ sym (residue_negsuc 64 n (omega arith))
+    ap (λ (m : ℕ). sign_extended w 64 m) (residue_negsuc w n (omega arith)) ∙ extend_high w (2 ^ w - suc n) (omega arith) ∙ e ∙
+    sym (residue_negsuc 64 n (omega arith))
 
 word_loaded : (k : Kind) (z : ℤ) → bits_of k ≡ 32 → Holds k z → sign_extended 32 64 (residue 32 z) ≡ register_of k z
 word_loaded k z b h =
@@ -185,8 +187,10 @@ pub near_declared : (s : Source) (variable : ℕ) (k : Kind) (array : Bool) → 
     IsDeclared s.variables variable k array → IsNear s variable k
 near_declared s variable k array ends d =
     let l : variable < length s.variables = slice_get_within s.variables variable d.it d.found in
-    let f : slice_get (map shape_of s.variables) variable ≡ Some (shape_of d.it) = slice_get-map shape_of s.variables variable ∙ ap (option_map shape_of) d.found in
-    near_at s variable k ends l (ap (λ (x : Shape). x.bytes) (get_or_from_slice_get (map shape_of s.variables) variable (shape_of d.it) none f) ∙ ap bytes_of d.kind)
+    let f : slice_get (map shape_of s.variables) variable ≡ Some (shape_of d.it) =
+    slice_get-map shape_of s.variables variable ∙ ap (option_map shape_of) d.found in
+    near_at s variable k ends l (ap (λ (x : Shape). x.bytes) (get_or_from_slice_get (map shape_of s.variables) variable (shape_of d.it) none f) ∙
+    ap bytes_of d.kind)
 
 -- a variable of any kind
 pub near_some : (s : Source) (variable : ℕ) → end_from 0 (map shape_of s.variables) ≤ 65536 → variable < length s.variables → (k : Kind) × IsNear s variable k
@@ -195,5 +199,9 @@ near_some s variable ends l = by (slice_get s.variables variable) refl
     by : (o : Option p.Variable) → slice_get s.variables variable ≡ o → (k : Kind) × IsNear s variable k
     by None e = absurd (let z : ⊥ = grind (arith, common_steps, gets) in z)
     by (Some it) e =
-        let f : slice_get (map shape_of s.variables) variable ≡ Some (shape_of it) = slice_get-map shape_of s.variables variable ∙ ap (option_map shape_of) e in
-        (it.kind, near_at s variable it.kind ends l (ap (λ (x : Shape). x.bytes) (get_or_from_slice_get (map shape_of s.variables) variable (shape_of it) none f)))
+        let f : slice_get (map shape_of s.variables) variable ≡ Some (shape_of it) =
+        slice_get-map shape_of s.variables variable ∙ ap (option_map shape_of) e in (
+          it.kind,
+          near_at s variable it.kind ends l
+              (ap (λ (x : Shape). x.bytes) (get_or_from_slice_get (map shape_of s.variables) variable (shape_of it) none f)),
+        )

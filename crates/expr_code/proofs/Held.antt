@@ -2,6 +2,8 @@
 use Rattle.std.proofs.Common.{◌≡◌, ℕ, zero, suc, ◌<◌, List, refl, ap, ◌∙◌, arith, Bool, true, false, ◌==◌, lit<}
 use Rattle.std.specs.Prelude.{not, ◌&&◌, ◌||◌, slice_set, slice_index}
 use Rattle.std.proofs.lemmas.Option.{slice_get_within}
+use Rattle.c_tree.specs.Exprs as e
+use Rattle.c_tree.specs.WellFormed.{IsExpr}
 use Rattle.rv64_isa.specs.Rows.{read}
 use Rattle.log_layout.specs.Roles.{is_temporary, is_local}
 use Rattle.operator_code.specs.Computing.{AreRegisters}
@@ -97,11 +99,20 @@ with_own held n l h = is_member (is_free held) (temporary held) n (own_is_free h
 
 -- ---- Registers of locals
 
-pub locals_kept : (h : Homes) (s : Source) (x y : List ℕ) → Suits h s → ((n : ℕ) → is_local n ≡ true → read y n ≡ read x n) →
-    HoldsLocals h s x → HoldsLocals h s y
-locals_kept h s x y suits same holds = λ local k found.
-    let c = holds local k found in
-    record { held = c.held; form = same (slice_index h.registers local) (suits.register local (slice_get_within s.kinds local k found)) ∙ c.form }
+pub locals_kept : (h : Homes) (s : Source) (x y : List ℕ) (t : e.Expr) → Suits h s → IsExpr s.variables s.kinds t →
+    ((n : ℕ) → is_local n ≡ true → read y n ≡ read x n) → HoldsLocals h s x t → HoldsLocals h s y t
+locals_kept h s x y (e.Constant value) suits f same l = tt
+locals_kept h s x y (e.Local local k) suits f same l =
+    record { held = l.held; form = same (slice_index h.registers local) (suits.register local (slice_get_within s.kinds local k f)) ∙ l.form }
+locals_kept h s x y (e.Variable place variable k) suits f same l = tt
+locals_kept h s x y (e.Element place variable k index_place index) suits f same l = locals_kept h s x y index suits f.1 same l
+locals_kept h s x y (e.Unary op t) suits f same l = locals_kept h s x y t suits f same l
+locals_kept h s x y (e.Cast k t) suits f same l = locals_kept h s x y t suits f same l
+locals_kept h s x y (e.Converted k t) suits f same l = locals_kept h s x y t suits f same l
+locals_kept h s x y (e.Binary op t u) suits f same l =
+    (locals_kept h s x y t suits f.0 same l.0, locals_kept h s x y u suits f.1 same l.1)
+locals_kept h s x y (e.Conditional k t u v) suits f same l =
+    (locals_kept h s x y t suits f.0 same l.0, locals_kept h s x y u suits f.1 same l.1, locals_kept h s x y v suits f.2 same l.2)
 
 pub registers_after_write : (x : List ℕ) (rd v : ℕ) → 0 < rd → AreRegisters x → AreRegisters (slice_set x rd v)
 registers_after_write x rd v some a = record {

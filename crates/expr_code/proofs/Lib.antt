@@ -8,4 +8,5 @@ pub mod Choosing
 pub mod Addresses
 pub mod Loading
 pub mod Needs
+pub mod Words
 pub mod Selecting

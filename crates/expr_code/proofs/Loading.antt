@@ -1,5 +1,6 @@
 -- Code that loads elements or computes their addresses.
-use Rattle.std.proofs.Common.{◌≡◌, ℕ, zero, suc, ◌+◌, ◌*◌, ◌/◌, ◌%◌, ◌^◌, ◌<◌, ◌≤◌, List, [], ◌∷◌, ◌++◌, length, refl, ap, sym, ◌∙◌, arith, subst, Bool, true, false, ◌==◌, lit<}
+use Rattle.std.proofs.Common.{◌≡◌, ℕ, zero, suc, ◌+◌, ◌*◌, ◌/◌, ◌%◌, ◌^◌, ◌<◌, ◌≤◌, List, [], ◌∷◌, ◌++◌, length, refl, ap, sym, ◌∙◌, arith, subst, Bool}
+use Rattle.std.proofs.Common.{true, false, ◌==◌, lit<}
 use Rattle.std.specs.Prelude.{◌||◌, ◌&&◌, Option, ℤ, pos, negsuc, ◌≤ℤ◌, unsigned_abs, slice_index, slice_set, Some}
 use Rattle.std.proofs.lemmas.Int.{ints}
 use Rattle.ido_base.specs.declared.place.Place.{Place}
@@ -28,13 +29,15 @@ use Rattle.operator_code.proofs.Constants.{written_is, lui_row}
 use Rattle.operator_code.proofs.Composing.{op_sets, immediate_sets, shift_sets, one}
 use Rattle.log_layout.specs.Roles.{is_temporary}
 use Rattle.log_layout.proofs.Ends.{product_small}
-use Rattle.expr_code.specs.Running.{Surroundings, Moment, moment, Leads, Stands}
-use Rattle.expr_code.specs.Evaluating.{Homes, Source, Suits, HoldsLocals, AreLoaded, IsLegal, Begins, Ends, Gives, place_of, IsElementAddressCode, IsVariableAddressCode}
+use Rattle.code_runs.specs.Running.{Surroundings, Moment, moment, Stands}
+use Rattle.expr_code.specs.Evaluating.{Homes, Source, Suits, HoldsLocals, AreLoaded, IsLegal, IsAt, Begins, Ends, Gives, place_of, IsElementAddressCode}
+use Rattle.expr_code.specs.Evaluating.{IsVariableAddressCode}
 use Rattle.expr_code.specs.links.Giving.{temporary, is_free, IsEvaluation, IsOperand}
+use Rattle.expr_code.specs.links.Skipping.{LeadsBy}
 use Rattle.expr_code.specs.links.Loading.{loaded_by, places_of, upper_part, HasUpper}
-use Rattle.expr_code.proofs.Running.{loads, stands_right}
+use Rattle.expr_code.proofs.Running.{loads, arrive, stands_right}
 use Rattle.expr_code.proofs.Held.{or_left, or_right, own_is_free, spare_is_free, temporary_some, temporary_small, registers_after_write, is_member}
-use Rattle.expr_code.proofs.Ending.{wider, then_ends, computed, begins_left, room_right}
+use Rattle.expr_code.proofs.Ending.{wider, then_ends, computed, at_left, begins_left, begins_as, room_right}
 use Rattle.expr_code.proofs.Addresses.{load_width, loaded_form, index_form, upper_is, parts_meet, IsNear, near_declared, near_some, bytes_small}
 
 -- ---- One more instruction
@@ -45,18 +48,20 @@ pub then_sets : (h : Homes) (x : e.Expr) (a : List Instr) (i : Instr) (w : ℕ �
     Gives h x a w P → Gives h x (a ++ i ∷ []) w Q
 then_sets h x a i w rd P Q u some small free sets after g = record { ends = ends }
   where
-    ends : (s : Source) (r : Surroundings) (m : Moment) → IsLegal h s r x → Begins h s r (a ++ i ∷ []) m → Ends r (a ++ i ∷ []) w (Q (value s.locals s.numbers x)) m
+    ends : (s : Source) (r : Surroundings) (m : Moment) → IsLegal h s r x → Begins h s r x (a ++ i ∷ []) m →
+        Ends r (a ++ i ∷ []) w (Q (value s.locals s.numbers x)) m
     ends s r m l b =
         let v = value s.locals s.numbers x in
-        then_ends r a (i ∷ []) w (P v) (Q v) m (g.ends s r m l (begins_left h s r a (i ∷ []) m b))
+        then_ends r a (i ∷ []) w (P v) (Q v) m (g.ends s r m l (begins_left h s r x a (i ∷ []) m b))
         (λ y are same has. wider r (i ∷ []) (λ n. n == rd || w n) w (Q v) (moment y (m.pc + 4 * length a)) (λ n f. is_member w rd n free f)
         (computed r (i ∷ []) w rd (u v y) (Q v) (moment y (m.pc + 4 * length a)) some small are (sets v y are has)
-        (stands_right r m.pc a (i ∷ []) b.stands) (room_right h s r a (i ∷ []) m b)
+        (stands_right r m.pc a (i ∷ []) b.at.stands) (room_right r a (i ∷ []) m b.at)
         (λ z are_z at others. after v y z has at others)))
 
 -- ---- The upper part
 
-lui_computes : (address : ℕ) (y : List ℕ) → address + 2048 < 2 ^ 31 → AreRegisters y → Computes (Lui 31 ((address + 2048) % 2 ^ 32 / 4096) ∷ []) y 31 (upper_part address)
+lui_computes : (address : ℕ) (y : List ℕ) → address + 2048 < 2 ^ 31 → AreRegisters y →
+    Computes (Lui 31 ((address + 2048) % 2 ^ 32 / 4096) ∷ []) y 31 (upper_part address)
 lui_computes address y l are =
     let c = lui_row 31 ((address + 2048) % 2 ^ 32 / 4096) (lit< tt) in
     record {
@@ -81,7 +86,9 @@ not_spare held rs kept = by (rs == 31) refl
   where
     by : (b : Bool) → (rs == 31) ≡ b → (rs == 31) ≡ false
     by false t = t
-    by true t = let same : is_free (suc held) rs ≡ is_free (suc held) 31 = ap (is_free (suc held)) (equal_by rs 31 t) in absurd (let z : ⊥ = cc (same, kept, spare_is_free (suc held)) in z)
+    by true t =
+        let same : is_free (suc held) rs ≡ is_free (suc held) 31 = ap (is_free (suc held)) (equal_by rs 31 t) in
+        absurd (let z : ⊥ = cc (same, kept, spare_is_free (suc held)) in z)
 
 own_not_spare : (held : ℕ) → (31 == temporary held) ≡ false
 own_not_spare zero = refl
@@ -92,7 +99,8 @@ own_not_spare (suc (suc (suc held))) = refl
 with_lui : (h : Homes) (x : e.Expr) (held rs address : ℕ) (a : List Instr) → address + 2048 < 2 ^ 31 → IsOperand h x held rs a →
     Gives h x (a ++ Lui 31 ((address + 2048) % 2 ^ 32 / 4096) ∷ []) (is_free held) (λ v y. Carries y rs v × (read y 31 ≡ upper_part address))
 with_lui h x held rs address a l operand =
-    then_sets h x a (Lui 31 ((address + 2048) % 2 ^ 32 / 4096)) (is_free held) 31 (λ v y. Carries y rs v) (λ v y. Carries y rs v × (read y 31 ≡ upper_part address))
+    then_sets h x a (Lui 31 ((address + 2048) % 2 ^ 32 / 4096)) (is_free held) 31 (λ v y. Carries y rs v)
+    (λ v y. Carries y rs v × (read y 31 ≡ upper_part address))
     (λ v y. upper_part address) (lit< tt) (lit< tt) (spare_is_free held) (λ v y are has. lui_computes address y l are)
     (λ v y z has at others. (record { held = has.held; form = others rs (not_spare held rs operand.kept) ∙ has.form }, at)) operand.gives
 
@@ -112,11 +120,13 @@ with_add h x held t address k a l g =
     let second : read y 31 ≡ upper_part address = has.1 in
     let small : bytes_of k * n < 2 ^ 36 = product_small (bytes_of k) n (bytes_small k) (omega arith) in
     let fits : upper_part address + bytes_of k * n < 2 ^ 64 = omega arith in
-    at ∙ ap (λ (i : ℕ). result_of Add i (read y t)) second ∙ ap (λ (i : ℕ). result_of Add (upper_part address) i) first ∙ add_small (upper_part address) (bytes_of k * n) fits)
+    at ∙ ap (λ (i : ℕ). result_of Add i (read y t)) second ∙ ap (λ (i : ℕ). result_of Add (upper_part address) i) first ∙
+    add_small (upper_part address) (bytes_of k * n) fits)
     g
 
 pub scaled_upper : (k : Kind) (held rs address : ℕ) (a : List Instr) → held < 4 → (h : Homes) (x : e.Expr) → address + 2048 < 2 ^ 31 → IsOperand h x held rs a →
-    Gives h x (((a ++ Lui 31 ((address + 2048) % 2 ^ 32 / 4096) ∷ []) ++ ShiftImmediate Slli (temporary held) rs (places_of k) ∷ []) ++ Op Add 31 31 (temporary held) ∷ [])
+    Gives h x (((a ++ Lui 31 ((address + 2048) % 2 ^ 32 / 4096) ∷ []) ++ ShiftImmediate Slli (temporary held) rs (places_of k) ∷ []) ++
+    Op Add 31 31 (temporary held) ∷ [])
     (is_free held) (HasUpper address (bytes_of k))
 scaled_upper k held rs address a small h x l operand =
     let first = a ++ Lui 31 ((address + 2048) % 2 ^ 32 / 4096) ∷ [] in
@@ -125,14 +135,16 @@ scaled_upper k held rs address a small h x l operand =
     (then_sets h x first i (is_free held) (temporary held) (λ v y. Carries y rs v × (read y 31 ≡ upper_part address))
     (λ v y. ((n : ℕ) → v.number ≡ pos n → n < 2 ^ 31 → read y (temporary held) ≡ bytes_of k * n) × (read y 31 ≡ upper_part address))
     (λ v y. result_of Sll (read y rs) (places_of k)) (temporary_some held) (temporary_small held) (own_is_free held small)
-    (λ v y are has. one i y (temporary held) (result_of Sll (read y rs) (places_of k)) (shift_sets Slli y (temporary held) rs (places_of k) (temporary_some held)))
+    (λ v y are has. one i y (temporary held) (result_of Sll (read y rs) (places_of k))
+    (shift_sets Slli y (temporary held) rs (places_of k) (temporary_some held)))
     (λ v y z has at others. (
       λ n e b. at ∙ ap (λ (q : ℕ). result_of Sll q (places_of k)) (index_of v y rs n has.0 e b) ∙ shifted k n b,
       others 31 (own_not_spare held) ∙ has.1,
     ))
     (with_lui h x held rs address a l operand))
 
-pub plain_upper : (k : Kind) (held rs address : ℕ) (a : List Instr) → places_of k ≡ 0 → (h : Homes) (x : e.Expr) → address + 2048 < 2 ^ 31 → IsOperand h x held rs a →
+pub plain_upper : (k : Kind) (held rs address : ℕ) (a : List Instr) → places_of k ≡ 0 → (h : Homes) (x : e.Expr) → address + 2048 < 2 ^ 31 →
+    IsOperand h x held rs a →
     Gives h x ((a ++ Lui 31 ((address + 2048) % 2 ^ 32 / 4096) ∷ []) ++ Op Add 31 31 rs ∷ []) (is_free held) (HasUpper address (bytes_of k))
 plain_upper k held rs address a none h x l operand =
     let first = a ++ Lui 31 ((address + 2048) % 2 ^ 32 / 4096) ∷ [] in
@@ -144,6 +156,7 @@ plain_upper k held rs address a none h x l operand =
           record {
             registers = f.registers;
             leads = f.leads;
+            short = f.short;
             are = f.are;
             unchanged = f.unchanged;
             has = (λ n e q. index_of v f.registers rs n f.has.0 e q ∙ single k n none, f.has.1);
@@ -163,18 +176,19 @@ plain_upper k held rs address a none h x l operand =
 
 -- ---- Indexes
 
-pub all_held : (h : Homes) (s : Source) (l : (address bytes : ℕ) → Option ℕ) (x : List ℕ) (t : e.Expr) → HoldsLocals h s x → IsExpr s.variables s.kinds t → AreLoaded s l t →
+pub all_held : (h : Homes) (s : Source) (l : (address bytes : ℕ) → Option ℕ) (x : List ℕ) (t : e.Expr) → HoldsLocals h s x t →
+    IsExpr s.variables s.kinds t → AreLoaded s l t →
     AllHeld s.locals s.numbers t
 all_held h s l x (e.Constant v) locals f a = tt
-all_held h s l x (e.Local local k) locals f a = (locals local k f).held
+all_held h s l x (e.Local local k) locals f a = locals.held
 all_held h s l x (e.Variable place variable k) locals f a = a.held
 all_held h s l x (e.Element place variable k index_place index) locals f a = (a.0.held, all_held h s l x index locals f.1 a.1)
 all_held h s l x (e.Unary op t) locals f a = all_held h s l x t locals f a
 all_held h s l x (e.Cast k t) locals f a = all_held h s l x t locals f a
 all_held h s l x (e.Converted k t) locals f a = all_held h s l x t locals f a
-all_held h s l x (e.Binary op t u) locals f a = (all_held h s l x t locals f.0 a.0, all_held h s l x u locals f.1 a.1)
+all_held h s l x (e.Binary op t u) locals f a = (all_held h s l x t locals.0 f.0 a.0, all_held h s l x u locals.1 f.1 a.1)
 all_held h s l x (e.Conditional k t u v) locals f a =
-    (all_held h s l x t locals f.0 a.0, all_held h s l x u locals f.1 a.1, all_held h s l x v locals f.2 a.2)
+    (all_held h s l x t locals.0 f.0 a.0, all_held h s l x u locals.1 f.1 a.1, all_held h s l x v locals.2 f.2 a.2)
 
 absolute : (z : ℤ) → pos 0 ≤ℤ z → z ≡ pos (unsigned_abs z)
 absolute (pos n) h = refl
@@ -185,7 +199,8 @@ record IsIndex (s : Source) (variable : ℕ) (v : Typed) : Type 0 where
   number : v.number ≡ pos (element_at v)
   small : element_at v < 2 ^ 31
 
-is_index : (h : Homes) (s : Source) (r : Surroundings) (m : Moment) (variable : ℕ) (place : Place) (x : e.Expr) → IsLegal h s r x → HoldsLocals h s m.registers →
+is_index : (h : Homes) (s : Source) (r : Surroundings) (m : Moment) (variable : ℕ) (place : Place) (x : e.Expr) → IsLegal h s r x →
+    HoldsLocals h s m.registers x →
     IndexFits s.variables variable place x → IsIndex s variable (value s.locals s.numbers x)
 is_index h s r m variable place x l locals fits =
     let held = all_held h s r.loads m.registers x locals l.formed l.loaded in
@@ -209,12 +224,15 @@ load_ends r w k rd low at z m some small are stands room address answer held =
     let does : row (Load (loaded_by k) rd 31 low) x m.pc ≡ Loads at b (load_signed (loaded_by k)) rd =
     ap (λ (n : ℕ). Loads n b (load_signed (loaded_by k)) rd) address in
     let gives : r.loads at b ≡ Some (residue (bits_of k) z) = ap (r.loads at) (load_width k) ∙ answer in
-    let one_step : Leads r m (moment (written x rd v) (m.pc + 4)) =
+    let one_step : LeadsBy r m (moment (written x rd v) (m.pc + 4)) 1 =
     loads r (Load (loaded_by k) rd 31 low) x m.pc at b rd (residue (bits_of k) z) (load_signed (loaded_by k)) stands.0 does gives (omega arith) in
+    let e : m.pc + 4 ≡ m.pc + 4 * 1 = omega arith in
+    let whole = subst (λ (q : List ℕ). LeadsBy r m (moment q (m.pc + 4 * 1)) 1) (written_is x rd v some)
+    (arrive r m (written x rd v) (m.pc + 4) (m.pc + 4 * 1) 1 e one_step) in
     record {
       registers = y;
-      leads = subst (λ (q : List ℕ). Leads r m (moment q (m.pc + 4 * 1))) (written_is x rd v some) (let e : m.pc + 4 ≡ m.pc + 4 * 1 = omega arith in
-          subst (λ (n : ℕ). Leads r m (moment (written x rd v) n)) e one_step);
+      leads = whole.leads;
+      short = whole.short;
       are = registers_after_write x rd v some are;
       unchanged = λ n f. read_other x rd n v (or_left (n == rd) (w n) f);
       has = record { held = held; form = read_same x rd v are.count small ∙ loaded_form k z held };
@@ -238,13 +256,14 @@ is_placed s variable k address n y near first small has =
 low_enough : (s : Source) (variable : ℕ) (k : Kind) (address : ℕ) → IsNear s variable k → address ≡ place_of s variable 0 → address + 2048 < 2 ^ 31
 low_enough s variable k address near first = let close = near.near in omega arith
 
-pub element_value : (k : Kind) (held rd address : ℕ) (a : List Instr) → 0 < rd → rd < 32 → (h : Homes) (place : Place) (variable : ℕ) (index_place : Place) (x : e.Expr) →
+pub element_value : (k : Kind) (held rd address : ℕ) (a : List Instr) → 0 < rd → rd < 32 →
+    (h : Homes) (place : Place) (variable : ℕ) (index_place : Place) (x : e.Expr) →
     slice_index h.addresses variable ≡ address → (address + 2048 < 2 ^ 31 → Gives h x a (is_free held) (HasUpper address (bytes_of k))) →
     IsEvaluation h (e.Element place variable k index_place x) held rd (a ++ Load (loaded_by k) rd 31 (address % 4096) ∷ [])
 element_value k held rd address a some small h place variable index_place x is g = record { ends = ends }
   where
     ends : (s : Source) (r : Surroundings) (m : Moment) → IsLegal h s r (e.Element place variable k index_place x) →
-        Begins h s r (a ++ Load (loaded_by k) rd 31 (address % 4096) ∷ []) m →
+        Begins h s r (e.Element place variable k index_place x) (a ++ Load (loaded_by k) rd 31 (address % 4096) ∷ []) m →
         Ends r (a ++ Load (loaded_by k) rd 31 (address % 4096) ∷ []) (λ n. n == rd || is_free held n)
         (λ y. Carries y rd (typed k (element_number s.numbers variable (element_at (value s.locals s.numbers x))))) m
     ends s r m l b =
@@ -258,20 +277,22 @@ element_value k held rd address a some small h place variable index_place x is g
         let n = element_at v in
         then_ends r a (i ∷ []) w (HasUpper address (bytes_of k) v) (λ y. Carries y rd (typed k (element_number s.numbers variable n))) m
         (wider r a (is_free held) w (HasUpper address (bytes_of k) v) m (λ q f. or_right (q == rd) (is_free held q) f)
-        ((g (low_enough s variable k address near first_at)).ends s r m inner (begins_left h s r a (i ∷ []) m b)))
+        ((g (low_enough s variable k address near first_at)).ends s r m inner
+        (begins_as h s r (e.Element place variable k index_place x) x a m b.locals
+        (begins_left h s r (e.Element place variable k index_place x) a (i ∷ []) m b))))
         (λ y are same has. load_ends r (is_free held) k rd (address % 4096) (place_of s variable n) (element_number s.numbers variable n)
-        (moment y (m.pc + 4 * length a)) some small are (stands_right r m.pc a (i ∷ []) b.stands) (room_right h s r a (i ∷ []) m b)
+        (moment y (m.pc + 4 * length a)) some small are (stands_right r m.pc a (i ∷ []) b.at.stands) (room_right r a (i ∷ []) m b.at)
         (is_placed s variable k address n y near first_at index.small (has n index.number index.small)).at l.loaded.0.answer l.loaded.0.held)
 
 -- x31 gets the upper part
-with_upper : (h : Homes) (s : Source) (r : Surroundings) (address : ℕ) (i : Instr) (w : ℕ → Bool) (Q : List ℕ → Type 0) (m : Moment) → address + 2048 < 2 ^ 31 →
-    w 31 ≡ true → Begins h s r (Lui 31 ((address + 2048) % 2 ^ 32 / 4096) ∷ i ∷ []) m →
+with_upper : (r : Surroundings) (address : ℕ) (i : Instr) (w : ℕ → Bool) (Q : List ℕ → Type 0) (m : Moment) → address + 2048 < 2 ^ 31 →
+    w 31 ≡ true → IsAt r (Lui 31 ((address + 2048) % 2 ^ 32 / 4096) ∷ i ∷ []) m →
     ((y : List ℕ) → AreRegisters y → read y 31 ≡ upper_part address → Ends r (i ∷ []) w Q (moment y (m.pc + 4 * 1))) →
     Ends r (Lui 31 ((address + 2048) % 2 ^ 32 / 4096) ∷ i ∷ []) w Q m
-with_upper h s r address i w Q m low free b rest =
+with_upper r address i w Q m low free b rest =
     let u = Lui 31 ((address + 2048) % 2 ^ 32 / 4096) in
-    let g : Begins h s r ((u ∷ []) ++ i ∷ []) m = b in
-    let f = begins_left h s r (u ∷ []) (i ∷ []) m g in
+    let g : IsAt r ((u ∷ []) ++ i ∷ []) m = b in
+    let f = at_left r (u ∷ []) (i ∷ []) m g in
     then_ends r (u ∷ []) (i ∷ []) w (λ y. read y 31 ≡ upper_part address) Q m
     (wider r (u ∷ []) (λ n. n == 31 || w n) w (λ y. read y 31 ≡ upper_part address) m (λ n q. is_member w 31 n free q)
     (computed r (u ∷ []) w 31 (upper_part address) (λ y. read y 31 ≡ upper_part address) m (lit< tt) (lit< tt) b.registers
@@ -285,12 +306,13 @@ member_or w rd n h = by (n == rd)
     by true = refl
     by false = h
 
-pub variable_value : (k : Kind) (rd address : ℕ) → 0 < rd → rd < 32 → (h : Homes) (place : Place) (variable held : ℕ) → slice_index h.addresses variable ≡ address →
+pub variable_value : (k : Kind) (rd address : ℕ) → 0 < rd → rd < 32 → (h : Homes) (place : Place) (variable held : ℕ) → slice_index h.addresses variable ≡
+    address →
     IsEvaluation h (e.Variable place variable k) held rd (Lui 31 ((address + 2048) % 2 ^ 32 / 4096) ∷ Load (loaded_by k) rd 31 (address % 4096) ∷ [])
 variable_value k rd address some small h place variable held is = record { ends = ends }
   where
     ends : (s : Source) (r : Surroundings) (m : Moment) → IsLegal h s r (e.Variable place variable k) →
-        Begins h s r (Lui 31 ((address + 2048) % 2 ^ 32 / 4096) ∷ Load (loaded_by k) rd 31 (address % 4096) ∷ []) m →
+        Begins h s r (e.Variable place variable k) (Lui 31 ((address + 2048) % 2 ^ 32 / 4096) ∷ Load (loaded_by k) rd 31 (address % 4096) ∷ []) m →
         Ends r (Lui 31 ((address + 2048) % 2 ^ 32 / 4096) ∷ Load (loaded_by k) rd 31 (address % 4096) ∷ []) (λ n. n == rd || is_free held n)
         (λ y. Carries y rd (typed k (element_number s.numbers variable 0))) m
     ends s r m l b =
@@ -300,10 +322,10 @@ variable_value k rd address some small h place variable held is = record { ends 
         let near = near_declared s variable k false l.suits.bytes l.formed in
         let first_at : address ≡ place_of s variable 0 = sym is ∙ l.suits.address variable near.some in
         let none : upper_part address ≡ upper_part address + bytes_of k * 0 = omega arith in
-        with_upper h s r address i w (λ y. Carries y rd (typed k (element_number s.numbers variable 0))) m (low_enough s variable k address near first_at)
-        (member_or (is_free held) rd 31 (spare_is_free held)) b
+        with_upper r address i w (λ y. Carries y rd (typed k (element_number s.numbers variable 0))) m (low_enough s variable k address near first_at)
+        (member_or (is_free held) rd 31 (spare_is_free held)) b.at
         (λ y are has. load_ends r (is_free held) k rd (address % 4096) (place_of s variable 0) (element_number s.numbers variable 0)
-        (moment y (m.pc + 4 * 1)) some small are (stands_right r m.pc (u ∷ []) (i ∷ []) b.stands) (room_right h s r (u ∷ []) (i ∷ []) m b)
+        (moment y (m.pc + 4 * 1)) some small are (stands_right r m.pc (u ∷ []) (i ∷ []) b.at.stands) (room_right r (u ∷ []) (i ∷ []) m b.at)
         (is_placed s variable k address 0 y near first_at (lit< tt) (has ∙ none)).at l.loaded.answer l.loaded.held)
 
 -- ---- Addresses
@@ -330,7 +352,7 @@ pub element_address_code : (k : Kind) (rd address : ℕ) (a : List Instr) → 0 
 element_address_code k rd address a some small h variable x is g = record { ends = ends }
   where
     ends : (s : Source) (r : Surroundings) (m : Moment) → IsDeclared s.variables variable k true → IndexFits s.variables variable x.place x.expr →
-        IsLegal h s r x.expr → Begins h s r (a ++ OpImmediate Addi rd 31 (address % 4096) ∷ []) m →
+        IsLegal h s r x.expr → Begins h s r x.expr (a ++ OpImmediate Addi rd 31 (address % 4096) ∷ []) m →
         Ends r (a ++ OpImmediate Addi rd 31 (address % 4096) ∷ []) (λ n. n == rd || is_temporary n)
         (λ y. read y rd ≡ place_of s variable (element_at (value s.locals s.numbers x.expr))) m
     ends s r m d fits l b =
@@ -344,18 +366,19 @@ element_address_code k rd address a some small h variable x is g = record { ends
         wider r (a ++ i ∷ []) w (λ q. q == rd || is_temporary q) (λ y. read y rd ≡ place_of s variable n) m (λ q f. as_temporary rd q f)
         (then_ends r a (i ∷ []) w (HasUpper address (bytes_of k) v) (λ y. read y rd ≡ place_of s variable n) m
         (wider r a (is_free 0) w (HasUpper address (bytes_of k) v) m (λ q f. or_right (q == rd) (is_free 0 q) f)
-        ((g (low_enough s variable k address near first_at)).ends s r m l (begins_left h s r a (i ∷ []) m b)))
-        (λ y are same has. computed r (i ∷ []) (is_free 0) rd (place_of s variable n) (λ z. read z rd ≡ place_of s variable n) (moment y (m.pc + 4 * length a)) some small are
+        ((g (low_enough s variable k address near first_at)).ends s r m l (begins_left h s r x.expr a (i ∷ []) m b)))
+        (λ y are same has. computed r (i ∷ []) (is_free 0) rd (place_of s variable n) (λ z. read z rd ≡ place_of s variable n)
+        (moment y (m.pc + 4 * length a)) some small are
         (addi_computes rd (address % 4096) (place_of s variable n) y some
         (is_placed s variable k address n y near first_at index.small (has n index.number index.small)).at)
-        (stands_right r m.pc a (i ∷ []) b.stands) (room_right h s r a (i ∷ []) m b) (λ z are_z at others. at)))
+        (stands_right r m.pc a (i ∷ []) b.at.stands) (room_right r a (i ∷ []) m b.at) (λ z are_z at others. at)))
 
 pub variable_address_code : (rd address : ℕ) → 0 < rd → rd < 32 → (h : Homes) (variable : ℕ) → slice_index h.addresses variable ≡ address →
     IsVariableAddressCode h variable rd (Lui 31 ((address + 2048) % 2 ^ 32 / 4096) ∷ OpImmediate Addi rd 31 (address % 4096) ∷ [])
 variable_address_code rd address some small h variable is = record { ends = ends }
   where
     ends : (s : Source) (r : Surroundings) (m : Moment) → Suits h s → variable < length s.variables →
-        Begins h s r (Lui 31 ((address + 2048) % 2 ^ 32 / 4096) ∷ OpImmediate Addi rd 31 (address % 4096) ∷ []) m →
+        IsAt r (Lui 31 ((address + 2048) % 2 ^ 32 / 4096) ∷ OpImmediate Addi rd 31 (address % 4096) ∷ []) m →
         Ends r (Lui 31 ((address + 2048) % 2 ^ 32 / 4096) ∷ OpImmediate Addi rd 31 (address % 4096) ∷ []) (λ n. n == rd || is_temporary n)
         (λ y. read y rd ≡ place_of s variable 0) m
     ends s r m suits l b =
@@ -367,8 +390,9 @@ variable_address_code rd address some small h variable is = record { ends = ends
         let near = it.1 in
         let first_at : address ≡ place_of s variable 0 = sym is ∙ suits.address variable near.some in
         let none : upper_part address ≡ upper_part address + bytes_of k * 0 = omega arith in
-        with_upper h s r address i w (λ y. read y rd ≡ place_of s variable 0) m (low_enough s variable k address near first_at)
+        with_upper r address i w (λ y. read y rd ≡ place_of s variable 0) m (low_enough s variable k address near first_at)
         (member_or is_temporary rd 31 refl) b
-        (λ y are has. computed r (i ∷ []) is_temporary rd (place_of s variable 0) (λ z. read z rd ≡ place_of s variable 0) (moment y (m.pc + 4 * 1)) some small are
+        (λ y are has. computed r (i ∷ []) is_temporary rd (place_of s variable 0) (λ z. read z rd ≡ place_of s variable 0)
+        (moment y (m.pc + 4 * 1)) some small are
         (addi_computes rd (address % 4096) (place_of s variable 0) y some (is_placed s variable k address 0 y near first_at (lit< tt) (has ∙ none)).at)
-        (stands_right r m.pc (u ∷ []) (i ∷ []) b.stands) (room_right h s r (u ∷ []) (i ∷ []) m b) (λ z are_z at others. at))
+        (stands_right r m.pc (u ∷ []) (i ∷ []) b.stands) (room_right r (u ∷ []) (i ∷ []) m b) (λ z are_z at others. at))

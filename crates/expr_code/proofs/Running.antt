@@ -1,5 +1,6 @@
 -- Runs put together from their parts.
-use Rattle.std.proofs.Common.{◌≡◌, ℕ, zero, suc, ◌+◌, ◌*◌, ◌^◌, ◌<◌, List, [], ◌∷◌, ◌++◌, length, refl, ap, sym, ◌∙◌, arith, subst, Bool, true, false, Option, Some, zero-add, ◌==◌}
+use Rattle.std.proofs.Common.{◌≡◌, ℕ, zero, suc, ◌+◌, ◌*◌, ◌^◌, ◌<◌, ◌≤◌, List, [], ◌∷◌, ◌++◌, length, refl, ap, sym, ◌∙◌, arith, subst, Bool, true, false}
+use Rattle.std.proofs.Common.{Option, Some, zero-add, ◌==◌}
 use Rattle.std.specs.Prelude.{slice_set}
 use Rattle.std.specs.Option.{option_map}
 use Rattle.std.proofs.Math.Nat.{mod-eq_of_lt}
@@ -8,7 +9,8 @@ use Rattle.rv64_isa.specs.Rows.{Effect, GoesOn, Loads, Stores, Cleans, Fences, C
 use Rattle.operator_code.specs.Straight.{seen, left_by, effects, registers_after}
 use Rattle.operator_code.specs.Computing.{Computes}
 use Rattle.operator_code.proofs.Steps.{equal_by}
-use Rattle.expr_code.specs.Running.{Surroundings, Moment, moment, behind, LeadsIn, Leads, Stands}
+use Rattle.code_runs.specs.Running.{Surroundings, Moment, moment, behind, LeadsIn, Stands}
+use Rattle.expr_code.specs.links.Skipping.{LeadsBy}
 
 leads_in-then : (s : Surroundings) (a b : ℕ) (m n o : Moment) → LeadsIn s a m n → LeadsIn s b n o → LeadsIn s (a + b) m o
 leads_in-then s zero b m n o e h = subst (λ (k : ℕ). LeadsIn s k m o) (sym (zero-add b)) (subst (λ (q : Moment). LeadsIn s b q o) (sym e) h)
@@ -16,22 +18,31 @@ leads_in-then s (suc a) b m n o g h =
     let e : suc (a + b) ≡ suc a + b = omega arith in
     subst (λ (k : ℕ). LeadsIn s k m o) e (g.0, g.1, leads_in-then s a b g.0 n o g.2 h)
 
-pub leads_then : (s : Surroundings) (m n o : Moment) → Leads s m n → Leads s n o → Leads s m o
-leads_then s m n o g h = record { steps = g.steps + h.steps; leads = leads_in-then s g.steps h.steps m n o g.leads h.leads }
+pub leads_then : (s : Surroundings) (m n o : Moment) (a b : ℕ) → LeadsBy s m n a → LeadsBy s n o b → LeadsBy s m o (a + b)
+leads_then s m n o a b g h = record {
+  leads = record { steps = g.leads.steps + h.leads.steps; leads = leads_in-then s g.leads.steps h.leads.steps m n o g.leads.leads h.leads.leads };
+  short = let first = g.short in let second = h.short in omega arith;
+}
 
-pub stay : (s : Surroundings) (m : Moment) → Leads s m m
-stay s m = record { steps = 0; leads = refl }
+pub stay : (s : Surroundings) (m : Moment) → LeadsBy s m m 0
+stay s m = record { leads = record { steps = 0; leads = refl }; short = omega arith }
 
-pub arrive : (s : Surroundings) (m : Moment) (x : List ℕ) (a b : ℕ) → a ≡ b → Leads s m (moment x a) → Leads s m (moment x b)
-arrive s m x a b e h = subst (λ (n : ℕ). Leads s m (moment x n)) e h
+pub arrive : (s : Surroundings) (m : Moment) (x : List ℕ) (a b most : ℕ) → a ≡ b → LeadsBy s m (moment x a) most → LeadsBy s m (moment x b) most
+arrive s m x a b most e h = subst (λ (n : ℕ). LeadsBy s m (moment x n) most) e h
+
+pub within : (s : Surroundings) (m n : Moment) (a b : ℕ) → a ≤ b → LeadsBy s m n a → LeadsBy s m n b
+within s m n a b l h = record { leads = h.leads; short = let few = h.short in omega arith }
 
 -- ---- One instruction
 
 pub goes : (s : Surroundings) (i : Instr) (x y : List ℕ) (pc to : ℕ) → s.fetch pc ≡ Some i → row i x pc ≡ GoesOn y to → pc < to →
-    Leads s (moment x pc) (moment y to)
+    LeadsBy s (moment x pc) (moment y to) 1
 goes s i x y pc to f e l = record {
-  steps = 1;
-  leads = (moment y to, record { instr = i; stands = f; does = ap (λ (g : Effect). behind s (moment x pc) g) e; forward = l }, refl);
+  leads = record {
+    steps = 1;
+    leads = (moment y to, record { instr = i; stands = f; does = ap (λ (g : Effect). behind s (moment x pc) g) e; forward = l }, refl);
+  };
+  short = omega arith;
 }
 
 pub next_is : (pc : ℕ) → pc + 4 < 2 ^ 64 → next pc ≡ pc + 4
@@ -39,15 +50,18 @@ next_is pc l = mod-eq_of_lt l
 
 pub loads : (s : Surroundings) (i : Instr) (x : List ℕ) (pc address bytes rd v : ℕ) (signed : Bool) → s.fetch pc ≡ Some i →
     row i x pc ≡ Loads address bytes signed rd → s.loads address bytes ≡ Some v → pc + 4 < 2 ^ 64 →
-    Leads s (moment x pc) (moment (written x rd (load_result bytes signed v)) (pc + 4))
+    LeadsBy s (moment x pc) (moment (written x rd (load_result bytes signed v)) (pc + 4)) 1
 loads s i x pc address bytes rd v signed f e g l =
     let does : behind s (moment x pc) (row i x pc) ≡ Some (moment (written x rd (load_result bytes signed v)) (pc + 4)) =
     ap (λ (h : Effect). behind s (moment x pc) h) e ∙
     ap (λ (o : Option ℕ). option_map (λ (value : ℕ). moment (written x rd (load_result bytes signed value)) (next pc)) o) g ∙
     ap (λ (n : ℕ). Some (moment (written x rd (load_result bytes signed v)) n)) (next_is pc l) in
     record {
-      steps = 1;
-      leads = (moment (written x rd (load_result bytes signed v)) (pc + 4), record { instr = i; stands = f; does = does; forward = omega arith }, refl);
+      leads = record {
+        steps = 1;
+        leads = (moment (written x rd (load_result bytes signed v)) (pc + 4), record { instr = i; stands = f; does = does; forward = omega arith }, refl);
+      };
+      short = omega arith;
     }
 
 -- ---- Code in its place
@@ -77,9 +91,10 @@ goes_on pc y to e = by (to == next pc) refl
 
 -- the first instruction of code with no effect goes on to the second
 straight_first : (s : Surroundings) (i : Instr) (is : List Instr) (x : List ℕ) (pc : ℕ) →
-    ((y : List ℕ) → effects is y (pc + 4) ≡ [] → Leads s (moment y (pc + 4)) (moment (registers_after is y (pc + 4)) (pc + 4 + 4 * length is))) →
+    ((y : List ℕ) → effects is y (pc + 4) ≡ [] →
+    LeadsBy s (moment y (pc + 4)) (moment (registers_after is y (pc + 4)) (pc + 4 + 4 * length is)) (length is)) →
     effects (i ∷ is) x pc ≡ [] → s.fetch pc ≡ Some i → pc + 4 * length (i ∷ is) < 2 ^ 64 →
-    Leads s (moment x pc) (moment (registers_after (i ∷ is) x pc) (pc + 4 * length (i ∷ is)))
+    LeadsBy s (moment x pc) (moment (registers_after (i ∷ is) x pc) (pc + 4 * length (i ∷ is))) (length (i ∷ is))
 straight_first s i is x pc rest_leads e h l = by (row i x pc) refl
   where
     seen_one : (f : Effect) → row i x pc ≡ f → seen pc f ≡ f ∷ [] → ⊥
@@ -88,20 +103,23 @@ straight_first s i is x pc rest_leads e h l = by (row i x pc) refl
         let none : seen pc f ≡ [] = front_empty (seen pc f) (effects is (left_by x f) (pc + 4)) z in
         cc (none, o)
 
-    by : (f : Effect) → row i x pc ≡ f → Leads s (moment x pc) (moment (registers_after (i ∷ is) x pc) (pc + 4 * length (i ∷ is)))
+    by : (f : Effect) → row i x pc ≡ f →
+        LeadsBy s (moment x pc) (moment (registers_after (i ∷ is) x pc) (pc + 4 * length (i ∷ is))) (length (i ∷ is))
     by (GoesOn y to) w =
         let seen_none : seen pc (GoesOn y to) ++ effects is y (pc + 4) ≡ [] = ap (λ (f : Effect). seen pc f ++ effects is (left_by x f) (pc + 4)) (sym w) ∙ e in
         let none : seen pc (GoesOn y to) ≡ [] = front_empty (seen pc (GoesOn y to)) (effects is y (pc + 4)) seen_none in
         let small : pc + 4 < 2 ^ 64 = omega arith in
         let here : to ≡ pc + 4 = goes_on pc y to none ∙ next_is pc small in
         let rest : effects is y (pc + 4) ≡ [] = ap (λ (fs : List Effect). fs ++ effects is y (pc + 4)) (sym none) ∙ seen_none in
-        let more : Leads s (moment y (pc + 4)) (moment (registers_after is y (pc + 4)) (pc + 4 + 4 * length is)) = rest_leads y rest in
-        let first : Leads s (moment x pc) (moment y (pc + 4)) = goes s i x y pc (pc + 4) h (w ∙ ap (λ (n : ℕ). GoesOn y n) here) (omega arith) in
-        let whole : Leads s (moment x pc) (moment (registers_after is y (pc + 4)) (pc + 4 + 4 * length is)) =
-        leads_then s (moment x pc) (moment y (pc + 4)) (moment (registers_after is y (pc + 4)) (pc + 4 + 4 * length is)) first more in
+        let more = rest_leads y rest in
+        let first = goes s i x y pc (pc + 4) h (w ∙ ap (λ (n : ℕ). GoesOn y n) here) (omega arith) in
+        let end = moment (registers_after is y (pc + 4)) (pc + 4 + 4 * length is) in
+        let whole = within s (moment x pc) end (1 + length is) (length (i ∷ is)) (omega arith)
+        (leads_then s (moment x pc) (moment y (pc + 4)) end 1 (length is) first more) in
         let z : pc + 4 + 4 * length is ≡ pc + 4 * length (i ∷ is) = omega arith in
-        subst (λ (q : List ℕ). Leads s (moment x pc) (moment q (pc + 4 * length (i ∷ is)))) (ap (λ (f : Effect). registers_after is (left_by x f) (pc + 4)) (sym w))
-        (arrive s (moment x pc) (registers_after is y (pc + 4)) (pc + 4 + 4 * length is) (pc + 4 * length (i ∷ is)) z whole)
+        subst (λ (q : List ℕ). LeadsBy s (moment x pc) (moment q (pc + 4 * length (i ∷ is))) (length (i ∷ is)))
+        (ap (λ (f : Effect). registers_after is (left_by x f) (pc + 4)) (sym w))
+        (arrive s (moment x pc) (registers_after is y (pc + 4)) (pc + 4 + 4 * length is) (pc + 4 * length (i ∷ is)) (length (i ∷ is)) z whole)
     by (Loads address bytes signed register) w = absurd (seen_one (Loads address bytes signed register) w refl)
     by (Stores address bytes v) w = absurd (seen_one (Stores address bytes v) w refl)
     by (Cleans address) w = absurd (seen_one (Cleans address) w refl)
@@ -109,12 +127,13 @@ straight_first s i is x pc rest_leads e h l = by (row i x pc) refl
     by Calls w = absurd (seen_one Calls w refl)
 
 pub straight : (s : Surroundings) (code : List Instr) (x : List ℕ) (pc : ℕ) → effects code x pc ≡ [] → Stands s pc code → pc + 4 * length code < 2 ^ 64 →
-    Leads s (moment x pc) (moment (registers_after code x pc) (pc + 4 * length code))
-straight s [] x pc e h l = let z : pc ≡ pc + 4 * 0 = omega arith in arrive s (moment x pc) x pc (pc + 4 * 0) z (stay s (moment x pc))
+    LeadsBy s (moment x pc) (moment (registers_after code x pc) (pc + 4 * length code)) (length code)
+straight s [] x pc e h l = let z : pc ≡ pc + 4 * 0 = omega arith in arrive s (moment x pc) x pc (pc + 4 * 0) 0 z (stay s (moment x pc))
 straight s (i ∷ is) x pc e h l =
     let room : pc + 4 + 4 * length is < 2 ^ 64 = omega arith in
     straight_first s i is x pc (λ y none. straight s is y (pc + 4) none h.1 room) e h.0 l
 
 pub computes : (s : Surroundings) (code : List Instr) (x : List ℕ) (pc rd v : ℕ) → Computes code x rd v → Stands s pc code → pc + 4 * length code < 2 ^ 64 →
-    Leads s (moment x pc) (moment (slice_set x rd v) (pc + 4 * length code))
-computes s code x pc rd v c h l = subst (λ (y : List ℕ). Leads s (moment x pc) (moment y (pc + 4 * length code))) (c.changes pc) (straight s code x pc (c.unseen pc) h l)
+    LeadsBy s (moment x pc) (moment (slice_set x rd v) (pc + 4 * length code)) (length code)
+computes s code x pc rd v c h l =
+    subst (λ (y : List ℕ). LeadsBy s (moment x pc) (moment y (pc + 4 * length code)) (length code)) (c.changes pc) (straight s code x pc (c.unseen pc) h l)

@@ -1,9 +1,11 @@
 -- Forward branches and jumps, and choices made of them.
-use Rattle.std.proofs.Common.{◌≡◌, ℕ, ◌+◌, ◌*◌, ◌%◌, ◌^◌, ◌<◌, List, [], ◌∷◌, ◌++◌, length, refl, ap, sym, ◌∙◌, arith, subst, Bool, true, false, Some, length-append}
+use Rattle.std.proofs.Common.{◌≡◌, ℕ, ◌+◌, ◌*◌, ◌%◌, ◌^◌, ◌<◌, List, [], ◌∷◌, ◌++◌, length, refl, ap, sym, ◌∙◌, arith, subst, Bool, true, false, Some}
+use Rattle.std.proofs.Common.{length-append}
 use Rattle.std.specs.Prelude.{not, nat_le, if◌then◌else◌, ◌==◌, ◌||◌}
 use Rattle.std.proofs.lemmas.Bool.Decides.{nat_tests}
 use Rattle.std.proofs.Math.Nat.{mod-eq_of_lt}
 use Rattle.ido_ints.specs.Operators.{is_zero}
+use Rattle.c_tree.specs.Exprs as e
 use Rattle.c_tree.specs.Values.{value}
 use Rattle.rv64_isa.specs.declared.instr.Instr.{Instr}
 use Rattle.rv64_isa.specs.declared.instr.Instr.TheVariants.{Jal, Branch}
@@ -12,12 +14,13 @@ use Rattle.rv64_isa.specs.Arithmetic.{sign_extended, is_taken}
 use Rattle.log_layout.specs.Roles.{is_local}
 use Rattle.operator_code.specs.declared.branches.Test.{Test}
 use Rattle.operator_code.specs.Computing.{Carries, passes, IsOpposite}
-use Rattle.expr_code.specs.Running.{Surroundings, Moment, moment, Leads, Stands}
-use Rattle.expr_code.specs.Evaluating.{Homes, Source, IsLegal, Begins, Ends}
+use Rattle.code_runs.specs.Running.{Surroundings, Moment, moment, Stands}
+use Rattle.expr_code.specs.Evaluating.{Homes, Source, HoldsLocals, IsLegal, Begins, Ends}
 use Rattle.expr_code.specs.links.Giving.{is_free, IsTest, IsMade, IsChoice, Choice}
-use Rattle.expr_code.specs.links.Skipping.{Skips, SkipsWhere, IsGuard}
-use Rattle.expr_code.proofs.Running.{leads_then, arrive, goes, next_is, stands_left, stands_right}
+use Rattle.expr_code.specs.links.Skipping.{Skips, SkipsWhere, IsGuard, LeadsBy}
+use Rattle.expr_code.proofs.Running.{leads_then, arrive, within, goes, next_is, stands_left, stands_right}
 use Rattle.expr_code.proofs.Held.{or_right, locals_kept, local_kept}
+use Rattle.expr_code.proofs.Ending.{leads_of}
 
 small_jump : (n : ℕ) → n < 2 ^ 20 → sign_extended 21 64 n ≡ n
 small_jump n h = let t : nat_le 1048576 n ≡ false = grind (arith, nat_tests) in rw t refl
@@ -58,44 +61,45 @@ pub near_guard : (words : ℕ) (test other : Test) (i : Instr) → IsOpposite te
 near_guard words test other i opposite skips = record { leads = leads }
   where
     at : (r : Surroundings) (x : List ℕ) (pc : ℕ) (b : Bool) → passes test x ≡ b → r.fetch pc ≡ Some i → pc + 4 * (1 + words) < 2 ^ 64 →
-        Leads r (moment x pc) (moment x (if b then pc + 4 * 1 else pc + 4 * (1 + words)))
+        LeadsBy r (moment x pc) (moment x (if b then pc + 4 * 1 else pc + 4 * (1 + words))) 1
     at r x pc true e f room =
         let taken : passes other x ≡ false = opposite.taken x ∙ ap not e in
         let w : row i x pc ≡ GoesOn x (pc + 4) =
         skips.goes x pc (omega arith) ∙ ap (λ (b : Bool). GoesOn x (if b then pc + 4 * (words + 1) else pc + 4)) taken in
         let z : pc + 4 ≡ pc + 4 * 1 = omega arith in
-        arrive r (moment x pc) x (pc + 4) (pc + 4 * 1) z (goes r i x x pc (pc + 4) f w (omega arith))
+        arrive r (moment x pc) x (pc + 4) (pc + 4 * 1) 1 z (goes r i x x pc (pc + 4) f w (omega arith))
     at r x pc false e f room =
         let taken : passes other x ≡ true = opposite.taken x ∙ ap not e in
         let w : row i x pc ≡ GoesOn x (pc + 4 * (words + 1)) =
         skips.goes x pc (omega arith) ∙ ap (λ (b : Bool). GoesOn x (if b then pc + 4 * (words + 1) else pc + 4)) taken in
         let z : pc + 4 * (words + 1) ≡ pc + 4 * (1 + words) = omega arith in
-        arrive r (moment x pc) x (pc + 4 * (words + 1)) (pc + 4 * (1 + words)) z (goes r i x x pc (pc + 4 * (words + 1)) f w (omega arith))
+        arrive r (moment x pc) x (pc + 4 * (words + 1)) (pc + 4 * (1 + words)) 1 z (goes r i x x pc (pc + 4 * (words + 1)) f w (omega arith))
 
     leads : (r : Surroundings) (x : List ℕ) (pc : ℕ) → Stands r pc (i ∷ []) → pc + 4 * (1 + words) < 2 ^ 64 →
-        Leads r (moment x pc) (moment x (if passes test x then pc + 4 * 1 else pc + 4 * (1 + words)))
+        LeadsBy r (moment x pc) (moment x (if passes test x then pc + 4 * 1 else pc + 4 * (1 + words))) 1
     leads r x pc s room = at r x pc (passes test x) refl s.0 room
 
 pub far_guard : (words : ℕ) (test : Test) (i j : Instr) → SkipsWhere 1 test i → Skips words j → IsGuard words test (i ∷ j ∷ [])
 far_guard words test i j over far = record { leads = leads }
   where
-    at : (r : Surroundings) (x : List ℕ) (pc : ℕ) (b : Bool) → passes test x ≡ b → r.fetch pc ≡ Some i → r.fetch (pc + 4) ≡ Some j → pc + 4 * (2 + words) < 2 ^ 64 →
-        Leads r (moment x pc) (moment x (if b then pc + 4 * 2 else pc + 4 * (2 + words)))
+    at : (r : Surroundings) (x : List ℕ) (pc : ℕ) (b : Bool) → passes test x ≡ b → r.fetch pc ≡ Some i → r.fetch (pc + 4) ≡ Some j →
+        pc + 4 * (2 + words) < 2 ^ 64 →
+        LeadsBy r (moment x pc) (moment x (if b then pc + 4 * 2 else pc + 4 * (2 + words))) 2
     at r x pc true e f g room =
         let w : row i x pc ≡ GoesOn x (pc + 4 * (1 + 1)) =
         over.goes x pc (omega arith) ∙ ap (λ (b : Bool). GoesOn x (if b then pc + 4 * (1 + 1) else pc + 4)) e in
-        goes r i x x pc (pc + 4 * 2) f w (omega arith)
+        within r (moment x pc) (moment x (pc + 4 * 2)) 1 2 (omega arith) (goes r i x x pc (pc + 4 * 2) f w (omega arith))
     at r x pc false e f g room =
         let w : row i x pc ≡ GoesOn x (pc + 4) =
         over.goes x pc (omega arith) ∙ ap (λ (b : Bool). GoesOn x (if b then pc + 4 * (1 + 1) else pc + 4)) e in
         let v : row j x (pc + 4) ≡ GoesOn x (pc + 4 + 4 * (words + 1)) = far.goes x (pc + 4) (omega arith) in
         let z : pc + 4 + 4 * (words + 1) ≡ pc + 4 * (2 + words) = omega arith in
-        leads_then r (moment x pc) (moment x (pc + 4)) (moment x (pc + 4 * (2 + words))) (goes r i x x pc (pc + 4) f w (omega arith))
-        (arrive r (moment x (pc + 4)) x (pc + 4 + 4 * (words + 1)) (pc + 4 * (2 + words)) z
+        leads_then r (moment x pc) (moment x (pc + 4)) (moment x (pc + 4 * (2 + words))) 1 1 (goes r i x x pc (pc + 4) f w (omega arith))
+        (arrive r (moment x (pc + 4)) x (pc + 4 + 4 * (words + 1)) (pc + 4 * (2 + words)) 1 z
         (goes r j x x (pc + 4) (pc + 4 + 4 * (words + 1)) g v (omega arith)))
 
     leads : (r : Surroundings) (x : List ℕ) (pc : ℕ) → Stands r pc (i ∷ j ∷ []) → pc + 4 * (2 + words) < 2 ^ 64 →
-        Leads r (moment x pc) (moment x (if passes test x then pc + 4 * 2 else pc + 4 * (2 + words)))
+        LeadsBy r (moment x pc) (moment x (if passes test x then pc + 4 * 2 else pc + 4 * (2 + words))) 2
     leads r x pc s room = at r x pc (passes test x) refl s.0 s.1.0 room
 
 -- ---- Choices
@@ -141,29 +145,38 @@ pub choice : (h : Homes) (c : Choice) (held rd : ℕ) (test : Test) (t g a : Lis
 choice h c held rd test t g a past o guards skips tests makes others = record { ends = ends }
   where
     ends : (s : Source) (r : Surroundings) (m : Moment) → IsLegal h s r c.condition → IsLegal h s r c.chosen → IsLegal h s r c.otherwise →
-        Begins h s r ((((t ++ g) ++ a) ++ past ∷ []) ++ o) m →
+        Begins h s r c.condition ((((t ++ g) ++ a) ++ past ∷ []) ++ o) m → Begins h s r c.chosen ((((t ++ g) ++ a) ++ past ∷ []) ++ o) m →
+        Begins h s r c.otherwise ((((t ++ g) ++ a) ++ past ∷ []) ++ o) m →
         Ends r ((((t ++ g) ++ a) ++ past ∷ []) ++ o) (λ n. n == rd || is_free held n)
         (λ y. Carries y rd (if is_zero (value s.locals s.numbers c.condition).number then c.from_otherwise (value s.locals s.numbers c.otherwise)
         else c.from_chosen (value s.locals s.numbers c.chosen))) m
-    ends s r m lc la lo b = by (is_zero (value s.locals s.numbers c.condition).number) first.has
+    ends s r m lc la lo bc ba bo = by (is_zero (value s.locals s.numbers c.condition).number) first.has
       where
         place : Placed r t g a past o m.pc
-        place = placed r t g a past o m.pc b.stands
+        place = placed r t g a past o m.pc bc.at.stands
 
         room : m.pc + 4 * (length t + length g + length a + 1 + length o) < 2 ^ 64
-        room = let l = b.room in let k = place.count in omega arith
+        room = let l = bc.at.room in let k = place.count in omega arith
 
         first : Ends r t (is_free held) (λ y. passes test y ≡ not (is_zero (value s.locals s.numbers c.condition).number)) m
-        first = let k = room in tests.ends s r m lc (record { registers = b.registers; locals = b.locals; stands = place.test_code; room = omega arith })
+        first = let k = room in tests.ends s r m lc
+            (record { at = record { registers = bc.at.registers; stands = place.test_code; room = omega arith }; locals = bc.locals })
 
         same : (n : ℕ) → is_local n ≡ true → read first.registers n ≡ read m.registers n
         same n l = first.unchanged n (local_kept held n l)
 
-        begun : (code : List Instr) (pc : ℕ) → Stands r pc code → pc + 4 * length code < 2 ^ 64 → Begins h s r code (moment first.registers pc)
-        begun code pc stands l = record { registers = first.are; locals = locals_kept h s m.registers first.registers lc.suits same b.locals; stands = stands; room = l }
+        begun : (x : e.Expr) (code : List Instr) (pc : ℕ) → IsLegal h s r x → HoldsLocals h s m.registers x → Stands r pc code → pc + 4 * length code < 2 ^ 64 →
+            Begins h s r x code (moment first.registers pc)
+        begun x code pc legal locals stands l = record {
+          at = record { registers = first.are; stands = stands; room = l };
+          locals = locals_kept h s m.registers first.registers x legal.suits legal.formed same locals;
+        }
 
-        guarded : Leads r (moment first.registers (m.pc + 4 * length t)) (moment first.registers
-            (if passes test first.registers then m.pc + 4 * length t + 4 * length g else m.pc + 4 * length t + 4 * (length g + (length a + 1))))
+        test_leads : LeadsBy r m (moment first.registers (m.pc + 4 * length t)) (length t)
+        test_leads = leads_of r t (is_free held) (λ y. passes test y ≡ not (is_zero (value s.locals s.numbers c.condition).number)) m first
+
+        guarded : LeadsBy r (moment first.registers (m.pc + 4 * length t)) (moment first.registers
+            (if passes test first.registers then m.pc + 4 * length t + 4 * length g else m.pc + 4 * length t + 4 * (length g + (length a + 1)))) (length g)
         guarded = let k = room in guards.leads r first.registers (m.pc + 4 * length t) place.guard (omega arith)
 
         by : (z : Bool) → passes test first.registers ≡ not z → Ends r ((((t ++ g) ++ a) ++ past ∷ []) ++ o) (λ n. n == rd || is_free held n)
@@ -178,21 +191,26 @@ choice h c held rd test t g a past o guards skips tests makes others = record { 
             let n = place.count in
             let to : (if passes test y then p1 + 4 * length g else p1 + 4 * (length g + (length a + 1))) ≡ p2 =
             ap (λ (q : Bool). if q then p1 + 4 * length g else p1 + 4 * (length g + (length a + 1))) e ∙ omega arith in
-            let more = makes.ends s r (moment y p2) la (begun a p2 place.chosen (omega arith)) in
+            let more = makes.ends s r (moment y p2) la (begun c.chosen a p2 la ba.locals place.chosen (omega arith)) in
             let q : row past more.registers p3 ≡ GoesOn more.registers (p3 + 4 * (length o + 1)) = skips.goes more.registers p3 (omega arith) in
             let e3 : p2 + 4 * length a ≡ p3 = omega arith in
             let e5 : p3 + 4 * (length o + 1) ≡ p5 = omega arith in
-            let last : Leads r (moment more.registers p3) (moment more.registers p5) =
-            arrive r (moment more.registers p3) more.registers (p3 + 4 * (length o + 1)) p5 e5
+            let last : LeadsBy r (moment more.registers p3) (moment more.registers p5) 1 =
+            arrive r (moment more.registers p3) more.registers (p3 + 4 * (length o + 1)) p5 1 e5
             (goes r past more.registers more.registers p3 (p3 + 4 * (length o + 1)) place.jump q (omega arith)) in
+            let arm = leads_of r a (λ n. n == rd || is_free held n) (λ q. Carries q rd (c.from_chosen (value s.locals s.numbers c.chosen)))
+            (moment y p2) more in
+            let whole = within r m (moment more.registers p5) (length t + (length g + (length a + 1))) (length ((((t ++ g) ++ a) ++ past ∷ []) ++ o))
+            (omega arith)
+            (leads_then r m (moment y p1) (moment more.registers p5) (length t) (length g + (length a + 1)) test_leads
+            (leads_then r (moment y p1) (moment y p2) (moment more.registers p5) (length g) (length a + 1) (arrive r (moment y p1) y
+            (if passes test y then p1 + 4 * length g else p1 + 4 * (length g + (length a + 1))) p2 (length g) to guarded)
+            (leads_then r (moment y p2) (moment more.registers p3) (moment more.registers p5) (length a) 1
+            (arrive r (moment y p2) more.registers (p2 + 4 * length a) p3 (length a) e3 arm) last))) in
             record {
               registers = more.registers;
-              leads =
-                  leads_then r m (moment y p1) (moment more.registers p5) first.leads
-                  (leads_then r (moment y p1) (moment y p2) (moment more.registers p5) (arrive r (moment y p1) y
-                  (if passes test y then p1 + 4 * length g else p1 + 4 * (length g + (length a + 1))) p2 to guarded)
-                  (leads_then r (moment y p2) (moment more.registers p3) (moment more.registers p5)
-                  (arrive r (moment y p2) more.registers (p2 + 4 * length a) p3 e3 more.leads) last));
+              leads = whole.leads;
+              short = whole.short;
               are = more.are;
               unchanged = λ i u. more.unchanged i u ∙ first.unchanged i (or_right (i == rd) (is_free held i) u);
               has = more.has;
@@ -206,15 +224,19 @@ choice h c held rd test t g a past o guards skips tests makes others = record { 
             let n = place.count in
             let to : (if passes test y then p1 + 4 * length g else p1 + 4 * (length g + (length a + 1))) ≡ p4 =
             ap (λ (q : Bool). if q then p1 + 4 * length g else p1 + 4 * (length g + (length a + 1))) e ∙ omega arith in
-            let more = others.ends s r (moment y p4) lo (begun o p4 place.otherwise (omega arith)) in
+            let more = others.ends s r (moment y p4) lo (begun c.otherwise o p4 lo bo.locals place.otherwise (omega arith)) in
             let e5 : p4 + 4 * length o ≡ p5 = omega arith in
+            let arm = leads_of r o (λ n. n == rd || is_free held n) (λ q. Carries q rd (c.from_otherwise (value s.locals s.numbers c.otherwise)))
+            (moment y p4) more in
+            let whole = within r m (moment more.registers p5) (length t + (length g + length o)) (length ((((t ++ g) ++ a) ++ past ∷ []) ++ o)) (omega arith)
+            (leads_then r m (moment y p1) (moment more.registers p5) (length t) (length g + length o) test_leads
+            (leads_then r (moment y p1) (moment y p4) (moment more.registers p5) (length g) (length o) (arrive r (moment y p1) y
+            (if passes test y then p1 + 4 * length g else p1 + 4 * (length g + (length a + 1))) p4 (length g) to guarded)
+            (arrive r (moment y p4) more.registers (p4 + 4 * length o) p5 (length o) e5 arm))) in
             record {
               registers = more.registers;
-              leads =
-                  leads_then r m (moment y p1) (moment more.registers p5) first.leads
-                  (leads_then r (moment y p1) (moment y p4) (moment more.registers p5) (arrive r (moment y p1) y
-                  (if passes test y then p1 + 4 * length g else p1 + 4 * (length g + (length a + 1))) p4 to guarded)
-                  (arrive r (moment y p4) more.registers (p4 + 4 * length o) p5 e5 more.leads));
+              leads = whole.leads;
+              short = whole.short;
               are = more.are;
               unchanged = λ i u. more.unchanged i u ∙ first.unchanged i (or_right (i == rd) (is_free held i) u);
               has = more.has;

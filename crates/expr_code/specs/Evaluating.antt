@@ -1,11 +1,12 @@
 -- Code that evaluates expressions: locals stand in registers, variables in memory, and every value in its register form.
-use Rattle.std.specs.Prelude.{◌≡◌, ℕ, ◌+◌, ◌*◌, ◌^◌, ◌<◌, ◌≤◌, List, length, map, slice_index, slice_index_or, slice_get, Option, Some, Bool, true, false, not, ◌==◌, ◌||◌, ℤ, pos}
+use Rattle.std.specs.Prelude.{◌≡◌, ℕ, ◌+◌, ◌*◌, ◌^◌, ◌<◌, ◌≤◌, List, length, map, slice_index, slice_index_or, Option, Some, Bool, true, false, not, ◌==◌}
+use Rattle.std.specs.Prelude.{◌||◌, ℤ, pos}
 use Rattle.ido_base.specs.Layout.{variable_at, end_from}
 use Rattle.ido_ints.specs.declared.kinds.Kind.{Kind}
 use Rattle.ido_ints.specs.Kinds.{Holds, bytes_of, bits_of}
 use Rattle.ido_ints.specs.Reduction.{residue}
 use Rattle.ido_ints.specs.Operators.{is_zero}
-use Rattle.ido_ints.specs.Typed.{Typed, typed}
+use Rattle.ido_ints.specs.Typed.{Typed, typed, converted}
 use Rattle.c_tree.specs.Exprs as e
 use Rattle.c_tree.specs.Programs as p
 use Rattle.c_tree.specs.Values.{value, element_number, element_at}
@@ -18,7 +19,7 @@ use Rattle.log_layout.specs.Roles.{is_temporary, is_local}
 use Rattle.operator_code.specs.declared.branches.Test.{Test}
 use Rattle.operator_code.specs.Computing.{AreRegisters, Carries, passes}
 use Rattle.expr_code.specs.declared.frame.Frame as frame
-use Rattle.expr_code.specs.Running.{Surroundings, Moment, moment, Leads, Stands}
+use Rattle.code_runs.specs.Running.{Surroundings, Moment, moment, Leads, Stands}
 
 -- ---- Where things are, and what they are
 
@@ -60,10 +61,17 @@ pub record Suits (h : Homes) (s : Source) : Type 0 where
   pub address : (variable : ℕ) → variable < length s.variables → slice_index h.addresses variable ≡ place_of s variable 0
   pub register : (local : ℕ) → local < length s.kinds → is_local (slice_index h.registers local) ≡ true
 
--- each local's register holds its number, which its kind holds
-abbrev pub HoldsLocals : Homes → Source → (x : List ℕ) → Type 0
-HoldsLocals h s x = (local : ℕ) (k : Kind) → slice_get s.kinds local ≡ Some k →
-    Carries x (slice_index h.registers local) (typed k (slice_index_or s.locals local (pos 0)))
+-- the register of each local that the expression reads holds its number, which its kind holds
+abbrev pub HoldsLocals : Homes → Source → (x : List ℕ) → e.Expr → Type 0
+HoldsLocals h s x (e.Constant value) = Unit {0}
+HoldsLocals h s x (e.Local local kind) = Carries x (slice_index h.registers local) (typed kind (slice_index_or s.locals local (pos 0)))
+HoldsLocals h s x (e.Variable place variable kind) = Unit {0}
+HoldsLocals h s x (e.Element place variable kind index_place index) = HoldsLocals h s x index
+HoldsLocals h s x (e.Unary operator operand) = HoldsLocals h s x operand
+HoldsLocals h s x (e.Cast kind operand) = HoldsLocals h s x operand
+HoldsLocals h s x (e.Converted kind operand) = HoldsLocals h s x operand
+HoldsLocals h s x (e.Binary operator left right) = HoldsLocals h s x left × HoldsLocals h s x right
+HoldsLocals h s x (e.Conditional kind condition chosen otherwise) = HoldsLocals h s x condition × HoldsLocals h s x chosen × HoldsLocals h s x otherwise
 
 -- a load of an element gives its number modulo 2 to its width; the kind holds the number
 pub record IsLoaded (s : Source) (loads : (address bytes : ℕ) → Option ℕ) (k : Kind) (variable element : ℕ) : Type 0 where
@@ -92,17 +100,23 @@ pub record IsLegal (h : Homes) (s : Source) (r : Surroundings) (x : e.Expr) : Ty
   pub fits : Fits s.variables x
   pub loaded : AreLoaded s r.loads x
 
--- the moment at which code begins
-pub record Begins (h : Homes) (s : Source) (r : Surroundings) (code : List Instr) (m : Moment) : Type 0 where
+-- code stands where the moment is
+pub record IsAt (r : Surroundings) (code : List Instr) (m : Moment) : Type 0 where
   pub registers : AreRegisters m.registers
-  pub locals : HoldsLocals h s m.registers
   pub stands : Stands r m.pc code
   pub room : m.pc + 4 * length code < 2 ^ 64
 
--- it leads to its end, with registers that have the property; all but those that may be written are as they were
+-- the moment at which code of the expression begins
+pub record Begins (h : Homes) (s : Source) (r : Surroundings) (x : e.Expr) (code : List Instr) (m : Moment) : Type 0 where
+  pub at : IsAt r code m
+  pub locals : HoldsLocals h s m.registers x
+
+-- it leads to its end, by at most one step a word, with registers that have the property; all but those that may be written
+-- are as they were
 pub record Ends (r : Surroundings) (code : List Instr) (may_write : ℕ → Bool) (wanted : List ℕ → Type 0) (m : Moment) : Type 0 where
   pub registers : List ℕ
   pub leads : Leads r m (moment registers (m.pc + 4 * length code))
+  pub short : leads.steps ≤ length code
   pub are : AreRegisters registers
   pub unchanged : (n : ℕ) → may_write n ≡ false → read registers n ≡ read m.registers n
   pub has : wanted registers
@@ -110,12 +124,16 @@ pub record Ends (r : Surroundings) (code : List Instr) (may_write : ℕ → Bool
 -- Whatever the locals and variables hold, whatever stands around it, and wherever it begins: the code leads to its end, where the
 -- registers have the property for the expression's value. Its loads are those of elements that the expression reads.
 pub record Gives (h : Homes) (x : e.Expr) (code : List Instr) (may_write : ℕ → Bool) (has : Typed → List ℕ → Type 0) : Type 0 where
-  pub ends : (s : Source) (r : Surroundings) (m : Moment) → IsLegal h s r x → Begins h s r code m →
+  pub ends : (s : Source) (r : Surroundings) (m : Moment) → IsLegal h s r x → Begins h s r x code m →
       Ends r code may_write (has (value s.locals s.numbers x)) m
 
 -- rd gets the value; temporaries may change
 abbrev pub IsValueCode : Homes → e.Expr → (rd : ℕ) → List Instr → Type 0
 IsValueCode h x rd code = Gives h x code (λ n. n == rd || is_temporary n) (λ v y. Carries y rd v)
+
+-- rd gets the value, converted to the kind; temporaries may change
+abbrev pub IsConvertedCode : Homes → e.Expr → Kind → (rd : ℕ) → List Instr → Type 0
+IsConvertedCode h x k rd code = Gives h x code (λ n. n == rd || is_temporary n) (λ v y. Carries y rd (converted v k))
 
 -- behind the code the test is passed exactly where the value isn't 0; temporaries may change
 abbrev pub IsTestCode : Homes → e.Expr → Test → List Instr → Type 0
@@ -124,10 +142,10 @@ IsTestCode h x test code = Gives h x code is_temporary (λ v y. passes test y �
 -- rd gets the address of the element of a variable that the index names; temporaries may change
 pub record IsElementAddressCode (h : Homes) (variable : ℕ) (k : Kind) (index : e.Placed) (rd : ℕ) (code : List Instr) : Type 0 where
   pub ends : (s : Source) (r : Surroundings) (m : Moment) → IsDeclared s.variables variable k true → IndexFits s.variables variable index.place index.expr →
-      IsLegal h s r index.expr → Begins h s r code m →
+      IsLegal h s r index.expr → Begins h s r index.expr code m →
       Ends r code (λ n. n == rd || is_temporary n) (λ y. read y rd ≡ place_of s variable (element_at (value s.locals s.numbers index.expr))) m
 
 -- rd gets the address of a variable that is no array
 pub record IsVariableAddressCode (h : Homes) (variable : ℕ) (rd : ℕ) (code : List Instr) : Type 0 where
-  pub ends : (s : Source) (r : Surroundings) (m : Moment) → Suits h s → variable < length s.variables → Begins h s r code m →
+  pub ends : (s : Source) (r : Surroundings) (m : Moment) → Suits h s → variable < length s.variables → IsAt r code m →
       Ends r code (λ n. n == rd || is_temporary n) (λ y. read y rd ≡ place_of s variable 0) m

@@ -1,4 +1,3 @@
-pub mod Running
 pub mod Evaluating
 pub mod Refusing
 pub mod links

@@ -1,5 +1,5 @@
 //! Tests, and values that are chosen by them.
-ghost use Rattle.std.specs.Prelude.{◌≡◌, ◌<◌, ◌^◌, ℕ, true, length, IfOk};
+ghost use Rattle.std.specs.Prelude.{◌≡◌, ◌<◌, ◌≤◌, ◌+◌, ◌^◌, ℕ, true, length, IfOk};
 ghost use Rattle.ido_ints.specs.declared.kinds.Kind.{Kind};
 ghost use Rattle.ido_ints.specs.declared.operators.Unary.TheVariants.{Not};
 ghost use Rattle.ido_ints.specs.declared.operators.Binary.TheVariants.{LogicalAnd, LogicalOr};
@@ -10,9 +10,9 @@ ghost use Rattle.expr_code.specs.Evaluating.{Homes};
 ghost use Rattle.expr_code.specs.links.Giving.{IsEvaluation, IsOperand, IsPair, IsTest, IsMade, truth_of};
 
 use crate::branches::choose;
-use crate::halt::Halt;
 use crate::operand::{Operand, Pair, TestCode};
 use crate::operators::constant_code;
+use ido_base::memory::Memory;
 use ido_ints::{Kind, Value};
 use operator_code::{BinaryOperation, comparison, nonzero};
 use rv64_isa::field::Register;
@@ -25,9 +25,11 @@ pub(crate) fn conjunction(
     left: TestCode,
     right: Vec<Instr>,
     rd: Register,
-) -> Result<Vec<Instr>, Halt>
-    requires { 0 < rd }
-    ensures { IfOk result (λ code. (h : Homes) (x y : e.Expr) (held : ℕ) → IsTest h x held left.test left.code.items →
+) -> Result<Vec<Instr>, Memory>
+    requires some { 0 < rd }
+    requires right { length right.items + 2 < 2 ^ 18 }
+    ensures short { IfOk result (λ code. length code.items ≤ length left.code.items + length right.items + 4) }
+    ensures code { IfOk result (λ code. (h : Homes) (x y : e.Expr) (held : ℕ) → IsTest h x held left.test left.code.items →
         IsMade h y truth_of held rd right.items → IsEvaluation h (e.Binary LogicalAnd x y) held rd code.items) }
 {
     let zero = constant_code(alloc, Value::new(Kind::Int, 0), rd)?;
@@ -41,9 +43,11 @@ pub(crate) fn disjunction(
     left: TestCode,
     right: Vec<Instr>,
     rd: Register,
-) -> Result<Vec<Instr>, Halt>
-    requires { 0 < rd }
-    ensures { IfOk result (λ code. (h : Homes) (x y : e.Expr) (held : ℕ) → IsTest h x held left.test left.code.items →
+) -> Result<Vec<Instr>, Memory>
+    requires some { 0 < rd }
+    requires right { length right.items + 2 < 2 ^ 18 }
+    ensures short { IfOk result (λ code. length code.items ≤ length left.code.items + length right.items + 4) }
+    ensures code { IfOk result (λ code. (h : Homes) (x y : e.Expr) (held : ℕ) → IsTest h x held left.test left.code.items →
         IsMade h y truth_of held rd right.items → IsEvaluation h (e.Binary LogicalOr x y) held rd code.items) }
 {
     let one = constant_code(alloc, Value::new(Kind::Int, 1), rd)?;
@@ -57,8 +61,11 @@ pub(crate) fn conditional(
     condition: TestCode,
     chosen: Vec<Instr>,
     otherwise: Vec<Instr>,
-) -> Result<Vec<Instr>, Halt>
-    ensures { IfOk result (λ code. (h : Homes) (k : Kind) (c x y : e.Expr) (held rd : ℕ) → IsTest h c held condition.test condition.code.items →
+) -> Result<Vec<Instr>, Memory>
+    requires chosen { length chosen.items + 2 < 2 ^ 18 }
+    requires otherwise { length otherwise.items + 1 < 2 ^ 18 }
+    ensures short { IfOk result (λ code. length code.items ≤ length condition.code.items + length chosen.items + length otherwise.items + 3) }
+    ensures code { IfOk result (λ code. (h : Homes) (k : Kind) (c x y : e.Expr) (held rd : ℕ) → IsTest h c held condition.test condition.code.items →
         IsEvaluation h (e.Converted k x) held rd chosen.items → IsEvaluation h (e.Converted k y) held rd otherwise.items →
         IsEvaluation h (e.Conditional k c x y) held rd code.items) }
 {
@@ -69,7 +76,8 @@ pub(crate) fn conditional(
 /// A comparison of two operands, as a test.
 pub(crate) fn compared(pair: Pair, operation: BinaryOperation) -> TestCode
     requires { is_comparison operation.operator ≡ true }
-    ensures { (h : Homes) (x y : e.Expr) (held : ℕ) → kind_of x ≡ operation.left → kind_of y ≡ operation.right →
+    ensures short { result.code.items ≡ pair.code.items }
+    ensures test { (h : Homes) (x y : e.Expr) (held : ℕ) → kind_of x ≡ operation.left → kind_of y ≡ operation.right →
         IsPair h (e.Converted (left_kind operation) x) (e.Converted (right_kind operation) y) held pair →
         IsTest h (e.Binary operation.operator x y) held result.test result.code.items }
 {
@@ -82,7 +90,8 @@ pub(crate) fn compared(pair: Pair, operation: BinaryOperation) -> TestCode
 
 /// `!`, as a test.
 pub(crate) fn negated(inner: TestCode) -> TestCode
-    ensures { (h : Homes) (x : e.Expr) (held : ℕ) → IsTest h x held inner.test inner.code.items →
+    ensures short { result.code.items ≡ inner.code.items }
+    ensures test { (h : Homes) (x : e.Expr) (held : ℕ) → IsTest h x held inner.test inner.code.items →
         IsTest h (e.Unary Not x) held result.test result.code.items }
 {
     TestCode {
@@ -93,7 +102,8 @@ pub(crate) fn negated(inner: TestCode) -> TestCode
 
 /// Whether an operand isn't 0, as a test.
 pub(crate) fn tested(operand: Operand) -> TestCode
-    ensures { (h : Homes) (x : e.Expr) (held : ℕ) → IsOperand h x held operand.register operand.code.items →
+    ensures short { result.code.items ≡ operand.code.items }
+    ensures test { (h : Homes) (x : e.Expr) (held : ℕ) → IsOperand h x held operand.register operand.code.items →
         IsTest h x held result.test result.code.items }
 {
     TestCode {

@@ -1,5 +1,5 @@
 //! Addresses and loads of elements.
-ghost use Rattle.std.specs.Prelude.{◌≡◌, ◌<◌, ◌≤◌, ◌^◌, ◌+◌, ◌*◌, ◌/◌, ◌%◌, ℕ, slice_index, IfOk};
+ghost use Rattle.std.specs.Prelude.{◌≡◌, ◌<◌, ◌≤◌, ◌^◌, ◌+◌, ◌*◌, ◌/◌, ◌%◌, ℕ, length, slice_index, IfOk};
 ghost use Rattle.ido_base.specs.declared.place.Place.{Place};
 ghost use Rattle.ido_ints.specs.Kinds.{bytes_of};
 ghost use Rattle.c_tree.specs.Exprs as e;
@@ -62,7 +62,8 @@ fn lower(address: u32) -> u16
 /// The upper part of an element's address into the register for addresses, with the bytes of the elements before it.
 fn element_upper(index: Operand, address: u32, kind: Kind, held: u32) -> Result<Vec<Instr>, Memory>
     requires { held < 4 }
-    ensures { IfOk result (λ code. (h : Homes) (x : e.Expr) → address + 2048 < 2 ^ 31 → IsOperand h x held index.register index.code.items →
+    ensures short { IfOk result (λ code. length code.items ≤ length index.code.items + 3) }
+    ensures code { IfOk result (λ code. (h : Homes) (x : e.Expr) → address + 2048 < 2 ^ 31 → IsOperand h x held index.register index.code.items →
         Gives h x code.items (is_free held) (λ v y. HasUpper address (bytes_of kind) v y)) }
 {
     let mut code = index.code;
@@ -98,7 +99,8 @@ pub(crate) fn variable_code(
     rd: Register,
 ) -> Result<Vec<Instr>, Memory>
     requires { 0 < rd }
-    ensures { IfOk result (λ code. (h : Homes) (place : Place) (variable held : ℕ) → slice_index h.addresses variable ≡ address →
+    ensures short { IfOk result (λ code. length code.items ≡ 2) }
+    ensures code { IfOk result (λ code. (h : Homes) (place : Place) (variable held : ℕ) → slice_index h.addresses variable ≡ address →
         IsEvaluation h (e.Variable place variable kind) held rd code.items) }
 {
     Ok(vec![in alloc; upper(address), load(kind, rd, address)]?)
@@ -114,7 +116,9 @@ pub(crate) fn element_code(
 ) -> Result<Vec<Instr>, Memory>
     requires some { 0 < rd }
     requires held { held < 4 }
-    ensures { IfOk result (λ code. (h : Homes) (place : Place) (variable : ℕ) (index_place : Place) (x : e.Expr) → slice_index h.addresses variable ≡ address →
+    ensures short { IfOk result (λ code. length code.items ≤ length index.code.items + 4) }
+    ensures code { IfOk result (λ code. (h : Homes) (place : Place) (variable : ℕ) (index_place : Place) (x : e.Expr) →
+        slice_index h.addresses variable ≡ address →
         IsOperand h x held index.register index.code.items → IsEvaluation h (e.Element place variable kind index_place x) held rd code.items) }
 {
     let mut code = element_upper(index, address, kind, held)?;
@@ -129,7 +133,9 @@ pub(crate) fn variable_address(
     rd: Register,
 ) -> Result<Vec<Instr>, Memory>
     requires { 0 < rd }
-    ensures { IfOk result (λ code. (h : Homes) (variable : ℕ) → slice_index h.addresses variable ≡ address → IsVariableAddressCode h variable rd code.items) }
+    ensures short { IfOk result (λ code. length code.items ≡ 2) }
+    ensures code { IfOk result (λ code. (h : Homes) (variable : ℕ) → slice_index h.addresses variable ≡ address →
+        IsVariableAddressCode h variable rd code.items) }
 {
     Ok(vec![in alloc;
         upper(address),
@@ -145,7 +151,8 @@ pub(crate) fn element_address(
     rd: Register,
 ) -> Result<Vec<Instr>, Memory>
     requires { 0 < rd }
-    ensures { IfOk result (λ code. (h : Homes) (variable : ℕ) (x : e.Placed) → slice_index h.addresses variable ≡ address →
+    ensures short { IfOk result (λ code. length code.items ≤ length index.code.items + 4) }
+    ensures code { IfOk result (λ code. (h : Homes) (variable : ℕ) (x : e.Placed) → slice_index h.addresses variable ≡ address →
         IsOperand h x.expr 0 index.register index.code.items → IsElementAddressCode h variable kind x rd code.items) }
 {
     let mut code = element_upper(index, address, kind, 0)?;

@@ -1,28 +1,30 @@
 //! The code of expressions, by recursion.
-ghost use Rattle.std.specs.Prelude.{◌≡◌, ◌<◌, ◌≤◌, ◌+◌, true, false, IfOk};
+ghost use Rattle.std.specs.Prelude.{◌≡◌, ◌<◌, ◌≤◌, ◌+◌, ◌*◌, true, false, length, IfOk};
+ghost use Rattle.ido_ints.specs.Kinds.{rank_of};
 ghost use Rattle.c_tree.specs.Exprs as e;
 ghost use Rattle.c_tree.specs.Exprs.{expr_of};
-ghost use Rattle.c_tree.specs.Prices.{need_of, need_of_both};
+ghost use Rattle.c_tree.specs.Prices.{need_of, need_of_both, nodes_of, node_price};
+ghost use Rattle.c_tree.specs.Temporaries.{most_price};
 ghost use Rattle.c_tree.specs.Typing.{kind_of};
 ghost use Rattle.operator_code.specs.Computing.{is_comparison};
 ghost use Rattle.expr_code.specs.Evaluating.{AreAtHome, homes_of};
-ghost use Rattle.expr_code.specs.links.Giving.{IsEvaluation, IsOperand, IsTest, IsMade, truth_of};
+ghost use Rattle.expr_code.specs.links.Giving.{IsEvaluation, IsOperand, IsTest, IsMade, truth_of, conversion_words};
 
 use crate::conditions::{compared, conditional, conjunction, disjunction, negated, tested};
 use crate::elements::{element_code, variable_code};
 use crate::frame::Frame;
-use crate::halt::Halt;
 use crate::kinds::kind_of;
 use crate::operand::{Operand, TestCode};
 use crate::operators::{
-    constant_code, converted, copied, held_operand, left_first, local_operand, right_first,
-    with_binary, with_conversion, with_truth, with_unary,
+    constant_code, constant_form, converted, copied, held_operand, left_first, local_operand,
+    right_first, with_binary, with_conversion, with_immediate, with_truth, with_unary,
 };
 use crate::temporaries::temporary;
 use c_tree::expr::Expr;
 use c_tree::price::need;
+use ido_base::memory::Memory;
 use ido_ints::{Binary, Kind, Unary};
-use operator_code::BinaryOperation;
+use operator_code::{BinaryOperation, keeps_form};
 use rv64_isa::field::Register;
 use rv64_isa::instr::Instr;
 use std::alloc::Global;
@@ -35,11 +37,13 @@ pub(crate) fn evaluate(
     frame: &Frame,
     rd: Register,
     held: u32,
-) -> Result<Vec<Instr>, Halt>
+) -> Result<Vec<Instr>, Memory>
     requires home { AreAtHome (homes_of frame.now) (expr_of expr.now) }
     requires need { need_of (expr_of expr.now) + held ≤ 4 }
+    requires price { node_price (nodes_of (expr_of expr.now)) ≤ most_price }
     requires some { 0 < rd }
-    ensures { IfOk result (λ code. IsEvaluation (homes_of frame.now) (expr_of expr.now) held rd code.items) }
+    ensures short { IfOk result (λ code. length code.items + 8 ≤ 16 * nodes_of (expr_of expr.now) + conversion_words (expr_of expr.now)) }
+    ensures code { IfOk result (λ code. IsEvaluation (homes_of frame.now) (expr_of expr.now) held rd code.items) }
 {
     match expr {
         Expr::Constant { value } => Ok(constant_code(alloc, *value, rd)?),
@@ -96,7 +100,10 @@ pub(crate) fn evaluate(
                     left: kind_of(left),
                     right: kind_of(right),
                 };
-                if is_right_first(left, right, held) {
+                if let Some(form) = constant_form(operation, right) {
+                    let left = operand_in(alloc, left, operation.left_kind(), frame, held)?;
+                    Ok(with_immediate(left, form, rd)?)
+                } else if is_right_first(left, right, held) {
                     let right = operand_in(alloc, right, operation.right_kind(), frame, held)?;
                     let left = operand_in(alloc, left, operation.left_kind(), frame, held + 1)?;
                     let pair = right_first(left, right)?;
@@ -123,23 +130,43 @@ pub(crate) fn evaluate(
     }
 }
 
-/// The code of a value, converted to a kind, into `rd`.
+/// The code of a value, converted to a kind, into `rd`. A conversion on the way to a kind that isn't narrower is left out;
+/// nothing is added where the form is kept.
 #[cycle(evaluation)]
-fn evaluate_converted(
+pub(crate) fn evaluate_converted(
     alloc: Global,
     expr: &Expr,
     kind: Kind,
     frame: &Frame,
     rd: Register,
     held: u32,
-) -> Result<Vec<Instr>, Halt>
+) -> Result<Vec<Instr>, Memory>
     requires home { AreAtHome (homes_of frame.now) (expr_of expr.now) }
     requires need { need_of (expr_of expr.now) + held ≤ 4 }
+    requires price { node_price (nodes_of (expr_of expr.now)) ≤ most_price }
     requires some { 0 < rd }
-    ensures { IfOk result (λ code. IsEvaluation (homes_of frame.now) (e.Converted kind (expr_of expr.now)) held rd code.items) }
+    ensures short { IfOk result (λ code. length code.items + 8 ≤ 16 * nodes_of (expr_of expr.now) + 2 * rank_of kind) }
+    ensures code { IfOk result (λ code. IsEvaluation (homes_of frame.now) (e.Converted kind (expr_of expr.now)) held rd code.items) }
 {
-    let inner = operand(alloc, expr, frame, held)?;
-    Ok(with_conversion(inner, kind_of(expr), kind, rd)?)
+    match expr {
+        Expr::Converted {
+            kind: between,
+            operand: inner,
+        } if kind.bits() <= between.bits() => {
+            let code = evaluate_converted(alloc, inner, kind, frame, rd, held)?;
+            Ok(code)
+        }
+        _ => {
+            let from = kind_of(expr);
+            if keeps_form(from, kind) {
+                let code = evaluate(alloc, expr, frame, rd, held)?;
+                Ok(code)
+            } else {
+                let inner = operand(alloc, expr, frame, held)?;
+                Ok(with_conversion(inner, from, kind, rd)?)
+            }
+        }
+    }
 }
 
 /// The code of a value's truth, 1 or 0, into `rd`.
@@ -150,11 +177,13 @@ fn evaluate_truth(
     frame: &Frame,
     rd: Register,
     held: u32,
-) -> Result<Vec<Instr>, Halt>
+) -> Result<Vec<Instr>, Memory>
     requires home { AreAtHome (homes_of frame.now) (expr_of expr.now) }
     requires need { need_of (expr_of expr.now) + held ≤ 4 }
+    requires price { node_price (nodes_of (expr_of expr.now)) ≤ most_price }
     requires some { 0 < rd }
-    ensures { IfOk result (λ code. IsMade (homes_of frame.now) (expr_of expr.now) truth_of held rd code.items) }
+    ensures short { IfOk result (λ code. length code.items ≤ 16 * nodes_of (expr_of expr.now) + 2) }
+    ensures code { IfOk result (λ code. IsMade (homes_of frame.now) (expr_of expr.now) truth_of held rd code.items) }
 {
     match expr {
         Expr::Binary { operator, .. } if is_comparison(*operator) => {
@@ -170,10 +199,17 @@ fn evaluate_truth(
 
 /// The code of an operand: a local is used where it stands, any other value gets the next temporary.
 #[cycle(evaluation)]
-pub(crate) fn operand(alloc: Global, expr: &Expr, frame: &Frame, held: u32) -> Result<Operand, Halt>
+pub(crate) fn operand(
+    alloc: Global,
+    expr: &Expr,
+    frame: &Frame,
+    held: u32,
+) -> Result<Operand, Memory>
     requires home { AreAtHome (homes_of frame.now) (expr_of expr.now) }
     requires need { need_of (expr_of expr.now) + held ≤ 4 }
-    ensures { IfOk result (λ x. IsOperand (homes_of frame.now) (expr_of expr.now) held x.register x.code.items) }
+    requires price { node_price (nodes_of (expr_of expr.now)) ≤ most_price }
+    ensures short { IfOk result (λ x. length x.code.items + 8 ≤ 16 * nodes_of (expr_of expr.now) + conversion_words (expr_of expr.now)) }
+    ensures operand { IfOk result (λ x. IsOperand (homes_of frame.now) (expr_of expr.now) held x.register x.code.items) }
 {
     match expr {
         Expr::Local { local, .. } => Ok(local_operand(alloc, frame.registers[*local as usize])),
@@ -192,10 +228,12 @@ fn operand_in(
     kind: Kind,
     frame: &Frame,
     held: u32,
-) -> Result<Operand, Halt>
+) -> Result<Operand, Memory>
     requires home { AreAtHome (homes_of frame.now) (expr_of expr.now) }
     requires need { need_of (expr_of expr.now) + held ≤ 4 }
-    ensures { IfOk result (λ x. IsOperand (homes_of frame.now) (e.Converted kind (expr_of expr.now)) held x.register x.code.items) }
+    requires price { node_price (nodes_of (expr_of expr.now)) ≤ most_price }
+    ensures short { IfOk result (λ x. length x.code.items ≤ 16 * nodes_of (expr_of expr.now) + 2) }
+    ensures operand { IfOk result (λ x. IsOperand (homes_of frame.now) (e.Converted kind (expr_of expr.now)) held x.register x.code.items) }
 {
     let inner = operand(alloc, expr, frame, held)?;
     Ok(converted(inner, kind_of(expr), kind, held)?)
@@ -215,10 +253,12 @@ fn is_right_first(left: &Expr, right: &Expr, held: u32) -> bool
 
 /// The code of a condition: a comparison is tested as it is, any other value against 0.
 #[cycle(evaluation)]
-pub(crate) fn test(alloc: Global, expr: &Expr, frame: &Frame, held: u32) -> Result<TestCode, Halt>
+pub(crate) fn test(alloc: Global, expr: &Expr, frame: &Frame, held: u32) -> Result<TestCode, Memory>
     requires home { AreAtHome (homes_of frame.now) (expr_of expr.now) }
     requires need { need_of (expr_of expr.now) + held ≤ 4 }
-    ensures { IfOk result (λ x. IsTest (homes_of frame.now) (expr_of expr.now) held x.test x.code.items) }
+    requires price { node_price (nodes_of (expr_of expr.now)) ≤ most_price }
+    ensures short { IfOk result (λ x. length x.code.items ≤ 16 * nodes_of (expr_of expr.now)) }
+    ensures test { IfOk result (λ x. IsTest (homes_of frame.now) (expr_of expr.now) held x.test x.code.items) }
 {
     match expr {
         Expr::Binary {

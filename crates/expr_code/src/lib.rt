@@ -9,7 +9,6 @@ mod conditions;
 mod elements;
 mod evaluation;
 mod frame;
-mod halt;
 mod kinds;
 mod operand;
 mod operators;
@@ -19,5 +18,6 @@ mod temporaries;
 pub use frame::Frame;
 pub use operand::TestCode;
 pub use selection::{
-    SelectError, select, select_element_address, select_test, select_variable_address,
+    SelectError, select, select_converted, select_element_address, select_test,
+    select_variable_address,
 };

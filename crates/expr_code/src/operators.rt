@@ -1,20 +1,26 @@
 //! Constants, locals, conversions and operators on values that stand in registers.
-ghost use Rattle.std.specs.Prelude.{◌≡◌, ◌++◌, ◌<◌, ◌+◌, ℕ, true, slice_index, IfOk, OnOk};
+ghost use Rattle.std.specs.Prelude.{◌≡◌, ◌++◌, ◌<◌, ◌≤◌, ◌+◌, ◌^◌, ℕ, [], true, length, slice_index, IfOk, IfSome, OnOk};
 ghost use Rattle.ido_ints.specs.declared.kinds.Kind.{Kind};
+ghost use Rattle.ido_ints.specs.Typed.{register_form_of};
 ghost use Rattle.c_tree.specs.Exprs as e;
+ghost use Rattle.c_tree.specs.Exprs.{expr_of};
 ghost use Rattle.c_tree.specs.Typing.{kind_of};
+ghost use Rattle.operator_code.specs.declared.operation.BinaryOperation.{BinaryOperation};
 ghost use Rattle.rv64_isa.specs.declared.instr.Instr.{Instr};
 ghost use Rattle.log_layout.specs.Roles.{is_local};
 ghost use Rattle.operator_code.specs.Computing.{is_strict, left_kind, right_kind};
 ghost use Rattle.expr_code.specs.Evaluating.{Homes, Gives};
-ghost use Rattle.expr_code.specs.links.Giving.{IsEvaluation, IsOperand, IsPair, IsMade, temporary, truth_of};
+ghost use Rattle.expr_code.specs.links.Giving.{IsEvaluation, IsOperand, IsPair, IsMade, IsConstantForm, temporary, truth_of};
 
 use crate::operand::{Operand, Pair};
 use crate::temporaries::temporary;
+use c_tree::expr::Expr;
 use ido_base::memory::Memory;
-use ido_ints::{Kind, Unary, Value, register_form};
+use ido_ints::{Kind, Unary, Value, convert as convert_value, register_form};
 use operator_code::constant::constant;
-use operator_code::{BinaryOperation, binary, convert, copy, keeps_form, truth, unary};
+use operator_code::{
+    BinaryOperation, ImmediateForm, binary, convert, copy, keeps_form, truth, unary, with_constant,
+};
 use rv64_isa::field::Register;
 use rv64_isa::instr::Instr;
 use std::alloc::Global;
@@ -30,7 +36,9 @@ pub(crate) fn append(code: &mut Vec<Instr>, more: &[Instr]) -> Result<(), Memory
 /// A constant into `rd`.
 pub(crate) fn constant_code(alloc: Global, value: Value, rd: Register) -> Result<Vec<Instr>, Memory>
     requires { 0 < rd }
-    ensures { IfOk result (λ code. (h : Homes) (held : ℕ) → IsEvaluation h (e.Constant value) held rd code.items) }
+    ensures short { IfOk result (λ code. length code.items ≤ 8) }
+    ensures small { register_form_of value < 2 ^ 11 → IfOk result (λ code. length code.items ≡ 1) }
+    ensures code { IfOk result (λ code. (h : Homes) (held : ℕ) → IsEvaluation h (e.Constant value) held rd code.items) }
 {
     let code = constant(alloc, rd, register_form(value))?;
     Ok(code)
@@ -39,7 +47,8 @@ pub(crate) fn constant_code(alloc: Global, value: Value, rd: Register) -> Result
 /// What the operand has, into `rd`.
 pub(crate) fn copied(operand: Operand, rd: Register) -> Result<Vec<Instr>, Memory>
     requires { 0 < rd }
-    ensures { IfOk result (λ code. (h : Homes) (x : e.Expr) (held : ℕ) →
+    ensures short { IfOk result (λ code. length code.items ≤ length operand.code.items + 2) }
+    ensures code { IfOk result (λ code. (h : Homes) (x : e.Expr) (held : ℕ) →
         IsOperand h x held operand.register operand.code.items → IsEvaluation h x held rd code.items) }
 {
     let mut code = operand.code;
@@ -55,7 +64,8 @@ pub(crate) fn with_unary(
     rd: Register,
 ) -> Result<Vec<Instr>, Memory>
     requires { 0 < rd }
-    ensures { IfOk result (λ code. (h : Homes) (x : e.Expr) (held : ℕ) → kind_of x ≡ kind →
+    ensures short { IfOk result (λ code. length code.items ≤ length operand.code.items + 2) }
+    ensures code { IfOk result (λ code. (h : Homes) (x : e.Expr) (held : ℕ) → kind_of x ≡ kind →
         IsOperand h x held operand.register operand.code.items → IsEvaluation h (e.Unary operator x) held rd code.items) }
 {
     let mut code = operand.code;
@@ -71,7 +81,8 @@ pub(crate) fn with_conversion(
     rd: Register,
 ) -> Result<Vec<Instr>, Memory>
     requires { 0 < rd }
-    ensures { IfOk result (λ code. (h : Homes) (x : e.Expr) (held : ℕ) → kind_of x ≡ from →
+    ensures short { IfOk result (λ code. length code.items ≤ length operand.code.items + 2) }
+    ensures code { IfOk result (λ code. (h : Homes) (x : e.Expr) (held : ℕ) → kind_of x ≡ from →
         IsOperand h x held operand.register operand.code.items → IsEvaluation h (e.Converted to x) held rd code.items) }
 {
     let mut code = operand.code;
@@ -87,7 +98,8 @@ pub(crate) fn converted(
     held: u32,
 ) -> Result<Operand, Memory>
     requires { held < 4 }
-    ensures { IfOk result (λ y. (h : Homes) (x : e.Expr) → kind_of x ≡ from →
+    ensures short { IfOk result (λ y. length y.code.items ≤ length operand.code.items + 2) }
+    ensures operand { IfOk result (λ y. (h : Homes) (x : e.Expr) → kind_of x ≡ from →
         IsOperand h x held operand.register operand.code.items → IsOperand h (e.Converted to x) held y.register y.code.items) }
 {
     if keeps_form(from, to) {
@@ -100,7 +112,8 @@ pub(crate) fn converted(
 
 /// A local where it stands.
 pub(crate) fn local_operand(alloc: Global, register: Register) -> Operand
-    ensures { (h : Homes) (local : ℕ) (kind : Kind) (held : ℕ) → slice_index h.registers local ≡ register → is_local register ≡ true →
+    ensures short { result.code.items ≡ [] }
+    ensures operand { (h : Homes) (local : ℕ) (kind : Kind) (held : ℕ) → slice_index h.registers local ≡ register → is_local register ≡ true →
         IsOperand h (e.Local local kind) held result.register result.code.items }
 {
     Operand {
@@ -112,7 +125,8 @@ pub(crate) fn local_operand(alloc: Global, register: Register) -> Operand
 /// Code of a value in the next temporary, as an operand.
 pub(crate) fn held_operand(code: Vec<Instr>, held: u32) -> Operand
     requires { held < 4 }
-    ensures { (h : Homes) (x : e.Expr) → IsEvaluation h x held (temporary held) code.items → IsOperand h x held result.register result.code.items }
+    ensures short { result.code.items ≡ code.items }
+    ensures operand { (h : Homes) (x : e.Expr) → IsEvaluation h x held (temporary held) code.items → IsOperand h x held result.register result.code.items }
 {
     Operand {
         code,
@@ -122,7 +136,8 @@ pub(crate) fn held_operand(code: Vec<Instr>, held: u32) -> Operand
 
 /// Two operands, the right one evaluated while the left one is held.
 pub(crate) fn left_first(left: Operand, right: Operand) -> Result<Pair, Memory>
-    ensures { IfOk result (λ p. (h : Homes) (x y : e.Expr) (held : ℕ) →
+    ensures short { IfOk result (λ p. length p.code.items ≡ length left.code.items + length right.code.items) }
+    ensures pair { IfOk result (λ p. (h : Homes) (x y : e.Expr) (held : ℕ) →
         IsOperand h x held left.register left.code.items → IsOperand h y (held + 1) right.register right.code.items → IsPair h x y held p) }
 {
     let mut code = left.code;
@@ -136,7 +151,8 @@ pub(crate) fn left_first(left: Operand, right: Operand) -> Result<Pair, Memory>
 
 /// Two operands, the left one evaluated while the right one is held.
 pub(crate) fn right_first(left: Operand, right: Operand) -> Result<Pair, Memory>
-    ensures { IfOk result (λ p. (h : Homes) (x y : e.Expr) (held : ℕ) →
+    ensures short { IfOk result (λ p. length p.code.items ≡ length left.code.items + length right.code.items) }
+    ensures pair { IfOk result (λ p. (h : Homes) (x y : e.Expr) (held : ℕ) →
         IsOperand h x (held + 1) left.register left.code.items → IsOperand h y held right.register right.code.items → IsPair h x y held p) }
 {
     let mut code = right.code;
@@ -156,7 +172,8 @@ pub(crate) fn with_binary(
 ) -> Result<Vec<Instr>, Memory>
     requires some { 0 < rd }
     requires strict { is_strict operation.operator ≡ true }
-    ensures { IfOk result (λ code. (h : Homes) (x y : e.Expr) (held : ℕ) → kind_of x ≡ operation.left → kind_of y ≡ operation.right →
+    ensures short { IfOk result (λ code. length code.items ≤ length pair.code.items + 2) }
+    ensures code { IfOk result (λ code. (h : Homes) (x y : e.Expr) (held : ℕ) → kind_of x ≡ operation.left → kind_of y ≡ operation.right →
         IsPair h (e.Converted (left_kind operation) x) (e.Converted (right_kind operation) y) held pair →
         IsEvaluation h (e.Binary operation.operator x y) held rd code.items) }
 {
@@ -166,10 +183,42 @@ pub(crate) fn with_binary(
     Ok(code)
 }
 
+/// The instruction that gives what the operator gives for its left operand, converted, and its right one, where that is a
+/// constant.
+pub(crate) fn constant_form(operation: BinaryOperation, right: &Expr) -> Option<ImmediateForm>
+    ensures { IfSome result (λ form. IsConstantForm operation (expr_of right.now) form) }
+{
+    match right {
+        Expr::Constant { value } => {
+            let constant = convert_value(*value, operation.right_kind());
+            with_constant(operation, register_form(constant))
+        }
+        _ => None,
+    }
+}
+
+/// What the operator gives for its left operand, converted, and a constant, into `rd`.
+pub(crate) fn with_immediate(
+    operand: Operand,
+    form: ImmediateForm,
+    rd: Register,
+) -> Result<Vec<Instr>, Memory>
+    requires { 0 < rd }
+    ensures short { IfOk result (λ code. length code.items ≤ length operand.code.items + 1) }
+    ensures code { IfOk result (λ code. (o : BinaryOperation) (h : Homes) (x y : e.Expr) (held : ℕ) → kind_of x ≡ o.left → kind_of y ≡ o.right →
+        IsConstantForm o y form → IsOperand h (e.Converted (left_kind o) x) held operand.register operand.code.items →
+        IsEvaluation h (e.Binary o.operator x y) held rd code.items) }
+{
+    let mut code = operand.code;
+    code.push(form.instruction(rd, operand.register))?;
+    Ok(code)
+}
+
 /// 1 into `rd` where the operand isn't 0, else 0.
 pub(crate) fn with_truth(operand: Operand, rd: Register) -> Result<Vec<Instr>, Memory>
     requires { 0 < rd }
-    ensures { IfOk result (λ code. (h : Homes) (x : e.Expr) (held : ℕ) →
+    ensures short { IfOk result (λ code. length code.items ≤ length operand.code.items + 2) }
+    ensures code { IfOk result (λ code. (h : Homes) (x : e.Expr) (held : ℕ) →
         IsOperand h x held operand.register operand.code.items → IsMade h x truth_of held rd code.items) }
 {
     let mut code = operand.code;

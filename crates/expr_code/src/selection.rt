@@ -1,15 +1,14 @@
 //! The code of an expression, of a condition, and of the address of what is assigned.
-ghost use Rattle.std.specs.Prelude.{◌≡◌, ◌↔◌, ◌<◌, ◌≤◌, length, MatchResult, IfOk, IfErr};
+ghost use Rattle.std.specs.Prelude.{◌≡◌, ◌↔◌, ◌<◌, ◌≤◌, ◌+◌, ◌*◌, length, MatchResult, IfOk, IfErr};
 ghost use Rattle.c_tree.specs.Exprs.{expr_of, placed_of};
-ghost use Rattle.c_tree.specs.Prices.{need_of};
-ghost use Rattle.c_tree.specs.Temporaries.{most_temporaries};
-ghost use Rattle.expr_code.specs.Evaluating.{AreAtHome, IsValueCode, IsTestCode, IsElementAddressCode, IsVariableAddressCode, homes_of};
+ghost use Rattle.c_tree.specs.Prices.{need_of, nodes_of, node_price};
+ghost use Rattle.c_tree.specs.Temporaries.{most_temporaries, most_price};
+ghost use Rattle.expr_code.specs.Evaluating.{AreAtHome, IsValueCode, IsConvertedCode, IsTestCode, IsElementAddressCode, IsVariableAddressCode, homes_of};
 ghost use Rattle.expr_code.specs.Refusing.{IsRefused};
 
 use crate::elements::{element_address, variable_address};
-use crate::evaluation::{evaluate, operand, test};
+use crate::evaluation::{evaluate, evaluate_converted, operand, test};
 use crate::frame::Frame;
-use crate::halt::Halt;
 use crate::operand::TestCode;
 use crate::temporaries::MOST_HELD;
 use c_tree::expr::Placed;
@@ -28,8 +27,6 @@ pub enum SelectError {
     /// It needs more than four temporaries. The place is that of its first token.
     #[error("an expression that needs more than four temporaries")]
     Temporaries { place: Place },
-    /// An allocation was refused, or code past which it has to jump is longer than a jump reaches: 2^20 bytes, more than a
-    /// thread may have.
     #[error("out of memory")]
     Memory,
 }
@@ -42,8 +39,10 @@ pub fn select(
     destination: Register,
 ) -> Result<Vec<Instr>, SelectError>
     requires home { AreAtHome (homes_of frame.now) (expr_of expr.now.expr) }
+    requires price { node_price (nodes_of (expr_of expr.now.expr)) ≤ most_price }
     requires destination { 0 < destination }
-    ensures { MatchResult result
+    ensures short { IfOk result (λ code. length code.items ≤ 16 * nodes_of (expr_of expr.now.expr)) }
+    ensures code { MatchResult result
         (λ code. (need_of (expr_of expr.now.expr) ≤ most_temporaries) × IsValueCode (homes_of frame.now) (expr_of expr.now.expr) destination code.items)
         (λ error. IsRefused (placed_of expr.now) error) }
 {
@@ -52,7 +51,34 @@ pub fn select(
     }
     match evaluate(alloc, &expr.expr, frame, destination, 0) {
         Ok(code) => Ok(code),
-        Err(Halt::Far | Halt::Memory) => Err(SelectError::Memory),
+        Err(Memory) => Err(SelectError::Memory),
+    }
+}
+
+/// The code of an expression's value, converted to a kind, into `destination`. Nothing is added where the conversion keeps
+/// the register form.
+pub fn select_converted(
+    alloc: Global,
+    expr: &Placed,
+    kind: Kind,
+    frame: &Frame,
+    destination: Register,
+) -> Result<Vec<Instr>, SelectError>
+    requires home { AreAtHome (homes_of frame.now) (expr_of expr.now.expr) }
+    requires price { node_price (nodes_of (expr_of expr.now.expr)) ≤ most_price }
+    requires destination { 0 < destination }
+    ensures short { IfOk result (λ code. length code.items ≤ 16 * nodes_of (expr_of expr.now.expr) + 8) }
+    ensures code { MatchResult result
+        (λ code. (need_of (expr_of expr.now.expr) ≤ most_temporaries) ×
+        IsConvertedCode (homes_of frame.now) (expr_of expr.now.expr) kind destination code.items)
+        (λ error. IsRefused (placed_of expr.now) error) }
+{
+    if need(&expr.expr) > MOST_HELD {
+        return Err(SelectError::Temporaries { place: expr.place });
+    }
+    match evaluate_converted(alloc, &expr.expr, kind, frame, destination, 0) {
+        Ok(code) => Ok(code),
+        Err(Memory) => Err(SelectError::Memory),
     }
 }
 
@@ -63,7 +89,9 @@ pub fn select_test(
     frame: &Frame,
 ) -> Result<TestCode, SelectError>
     requires home { AreAtHome (homes_of frame.now) (expr_of condition.now.expr) }
-    ensures { MatchResult result
+    requires price { node_price (nodes_of (expr_of condition.now.expr)) ≤ most_price }
+    ensures short { IfOk result (λ x. length x.code.items ≤ 16 * nodes_of (expr_of condition.now.expr) + 8) }
+    ensures code { MatchResult result
         (λ x. (need_of (expr_of condition.now.expr) ≤ most_temporaries) × IsTestCode (homes_of frame.now) (expr_of condition.now.expr) x.test x.code.items)
         (λ error. IsRefused (placed_of condition.now) error) }
 {
@@ -74,7 +102,7 @@ pub fn select_test(
     }
     match test(alloc, &condition.expr, frame, 0) {
         Ok(code) => Ok(code),
-        Err(Halt::Far | Halt::Memory) => Err(SelectError::Memory),
+        Err(Memory) => Err(SelectError::Memory),
     }
 }
 
@@ -87,7 +115,8 @@ pub fn select_variable_address(
 ) -> Result<Vec<Instr>, Memory>
     requires home { variable < length frame.now.addresses.now }
     requires destination { 0 < destination }
-    ensures { IfOk result (λ code. IsVariableAddressCode (homes_of frame.now) variable destination code.items) }
+    ensures short { IfOk result (λ code. length code.items ≤ 8) }
+    ensures code { IfOk result (λ code. IsVariableAddressCode (homes_of frame.now) variable destination code.items) }
 {
     variable_address(alloc, frame.addresses[variable as usize], destination)
 }
@@ -103,9 +132,12 @@ pub fn select_element_address(
 ) -> Result<Vec<Instr>, SelectError>
     requires variable { variable < length frame.now.addresses.now }
     requires index { AreAtHome (homes_of frame.now) (expr_of index.now.expr) }
+    requires price { node_price (nodes_of (expr_of index.now.expr)) ≤ most_price }
     requires destination { 0 < destination }
-    ensures { MatchResult result
-        (λ code. (need_of (expr_of index.now.expr) ≤ most_temporaries) × IsElementAddressCode (homes_of frame.now) variable kind (placed_of index.now) destination code.items)
+    ensures short { IfOk result (λ code. length code.items ≤ 16 * nodes_of (expr_of index.now.expr) + 8) }
+    ensures code { MatchResult result
+        (λ code. (need_of (expr_of index.now.expr) ≤ most_temporaries) ×
+        IsElementAddressCode (homes_of frame.now) variable kind (placed_of index.now) destination code.items)
         (λ error. IsRefused (placed_of index.now) error) }
 {
     if need(&index.expr) > MOST_HELD {
@@ -117,6 +149,6 @@ pub fn select_element_address(
             Ok(code) => Ok(code),
             Err(Memory) => Err(SelectError::Memory),
         },
-        Err(Halt::Far | Halt::Memory) => Err(SelectError::Memory),
+        Err(Memory) => Err(SelectError::Memory),
     }
 }

@@ -1,8 +1,10 @@
 pub mod Words
 pub mod Standing
 pub mod Lockstep
+pub mod Counted
 pub mod Shapes
 pub mod Lying
+pub mod Keeping
 pub mod Paths
 pub mod Worked
 pub mod WorkedSets

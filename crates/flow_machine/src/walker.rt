@@ -10,18 +10,11 @@ ghost use Rattle.flow_machine.specs.links.Hands.{hand_of, DoesEval, StepIsMade};
 use c_tree::expr::{Placed, Target};
 use flow_graph::graph::{Action, Graph, Part};
 use ido_base::memory::Memory;
-use source_machine::evaluation::{element_at, evaluate};
+use source_machine::assignment::{Pending, assign};
+use source_machine::evaluation::evaluate;
 use source_machine::variables::Variables;
 use source_machine::{Stepped, locks};
 use std::alloc::Global;
-
-/// A store that is still to be made.
-#[derive(Clone, Copy)]
-pub(crate) struct Pending {
-    variable: u32,
-    element: u128,
-    number: i128,
-}
 
 /// A thread: the node that it does next, its locals, its pending store, and whether its last step is done.
 #[derive(Drop)]
@@ -115,38 +108,13 @@ impl Walker {
     fn evaluate_for(&mut self, target: &Target, value: &Placed, variables: &Variables, next: usize)
         ensures { DoesEval (Eval (target_of target.now) (placed_of value.now) next) (walker_of self.old) (walker_of self.new) variables.now }
     {
-        let number = evaluate(&value.expr, &self.locals, variables);
-        match target {
-            Target::Local { local, kind } => {
-                let local = *local as usize;
-                let number = number.convert(*kind).number();
-                if local < self.locals.len() {
-                    self.locals[local] = number;
-                }
-            }
-            Target::Variable { variable, kind, .. } => {
-                let number = number.convert(*kind).number();
-                self.pending = Some(Pending {
-                    variable: *variable,
-                    element: 0,
-                    number,
-                });
-            }
-            Target::Element {
-                variable,
-                kind,
-                index,
-                ..
-            } => {
-                let number = number.convert(*kind).number();
-                let element = element_at(evaluate(&index.expr, &self.locals, variables));
-                self.pending = Some(Pending {
-                    variable: *variable,
-                    element,
-                    number,
-                });
-            }
-        }
+        assign(
+            target,
+            &value.expr,
+            &mut self.locals,
+            &mut self.pending,
+            variables,
+        );
         self.at = next;
     }
 }

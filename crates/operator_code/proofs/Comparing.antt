@@ -57,7 +57,8 @@ signed_order (negsuc a) (pos b) h k =
 signed_order (negsuc a) (negsuc b) h k =
     let ha : a < 2 ^ 63 = omega (arith, ints, h.least) in
     let hb : b < 2 ^ 63 = omega (arith, ints, k.least) in
-    (λ i. nat_lt (raised_negsuc a ha i) (raised_negsuc b hb i)) ∙ same_lt (2 ^ 63 - suc a) (2 ^ 63 - suc b) b a (λ l. omega (arith, l, ha, hb)) (λ l. omega (arith, l, ha, hb))
+    (λ i. nat_lt (raised_negsuc a ha i) (raised_negsuc b hb i)) ∙
+    same_lt (2 ^ 63 - suc a) (2 ^ 63 - suc b) b a (λ l. omega (arith, l, ha, hb)) (λ l. omega (arith, l, ha, hb))
 
 -- the register forms of a signed kind are ordered as signed
 pub order_signed : (c : Kind) → is_signed c ≡ true → (x y : ℤ) → Holds c x → Holds c y → signed_less (register_of c x) (register_of c y) ≡ int_lt x y

@@ -3,12 +3,12 @@ use Rattle.std.proofs.Common.{◌≡◌, ℕ, ◌+◌, ◌<◌, List, [], ◌∷
 use Rattle.std.specs.Prelude.{slice_set}
 use Rattle.std.proofs.lemmas.List.{set-set, set-get_or}
 use Rattle.rv64_isa.specs.declared.instr.Instr.{Instr}
-use Rattle.rv64_isa.specs.declared.instr.Instr.TheVariants.{OpImmediate, ShiftImmediate, Op}
+use Rattle.rv64_isa.specs.declared.instr.Instr.TheVariants.{OpImmediate, ShiftImmediate, ShiftImmediateWord, Op}
 use Rattle.rv64_isa.specs.declared.instr.Operation.{Operation}
 use Rattle.rv64_isa.specs.declared.instr.ImmediateOperation.{ImmediateOperation}
 use Rattle.rv64_isa.specs.declared.instr.ShiftOperation.{ShiftOperation}
 use Rattle.rv64_isa.specs.Rows.{GoesOn, row, read, next}
-use Rattle.rv64_isa.specs.Arithmetic.{sign_extended, result_of, operation_of, shift_of}
+use Rattle.rv64_isa.specs.Arithmetic.{sign_extended, result_of, operation_of, shift_of, word_shift_of}
 use Rattle.operator_code.specs.Computing.{Computes}
 use Rattle.operator_code.proofs.Runs.{Runs, stop, go}
 use Rattle.operator_code.proofs.Registers.{read_same}
@@ -38,6 +38,13 @@ pub shift_sets : (operation : ShiftOperation) (x : List ℕ) (rd rs1 count : ℕ
 unfolding row
 shift_sets operation x rd rs1 count some = record {
   goes = λ pc. ap (λ (y : List ℕ). GoesOn y (next pc)) (written_is x rd (result_of (shift_of operation) (read x rs1) count) some);
+}
+
+pub shift_word_sets : (operation : ShiftOperation) (x : List ℕ) (rd rs1 count : ℕ) → 0 < rd →
+    Sets (ShiftImmediateWord operation rd rs1 count) x rd (result_of (word_shift_of operation) (read x rs1) count)
+unfolding row
+shift_word_sets operation x rd rs1 count some = record {
+  goes = λ pc. ap (λ (y : List ℕ). GoesOn y (next pc)) (written_is x rd (result_of (word_shift_of operation) (read x rs1) count) some);
 }
 
 pub as_value : (code : List Instr) (x : List ℕ) (rd v w : ℕ) → v ≡ w → Computes code x rd v → Computes code x rd w

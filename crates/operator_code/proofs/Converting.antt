@@ -26,7 +26,8 @@ use Rattle.operator_code.proofs.Extending.{low_8, low_16, low_32, low_byte, low_
 pub moved : (rd rs : ℕ) → 0 < rd → IsCopy rd rs (OpImmediate Addi rd rs 0 ∷ [])
 unfolding result_of
 moved rd rs some = record {
-  computes = λ x are small. as_value _ x rd _ (read x rs) (ap (λ (n : ℕ). n % 2 ^ 64) (let e : read x rs + 0 ≡ read x rs = omega arith in e) ∙ mod-eq_of_lt small)
+  computes = λ x are small. as_value _ x rd _ (read x rs)
+      (ap (λ (n : ℕ). n % 2 ^ 64) (let e : read x rs + 0 ≡ read x rs = omega arith in e) ∙ mod-eq_of_lt small)
       (one (OpImmediate Addi rd rs 0) x rd _ (immediate_sets Addi x rd rs 0 some));
 }
 
@@ -51,7 +52,8 @@ by_immediate operation bits from to rd rs some law = record {
 
 -- two shifts
 by_shifts : (back : ShiftOperation) (count : ℕ) (from to : Kind) (rd rs : ℕ) → 0 < rd → rd < 32 →
-    ((r : ℕ) (z : ℤ) → Holds from z → r ≡ register_of from z → result_of (shift_of back) (result_of (shift_of Slli) r count) count ≡ register_of to (reduced to z)) →
+    ((r : ℕ) (z : ℤ) → Holds from z → r ≡ register_of from z → result_of (shift_of back) (result_of (shift_of Slli) r count) count ≡
+    register_of to (reduced to z)) →
     IsConversion from to rd rs (ShiftImmediate Slli rd rs count ∷ ShiftImmediate back rd rd count ∷ [])
 by_shifts back count from to rd rs some small law = record {
   computes = λ x are z carried.
@@ -89,7 +91,8 @@ unfolding result_of
 to_unsigned_int from rd rs some = by_immediate Addiw 0 from UnsignedInt rd rs some
     (λ r z e. ap word_result (plain r) ∙ word_form r z (at_form (2 ^ 32) from r z (low_32 from z) e) ∙ sym (register-reduced_32 UnsignedInt refl z))
 
-to_signed_char : (from : Kind) (rd rs : ℕ) → 0 < rd → rd < 32 → IsConversion from SignedChar rd rs (ShiftImmediate Slli rd rs 56 ∷ ShiftImmediate Srai rd rd 56 ∷ [])
+to_signed_char : (from : Kind) (rd rs : ℕ) → 0 < rd → rd < 32 →
+    IsConversion from SignedChar rd rs (ShiftImmediate Slli rd rs 56 ∷ ShiftImmediate Srai rd rd 56 ∷ [])
 unfolding result_of
 to_signed_char from rd rs some small = by_shifts Srai 56 from SignedChar rd rs some small
     (λ r z h e. extended_byte r z (at_form (2 ^ 8) from r z (low_8 from z) e))

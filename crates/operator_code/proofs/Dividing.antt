@@ -14,7 +14,8 @@ use Rattle.rv64_isa.specs.Arithmetic as Machine
 use Rattle.rv64_isa.specs.Arithmetic.{result_of, with_sign, differ, word_result}
 use Rattle.operator_code.specs.links.Performing.{by_width, by_sign}
 use Rattle.operator_code.proofs.Residues.{residue_pos, residue_negsuc, residue_neg, low_word, word_of_residue}
-use Rattle.operator_code.proofs.Halves.{Halves, halves_64, halves_32, InHalf, in_half_of, IsNatural, natural_of, is_minus, negative_is, magnitude_is, zero_residue, zero_natural}
+use Rattle.operator_code.proofs.Halves.{Halves, halves_64, halves_32, InHalf, in_half_of, IsNatural, natural_of, is_minus, negative_is, magnitude_is}
+use Rattle.operator_code.proofs.Halves.{zero_residue, zero_natural}
 use Rattle.operator_code.proofs.Wrapping.{Wide, is_double, is_word}
 
 -- ---- Signed

@@ -72,7 +72,8 @@ zero_extended r = omega arith
 pub low_half : (r : ℕ) (z : ℤ) → Same (2 ^ 16) (pos r) z → r * 2 ^ 48 % 2 ^ 64 / 2 ^ 48 ≡ residue 64 (reduced UnsignedShort z)
 low_half r z s =
     let below : r % 2 ^ 16 < 2 ^ 16 = mod-lt r (omega arith) in
-    zero_extended r ∙ stands UnsignedShort (pos (r % 2 ^ 16)) z (r % 2 ^ 16) (record { from_least = omega (arith, ints); to_greatest = omega (arith, ints, below) })
+    zero_extended r ∙ stands UnsignedShort (pos (r % 2 ^ 16)) z (r % 2 ^ 16)
+    (record { from_least = omega (arith, ints); to_greatest = omega (arith, ints, below) })
     (low_of (2 ^ 16) r z s) (omega (arith, below)) (Same_refl (2 ^ 64) (pos (r % 2 ^ 16)))
 
 -- the low bits, below 2 h, sign-extended: as they are, or with all bits above them set
@@ -150,17 +151,22 @@ keeps_signed_byte SignedChar e = λ z h. ap (residue 64) (reduced_held SignedCha
 keeps_signed_byte from e = absurd (false≢true e)
 
 keeps_half : (from : Kind) → keeps from Short ≡ true → KeepsForm from Short
-keeps_half Char e = λ z h. ap (residue 64) (reduced_held Short z (record { from_least = omega (arith, ints, h.from_least); to_greatest = omega (arith, ints, h.to_greatest) }))
-keeps_half UnsignedChar e = λ z h. ap (residue 64) (reduced_held Short z (record { from_least = omega (arith, ints, h.from_least); to_greatest = omega (arith, ints, h.to_greatest) }))
-keeps_half SignedChar e = λ z h. ap (residue 64) (reduced_held Short z (record { from_least = omega (arith, ints, h.from_least); to_greatest = omega (arith, ints, h.to_greatest) }))
+keeps_half Char e = λ z h. ap (residue 64)
+    (reduced_held Short z (record { from_least = omega (arith, ints, h.from_least); to_greatest = omega (arith, ints, h.to_greatest) }))
+keeps_half UnsignedChar e = λ z h. ap (residue 64)
+    (reduced_held Short z (record { from_least = omega (arith, ints, h.from_least); to_greatest = omega (arith, ints, h.to_greatest) }))
+keeps_half SignedChar e = λ z h. ap (residue 64)
+    (reduced_held Short z (record { from_least = omega (arith, ints, h.from_least); to_greatest = omega (arith, ints, h.to_greatest) }))
 keeps_half Short e = λ z h. ap (residue 64) (reduced_held Short z h)
 keeps_half from e = absurd (false≢true e)
 
 keeps_unsigned_half : (from : Kind) → keeps from UnsignedShort ≡ true → KeepsForm from UnsignedShort
 keeps_unsigned_half Char e =
-    λ z h. ap (residue 64) (reduced_held UnsignedShort z (record { from_least = omega (arith, ints, h.from_least); to_greatest = omega (arith, ints, h.to_greatest) }))
+    λ z h. ap (residue 64) (reduced_held UnsignedShort z
+    (record { from_least = omega (arith, ints, h.from_least); to_greatest = omega (arith, ints, h.to_greatest) }))
 keeps_unsigned_half UnsignedChar e =
-    λ z h. ap (residue 64) (reduced_held UnsignedShort z (record { from_least = omega (arith, ints, h.from_least); to_greatest = omega (arith, ints, h.to_greatest) }))
+    λ z h. ap (residue 64) (reduced_held UnsignedShort z
+    (record { from_least = omega (arith, ints, h.from_least); to_greatest = omega (arith, ints, h.to_greatest) }))
 keeps_unsigned_half UnsignedShort e = λ z h. ap (residue 64) (reduced_held UnsignedShort z h)
 keeps_unsigned_half from e = absurd (false≢true e)
 
@@ -169,11 +175,16 @@ within_int : (from : Kind) → keeps from Int ≡ true → (z : ℤ) → Holds f
 within_int Long e z h = absurd (false≢true e)
 within_int UnsignedLong e z h = absurd (false≢true e)
 within_int UnsignedInt e z h = refl
-within_int Char e z h = ap (residue 64) (reduced_held Int z (record { from_least = omega (arith, ints, h.from_least); to_greatest = omega (arith, ints, h.to_greatest) }))
-within_int UnsignedChar e z h = ap (residue 64) (reduced_held Int z (record { from_least = omega (arith, ints, h.from_least); to_greatest = omega (arith, ints, h.to_greatest) }))
-within_int SignedChar e z h = ap (residue 64) (reduced_held Int z (record { from_least = omega (arith, ints, h.from_least); to_greatest = omega (arith, ints, h.to_greatest) }))
-within_int Short e z h = ap (residue 64) (reduced_held Int z (record { from_least = omega (arith, ints, h.from_least); to_greatest = omega (arith, ints, h.to_greatest) }))
-within_int UnsignedShort e z h = ap (residue 64) (reduced_held Int z (record { from_least = omega (arith, ints, h.from_least); to_greatest = omega (arith, ints, h.to_greatest) }))
+within_int Char e z h = ap (residue 64)
+    (reduced_held Int z (record { from_least = omega (arith, ints, h.from_least); to_greatest = omega (arith, ints, h.to_greatest) }))
+within_int UnsignedChar e z h =
+    ap (residue 64) (reduced_held Int z (record { from_least = omega (arith, ints, h.from_least); to_greatest = omega (arith, ints, h.to_greatest) }))
+within_int SignedChar e z h = ap (residue 64)
+    (reduced_held Int z (record { from_least = omega (arith, ints, h.from_least); to_greatest = omega (arith, ints, h.to_greatest) }))
+within_int Short e z h = ap (residue 64)
+    (reduced_held Int z (record { from_least = omega (arith, ints, h.from_least); to_greatest = omega (arith, ints, h.to_greatest) }))
+within_int UnsignedShort e z h =
+    ap (residue 64) (reduced_held Int z (record { from_least = omega (arith, ints, h.from_least); to_greatest = omega (arith, ints, h.to_greatest) }))
 within_int Int e z h = ap (residue 64) (reduced_held Int z h)
 
 keeps_double : (from : Kind) → keeps from Long ≡ true → (z : ℤ) → residue 64 z ≡ register_of from z

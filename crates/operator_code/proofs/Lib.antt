@@ -15,5 +15,6 @@ pub mod Halves
 pub mod Shifting
 pub mod Dividing
 pub mod Performing
+pub mod ByConstant
 pub mod Losing
 mod Worked

@@ -1,5 +1,6 @@
 -- The instructions of unary operators.
-use Rattle.std.proofs.Common.{◌≡◌, refl, ℕ, zero, suc, ◌+◌, ◌-◌, ◌*◌, ◌/◌, ◌%◌, ◌^◌, ◌<◌, ◌≤◌, List, [], ◌∷◌, ap, sym, ◌∙◌, subst, arith, Bool, true, false, inl, inr, lit<}
+use Rattle.std.proofs.Common.{◌≡◌, refl, ℕ, zero, suc, ◌+◌, ◌-◌, ◌*◌, ◌/◌, ◌%◌, ◌^◌, ◌<◌, ◌≤◌, List, [], ◌∷◌, ap, sym, ◌∙◌, subst, arith, Bool, true, false}
+use Rattle.std.proofs.Common.{inl, inr, lit<}
 use Rattle.std.specs.Prelude.{ℤ, pos, negsuc, ◌-ℤ◌, neg_ℤ, nat_lt, not, ◌==◌, bit_xor}
 use Rattle.std.proofs.Math.Nat.{pow-suc, one-le-pow}
 use Rattle.std.proofs.lemmas.Nat.{xor_block}
@@ -14,7 +15,8 @@ use Rattle.ido_ints.specs.Reduction.{residue, from_least_on, reduced, register_o
 use Rattle.ido_ints.proofs.Congruence.{Same_refl, Same_trans, Same-add, Same-neg}
 use Rattle.ido_ints.proofs.Reduced.{Holds-zero, Holds-reduced, Same-reduced, reduced-is, reduced_held}
 use Rattle.ido_ints.proofs.Promotion.{reduced-promoted, Holds-promoted}
-use Rattle.ido_ints.proofs.Registers.{residue-is, residue-Same, residue_below, register_below, register_injective, register-reduced_32, register-reduced_64, register-64}
+use Rattle.ido_ints.proofs.Registers.{residue-is, residue-Same, residue_below, register_below, register_injective, register-reduced_32, register-reduced_64}
+use Rattle.ido_ints.proofs.Registers.{register-64}
 use Rattle.rv64_isa.specs.declared.instr.Instr.{Instr}
 use Rattle.rv64_isa.specs.declared.instr.Instr.TheVariants.{OpImmediate, Op}
 use Rattle.rv64_isa.specs.declared.instr.Operation as Codes

@@ -4,7 +4,8 @@ use Rattle.std.specs.Prelude.{ℤ, not, IfSome}
 use Rattle.ido_ints.specs.declared.kinds.Kind.{Kind}
 use Rattle.ido_ints.specs.declared.kinds.Kind.TheVariants.{Int}
 use Rattle.ido_ints.specs.declared.operators.Binary.{Binary}
-use Rattle.ido_ints.specs.declared.operators.Binary.TheVariants.{Mul, Div, Rem, Add, Sub, ShiftLeft, ShiftRight, Less, Greater, LessEqual, GreaterEqual, Equal, NotEqual, And, Xor, Or}
+use Rattle.ido_ints.specs.declared.operators.Binary.TheVariants.{Mul, Div, Rem, Add, Sub, ShiftLeft, ShiftRight, Less, Greater, LessEqual, GreaterEqual}
+use Rattle.ido_ints.specs.declared.operators.Binary.TheVariants.{Equal, NotEqual, And, Xor, Or}
 use Rattle.ido_ints.specs.Kinds.{promoted, common_of}
 use Rattle.ido_ints.specs.Operators.{truth, is_zero}
 use Rattle.ido_ints.specs.Reduction.{reduced, register_of, residue}
@@ -13,15 +14,17 @@ use Rattle.ido_ints.proofs.Reduced.{Holds-reduced}
 use Rattle.ido_ints.proofs.Registers.{register_below}
 use Rattle.rv64_isa.specs.declared.instr.Instr.{Instr}
 use Rattle.rv64_isa.specs.declared.instr.Instr.TheVariants.{Op}
-use Rattle.rv64_isa.specs.declared.instr.Operation as Codes
 use Rattle.rv64_isa.specs.declared.instr.Operation.{Operation}
 use Rattle.rv64_isa.specs.declared.instr.Condition.{Condition}
 use Rattle.rv64_isa.specs.declared.instr.Condition.TheVariants.{Beq, Bne}
 use Rattle.rv64_isa.specs.Rows.{read}
 use Rattle.rv64_isa.specs.Arithmetic.{result_of, flag}
 use Rattle.operator_code.specs.declared.operation.BinaryOperation.{BinaryOperation}
+use Rattle.operator_code.specs.declared.immediates.ImmediateForm.{ImmediateForm}
+use Rattle.operator_code.specs.Constants.{IsWithConstant}
+use Rattle.operator_code.specs.links.Immediates.{HasForm}
 use Rattle.operator_code.specs.Computing.{AreOperands, IsBinary, IsComparison, IsFlag, passes, left_kind, right_kind, given_by}
-use Rattle.operator_code.specs.links.Performing.{by_width, by_sign, instruction_of, below, not_below, made, test_of}
+use Rattle.operator_code.specs.links.Performing.{instruction_of, below, not_below, made, test_of}
 use Rattle.operator_code.proofs.Composing.{one, as_value, op_sets}
 use Rattle.operator_code.proofs.Wrapping.{common_wide, promoted_wide, add_is, sub_is, mul_is, and_is, or_is, xor_is, left_is}
 use Rattle.operator_code.proofs.Shifting.{right_is}
@@ -30,58 +33,59 @@ use Rattle.operator_code.proofs.Comparing.{with_kinds, compared}
 
 -- ---- One instruction
 
-by_op : (o : BinaryOperation) (rd r s : ℕ) (i : Operation) → 0 < rd →
-    ((a b : ℤ) → result_of i (register_form_of (converted (typed o.left a) (left_kind o))) (register_form_of (converted (typed o.right b) (right_kind o))) ≡
-    register_form_of (given_by o a b)) → IsBinary o rd r s (Op i rd r s ∷ [])
-by_op o rd r s i some law = record {
+-- what the operator's instruction gives for operands in their register forms
+pub record Gives (o : BinaryOperation) (i : Operation) : Type 0 where
+  pub law : (a b : ℤ) →
+      result_of i (register_form_of (converted (typed o.left a) (left_kind o))) (register_form_of (converted (typed o.right b) (right_kind o))) ≡
+      register_form_of (given_by o a b)
+
+pub given : (operator : Binary) (j k : Kind) → IfSome (instruction_of operator (left_kind (with_kinds operator j k))) (λ i. Gives (with_kinds operator j k) i)
+given Add j k =
+    let c : Kind = common_of j k in
+    record { law = λ a b. add_is c (common_wide j k) (reduced c a) (reduced c b) }
+given Sub j k =
+    let c : Kind = common_of j k in
+    record { law = λ a b. sub_is c (common_wide j k) (reduced c a) (reduced c b) }
+given Mul j k =
+    let c : Kind = common_of j k in
+    record { law = λ a b. mul_is c (common_wide j k) (reduced c a) (reduced c b) }
+given Div j k =
+    let c : Kind = common_of j k in
+    record { law = λ a b. div_is c (common_wide j k) (reduced c a) (reduced c b) (Holds-reduced c a) (Holds-reduced c b) }
+given Rem j k =
+    let c : Kind = common_of j k in
+    record { law = λ a b. rem_is c (common_wide j k) (reduced c a) (reduced c b) (Holds-reduced c a) (Holds-reduced c b) }
+given ShiftLeft j k =
+    let c : Kind = promoted j in
+    record { law = λ a b. left_is c (promoted k) (promoted_wide j) (reduced c a) b }
+given ShiftRight j k =
+    let c : Kind = promoted j in
+    record { law = λ a b. right_is c (promoted k) (promoted_wide j) (reduced c a) b (Holds-reduced c a) }
+given And j k =
+    let c : Kind = common_of j k in
+    record { law = λ a b. and_is c (common_wide j k) (reduced c a) (reduced c b) (Holds-reduced c a) (Holds-reduced c b) }
+given Xor j k =
+    let c : Kind = common_of j k in
+    record { law = λ a b. xor_is c (common_wide j k) (reduced c a) (reduced c b) (Holds-reduced c a) (Holds-reduced c b) }
+given Or j k =
+    let c : Kind = common_of j k in
+    record { law = λ a b. or_is c (common_wide j k) (reduced c a) (reduced c b) (Holds-reduced c a) (Holds-reduced c b) }
+given operator j k = tt
+
+-- by the instruction with two registers
+pub by_op : (o : BinaryOperation) (rd r s : ℕ) (i : Operation) → 0 < rd → Gives o i → IsBinary o rd r s (Op i rd r s ∷ [])
+by_op o rd r s i some g = record {
   computes = λ x are a b at.
-      as_value _ x rd (result_of i (read x r) (read x s)) _ ((λ j. result_of i (at.left j) (at.right j)) ∙ law a b)
+      as_value _ x rd (result_of i (read x r) (read x s)) _ ((λ j. result_of i (at.left j) (at.right j)) ∙ g.law a b)
       (one (Op i rd r s) x rd _ (op_sets i x rd r s some));
 }
 
-pub performed : (operator : Binary) (j k : Kind) (rd r s : ℕ) → 0 < rd →
-    IfSome (instruction_of operator (left_kind (with_kinds operator j k))) (λ i. IsBinary (with_kinds operator j k) rd r s (Op i rd r s ∷ []))
-performed Add j k rd r s some =
-    let c : Kind = common_of j k in
-    by_op (with_kinds Add j k) rd r s (by_width c Codes.TheVariants.Add Codes.TheVariants.Addw) some (λ a b. add_is c (common_wide j k) (reduced c a) (reduced c b))
-performed Sub j k rd r s some =
-    let c : Kind = common_of j k in
-    by_op (with_kinds Sub j k) rd r s (by_width c Codes.TheVariants.Sub Codes.TheVariants.Subw) some (λ a b. sub_is c (common_wide j k) (reduced c a) (reduced c b))
-performed Mul j k rd r s some =
-    let c : Kind = common_of j k in
-    by_op (with_kinds Mul j k) rd r s (by_width c Codes.TheVariants.Mul Codes.TheVariants.Mulw) some (λ a b. mul_is c (common_wide j k) (reduced c a) (reduced c b))
-performed Div j k rd r s some =
-    let c : Kind = common_of j k in
-    by_op (with_kinds Div j k) rd r s
-    (by_width c (by_sign c Codes.TheVariants.Div Codes.TheVariants.Divu) (by_sign c Codes.TheVariants.Divw Codes.TheVariants.Divuw)) some
-    (λ a b. div_is c (common_wide j k) (reduced c a) (reduced c b) (Holds-reduced c a) (Holds-reduced c b))
-performed Rem j k rd r s some =
-    let c : Kind = common_of j k in
-    by_op (with_kinds Rem j k) rd r s
-    (by_width c (by_sign c Codes.TheVariants.Rem Codes.TheVariants.Remu) (by_sign c Codes.TheVariants.Remw Codes.TheVariants.Remuw)) some
-    (λ a b. rem_is c (common_wide j k) (reduced c a) (reduced c b) (Holds-reduced c a) (Holds-reduced c b))
-performed ShiftLeft j k rd r s some =
-    let c : Kind = promoted j in
-    by_op (with_kinds ShiftLeft j k) rd r s (by_width c Codes.TheVariants.Sll Codes.TheVariants.Sllw) some
-    (λ a b. left_is c (promoted k) (promoted_wide j) (reduced c a) b)
-performed ShiftRight j k rd r s some =
-    let c : Kind = promoted j in
-    by_op (with_kinds ShiftRight j k) rd r s
-    (by_width c (by_sign c Codes.TheVariants.Sra Codes.TheVariants.Srl) (by_sign c Codes.TheVariants.Sraw Codes.TheVariants.Srlw)) some
-    (λ a b. right_is c (promoted k) (promoted_wide j) (reduced c a) b (Holds-reduced c a))
-performed And j k rd r s some =
-    let c : Kind = common_of j k in
-    by_op (with_kinds And j k) rd r s Codes.TheVariants.And some
-    (λ a b. and_is c (common_wide j k) (reduced c a) (reduced c b) (Holds-reduced c a) (Holds-reduced c b))
-performed Xor j k rd r s some =
-    let c : Kind = common_of j k in
-    by_op (with_kinds Xor j k) rd r s Codes.TheVariants.Xor some
-    (λ a b. xor_is c (common_wide j k) (reduced c a) (reduced c b) (Holds-reduced c a) (Holds-reduced c b))
-performed Or j k rd r s some =
-    let c : Kind = common_of j k in
-    by_op (with_kinds Or j k) rd r s Codes.TheVariants.Or some
-    (λ a b. or_is c (common_wide j k) (reduced c a) (reduced c b) (Holds-reduced c a) (Holds-reduced c b))
-performed operator j k rd r s some = tt
+-- by one with a constant
+pub by_form : (o : BinaryOperation) (i : Operation) (n : ℕ) (form : ImmediateForm) → Gives o i → HasForm i n form → IsWithConstant o n form
+by_form o i n form g h = record {
+  computes = λ x rd rs some are a b at.
+      as_value _ x rd (result_of i (read x rs) n) _ ((λ j. result_of i (at.left j) (at.right j)) ∙ g.law a b) (h.computes x rd rs some);
+}
 
 -- ---- The flag of a comparison
 
@@ -96,7 +100,8 @@ left_below o a b first second at = subst (λ (n : ℕ). n < 2 ^ 64) (sym at.left
 right_below : (o : BinaryOperation) (a b : ℤ) (first second : ℕ) → AreOperands o a b first second → second < 2 ^ 64
 right_below o a b first second at = subst (λ (n : ℕ). n < 2 ^ 64) (sym at.right) (register_below (right_kind o) (reduced (right_kind o) b))
 
-by_flag : (o : BinaryOperation) (rd r s : ℕ) (condition : Condition) → ((a b : ℤ) → flag (not (is_zero (given_by o a b).number)) ≡ register_form_of (given_by o a b)) →
+by_flag : (o : BinaryOperation) (rd r s : ℕ) (condition : Condition) →
+    ((a b : ℤ) → flag (not (is_zero (given_by o a b).number)) ≡ register_form_of (given_by o a b)) →
     IsComparison o r s (made condition r s) → (code : List Instr) → IsFlag (made condition r s) rd code → IsBinary o rd r s code
 by_flag o rd r s condition law c code f = record {
   computes = λ x are a b at. as_value code x rd (flag (passes (made condition r s) x)) _ (ap flag (c.taken x a b at) ∙ law a b)
@@ -116,8 +121,10 @@ pub flag_performed : (operator : Binary) (j k : Kind) (rd r s : ℕ) →
     (λ t. (code : List Instr) → IsFlag t rd code → IsBinary (with_kinds operator j k) rd r s code)
 flag_performed Less j k rd r s = by_flag (with_kinds Less j k) rd r s (below (common_of j k)) (λ a b. flag_truth _) (compared Less j k r s)
 flag_performed Greater j k rd r s = by_swapped_flag (with_kinds Greater j k) rd r s (below (common_of j k)) (λ a b. flag_truth _) (compared Greater j k r s)
-flag_performed LessEqual j k rd r s = by_swapped_flag (with_kinds LessEqual j k) rd r s (not_below (common_of j k)) (λ a b. flag_truth _) (compared LessEqual j k r s)
-flag_performed GreaterEqual j k rd r s = by_flag (with_kinds GreaterEqual j k) rd r s (not_below (common_of j k)) (λ a b. flag_truth _) (compared GreaterEqual j k r s)
+flag_performed LessEqual j k rd r s =
+    by_swapped_flag (with_kinds LessEqual j k) rd r s (not_below (common_of j k)) (λ a b. flag_truth _) (compared LessEqual j k r s)
+flag_performed GreaterEqual j k rd r s =
+    by_flag (with_kinds GreaterEqual j k) rd r s (not_below (common_of j k)) (λ a b. flag_truth _) (compared GreaterEqual j k r s)
 flag_performed Equal j k rd r s = by_flag (with_kinds Equal j k) rd r s Beq (λ a b. flag_truth _) (compared Equal j k r s)
 flag_performed NotEqual j k rd r s = by_flag (with_kinds NotEqual j k) rd r s Bne (λ a b. flag_truth _) (compared NotEqual j k r s)
 flag_performed operator j k rd r s = tt

@@ -1,5 +1,6 @@
 -- Each step in which a constant is built.
-use Rattle.std.proofs.Common.{◌≡◌, ℕ, ◌+◌, ◌-◌, ◌*◌, ◌/◌, ◌%◌, ◌^◌, ◌<◌, ◌≤◌, ◌⊎◌, inl, inr, List, [], ◌∷◌, ◌++◌, refl, ap, sym, ◌∙◌, arith, Bool, true, false, ◌||◌, ◌==◌, if◌then◌else◌, subst, lit<, lit≤}
+use Rattle.std.proofs.Common.{◌≡◌, ℕ, ◌+◌, ◌-◌, ◌*◌, ◌/◌, ◌%◌, ◌^◌, ◌<◌, ◌≤◌, ◌⊎◌, inl, inr, List, [], ◌∷◌, ◌++◌, refl, ap, sym, ◌∙◌, arith, Bool, true}
+use Rattle.std.proofs.Common.{false, ◌||◌, ◌==◌, if◌then◌else◌, subst, lit<, lit≤}
 use Rattle.std.specs.Prelude.{nat_lt, slice_set}
 use Rattle.std.proofs.lemmas.Bool.Decides.{nat_tests}
 use Rattle.std.proofs.lemmas.Bool.{cases_lt}
@@ -27,7 +28,7 @@ equal_by a b h = grind (arith, nat_tests)
 abbrev pub is_near : (h number top : ℕ) → Bool
 is_near h number top = nat_lt number h || nat_lt (top - 1 - number) h
 
-near_test : (h number top : ℕ) → is_near h number top ≡ true → (number < h) ⊎ ((h ≤ number) × (top - 1 - number < h))
+pub near_test : (h number top : ℕ) → is_near h number top ≡ true → (number < h) ⊎ ((h ≤ number) × (top - 1 - number < h))
 near_test h number top e = by (cases_lt number h)
   where
     by : (number < h) ⊎ (h ≤ number) → (number < h) ⊎ ((h ≤ number) × (top - 1 - number < h))
@@ -109,6 +110,7 @@ rounded number = (number + 2048) / 4096
 
 -- a number that is not near 0, its upper part, and the zeros at the end of that
 pub record Far (bits number : ℕ) : Type 0 where
+  pub long : 33 ≤ bits
   pub fits : number + 2048 < 2 ^ 64
   pub some : 0 < rounded number
   pub zeros_fit : 12 + count_trailing_zeros 64 (rounded number) < bits
@@ -129,6 +131,7 @@ far bits number b fits e =
     let zeros : ℕ = count_trailing_zeros 64 (rounded number) in
     let few = left_below (rounded number / 2 ^ zeros) zeros (bits - 12) (rounded number) again some below in
     record {
+      long = long;
       fits = omega (arith, away.1, most, fits);
       some = some;
       zeros_fit = omega (arith, few);

@@ -10,7 +10,8 @@ use Rattle.ido_ints.specs.Reduction.{reduced, register_of}
 use Rattle.ido_ints.proofs.Congruence.{Same, Same_trans, Same-factor, rem_euclid-mod}
 use Rattle.ido_ints.proofs.Reduced.{Same-reduced}
 use Rattle.ido_ints.proofs.Promotion.{each_promoted, promoted-common_of, reduced-promoted}
-use Rattle.ido_ints.proofs.Registers.{register-add_64, register-add_32, register-sub_64, register-sub_32, register-mul_64, register-mul_32, register-scale_64, register-scale_32}
+use Rattle.ido_ints.proofs.Registers.{register-add_64, register-add_32, register-sub_64, register-sub_32, register-mul_64, register-mul_32}
+use Rattle.ido_ints.proofs.Registers.{register-scale_64, register-scale_32}
 use Rattle.ido_ints.proofs.RegisterBits.{Bitwise, Bitwise-and, Bitwise-or, Bitwise-xor, register-bitwise_64, register-bitwise_32}
 use Rattle.rv64_isa.specs.declared.instr.Operation as Codes
 use Rattle.rv64_isa.specs.declared.instr.Operation.{Operation}
@@ -41,7 +42,8 @@ pub add_is : (c : Kind) → Wide c → (x y : ℤ) → result_of (by_width c Cod
     register_of c (reduced c (x +ℤ y))
 unfolding result_of
 add_is c (inl w) x y =
-    ap (λ (i : Operation). result_of i (register_of c x) (register_of c y)) (is_double c Codes.TheVariants.Add Codes.TheVariants.Addw w) ∙ sym (register-add_64 c w x y)
+    ap (λ (i : Operation). result_of i (register_of c x) (register_of c y)) (is_double c Codes.TheVariants.Add Codes.TheVariants.Addw w) ∙
+    sym (register-add_64 c w x y)
 add_is c (inr w) x y =
     ap (λ (i : Operation). result_of i (register_of c x) (register_of c y)) (is_word c Codes.TheVariants.Add Codes.TheVariants.Addw w) ∙
     word_is (register_of c x + register_of c y) ∙ sym (register-add_32 c w x y)
@@ -50,7 +52,8 @@ pub sub_is : (c : Kind) → Wide c → (x y : ℤ) → result_of (by_width c Cod
     register_of c (reduced c (x -ℤ y))
 unfolding result_of
 sub_is c (inl w) x y =
-    ap (λ (i : Operation). result_of i (register_of c x) (register_of c y)) (is_double c Codes.TheVariants.Sub Codes.TheVariants.Subw w) ∙ sym (register-sub_64 c w x y)
+    ap (λ (i : Operation). result_of i (register_of c x) (register_of c y)) (is_double c Codes.TheVariants.Sub Codes.TheVariants.Subw w) ∙
+    sym (register-sub_64 c w x y)
 sub_is c (inr w) x y =
     ap (λ (i : Operation). result_of i (register_of c x) (register_of c y)) (is_word c Codes.TheVariants.Sub Codes.TheVariants.Subw w) ∙
     word_is (register_of c x + (2 ^ 64 - register_of c y)) ∙ sym (register-sub_32 c w x y)
@@ -59,7 +62,8 @@ pub mul_is : (c : Kind) → Wide c → (x y : ℤ) → result_of (by_width c Cod
     register_of c (reduced c (x *ℤ y))
 unfolding result_of
 mul_is c (inl w) x y =
-    ap (λ (i : Operation). result_of i (register_of c x) (register_of c y)) (is_double c Codes.TheVariants.Mul Codes.TheVariants.Mulw w) ∙ sym (register-mul_64 c w x y)
+    ap (λ (i : Operation). result_of i (register_of c x) (register_of c y)) (is_double c Codes.TheVariants.Mul Codes.TheVariants.Mulw w) ∙
+    sym (register-mul_64 c w x y)
 mul_is c (inr w) x y =
     ap (λ (i : Operation). result_of i (register_of c x) (register_of c y)) (is_word c Codes.TheVariants.Mul Codes.TheVariants.Mulw w) ∙
     word_is (register_of c x * register_of c y) ∙ sym (register-mul_32 c w x y)
@@ -114,7 +118,8 @@ count_32 c k b w =
     subst P (sym w) (sym (rem_euclid-mod b (register_of k (reduced k b)) 32 (omega arith) (Same-factor 32 2 _ _ (count_same k b))))
 
 pub left_is : (c k : Kind) → Wide c → (x b : ℤ) →
-    result_of (by_width c Codes.TheVariants.Sll Codes.TheVariants.Sllw) (register_of c x) (register_of k (reduced k b)) ≡ register_of c (reduced c (shifted_left c x b))
+    result_of (by_width c Codes.TheVariants.Sll Codes.TheVariants.Sllw) (register_of c x) (register_of k (reduced k b)) ≡
+    register_of c (reduced c (shifted_left c x b))
 unfolding result_of
 left_is c k (inl w) x b =
     ap (λ (i : Operation). result_of i (register_of c x) (register_of k (reduced k b))) (is_double c Codes.TheVariants.Sll Codes.TheVariants.Sllw w) ∙

@@ -5,7 +5,8 @@ use Rattle.ido_ints.specs.declared.kinds.Kind.{Kind}
 use Rattle.ido_ints.specs.declared.kinds.Kind.TheVariants.{Int}
 use Rattle.ido_ints.specs.declared.operators.Unary.{Unary}
 use Rattle.ido_ints.specs.declared.operators.Binary.{Binary}
-use Rattle.ido_ints.specs.declared.operators.Binary.TheVariants.{ShiftLeft, ShiftRight, Less, Greater, LessEqual, GreaterEqual, Equal, NotEqual, LogicalAnd, LogicalOr}
+use Rattle.ido_ints.specs.declared.operators.Binary.TheVariants.{ShiftLeft, ShiftRight, Less, Greater, LessEqual, GreaterEqual, Equal, NotEqual, LogicalAnd}
+use Rattle.ido_ints.specs.declared.operators.Binary.TheVariants.{LogicalOr}
 use Rattle.ido_ints.specs.Kinds.{Holds, promoted, common_of}
 use Rattle.ido_ints.specs.Operators.{truth, is_zero, unary_of, binary_of}
 use Rattle.ido_ints.specs.Typed.{Typed, typed, converted, register_form_of}

@@ -1,4 +1,5 @@
 pub mod Computing
+pub mod Constants
 pub mod Sequences
 pub mod Straight
 pub mod links

@@ -1,3 +1,4 @@
 pub mod Digits
+pub mod Immediates
 pub mod Listing
 pub mod Performing

@@ -64,7 +64,7 @@ fn flag_of(condition: Condition, rd: Register, rs1: Register, rs2: Register) -> 
 }
 
 /// The one instruction that gives what the operator gives in this kind; none for comparisons, `&&` and `||`.
-fn arithmetic(operator: Binary, kind: Kind) -> Option<Operation>
+pub(crate) fn arithmetic(operator: Binary, kind: Kind) -> Option<Operation>
     ensures { result ≡ instruction_of operator kind }
 {
     match operator {

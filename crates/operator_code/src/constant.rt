@@ -1,5 +1,5 @@
 //! Constants of 64 bits in a register.
-ghost use Rattle.std.specs.Prelude.{◌≡◌, ◌<◌, ◌≤◌, ◌+◌, ◌-◌, ◌^◌, ◌||◌, nat_lt, IfOk, OnOk};
+ghost use Rattle.std.specs.Prelude.{◌≡◌, ◌<◌, ◌≤◌, ◌+◌, ◌-◌, ◌*◌, ◌/◌, ◌^◌, ◌||◌, nat_lt, length, IfOk, OnOk};
 ghost use Rattle.operator_code.specs.Straight.{IsConstant};
 ghost use Rattle.operator_code.specs.links.Digits.{IsConstantOfBits};
 ghost use Rattle.operator_code.specs.links.Listing.{word_code, with_digit};
@@ -11,7 +11,7 @@ use rv64_isa::instr::{ImmediateOperation, Instr, ShiftOperation};
 use std::alloc::Global;
 
 /// Half of the numbers that a 12-bit immediate holds.
-const HALF_IMMEDIATE: u64 = 1 << 11;
+pub(crate) const HALF_IMMEDIATE: u64 = 1 << 11;
 
 /// Half of the numbers that LUI and ADDIW make.
 const HALF_WORD: u64 = 1 << 31;
@@ -20,10 +20,10 @@ const HALF_WORD: u64 = 1 << 31;
 const WORDS: u64 = 1 << 32;
 
 /// Numbers that an immediate holds.
-const IMMEDIATES: u64 = 1 << 12;
+pub(crate) const IMMEDIATES: u64 = 1 << 12;
 
 /// Whether a number, in two's complement of so many bits, lies from `-half` to `half - 1`.
-fn is_near(number: u64, bits: u32, half: u64) -> bool
+pub(crate) fn is_near(number: u64, bits: u32, half: u64) -> bool
     requires some { 0 < bits }
     requires bits { bits ≤ 64 }
     requires number { number < 2 ^ bits }
@@ -34,7 +34,8 @@ fn is_near(number: u64, bits: u32, half: u64) -> bool
 
 /// A number of 32 bits, sign-extended, into a register: by LUI alone where its low 12 bits are 0.
 fn word(alloc: Global, rd: Register, number: u32) -> Result<Vec<Instr>, Memory>
-    ensures { IfOk result (λ code. code.items ≡ word_code rd number) }
+    ensures code { IfOk result (λ code. code.items ≡ word_code rd number) }
+    ensures short { IfOk result (λ code. length code.items ≤ 2) }
 {
     let low = (number % 4096) as u16;
     let upper = number.wrapping_add(0x800) / 4096;
@@ -49,7 +50,8 @@ fn word(alloc: Global, rd: Register, number: u32) -> Result<Vec<Instr>, Memory>
 fn push_digit(code: &mut Vec<Instr>, rd: Register, count: u8, low: u16) -> Result<(), Memory>
     requires count { count < 2 ^ 6 }
     requires low { low < 2 ^ 12 }
-    ensures { OnOk result (code.new.items ≡ with_digit rd count low code.old.items) }
+    ensures code { OnOk result (code.new.items ≡ with_digit rd count low code.old.items) }
+    ensures short { OnOk result (length code.new.items ≤ length code.old.items + 2) }
 {
     code.push(shift(ShiftOperation::Slli, rd, rd, count))?;
     if low != 0 {
@@ -64,7 +66,9 @@ fn digits(alloc: Global, rd: Register, bits: u32, number: u64) -> Result<Vec<Ins
     requires some { 0 < bits }
     requires bits { bits ≤ 64 }
     requires number { number < 2 ^ bits }
-    ensures { IfOk result (λ code. IsConstantOfBits rd bits number code.items) }
+    ensures code { IfOk result (λ code. IsConstantOfBits rd bits number code.items) }
+    ensures short { IfOk result (λ code. 12 * ((length code.items + 1) / 2) ≤ 12 + (bits - 20)) }
+    ensures small { number < 2 ^ 11 → IfOk result (λ code. length code.items ≡ 1) }
 {
     let low = (number % IMMEDIATES) as u16;
     if is_near(number, bits, HALF_IMMEDIATE) {
@@ -83,10 +87,13 @@ fn digits(alloc: Global, rd: Register, bits: u32, number: u64) -> Result<Vec<Ins
 }
 
 /// Code that computes a number into a register, other than x0, from nothing: an ADDI, a LUI and an ADDIW, or those
-/// of the number's upper part, a shift and an ADDI of its low 12 bits. It changes no other register.
+/// of the number's upper part, a shift and an ADDI of its low 12 bits. It changes no other register. At most 8 words; one for
+/// a number below 2^11.
 pub fn constant(alloc: Global, rd: Register, number: u64) -> Result<Vec<Instr>, Memory>
     requires { 0 < rd }
-    ensures { IfOk result (λ code. IsConstant rd number code.items) }
+    ensures code { IfOk result (λ code. IsConstant rd number code.items) }
+    ensures short { IfOk result (λ code. length code.items ≤ 8) }
+    ensures small { number < 2 ^ 11 → IfOk result (λ code. length code.items ≡ 1) }
 {
     digits(alloc, rd, 64, number)
 }

@@ -3,9 +3,10 @@ use c_tree::expr::{Expr, Placed, Target};
 use c_tree::flat::{Flat, Statement, Thread};
 use c_tree::tree::Name;
 use flow_lower::lower;
+use ido_base::location::Shape;
 use ido_base::place::Place;
 use ido_ints::Kind;
-use region_cutter::cut;
+use region_cutter::{cleaned_later, cut, write_elements};
 use std::alloc::{AllocError, Global};
 use std::test::Fail;
 
@@ -172,5 +173,40 @@ fn before_the_store_of_a_loop(rt: HostRuntime) -> Result<(), Fail> {
     };
     let found = cut_before(a, Vec::from_array(a, [lock(), body, unlock()])?)?;
     assert_eq!(rt; found.as_slice(), [3, 4].as_slice());
+    Ok(())
+}
+
+/// The nodes whose own clean may be left out, where `x` has eight bytes.
+fn uncleaned(a: Global, body: Vec<Statement>) -> Result<Vec<usize>, Fail> {
+    let flat = program(a, body)?;
+    let graph = lower(a, &flat)?;
+    let cuts = cut(a, &graph)?;
+    let shapes = [Shape {
+        bytes: 8,
+        length: 1,
+    }];
+    let mut nodes = Vec::new(a);
+    if write_elements(&graph, &shapes) {
+        let later = cleaned_later(a, &graph, &cuts, &shapes)?;
+        for (number, left_out) in later.iter().enumerate() {
+            if *left_out {
+                nodes.push(number)?;
+            }
+        }
+    }
+    Ok(nodes)
+}
+
+#[test]
+fn the_last_of_two_stores_cleans_the_line(rt: HostRuntime) -> Result<(), Fail> {
+    let a = rt.alloc();
+    let body = [
+        lock(),
+        store(placed(local())),
+        store(placed(local())),
+        unlock(),
+    ];
+    let found = uncleaned(a, Vec::from_array(a, body)?)?;
+    assert_eq!(rt; found.as_slice(), [2].as_slice());
     Ok(())
 }

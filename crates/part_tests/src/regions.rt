@@ -130,41 +130,38 @@ fn boundaries_that_are_missing(rt: HostRuntime) -> Result<(), Fail> {
     Ok(())
 }
 
+/// What the check says of a section without a boundary before its last store, and with one.
+fn without_and_with(
+    a: Global,
+    first: Location,
+    read: Location,
+    last: Location,
+) -> Result<[Result<Idempotent, CheckError>; 2], Fail> {
+    let target = target();
+    let value = value();
+    let graph = section(a, &target, &value, first, read, last)?;
+    Ok([
+        check(a, &graph, &cuts(a, true, false, true)?),
+        check(a, &graph, &cuts(a, true, true, true)?),
+    ])
+}
+
 #[test]
 fn a_scalar_that_is_read_and_stored(rt: HostRuntime) -> Result<(), Fail> {
     let a = rt.alloc();
-    let target = target();
-    let value = value();
-    let graph = section(a, &target, &value, OTHER, SCALAR, SCALAR)?;
-    assert_eq!(rt;
-        check(a, &graph, &cuts(a, true, false, true)?),
-        Err(CheckError::Anti { read: 2, store: 3 })
-    );
-    assert_eq!(rt;
-        check(a, &graph, &cuts(a, true, true, true)?),
-        Ok(Idempotent)
-    );
-    let covered = section(a, &target, &value, SCALAR, SCALAR, SCALAR)?;
-    assert_eq!(rt;
-        check(a, &covered, &cuts(a, true, false, true)?),
-        Ok(Idempotent)
-    );
+    let [without, with] = without_and_with(a, OTHER, SCALAR, SCALAR)?;
+    assert_eq!(rt; without, Err(CheckError::Anti { read: 2, store: 3 }));
+    assert_eq!(rt; with, Ok(Idempotent));
+    let [covered, _] = without_and_with(a, SCALAR, SCALAR, SCALAR)?;
+    assert_eq!(rt; covered, Ok(Idempotent));
     Ok(())
 }
 
 #[test]
 fn an_element_that_is_read_and_stored(rt: HostRuntime) -> Result<(), Fail> {
     let a = rt.alloc();
-    let target = target();
-    let value = value();
-    let graph = section(a, &target, &value, ELEMENT, ELEMENT, ELEMENT)?;
-    assert_eq!(rt;
-        check(a, &graph, &cuts(a, true, false, true)?),
-        Err(CheckError::Anti { read: 2, store: 3 })
-    );
-    assert_eq!(rt;
-        check(a, &graph, &cuts(a, true, true, true)?),
-        Ok(Idempotent)
-    );
+    let [without, with] = without_and_with(a, ELEMENT, ELEMENT, ELEMENT)?;
+    assert_eq!(rt; without, Err(CheckError::Anti { read: 2, store: 3 }));
+    assert_eq!(rt; with, Ok(Idempotent));
     Ok(())
 }

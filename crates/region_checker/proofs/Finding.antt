@@ -1,5 +1,6 @@
 -- Marks and numbers that were found say where regions lead.
-use Rattle.std.proofs.Common.{◌≡◌, ◌⊎◌, ◌↔◌, inl, inr, ℕ, ◌+◌, ◌<◌, ◌≤◌, Bool, true, false, not, List, length, get_or, replicate, Option, Some, None, refl, ap, sym, subst, ◌∙◌, arith}
+use Rattle.std.proofs.Common.{◌≡◌, ◌⊎◌, ◌↔◌, inl, inr, ℕ, ◌+◌, ◌<◌, ◌≤◌, Bool, true, false, not, List, length, get_or, replicate, Option, Some, None, refl}
+use Rattle.std.proofs.Common.{ap, sym, subst, ◌∙◌, arith}
 use Rattle.std.specs.Prelude.{Contains, IsTrue, slice_get}
 use Rattle.std.proofs.lemmas.Option.{slice_get_within, slice_get_cases, slice_get_read, get_or_from_slice_get}
 use Rattle.std.proofs.lemmas.List.{get_or_past, get_or-replicate, length-replicate, get_or_default}
@@ -14,7 +15,9 @@ use Rattle.region_checker.specs.links.Spreading.{IsMarked, Marks, AreWays, AreSp
 use Rattle.std.specs.Option.{is_some}
 use Rattle.region_checker.specs.Conflicts.{Conflict, AreThere}
 use Rattle.region_checker.proofs.Paths.{conflict_from, hits_from, hit_from, hit_to, idempotent_from, idempotent_to}
-use Rattle.region_checker.specs.links.Hitting.{IsFirstFound, with_read, IsHitSome, WritesOver, WritesSame, Never, Exposes, Follows, IsHit, HitsAny, AreRegions, AreReadAt, AreArrived, AreUnwritten, AreExposed, IsLeastOf, IsBehind, IsOver, ExposesOver, IsExposedAt, stops_of}
+use Rattle.region_checker.specs.links.Hitting.{IsFirstFound, with_read, IsHitSome, WritesOver, WritesSame, Never, Exposes, Follows, IsHit, HitsAny}
+use Rattle.region_checker.specs.links.Hitting.{AreRegions, AreReadAt, AreArrived, AreUnwritten, AreExposed, IsLeastOf, IsBehind, IsOver, ExposesOver}
+use Rattle.region_checker.specs.links.Hitting.{IsExposedAt, stops_of}
 use Rattle.region_checker.proofs.Arriving.{arrived}
 use Rattle.region_checker.proofs.Nodes.{is_of, node_at, node_in, length_nodes, stops_at, one_node}
 use Rattle.region_checker.proofs.Spreads.{marked_within}
@@ -26,10 +29,12 @@ false_true e = cc
 pub none_marked : (k n : ℕ) → IsMarked (replicate {A = Bool} k false) n → ⊥
 none_marked k n m = elim (below_or_past n k) [
   | inl lt ↦ false_true (sym (get_or-replicate {A = Bool} k n false false lt) ∙ m)
-  | inr past ↦ false_true (sym (get_or_past {X = Bool} (replicate {A = Bool} k false) n false (subst (λ (j : ℕ). j ≤ n) (sym (length-replicate {A = Bool} k false)) past)) ∙ m)
+  | inr past ↦ false_true (sym (get_or_past {X = Bool} (replicate {A = Bool} k false) n false
+      (subst (λ (j : ℕ). j ≤ n) (sym (length-replicate {A = Bool} k false)) past)) ∙ m)
 ]
 
-pub spread_along : (ways ways' : List Way) (stops stops' before before' after : List Bool) → ways' ≡ ways → stops' ≡ stops → before' ≡ before → AreSpread ways' stops' before' after → AreSpread ways stops before after
+pub spread_along : (ways ways' : List Way) (stops stops' before before' after : List Bool) → ways' ≡ ways → stops' ≡ stops → before' ≡ before →
+    AreSpread ways' stops' before' after → AreSpread ways stops before after
 spread_along ways ways' stops stops' before before' after e f h s n =
     subst (λ (ws : List Way). AreSpread ws stops before after) e
     (subst (λ (xs : List Bool). AreSpread ways' xs before after) f
@@ -37,7 +42,8 @@ spread_along ways ways' stops stops' before before' after e f h s n =
 
 -- ---- Unwritten locations
 
-pub unwritten_is : (g : declared.Graph) (b : Boundaries) (elements : Location) (ways : List Way) (begins after : List Bool) → AreRegions (graph_of g) b ways begins → length after ≡ length begins →
+pub unwritten_is : (g : declared.Graph) (b : Boundaries) (elements : Location) (ways : List Way) (begins after : List Bool) →
+    AreRegions (graph_of g) b ways begins → length after ≡ length begins →
     AreSpread ways (stops_of elements g.nodes.items) begins after → AreUnwritten (graph_of g) b elements after
 unwritten_is g b elements ways begins after r long s =
     arrived (graph_of g) b ways (Begins (graph_of g) b) (WritesSame (graph_of g) elements) begins (stops_of elements g.nodes.items) after
@@ -50,7 +56,8 @@ unwritten_is g b elements ways begins after r long s =
 
 -- ---- Exposed reads
 
-exposes_at : (g : declared.Graph) (b : Boundaries) (elements : Location) (unwritten read : List Bool) → AreUnwritten (graph_of g) b elements unwritten → AreReadAt g.nodes.items unwritten elements read →
+exposes_at : (g : declared.Graph) (b : Boundaries) (elements : Location) (unwritten read : List Bool) → AreUnwritten (graph_of g) b elements unwritten →
+    AreReadAt g.nodes.items unwritten elements read →
     (n : ℕ) → IsMarked read n ↔ ((n < length (graph_of g).nodes) × Exposes (graph_of g) b elements n)
 exposes_at g b elements unwritten read u r n = (
   λ m.
@@ -70,7 +77,8 @@ exposes_at g b elements unwritten read u r n = (
       (r.each n k.is k.at).1 ((u.each n).1 (d.0, e.unwritten), subst (λ (y : Node). Contains y.reads elements) (sym k.same) e.reads.reads),
 )
 
-pub exposed_is : (g : declared.Graph) (b : Boundaries) (elements : Location) (ways : List Way) (begins unwritten read after : List Bool) → AreRegions (graph_of g) b ways begins →
+pub exposed_is : (g : declared.Graph) (b : Boundaries) (elements : Location) (ways : List Way) (begins unwritten read after : List Bool) →
+    AreRegions (graph_of g) b ways begins →
     AreUnwritten (graph_of g) b elements unwritten → AreReadAt g.nodes.items unwritten elements read → length after ≡ length read →
     AreSpread ways (replicate (length g.nodes.items) false) read after → AreExposed (graph_of g) b elements after
 exposed_is g b elements ways begins unwritten read after r u at long s =
@@ -84,7 +92,8 @@ exposed_is g b elements ways begins unwritten read after r u at long s =
 
 -- ---- Hits
 
-pub hit_is : (g : Graph) (b : Boundaries) (elements : Location) (ways : List Way) (marks : List Bool) (found : Option ℕ) → AreWays g b ways → AreExposed g b elements marks →
+pub hit_is : (g : Graph) (b : Boundaries) (elements : Location) (ways : List Way) (marks : List Bool) (found : Option ℕ) → AreWays g b ways →
+    AreExposed g b elements marks →
     IsLeastOf (IsOver g elements (IsBehind ways marks)) found → IsLeastOf (IsHit g b elements) found
 hit_is g b elements ways marks found w e p =
     least_same (IsOver g elements (IsBehind ways marks)) (IsHit g b elements) found p
@@ -99,7 +108,8 @@ hit_is g b elements ways marks found w e p =
 
 -- ---- Reads that the store follows
 
-pub one_marked : (k read : ℕ) (marks : List Bool) (grows : Bool) → read < k → Marks (λ n. Some read ≡ Some n) (replicate {A = Bool} k false) marks grows → (n : ℕ) → IsMarked marks n ↔ ((n < k) × (n ≡ read))
+pub one_marked : (k read : ℕ) (marks : List Bool) (grows : Bool) → read < k → Marks (λ n. Some read ≡ Some n) (replicate {A = Bool} k false) marks grows →
+    (n : ℕ) → IsMarked marks n ↔ ((n < k) × (n ≡ read))
 one_marked k read marks grows lt m n = (
   λ h. elim ((m.has n).0 h) [
     | inl old ↦ absurd (none_marked k n old)
@@ -110,11 +120,14 @@ one_marked k read marks grows lt m n = (
   λ d. (m.has n).1 (inr (subst (λ (j : ℕ). n < j) (sym (length-replicate {A = Bool} k false)) d.0, ap (λ (j : ℕ). Some j) (sym d.1))),
 )
 
-pub follows_is : (g : declared.Graph) (b : Boundaries) (read store : ℕ) (ways : List Way) (begins marks after : List Bool) → AreRegions (graph_of g) b ways begins → length marks ≡ length g.nodes.items →
-    ((n : ℕ) → IsMarked marks n ↔ ((n < length g.nodes.items) × (n ≡ read))) → length after ≡ length marks → AreSpread ways (replicate (length g.nodes.items) false) marks after →
+pub follows_is : (g : declared.Graph) (b : Boundaries) (read store : ℕ) (ways : List Way) (begins marks after : List Bool) →
+    AreRegions (graph_of g) b ways begins → length marks ≡ length g.nodes.items →
+    ((n : ℕ) → IsMarked marks n ↔ ((n < length g.nodes.items) × (n ≡ read))) → length after ≡ length marks →
+    AreSpread ways (replicate (length g.nodes.items) false) marks after →
     IsBehind ways after store ↔ Follows (graph_of g) b (λ n. n ≡ read) store
 follows_is g b read store ways begins marks after r count is long s =
-    let a : AreArrived (graph_of g) b (λ n. n ≡ read) Never after = arrived (graph_of g) b ways (λ n. n ≡ read) Never marks (replicate (length g.nodes.items) false) after
+    let a : AreArrived (graph_of g) b (λ n. n ≡ read) Never after =
+    arrived (graph_of g) b ways (λ n. n ≡ read) Never marks (replicate (length g.nodes.items) false) after
     (record {
       lead = r.lead;
       count = count ∙ sym (length_nodes g);
@@ -127,7 +140,8 @@ follows_is g b read store ways begins marks after r count is long s =
           record { from = f.last; marked = (a.each f.last).1 (lt, f.comes); leads = (r.lead.each f.last store).1 f.goes },
     )
 
-pub exposed_at_is : (g : declared.Graph) (b : Boundaries) (read store : ℕ) (elements : Location) (marks : List Bool) (flag : Bool) → AreUnwritten (graph_of g) b elements marks → read < length g.nodes.items →
+pub exposed_at_is : (g : declared.Graph) (b : Boundaries) (read store : ℕ) (elements : Location) (marks : List Bool) (flag : Bool) →
+    AreUnwritten (graph_of g) b elements marks → read < length g.nodes.items →
     flag ≡ get_or marks read flag → WritesOver (graph_of g) elements store → IsTrue flag ↔ IsExposedAt (graph_of g) b read store elements
 exposed_at_is g b read store elements marks flag u lt is over =
     let within : read < length marks = omega (arith, lt, u.count, length_nodes g) in
@@ -139,21 +153,28 @@ exposed_at_is g b read store elements marks flag u lt is over =
 contains_at : (xs : List Location) (k : ℕ) (x : Location) → slice_get xs k ≡ Some x → Contains xs x
 contains_at xs k x at = (k, slice_get_within xs k x at, get_or_from_slice_get xs k x x at)
 
-pub exposes_from : (g : declared.Graph) (b : Boundaries) (read store k : ℕ) (x : code.Node) (elements : Location) → slice_get g.nodes.items read ≡ Some x → slice_get x.reads.items k ≡ Some elements →
+pub exposes_from : (g : declared.Graph) (b : Boundaries) (read store k : ℕ) (x : code.Node) (elements : Location) → slice_get g.nodes.items read ≡ Some x →
+    slice_get x.reads.items k ≡ Some elements →
     IsExposedAt (graph_of g) b read store elements → ExposesOver (graph_of g) b read store
 exposes_from g b read store k x elements at there e = record {
   elements = elements;
-  exposes = record { reads = record { is = node_of x; at = node_at g.nodes.items read x at; reads = contains_at x.reads.items k elements there }; unwritten = e.unwritten };
+  exposes = record {
+    reads = record { is = node_of x; at = node_at g.nodes.items read x at; reads = contains_at x.reads.items k elements there };
+    unwritten = e.unwritten;
+  };
   writes = e.writes;
 }
 
-pub exposes_none : (g : declared.Graph) (b : Boundaries) (read store count : ℕ) (x : code.Node) → slice_get g.nodes.items read ≡ Some x → length x.reads.items ≤ count →
-    ((k : ℕ) (y : Location) → k < count → slice_get x.reads.items k ≡ Some y → ¬ (IsExposedAt (graph_of g) b read store y)) → ¬ (ExposesOver (graph_of g) b read store)
+pub exposes_none : (g : declared.Graph) (b : Boundaries) (read store count : ℕ) (x : code.Node) → slice_get g.nodes.items read ≡ Some x →
+    length x.reads.items ≤ count →
+    ((k : ℕ) (y : Location) → k < count → slice_get x.reads.items k ≡ Some y → ¬ (IsExposedAt (graph_of g) b read store y)) →
+    ¬ (ExposesOver (graph_of g) b read store)
 exposes_none g b read store count x at le none e =
     let r = e.exposes.reads in
     let same : r.is ≡ node_of x = one_node (graph_of g).nodes read r.is (node_of x) r.at (node_at g.nodes.items read x at) in
     let c : Contains x.reads.items e.elements = subst (λ (y : Node). Contains y.reads e.elements) same r.reads in
-    none c.0 e.elements (omega (arith, c.1, le)) (slice_get_read x.reads.items (length x.reads.items) c.0 e.elements refl c.1 (sym c.2)) (record { unwritten = e.exposes.unwritten; writes = e.writes })
+    none c.0 e.elements (omega (arith, c.1, le)) (slice_get_read x.reads.items (length x.reads.items) c.0 e.elements refl c.1 (sym c.2))
+    (record { unwritten = e.exposes.unwritten; writes = e.writes })
 
 -- ---- Conflicts
 
@@ -183,7 +204,8 @@ reads_within g b read store h = node_in g read h.hits.exposes.reads.is h.hits.ex
 pub no_hit : (g : Graph) (b : Boundaries) → IsLeastOf (IsHitSome g b) None → (read store : ℕ) → ¬ (Conflict g b read store)
 no_hit g b p read store c = p store (hit_to g b read store (hits_from g b read store c))
 
-pub first_found : (g : Graph) (b : Boundaries) (store : ℕ) (read : Option ℕ) → IsLeastOf (IsHitSome g b) (Some store) → IsLeastOf (λ n. HitsAny g b n store) read → IsFirstFound g b (with_read store read)
+pub first_found : (g : Graph) (b : Boundaries) (store : ℕ) (read : Option ℕ) → IsLeastOf (IsHitSome g b) (Some store) →
+    IsLeastOf (λ n. HitsAny g b n store) read → IsFirstFound g b (with_read store read)
 first_found g b store None p q = λ r s c. let h = hit_from g b store p.0 in q h.read h.hits
 first_found g b store (Some read) p q = record {
   is = conflict_from g b read store q.0;
@@ -191,7 +213,8 @@ first_found g b store (Some read) p q = record {
   least = λ r c. q.1 r (hits_from g b r store c);
 }
 
-pub idempotent_is : (g : Graph) (b : Boundaries) (store : Option ℕ) (t : Bool) → IsLeastOf (IsHitSome g b) store → is_some store ≡ not t → IsTrue t ↔ IsIdempotent g b
+pub idempotent_is : (g : Graph) (b : Boundaries) (store : Option ℕ) (t : Bool) → IsLeastOf (IsHitSome g b) store → is_some store ≡ not t →
+    IsTrue t ↔ IsIdempotent g b
 idempotent_is g b None true p e = (λ _. idempotent_from g b (no_hit g b p), λ _. refl)
 idempotent_is g b None false p e = absurd (cc)
 idempotent_is g b (Some store) true p e = absurd (cc)
@@ -221,9 +244,15 @@ behind_or_not g b n l = elim (flag_or_not b.after_lock n) [
 before_or_not : (b : Boundaries) (n : ℕ) → HasBefore b n ⊎ ¬ (HasBefore b n)
 before_or_not b n = flag_or_not b.before n
 
-pub cuts_are : (g : Graph) (b : Boundaries) → AreThere g b → ((read store : ℕ) → ¬ (Conflict g b read store)) → AreCuts g b
-cuts_are g b there none = record {
-  behind_locks = λ n l. elim (behind_or_not g b n l) [ inl h ↦ h | inr lacks ↦ absurd (there n (inl (record { locks = l; lacks = lacks }))) ];
+pub locks_behind : (g : Graph) (b : Boundaries) → AreThere g b → (n : ℕ) → IsLock g n → HasBehind g b n
+locks_behind g b there n l = elim (behind_or_not g b n l) [ inl h ↦ h | inr lacks ↦ absurd (there n (inl (record { locks = l; lacks = lacks }))) ]
+
+pub cuts_by : (g : Graph) (b : Boundaries) → AreThere g b → IsIdempotent g b → AreCuts g b
+cuts_by g b there idempotent = record {
+  behind_locks = locks_behind g b there;
   before_unlocks = λ n u. elim (before_or_not b n) [ inl h ↦ h | inr lacks ↦ absurd (there n (inr (record { unlocks = u; lacks = lacks }))) ];
-  idempotent = idempotent_from g b none;
+  idempotent = idempotent;
 }
+
+pub cuts_are : (g : Graph) (b : Boundaries) → AreThere g b → ((read store : ℕ) → ¬ (Conflict g b read store)) → AreCuts g b
+cuts_are g b there none = cuts_by g b there (idempotent_from g b none)

@@ -1,7 +1,7 @@
 //! The check of cuts.
-ghost use Rattle.std.specs.Prelude.{◌≡◌, ◌↔◌, ℕ, IfOk, IfErr, IsTrue, MatchOption};
+ghost use Rattle.std.specs.Prelude.{◌≡◌, ℕ, IfOk, IfErr, MatchOption};
 ghost use Rattle.flow_graph.specs.Nodes.{graph_of};
-ghost use Rattle.flow_graph.specs.Cutting.{boundaries_of, IsIdempotent, AreCuts};
+ghost use Rattle.flow_graph.specs.Cutting.{boundaries_of, AreCuts};
 ghost use Rattle.region_checker.specs.Conflicts.{IsRefused};
 ghost use Rattle.region_checker.specs.links.Hitting.{IsFirstFound, with_read};
 
@@ -45,22 +45,18 @@ fn first_conflict(alloc: Global, graph: &Graph, cuts: &Cuts) -> Result<Option<Co
     }
 }
 
-/// Whether each region may be run again: whether none overwrites what it has read, unless it had written it before it read it.
-pub fn is_idempotent(alloc: Global, graph: &Graph, cuts: &Cuts) -> Result<bool, Memory>
-    ensures { IfOk result (λ yes. IsTrue yes ↔ IsIdempotent (graph_of graph.now) (boundaries_of cuts.now)) }
-{
-    let regions = regions_of(alloc, graph, cuts)?;
-    Ok(first_store(alloc, graph, &regions)?.is_none())
-}
-
 /// Whether a boundary stands behind each lock and before each unlock, and each region may be run again. The first boundary that
-/// is missing is reported; where none is, the first store that overwrites what its region has read, and its first such read.
+/// is missing is reported; where none is, the first store that overwrites what its region has read, and its first such read. Only for
+/// that is each location looked for in the whole graph.
 pub fn check(alloc: Global, graph: &Graph, cuts: &Cuts) -> Result<Idempotent, CheckError>
     ensures accepted { IfOk result (λ _. AreCuts (graph_of graph.now) (boundaries_of cuts.now)) }
     ensures refused { IfErr result (IsRefused (graph_of graph.now) (boundaries_of cuts.now)) }
 {
     if let Some(error) = missing(graph, cuts) {
         return Err(error);
+    }
+    if region_cutter::is_idempotent(alloc, graph, cuts)? {
+        return Ok(Idempotent);
     }
     match first_conflict(alloc, graph, cuts)? {
         Some(Conflict { read, store }) => Err(CheckError::Anti { read, store }),

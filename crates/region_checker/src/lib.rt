@@ -10,5 +10,5 @@ mod locations;
 mod marks;
 mod ways;
 
-pub use checking::{check, is_idempotent};
+pub use checking::check;
 pub use error::{CheckError, Idempotent};

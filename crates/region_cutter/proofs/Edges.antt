@@ -1,5 +1,6 @@
 -- The nodes behind a node, and the boundaries on the way to them.
-use Rattle.std.proofs.Common.{◌≡◌, ◌⊎◌, ◌↔◌, inl, inr, ℕ, zero, suc, ◌||◌, ◌&&◌, Bool, true, false, List, [], ◌∷◌, Option, Some, refl, ap, sym, subst, ◌∙◌, arith}
+use Rattle.std.proofs.Common.{◌≡◌, ◌⊎◌, ◌↔◌, inl, inr, ℕ, zero, suc, ◌||◌, ◌&&◌, Bool, true, false, List, [], ◌∷◌, Option, Some, refl, ap, sym, subst, ◌∙◌}
+use Rattle.std.proofs.Common.{arith}
 use Rattle.std.specs.Prelude.{slice_get, Contains, IsTrue}
 use Rattle.flow_graph.specs.Nodes.{Action, Eval, Store, Test, Lock, Unlock, End, Node, Graph, next_of, other_of, successors}
 use Rattle.flow_graph.specs.Liveness.{NodeAt}
@@ -61,22 +62,24 @@ pub same_node : (g : Graph) (n : ℕ) (x y : Node) → NodeAt g n x → NodeAt g
 same_node g n x y at at' = let both : Some x ≡ Some y = sym at ∙ at' in cc
 
 pub edge_from : (g : Graph) (n to : ℕ) (x : Node) → NodeAt g n x → IsEdge g n to → (next_of x.action ≡ Some to) ⊎ (other_of x.action ≡ Some to)
-edge_from g n to x at e = subst (λ (y : Node). (next_of y.action ≡ Some to) ⊎ (other_of y.action ≡ Some to)) (same_node g n e.is x e.at at) (behind_from e.is.action to e.goes)
+edge_from g n to x at e = subst (λ (y : Node). (next_of y.action ≡ Some to) ⊎ (other_of y.action ≡ Some to)) (same_node g n e.is x e.at at)
+    (behind_from e.is.action to e.goes)
 
 -- ---- Boundaries behind locks
 
-is_lock : (g : Graph) (n : ℕ) (x : Node) → NodeAt g n x → IsLock g n → t.locks x.action ≡ true
+pub is_lock : (g : Graph) (n : ℕ) (x : Node) → NodeAt g n x → IsLock g n → t.locks x.action ≡ true
 is_lock g n x at (b.locks y mutex next at' is) = ap (λ (z : Node). t.locks z.action) (same_node g n x y at at') ∙ ap t.locks is
 
-both : (a c : Bool) → (a && c) ≡ true → (a ≡ true) × (c ≡ true)
+pub both : (a c : Bool) → (a && c) ≡ true → (a ≡ true) × (c ≡ true)
 both true c e = (refl, e)
 both false c e = absurd (cc)
 
-and : (a c : Bool) → a ≡ true → c ≡ true → (a && c) ≡ true
+pub and : (a c : Bool) → a ≡ true → c ≡ true → (a && c) ≡ true
 and true c e h = h
 and false c e h = absurd (cc)
 
-pub has_behind_is : (g : Graph) (bs : Boundaries) (n : ℕ) (x : Node) (takes stands : Bool) → NodeAt g n x → takes ≡ t.locks x.action → (IsTrue stands ↔ (slice_get bs.after_lock n ≡ Some true)) →
+pub has_behind_is : (g : Graph) (bs : Boundaries) (n : ℕ) (x : Node) (takes stands : Bool) → NodeAt g n x → takes ≡ t.locks x.action →
+    (IsTrue stands ↔ (slice_get bs.after_lock n ≡ Some true)) →
     IsTrue (takes && stands) ↔ HasBehind g bs n
 has_behind_is g bs n x takes stands at e k = (
   λ h. let d = both takes stands h in record { locks = locked g n x x.action at refl (sym e ∙ d.0); stands = k.0 d.1 },
@@ -114,7 +117,8 @@ pub and_else : (a c : Bool) (P : Type 0) → a ≡ false → (IsTrue (a && c) �
 and_else true c P e k = absurd (cc)
 and_else false c P e k = k
 
-pub leads_over_is : (bs : Boundaries) (behind stands : Bool) (node : ℕ) → (IsTrue stands ↔ HasBefore bs node) → IsTrue (behind || stands) ↔ LeadsOver bs behind (Some node)
+pub leads_over_is : (bs : Boundaries) (behind stands : Bool) (node : ℕ) → (IsTrue stands ↔ HasBefore bs node) →
+    IsTrue (behind || stands) ↔ LeadsOver bs behind (Some node)
 leads_over_is bs behind stands node k = (
   λ h. record { node = node; is = refl; over = elim (or_either behind stands h) [ inl e ↦ inl e | inr e ↦ inr (k.0 e) ] },
   λ h. elim h.over [
@@ -131,10 +135,12 @@ leaves_by g bs n x behind to at k is over = record {
   boundary = elim over.over [ inl e ↦ inl (k.0 e) | inr has ↦ inr has ];
 }
 
-leads_by : (g : Graph) (bs : Boundaries) (n : ℕ) (behind : Bool) (to : Option ℕ) (h : Leaves g bs n) → (IsTrue behind ↔ HasBehind g bs n) → to ≡ Some h.to → LeadsOver bs behind to
+leads_by : (g : Graph) (bs : Boundaries) (n : ℕ) (behind : Bool) (to : Option ℕ) (h : Leaves g bs n) → (IsTrue behind ↔ HasBehind g bs n) → to ≡ Some h.to →
+    LeadsOver bs behind to
 leads_by g bs n behind to h k e = record { node = h.to; is = e; over = elim h.boundary [ inl stands ↦ inl (k.1 stands) | inr has ↦ inr has ] }
 
-pub leaves_is : (g : Graph) (bs : Boundaries) (n : ℕ) (x : Node) (behind one two : Bool) → NodeAt g n x → (IsTrue behind ↔ HasBehind g bs n) → (IsTrue one ↔ LeadsOver bs behind (next_of x.action)) →
+pub leaves_is : (g : Graph) (bs : Boundaries) (n : ℕ) (x : Node) (behind one two : Bool) → NodeAt g n x → (IsTrue behind ↔ HasBehind g bs n) →
+    (IsTrue one ↔ LeadsOver bs behind (next_of x.action)) →
     (IsTrue two ↔ LeadsOver bs behind (other_of x.action)) → IsTrue (one || two) ↔ Leaves g bs n
 leaves_is g bs n x behind one two at k next other = (
   λ h. elim (or_either one two h) [
@@ -149,9 +155,11 @@ leaves_is g bs n x behind one two at k next other = (
 
 -- ---- Steps that go on
 
-pub past_is : (g : Graph) (bs : Boundaries) (lines : List (Option ℕ)) (line n : ℕ) (x : Node) → NodeAt g n x → ¬ (Leaves g bs n) → (to : ℕ) → IsPast lines line x to ↔ GoesOnPast g bs lines line n to
+pub past_is : (g : Graph) (bs : Boundaries) (lines : List (Option ℕ)) (line n : ℕ) (x : Node) → NodeAt g n x → ¬ (Leaves g bs n) → (to : ℕ) →
+    IsPast lines line x to ↔ GoesOnPast g bs lines line n to
 past_is g bs lines line n x at stays to = (
-  λ p. (let edge = edge_to g n to x at p.behind in record { edge = edge; inside = λ over. stays (record { to = to; edge = edge; boundary = over }); past = p.past }),
+  λ p. (let edge = edge_to g n to x at p.behind in
+      record { edge = edge; inside = λ over. stays (record { to = to; edge = edge; boundary = over }); past = p.past }),
   λ s. record { behind = edge_from g n to x at s.edge; past = s.past },
 )
 

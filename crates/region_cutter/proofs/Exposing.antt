@@ -1,5 +1,6 @@
 -- What the parts of a trial through one node say.
-use Rattle.std.proofs.Common.{◌≡◌, ◌⊎◌, ◌↔◌, inl, inr, ℕ, ◌+◌, ◌<◌, ◌≤◌, ◌||◌, Bool, true, false, List, length, Option, Some, None, refl, ap, sym, subst, ◌∙◌, arith}
+use Rattle.std.proofs.Common.{◌≡◌, ◌⊎◌, ◌↔◌, inl, inr, ℕ, ◌+◌, ◌<◌, ◌≤◌, ◌||◌, ◌&&◌, Bool, true, false, not, List, length, Option, Some, None, refl, ap}
+use Rattle.std.proofs.Common.{sym, subst, ◌∙◌, arith}
 use Rattle.std.specs.Prelude.{slice_get, Contains, IsTrue}
 use Rattle.std.proofs.lemmas.Bool.{cases_lt}
 use Rattle.std.proofs.lemmas.Option.{slice_get_within, slice_get_read, get_or_from_slice_get}
@@ -8,14 +9,21 @@ use Rattle.ido_base.specs.Locations.{overlap, same}
 use Rattle.flow_graph.specs.Nodes.{Node, Graph, next_of, other_of}
 use Rattle.flow_graph.specs.Liveness.{NodeAt}
 use Rattle.flow_graph.specs.Cutting.{Boundaries, IsIdempotent, HasBefore, HasBehind, Begins, behind_lock, at_boundary}
+use Rattle.region_cutter.specs.declared.window.Window.{Window}
+use Rattle.region_cutter.specs.links.Trying as t
 use Rattle.region_cutter.specs.links.Searching.{Comes, there, goes_on, IsSeen}
-use Rattle.region_cutter.specs.links.Local.{Inside, WritesOver, WritesSame, InsidePast, BeginsAt, BeginsBy, at_node, behind_node, BeginsBelow, IsUnwritten, IsOverwritten, IsOverAny, IsExposed, AreAhead, AreWritten, AreReadOver, AddsRead, IsKnownWithout}
-use Rattle.region_cutter.proofs.Edges.{same_node, edge_to, edge_from, or_either, or_left, or_right}
+use Rattle.region_cutter.specs.links.Marking.{IsBehindLock, IsBehindLockBelow, AreBegun}
+use Rattle.region_cutter.specs.links.Local.{Inside, WritesOver, WritesSame, InsidePast, IsIn, IsWindow, AllBehind, BeginsIn, BeginsBy, BeginsBelow}
+use Rattle.region_cutter.specs.links.Local.{IsUnwritten, IsOverAny, Exposes, IsExposed, IsExposedAny, IsBehindExposed, IsBehindExposedIn}
+use Rattle.region_cutter.specs.links.Local.{IsBehindExposedBelow, AreUnwritten, AreAhead, AreWritten, AreReadOver, AddsRead, IsKnownWithout}
+use Rattle.region_cutter.proofs.Starting.{locked}
+use Rattle.region_cutter.proofs.Edges.{and, both, is_lock, same_node, edge_to, edge_from, or_either, or_left, or_right}
 use Rattle.region_cutter.proofs.Passing.{exposed_conflicts, none_exposed}
 
 -- ---- Lists
 
-pub below_more : {A : Type 0} (P : A → Type 0) (xs : List A) (n : ℕ) (item : A) → slice_get xs n ≡ Some item → P item → ((k : ℕ) (x : A) → k < n → slice_get xs k ≡ Some x → P x) →
+pub below_more : {A : Type 0} (P : A → Type 0) (xs : List A) (n : ℕ) (item : A) → slice_get xs n ≡ Some item → P item →
+    ((k : ℕ) (x : A) → k < n → slice_get xs k ≡ Some x → P x) →
     (k : ℕ) (x : A) → k < n + 1 → slice_get xs k ≡ Some x → P x
 below_more P xs n item at p old k x lt is = elim (cases_lt k n) [
   | inl less ↦ old k x less is
@@ -31,7 +39,8 @@ contained xs x k = (k.0, k.1, slice_get_read xs (length xs) k.0 x refl k.1 (sym 
 
 -- ---- Writes
 
-pub over_all : (writes : List Location) (elements : Location) (n : ℕ) → length writes ≤ n → ((k : ℕ) (x : Location) → k < n → slice_get writes k ≡ Some x → overlap x elements ≡ false) → ¬ (IsOverAny writes elements)
+pub over_all : (writes : List Location) (elements : Location) (n : ℕ) → length writes ≤ n →
+    ((k : ℕ) (x : Location) → k < n → slice_get writes k ≡ Some x → overlap x elements ≡ false) → ¬ (IsOverAny writes elements)
 over_all writes elements n all none any =
     let k = contained writes any.written any.among in
     let lt = k.1 in
@@ -39,7 +48,8 @@ over_all writes elements n all none any =
     let yes' : overlap any.written elements ≡ true = any.over in
     cc
 
-pub over_found : (writes : List Location) (elements : Location) (n : ℕ) (x : Location) → slice_get writes n ≡ Some x → overlap x elements ≡ true → IsOverAny writes elements
+pub over_found : (writes : List Location) (elements : Location) (n : ℕ) (x : Location) → slice_get writes n ≡ Some x → overlap x elements ≡ true →
+    IsOverAny writes elements
 over_found writes elements n x at is = record { written = x; among = (n, slice_get_within writes n x at, get_or_from_slice_get writes n x x at); over = is }
 
 writes_both : (g : Graph) (n : ℕ) (x y : Node) (w v : Location) → NodeAt g n x → NodeAt g n y → x.writes ≡ Some w → y.writes ≡ Some v → w ≡ v
@@ -48,7 +58,8 @@ writes_both g n x y w v at at' e e' = let both : Some w ≡ Some v = sym e ∙ a
 writes_none : (g : Graph) (n : ℕ) (x y : Node) (v : Location) → NodeAt g n x → NodeAt g n y → x.writes ≡ None → y.writes ≡ Some v → ⊥
 writes_none g n x y v at at' e e' = let both : None ≡ Some v = sym e ∙ ap (λ (z : Node). z.writes) (same_node g n x y at at') ∙ e' in cc
 
-pub over_some : (g : Graph) (elements : Location) (n : ℕ) (x : Node) (w : Location) (answer : Bool) → NodeAt g n x → x.writes ≡ Some w → answer ≡ overlap w elements → IsTrue answer ↔ WritesOver g elements n
+pub over_some : (g : Graph) (elements : Location) (n : ℕ) (x : Node) (w : Location) (answer : Bool) → NodeAt g n x → x.writes ≡ Some w → answer ≡
+    overlap w elements → IsTrue answer ↔ WritesOver g elements n
 over_some g elements n x w answer at e is = (
   λ h. record { is = x; at = at; written = w; writes = e; over = sym is ∙ h },
   λ k. is ∙ ap (λ (v : Location). overlap v elements) (writes_both g n x k.is w k.written at k.at e k.writes) ∙ k.over,
@@ -57,7 +68,8 @@ over_some g elements n x w answer at e is = (
 pub over_none : (g : Graph) (elements : Location) (n : ℕ) (x : Node) → NodeAt g n x → x.writes ≡ None → IsTrue false ↔ WritesOver g elements n
 over_none g elements n x at e = (λ h. let wrong : false ≡ true = h in absurd (cc), λ k. absurd (writes_none g n x k.is k.written at k.at e k.writes))
 
-pub same_some : (g : Graph) (element : Location) (n : ℕ) (x : Node) (w : Location) (answer : Bool) → NodeAt g n x → x.writes ≡ Some w → answer ≡ same w element → IsTrue answer ↔ WritesSame g element n
+pub same_some : (g : Graph) (element : Location) (n : ℕ) (x : Node) (w : Location) (answer : Bool) → NodeAt g n x → x.writes ≡ Some w → answer ≡
+    same w element → IsTrue answer ↔ WritesSame g element n
 same_some g element n x w answer at e is = (
   λ h. record { is = x; at = at; written = w; writes = e; same = sym is ∙ h },
   λ k. is ∙ ap (λ (v : Location). same v element) (writes_both g n x k.is w k.written at k.at e k.writes) ∙ k.same,
@@ -72,17 +84,20 @@ abbrev pub IsInsideOf : Boundaries → (behind : Bool) → (to result : Option �
 IsInsideOf b behind to result = (n : ℕ) → (result ≡ Some n) ↔ ((to ≡ Some n) × (IsTrue behind → ⊥) × ¬ (HasBefore b n))
 
 inside_by : (g : Graph) (b : Boundaries) (n : ℕ) (x : Node) (behind : Bool) (to result : Option ℕ) → NodeAt g n x → (IsTrue behind ↔ HasBehind g b n) →
-    ((m : ℕ) → to ≡ Some m → (next_of x.action ≡ Some m) ⊎ (other_of x.action ≡ Some m)) → IsInsideOf b behind to result → (m : ℕ) → result ≡ Some m → Inside g b n m
+    ((m : ℕ) → to ≡ Some m → (next_of x.action ≡ Some m) ⊎ (other_of x.action ≡ Some m)) → IsInsideOf b behind to result → (m : ℕ) → result ≡ Some m →
+    Inside g b n m
 inside_by g b n x behind to result at k is h m e =
     let d = (h m).0 e in record {
       edge = edge_to g n m x at (is m d.0);
       free = λ over. elim over [ inl stands ↦ d.1 (k.1 stands) | inr has ↦ d.2 has ];
     }
 
-inside_to : (g : Graph) (b : Boundaries) (n m : ℕ) (behind : Bool) (to result : Option ℕ) → (IsTrue behind ↔ HasBehind g b n) → IsInsideOf b behind to result → Inside g b n m → to ≡ Some m → result ≡ Some m
+inside_to : (g : Graph) (b : Boundaries) (n m : ℕ) (behind : Bool) (to result : Option ℕ) → (IsTrue behind ↔ HasBehind g b n) →
+    IsInsideOf b behind to result → Inside g b n m → to ≡ Some m → result ≡ Some m
 inside_to g b n m behind to result k h i e = (h m).1 (e, λ t. i.free (inl (k.0 t)), λ has. i.free (inr has))
 
-pub inside_both : (g : Graph) (b : Boundaries) (n : ℕ) (x : Node) (behind : Bool) (next other one two : Option ℕ) → NodeAt g n x → (IsTrue behind ↔ HasBehind g b n) → next ≡ next_of x.action → other ≡ other_of x.action →
+pub inside_both : (g : Graph) (b : Boundaries) (n : ℕ) (x : Node) (behind : Bool) (next other one two : Option ℕ) → NodeAt g n x →
+    (IsTrue behind ↔ HasBehind g b n) → next ≡ next_of x.action → other ≡ other_of x.action →
     IsInsideOf b behind next one → IsInsideOf b behind other two → (m : ℕ) → ((one ≡ Some m) ⊎ (two ≡ Some m)) ↔ Inside g b n m
 inside_both g b n x behind next other one two at k e f h j m = (
   λ d. elim d [
@@ -95,115 +110,195 @@ inside_both g b n x behind next other one two at k e f h j m = (
   ],
 )
 
-abbrev pub ComesOverAny : Graph → Boundaries → Location → Option ℕ → Type 0
-ComesOverAny g b elements from = (node : ℕ) × (from ≡ Some node) × Comes (Inside g b) (WritesOver g elements) node
-
-pub overwritten_is : (g : Graph) (b : Boundaries) (elements : Location) (n : ℕ) (one two : Option ℕ) (by_one by_two : Bool) → ((m : ℕ) → ((one ≡ Some m) ⊎ (two ≡ Some m)) ↔ Inside g b n m) →
-    (IsTrue by_one ↔ ComesOverAny g b elements one) → (IsTrue by_two ↔ ComesOverAny g b elements two) → IsTrue (by_one || by_two) ↔ IsOverwritten g b elements n
-overwritten_is g b elements n one two by_one by_two is h k = (
-  λ t. elim (or_either by_one by_two t) [
-    | inl e ↦ (let c = h.0 e in record { to = c.0; inside = (is c.0).0 (inl c.1); comes = c.2 })
-    | inr e ↦ (let c = k.0 e in record { to = c.0; inside = (is c.0).0 (inr c.1); comes = c.2 })
-  ],
-  λ o. elim ((is o.to).1 o.inside) [
-    | inl e ↦ or_left by_one by_two (h.1 (o.to, e, o.comes))
-    | inr e ↦ or_right by_one by_two (k.1 (o.to, e, o.comes))
-  ],
-)
-
 pub comes_over_within : (g : Graph) (b : Boundaries) (elements : Location) (n : ℕ) → Comes (Inside g b) (WritesOver g elements) n → n < length g.nodes
 comes_over_within g b elements n (there _ w) = slice_get_within g.nodes n w.is w.at
 comes_over_within g b elements n (goes_on _ to step rest) = slice_get_within g.nodes n step.edge.is step.edge.at
 
 -- ---- Where regions begin
 
-pub begun_by : (g : Graph) (b : Boundaries) (n : ℕ) (x : Node) (behind : Bool) (next other one two three : Option ℕ) → NodeAt g n x → (IsTrue behind ↔ HasBehind g b n) → next ≡ next_of x.action → other ≡ other_of x.action →
-    ((m : ℕ) → (one ≡ Some m) ↔ ((n ≡ m) × HasBefore b n)) → ((m : ℕ) → (two ≡ Some m) ↔ ((next ≡ Some m) × IsTrue behind)) → ((m : ℕ) → (three ≡ Some m) ↔ ((other ≡ Some m) × IsTrue behind)) →
-    (m : ℕ) → (((one ≡ Some m) ⊎ (two ≡ Some m)) ⊎ (three ≡ Some m)) ↔ BeginsBy g b n m
-begun_by g b n x by next other one two three at k e f h i j m = (
+pub behind_by : (g : Graph) (n : ℕ) (x : Node) (takes : Bool) (next other one two : Option ℕ) → NodeAt g n x → takes ≡ t.locks x.action → next ≡
+    next_of x.action → other ≡ other_of x.action →
+    ((m : ℕ) → (one ≡ Some m) ↔ ((next ≡ Some m) × IsTrue takes)) → ((m : ℕ) → (two ≡ Some m) ↔ ((other ≡ Some m) × IsTrue takes)) → (m : ℕ) →
+    ((one ≡ Some m) ⊎ (two ≡ Some m)) ↔ IsBehindLock g n m
+behind_by g n x takes next other one two at k e f i j m = (
   λ d. elim d [
-    | inl d' ↦ elim d' [
-      | inl is ↦ (let r = (h m).0 is in subst (λ (l : ℕ). BeginsBy g b n l) r.0 (at_node r.1))
-      | inr is ↦ (let r = (i m).0 is in behind_node m (k.0 r.1) (edge_to g n m x at (inl (sym e ∙ r.0))))
-    ]
-    | inr is ↦ (let r = (j m).0 is in behind_node m (k.0 r.1) (edge_to g n m x at (inr (sym f ∙ r.0))))
+    | inl is ↦ (let r = (i m).0 is in record { locks = locked g n x x.action at refl (sym k ∙ r.1); edge = edge_to g n m x at (inl (sym e ∙ r.0)) })
+    | inr is ↦ (let r = (j m).0 is in record { locks = locked g n x x.action at refl (sym k ∙ r.1); edge = edge_to g n m x at (inr (sym f ∙ r.0)) })
   ],
-  λ y. to m y,
+  λ y. elim (edge_from g n m x at y.edge) [
+    | inl is ↦ inl ((i m).1 (e ∙ is, k ∙ is_lock g n x at y.locks))
+    | inr is ↦ inr ((j m).1 (f ∙ is, k ∙ is_lock g n x at y.locks))
+  ],
 )
-  where
-    to : (m : ℕ) → BeginsBy g b n m → ((one ≡ Some m) ⊎ (two ≡ Some m)) ⊎ (three ≡ Some m)
-    to m (at_node has) = inl (inl ((h n).1 (refl, has)))
-    to m (behind_node _ stands edge) = elim (edge_from g n m x at edge) [
-      | inl is ↦ inl (inr ((i m).1 (e ∙ is, k.1 stands)))
-      | inr is ↦ inr ((j m).1 (f ∙ is, k.1 stands))
-    ]
 
-pub below_none : (g : Graph) (b : Boundaries) (m : ℕ) → BeginsBelow g b 0 m → ⊥
-below_none g b m d = let lt = d.below in omega (arith, lt)
+pub locks_none : (g : Graph) (m : ℕ) → IsBehindLockBelow g 0 m → ⊥
+locks_none g m d = let lt = d.below in omega (arith, lt)
 
-pub below_next : (g : Graph) (b : Boundaries) (n m : ℕ) → (BeginsBelow g b n m ⊎ BeginsBy g b n m) ↔ BeginsBelow g b (n + 1) m
-below_next g b n m = (
+pub locks_next : (g : Graph) (n m : ℕ) → (IsBehindLockBelow g n m ⊎ IsBehindLock g n m) ↔ IsBehindLockBelow g (n + 1) m
+locks_next g n m = (
   λ d. elim d [
     | inl old ↦ record { one = old.one; below = (let lt = old.below in omega (arith, lt)); by = old.by }
     | inr new ↦ record { one = n; below = omega arith; by = new }
   ],
   λ d. elim (cases_lt d.one n) [
     | inl less ↦ inl (record { one = d.one; below = less; by = d.by })
-    | inr most ↦ inr (let lt = d.below in let e : d.one ≡ n = omega (arith, lt) in subst (λ (k : ℕ). BeginsBy g b k m) e d.by)
+    | inr most ↦ inr (let lt = d.below in let e : d.one ≡ n = omega (arith, lt) in subst (λ (k : ℕ). IsBehindLock g k m) e d.by)
   ],
 )
 
-begins_by : (g : Graph) (b : Boundaries) (k m : ℕ) → BeginsBy g b k m → Begins g b m
-begins_by g b k m (at_node has) = at_boundary has
-begins_by g b k m (behind_node _ stands edge) = behind_lock k stands edge
-
-pub begun_below : (g : Graph) (b : Boundaries) (m : ℕ) → BeginsAt g b m → BeginsBelow g b (length g.nodes) m
-begun_below g b m at = by at.begins
+-- a region begins at the node exactly where a boundary stands before it or it stands behind a lock
+pub begins_is : (g : Graph) (b : Boundaries) (begun : List Bool) (n : ℕ) (before behind : Bool) → n < length g.nodes → AreBegun g begun → AllBehind g b →
+    (IsTrue before ↔ (slice_get b.before n ≡ Some true)) →
+    (IsTrue behind ↔ (slice_get begun n ≡ Some true)) → IsTrue (before || behind) ↔ Begins g b n
+begins_is g b begun n before behind lt a all k j = (
+  λ h. elim (or_either before behind h) [
+    | inl e ↦ at_boundary (k.0 e)
+    | inr e ↦ (let by = (a.each n lt).0 (j.0 e) in behind_lock by.one (all by.one by.by.locks) by.by.edge)
+  ],
+  to,
+)
   where
-    by : Begins g b m → BeginsBelow g b (length g.nodes) m
-    by (behind_lock from stands edge) = record { one = from; below = slice_get_within g.nodes from edge.is edge.at; by = behind_node m stands edge }
-    by (at_boundary has) = record { one = m; below = at.exists; by = at_node has }
+    to : Begins g b n → IsTrue (before || behind)
+    to (behind_lock from stands edge) =
+        or_right before behind (j.1 ((a.each n lt).1
+        (record { one = from; below = slice_get_within g.nodes from edge.is edge.at; by = record { locks = stands.locks; edge = edge } })))
+    to (at_boundary has) = or_left before behind (k.1 has)
 
-target_within : (g : Graph) (b : Boundaries) (element : Location) (target n : ℕ) → target < length g.nodes → Comes (InsidePast g b element) (λ m. m ≡ target) n → n < length g.nodes
+pub begins_first : (g : Graph) (b : Boundaries) (w : Window) (m : ℕ) → BeginsBelow g b w w.first m → ⊥
+begins_first g b w m d = let lt = d.below in let le = d.of.near.from_first in omega (arith, lt, le)
+
+pub begins_next : (g : Graph) (b : Boundaries) (w : Window) (n m : ℕ) → IsIn w n → (BeginsBelow g b w n m ⊎ BeginsBy g b n m) ↔ BeginsBelow g b w (n + 1) m
+begins_next g b w n m near = (
+  λ d. elim d [
+    | inl old ↦ record { of = old.of; below = (let lt = old.below in omega (arith, lt)) }
+    | inr new ↦ (let is = new.is in record { of = record { begins = new.begins; near = subst (λ (k : ℕ). IsIn w k) is near }; below = omega (arith, is) })
+  ],
+  λ d. elim (cases_lt m n) [
+    | inl less ↦ inl (record { of = d.of; below = less })
+    | inr most ↦ inr (let lt = d.below in record { is = omega (arith, lt); begins = d.of.begins })
+  ],
+)
+
+pub begins_all : (g : Graph) (b : Boundaries) (w : Window) (n m : ℕ) → w.end ≤ n → BeginsBelow g b w n m ↔ BeginsIn g b w m
+begins_all g b w n m all = (λ d. d.of, λ d. record { of = d; below = (let lt = d.near.below_end in omega (arith, lt)) })
+
+target_within : (g : Graph) (b : Boundaries) (element : Location) (target n : ℕ) → target < length g.nodes →
+    Comes (InsidePast g b element) (λ m. m ≡ target) n → n < length g.nodes
 target_within g b element target n lt (there _ is) = omega arith
 target_within g b element target n lt (goes_on _ to step rest) = slice_get_within g.nodes n step.inside.edge.is step.inside.edge.at
 
 -- ---- Nodes that are exposed
 
-one_more : (g : Graph) (b : Boundaries) (element : Location) (node to : ℕ) → InsidePast g b element node to → (from : ℕ) → Comes (InsidePast g b element) (λ m. m ≡ node) from → Comes (InsidePast g b element) (λ m. m ≡ to) from
+one_more : (g : Graph) (b : Boundaries) (element : Location) (node to : ℕ) → InsidePast g b element node to → (from : ℕ) →
+    Comes (InsidePast g b element) (λ m. m ≡ node) from → Comes (InsidePast g b element) (λ m. m ≡ to) from
 one_more g b element node to step from (there _ is) = goes_on from to (subst (λ (m : ℕ). InsidePast g b element m to) (sym is) step) (there to refl)
 one_more g b element node to step from (goes_on _ next first rest) = goes_on from next first (one_more g b element node to step next rest)
 
-pub unwritten_more : (g : Graph) (b : Boundaries) (element : Location) (node to : ℕ) → InsidePast g b element node to → IsUnwritten g b element node → IsUnwritten g b element to
-unwritten_more g b element node to step u = record { from = u.from; begins = u.begins; comes = one_more g b element node to step u.from u.comes }
+pub unwritten_more : (g : Graph) (b : Boundaries) (w : Window) (element : Location) (node to : ℕ) → InsidePast g b element node to →
+    IsUnwritten g b w element node → IsUnwritten g b w element to
+unwritten_more g b w element node to step u = record { from = u.from; begins = u.begins; comes = one_more g b element node to step u.from u.comes }
 
-pub begun_unwritten : (g : Graph) (b : Boundaries) (element : Location) (n : ℕ) → n < length g.nodes → BeginsBelow g b (length g.nodes) n → IsUnwritten g b element n
-begun_unwritten g b element n lt d = record { from = n; begins = record { begins = begins_by g b d.one n d.by; exists = lt }; comes = there n refl }
+pub begun_unwritten : (g : Graph) (b : Boundaries) (w : Window) (element : Location) (n : ℕ) → BeginsIn g b w n → IsUnwritten g b w element n
+begun_unwritten g b w element n d = record { from = n; begins = d; comes = there n refl }
 
-pub unwritten_seen : (g : Graph) (b : Boundaries) (element : Location) (seen : List Bool) (target : ℕ) → length seen ≡ length g.nodes → target < length g.nodes →
-    ((node : ℕ) → IsSeen seen node → (to : ℕ) → InsidePast g b element node to → to < length seen → IsSeen seen to) → (node : ℕ) → IsSeen seen node → Comes (InsidePast g b element) (λ m. m ≡ target) node → IsSeen seen target
+pub unwritten_seen : (g : Graph) (b : Boundaries) (element : Location) (seen : List Bool) (target : ℕ) → length seen ≡ length g.nodes →
+    target < length g.nodes →
+    ((node : ℕ) → IsSeen seen node → (to : ℕ) → InsidePast g b element node to → to < length seen → IsSeen seen to) → (node : ℕ) → IsSeen seen node →
+    Comes (InsidePast g b element) (λ m. m ≡ target) node → IsSeen seen target
 unwritten_seen g b element seen target count lt followed node s (there _ is) = subst (λ (m : ℕ). IsSeen seen m) is s
 unwritten_seen g b element seen target count lt followed node s (goes_on _ to step rest) =
-    unwritten_seen g b element seen target count lt followed to (followed node s to step (let w = target_within g b element target to lt rest in omega (arith, w, count))) rest
+    unwritten_seen g b element seen target count lt followed to
+    (followed node s to step (let w = target_within g b element target to lt rest in omega (arith, w, count))) rest
 
-pub known_false : (g : Graph) (now : Boundaries) (elements : Location) (node : ℕ) → IsExposed g now elements → IsKnownWithout g now node false
-known_false g now elements node e b is h = (λ t. let wrong : false ≡ true = t in absurd (cc), λ idempotent. absurd (exposed_conflicts g now elements e idempotent))
+pub exposes_is : (g : Graph) (b : Boundaries) (w : Window) (elements : Location) (unwritten : List Bool) (n : ℕ) (x : Node) (seen reads : Bool) →
+    NodeAt g n x → AreUnwritten g b w elements unwritten →
+    (IsTrue seen ↔ (slice_get unwritten n ≡ Some true)) → (IsTrue reads ↔ Contains x.reads elements) → IsTrue (seen && reads) ↔ Exposes g b w elements n
+exposes_is g b w elements unwritten n x seen reads at a k j = (
+  λ h. let d = both seen reads h in
+      record { reads = record { is = x; at = at; reads = j.0 d.1 }; unwritten = (a n (slice_get_within g.nodes n x at)).0 (k.0 d.0) },
+  λ e. and seen reads (k.1 ((a n (slice_get_within g.nodes n x at)).1 e.unwritten))
+      (j.1 (subst (λ (z : Node). Contains z.reads elements) (same_node g n e.reads.is x e.reads.at at) e.reads.reads)),
+)
 
-pub known_true : (g : Graph) (now : Boundaries) (seen : List Bool) (writes reads : List Location) (node : ℕ) → AreAhead g now node seen → AreWritten g seen writes → AreReadOver g writes reads →
-    ((elements : Location) → Contains reads elements → ¬ (IsExposed g now elements)) → IsKnownWithout g now node true
-known_true g now seen writes reads node a w r none b is h = (
+pub exposes_none : (g : Graph) (b : Boundaries) (w : Window) (elements : Location) (unwritten : List Bool) (n : ℕ) (x : Node) (seen : Bool) → NodeAt g n x →
+    AreUnwritten g b w elements unwritten →
+    (IsTrue seen ↔ (slice_get unwritten n ≡ Some true)) → seen ≡ false → IsTrue seen ↔ Exposes g b w elements n
+exposes_none g b w elements unwritten n x seen at a k none = (
+  λ h. let wrong : seen ≡ true = h in absurd (cc),
+  λ e. absurd (let yes' : seen ≡ true = k.1 ((a n (slice_get_within g.nodes n x at)).1 e.unwritten) in cc),
+)
+
+pub exposed_first : (g : Graph) (b : Boundaries) (w : Window) (elements : Location) (m : ℕ) → IsBehindExposedBelow g b w elements w.first m → ⊥
+exposed_first g b w elements m d = let lt = d.below in let le = d.near.from_first in omega (arith, lt, le)
+
+pub exposed_next : (g : Graph) (b : Boundaries) (w : Window) (elements : Location) (n m : ℕ) → IsIn w n →
+    (IsBehindExposedBelow g b w elements n m ⊎ IsBehindExposed g b w elements n m) ↔ IsBehindExposedBelow g b w elements (n + 1) m
+exposed_next g b w elements n m near = (
+  λ d. elim d [
+    | inl old ↦ record { one = old.one; near = old.near; below = (let lt = old.below in omega (arith, lt)); by = old.by }
+    | inr new ↦ record { one = n; near = near; below = omega arith; by = new }
+  ],
+  λ d. elim (cases_lt d.one n) [
+    | inl less ↦ inl (record { one = d.one; near = d.near; below = less; by = d.by })
+    | inr most ↦ inr (let lt = d.below in let e : d.one ≡ n = omega (arith, lt) in subst (λ (k : ℕ). IsBehindExposed g b w elements k m) e d.by)
+  ],
+)
+
+pub exposed_all : (g : Graph) (b : Boundaries) (w : Window) (elements : Location) (n m : ℕ) → w.end ≤ n →
+    IsBehindExposedBelow g b w elements n m ↔ IsBehindExposedIn g b w elements m
+exposed_all g b w elements n m all = (
+  λ d. record { one = d.one; near = d.near; by = d.by },
+  λ d. record {
+    one = d.one;
+    near = d.near;
+    below =
+        (let lt = d.near.below_end in omega (arith, lt));
+    by = d.by;
+  },
+)
+
+-- what is behind such a node overwrites the elements
+pub exposed_found : (g : Graph) (b : Boundaries) (w : Window) (elements : Location) (m : ℕ) → IsBehindExposedIn g b w elements m →
+    Comes (Inside g b) (WritesOver g elements) m → IsExposed g b w elements
+exposed_found g b w elements m d comes =
+    record { node = d.one; near = d.near; exposes = d.by.exposes; overwritten = record { to = m; inside = d.by.inside; comes = comes } }
+
+pub known_false : (g : Graph) (now : Boundaries) (w : Window) (elements : Location) (node : ℕ) → IsExposed g now w elements → IsKnownWithout g now node false
+known_false g now w elements node e b is h =
+    (λ t. let wrong : false ≡ true = t in absurd (cc), λ idempotent. absurd (exposed_conflicts g now w elements e idempotent))
+
+pub known_true : (g : Graph) (now : Boundaries) (near : Window) (seen : List Bool) (writes : List Location) (node : ℕ) → IsWindow g now node near →
+    AreAhead g now node seen → AreWritten g near seen writes →
+    ((elements : Location) → IsOverAny writes elements → ¬ (IsExposed g now near elements)) → IsKnownWithout g now node true
+known_true g now near seen writes node window a w none b is h = (
   λ t. subst (λ (c : Boundaries). IsIdempotent g c) (sym is) (
-      none_exposed g b node seen writes (subst (λ (c : Boundaries). AreAhead g c node seen) is a) w h
-      (λ e any. subst (λ (c : Boundaries). ¬ (IsExposed g c e)) is (λ x. none e (r x.node x.at.reads.is e x.at.reads.at x.at.reads.reads any) x))),
+      none_exposed g b node near seen writes (subst (λ (c : Boundaries). IsWindow g c node near) is window)
+      (subst (λ (c : Boundaries). AreAhead g c node seen) is a) w h
+      (λ e any. subst (λ (c : Boundaries). ¬ (IsExposed g c near e)) is (none e any))),
   λ _. refl,
 )
+
+pub known_by : (g : Graph) (now : Boundaries) (near : Window) (seen : List Bool) (writes : List Location) (node : ℕ) (exposed : Bool) →
+    IsWindow g now node near → AreAhead g now node seen → AreWritten g near seen writes →
+    IsExposedAny g now near writes exposed → IsKnownWithout g now node (not exposed)
+known_by g now near seen writes node true window a w any = known_false g now near any.0 node any.1
+known_by g now near seen writes node false window a w none = known_true g now near seen writes node window a w none
+
+pub any_exposed : (g : Graph) (now : Boundaries) (near : Window) (writes : List Location) (elements : Location) → IsExposed g now near elements →
+    IsExposedAny g now near writes true
+any_exposed g now near writes elements e = (elements, e)
+
+pub none_of_reads : (g : Graph) (now : Boundaries) (near : Window) (writes reads : List Location) → AreReadOver g near writes reads →
+    ((elements : Location) → Contains reads elements → ¬ (IsExposed g now near elements)) → IsExposedAny g now near writes false
+none_of_reads g now near writes reads r none e any x = none e (r x.node x.exposes.reads.is e x.near x.exposes.reads.at x.exposes.reads.reads any) x
 
 -- ---- Lists of what is read
 
 pub adds_none : (writes xs old : List Location) → AddsRead writes (λ r. (k : ℕ) × (k < 0) × (slice_get xs k ≡ Some r)) old old
 adds_none writes xs old = record { kept = λ l k. k; added = λ l is any. absurd (let lt = is.1 in omega (arith, lt)) }
 
-pub adds_more : (writes xs start old new : List Location) (i : ℕ) (item : Location) → slice_get xs i ≡ Some item → AddsRead writes (λ r. (k : ℕ) × (k < i) × (slice_get xs k ≡ Some r)) start old →
+pub adds_more : (writes xs start old new : List Location) (i : ℕ) (item : Location) → slice_get xs i ≡ Some item →
+    AddsRead writes (λ r. (k : ℕ) × (k < i) × (slice_get xs k ≡ Some r)) start old →
     AddsRead writes (λ r. item ≡ r) old new → AddsRead writes (λ r. (k : ℕ) × (k < i + 1) × (slice_get xs k ≡ Some r)) start new
 adds_more writes xs start old new i item at o h = record {
   kept = λ r k. h.kept r (o.kept r k);
@@ -218,16 +313,19 @@ adds_more writes xs start old new i item at o h = record {
   ];
 }
 
-pub adds_all : (writes xs start new : List Location) (i : ℕ) → length xs ≤ i → AddsRead writes (λ r. (k : ℕ) × (k < i) × (slice_get xs k ≡ Some r)) start new → AddsRead writes (Contains xs) start new
+pub adds_all : (writes xs start new : List Location) (i : ℕ) → length xs ≤ i →
+    AddsRead writes (λ r. (k : ℕ) × (k < i) × (slice_get xs k ≡ Some r)) start new → AddsRead writes (Contains xs) start new
 adds_all writes xs start new i all h = record {
   kept = h.kept;
   added = λ r is any. let k = contained xs r is in let lt = k.1 in h.added r (k.0, omega (arith, lt, all), k.2) any;
 }
 
-pub reads_more : (g : Graph) (writes reads reads' : List Location) (n : ℕ) (x : Node) → NodeAt g n x → ((k : ℕ) (y : Node) (r : Location) → k < n → NodeAt g k y → Contains y.reads r → IsOverAny writes r → Contains reads r) →
-    AddsRead writes (Contains x.reads) reads reads' → (k : ℕ) (y : Node) (r : Location) → k < n + 1 → NodeAt g k y → Contains y.reads r → IsOverAny writes r → Contains reads' r
-reads_more g writes reads reads' n x at old adds k y r lt at' is any = elim (cases_lt k n) [
-  | inl less ↦ adds.kept r (old k y r less at' is any)
+pub reads_more : (g : Graph) (w : Window) (writes reads reads' : List Location) (n : ℕ) (x : Node) → NodeAt g n x →
+    ((k : ℕ) (y : Node) (r : Location) → IsIn w k → k < n → NodeAt g k y → Contains y.reads r → IsOverAny writes r → Contains reads r) →
+    AddsRead writes (Contains x.reads) reads reads' → (k : ℕ) (y : Node) (r : Location) → IsIn w k → k < n + 1 → NodeAt g k y → Contains y.reads r →
+    IsOverAny writes r → Contains reads' r
+reads_more g w writes reads reads' n x at old adds k y r near lt at' is any = elim (cases_lt k n) [
+  | inl less ↦ adds.kept r (old k y r near less at' is any)
   | inr most ↦ (
       let e : k ≡ n = omega arith in
       let one : y ≡ x = same_node g n y x (subst (λ (m : ℕ). NodeAt g m y) e at') at in
@@ -236,19 +334,15 @@ reads_more g writes reads reads' n x at old adds k y r lt at' is any = elim (cas
 
 -- ---- What nodes write
 
-pub written_more : (g : Graph) (seen : List Bool) (writes writes' : List Location) (n : ℕ) (x : Node) → NodeAt g n x →
-    ((k : ℕ) (y : Node) (w : Location) → k < n → IsSeen seen k → NodeAt g k y → y.writes ≡ Some w → Contains writes w) → ((w : Location) → Contains writes w → Contains writes' w) →
-    (IsSeen seen n → (w : Location) → x.writes ≡ Some w → Contains writes' w) → (k : ℕ) (y : Node) (w : Location) → k < n + 1 → IsSeen seen k → NodeAt g k y → y.writes ≡ Some w → Contains writes' w
-written_more g seen writes writes' n x at old kept added k y w lt s at' e = elim (cases_lt k n) [
-  | inl less ↦ kept w (old k y w less s at' e)
+pub written_more : (g : Graph) (near : Window) (seen : List Bool) (writes writes' : List Location) (n : ℕ) (x : Node) → NodeAt g n x →
+    ((k : ℕ) (y : Node) (w : Location) → IsIn near k → k < n → IsSeen seen k → NodeAt g k y → y.writes ≡ Some w → Contains writes w) →
+    ((w : Location) → Contains writes w → Contains writes' w) →
+    (IsSeen seen n → (w : Location) → x.writes ≡ Some w → Contains writes' w) → (k : ℕ) (y : Node) (w : Location) → IsIn near k → k < n + 1 →
+    IsSeen seen k → NodeAt g k y → y.writes ≡ Some w → Contains writes' w
+written_more g near seen writes writes' n x at old kept added k y w in_window lt s at' e = elim (cases_lt k n) [
+  | inl less ↦ kept w (old k y w in_window less s at' e)
   | inr most ↦ (
       let is : k ≡ n = omega arith in
       let one : x ≡ y = same_node g n x y at (subst (λ (m : ℕ). NodeAt g m y) is at') in
       added (subst (λ (m : ℕ). IsSeen seen m) is s) w (ap (λ (z : Node). z.writes) one ∙ e))
-]
-
-pub number_more : (P : ℕ → Type 0) (n : ℕ) → P n → ((k : ℕ) → k < n → P k) → (k : ℕ) → k < n + 1 → P k
-number_more P n p old k lt = elim (cases_lt k n) [
-  | inl less ↦ old k less
-  | inr most ↦ (let is : k ≡ n = omega arith in subst P (sym is) p)
 ]

@@ -6,3 +6,7 @@ pub mod Edges
 pub mod Lines
 pub mod Passing
 pub mod Exposing
+pub mod Locked
+pub mod Marking
+pub mod Single
+pub mod Worked

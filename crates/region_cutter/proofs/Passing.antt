@@ -1,16 +1,20 @@
 -- Where regions could be run again with the boundary, only paths that pass the node can overwrite what they have read without it.
-use Rattle.std.proofs.Common.{◌≡◌, ◌⊎◌, inl, inr, ℕ, zero, suc, ◌<◌, ◌≤◌, Bool, true, false, List, [], ◌∷◌, length, Option, Some, None, refl, ap, sym, subst, ◌∙◌, arith}
-use Rattle.std.specs.Prelude.{slice_get, IsTrue}
+use Rattle.std.proofs.Common.{◌≡◌, ◌⊎◌, inl, inr, ℕ, zero, suc, ◌<◌, ◌≤◌, Bool, true, false, List, [], ◌∷◌, length, Option, Some, None, refl, ap, sym}
+use Rattle.std.proofs.Common.{subst, ◌∙◌, arith}
+use Rattle.std.specs.Prelude.{slice_get, Contains, IsTrue}
 use Rattle.std.proofs.lemmas.Bool.{cases_eq}
 use Rattle.std.proofs.lemmas.Option.{slice_get_within}
 use Rattle.ido_base.specs.declared.location.Location.{Location}
 use Rattle.ido_base.specs.Locations.{overlap, same}
 use Rattle.flow_graph.specs.Nodes.{Node, Graph}
 use Rattle.flow_graph.specs.Liveness.{NodeAt}
-use Rattle.flow_graph.specs.Cutting.{Boundaries, IsBoundary, IsInside, stays, goes_on, IsIdempotent, WritesAt, ReadsAt, Begins, behind_lock, at_boundary, IsWrittenBefore, without}
+use Rattle.flow_graph.specs.Cutting.{Boundaries, IsBoundary, IsInside, stays, goes_on, IsIdempotent, WritesAt, ReadsAt, Begins, behind_lock, at_boundary}
+use Rattle.flow_graph.specs.Cutting.{IsWrittenBefore, without}
 use Rattle.region_cutter.specs.links.Searching.{Comes, there, IsSeen}
 use Rattle.region_cutter.specs.links.Searching as s
-use Rattle.region_cutter.specs.links.Local.{Inside, Reads, WritesOver, WritesSame, InsidePast, IsOverAny, IsOverwritten, IsExposed, AreAhead, AreWritten}
+use Rattle.region_cutter.specs.declared.window.Window.{Window}
+use Rattle.region_cutter.specs.links.Local.{Inside, Reads, WritesOver, WritesSame, InsidePast, IsOverAny, IsOverwritten, IsIdempotentFrom, IsIn, IsWindow}
+use Rattle.region_cutter.specs.links.Local.{IsExposed, AreAhead, AreWritten}
 use Rattle.region_cutter.proofs.Lists.{get_set_other, had}
 use Rattle.region_cutter.proofs.Edges.{same_node}
 
@@ -57,13 +61,15 @@ record Conflicts (g : Graph) (b : Boundaries) (elements : Location) (from : ℕ)
   pub unwritten : ¬ (IsWrittenBefore g (from ∷ path) i elements)
 
 -- what is written before a position of a path that is longer by its first node
-shorter : (g : Graph) (element : Location) (from : ℕ) (path : List ℕ) (i : ℕ) → ¬ (WritesSame g element from) → IsWrittenBefore g (from ∷ path) (suc i) element → IsWrittenBefore g path i element
+shorter : (g : Graph) (element : Location) (from : ℕ) (path : List ℕ) (i : ℕ) → ¬ (WritesSame g element from) →
+    IsWrittenBefore g (from ∷ path) (suc i) element → IsWrittenBefore g path i element
 shorter g element from path i past w = at w.earlier w.before w.writes
   where
     at : (earlier : ℕ) → earlier < suc i → WritesAt g (from ∷ path) earlier w.written → IsWrittenBefore g path i element
     at zero lt writes =
         let here : from ≡ writes.node = (let e = writes.there in cc) in
-        absurd (past (subst (λ (n : ℕ). WritesSame g element n) (sym here) (record { is = writes.is; at = writes.at; written = w.written; writes = writes.writes; same = w.is })))
+        absurd (past (subst (λ (n : ℕ). WritesSame g element n) (sym here)
+        (record { is = writes.is; at = writes.at; written = w.written; writes = writes.writes; same = w.is })))
     at (suc earlier) lt writes = record {
       earlier = earlier;
       written = w.written;
@@ -72,7 +78,8 @@ shorter g element from path i past w = at w.earlier w.before w.writes
       is = w.is;
     }
 
-conflicts : (g : Graph) (b : Boundaries) (elements : Location) (node from : ℕ) → Reads g elements node → IsOverwritten g b elements node → Comes (InsidePast g b elements) (λ n. n ≡ node) from → Conflicts g b elements from
+conflicts : (g : Graph) (b : Boundaries) (elements : Location) (node from : ℕ) → Reads g elements node → IsOverwritten g b elements node →
+    Comes (InsidePast g b elements) (λ n. n ≡ node) from → Conflicts g b elements from
 conflicts g b elements node from reads over (there _ is) =
     let o = subst (λ (n : ℕ). IsOverwritten g b elements n) (sym is) over in
     let r = subst (λ (n : ℕ). Reads g elements n) (sym is) reads in
@@ -102,10 +109,10 @@ conflicts g b elements node from reads over (s.goes_on _ to step rest) =
       unwritten = λ before. c.unwritten (shorter g elements from (to ∷ c.path) c.i step.past before);
     }
 
-pub exposed_conflicts : (g : Graph) (b : Boundaries) (elements : Location) → IsExposed g b elements → ¬ (IsIdempotent g b)
-exposed_conflicts g b elements e h =
-    let u = e.at.unwritten in
-    let c = conflicts g b elements e.node u.from e.at.reads e.at.overwritten u.comes in
+pub exposed_conflicts : (g : Graph) (b : Boundaries) (w : Window) (elements : Location) → IsExposed g b w elements → ¬ (IsIdempotent g b)
+exposed_conflicts g b w elements e h =
+    let u = e.exposes.unwritten in
+    let c = conflicts g b elements e.node u.from e.exposes.reads e.overwritten u.comes in
     c.unwritten (h u.from c.path u.begins.begins c.inside c.i c.j elements c.written c.later c.reads c.writes c.over)
 
 -- ---- What paths say
@@ -113,7 +120,8 @@ exposed_conflicts g b elements e h =
 writes_same_or_not : (g : Graph) (element : Location) (node : ℕ) → WritesSame g element node ⊎ ¬ (WritesSame g element node)
 writes_same_or_not g element node = at (slice_get g.nodes node) refl
   where
-    by_bool : (x : Node) (w : Location) → NodeAt g node x → x.writes ≡ Some w → (b : Bool) → same w element ≡ b → WritesSame g element node ⊎ ¬ (WritesSame g element node)
+    by_bool : (x : Node) (w : Location) → NodeAt g node x → x.writes ≡ Some w → (b : Bool) → same w element ≡ b → WritesSame g element node ⊎
+        ¬ (WritesSame g element node)
     by_bool x w is writes true e = inl (record { is = x; at = is; written = w; writes = writes; same = e })
     by_bool x w is writes false e = inr (λ k.
         let sames : x ≡ k.is = same_node g node x k.is is k.at in
@@ -134,13 +142,22 @@ writes_same_or_not g element node = at (slice_get g.nodes node) refl
     at (Some x) e = by_writes x e x.writes refl
 
 -- the element was written before, or the region comes to the node and has not written it
-unwritten_or : (g : Graph) (b : Boundaries) (element : Location) (path : List ℕ) → IsInside g b path → (i from node : ℕ) → slice_get path 0 ≡ Some from → slice_get path i ≡ Some node →
+unwritten_or : (g : Graph) (b : Boundaries) (element : Location) (path : List ℕ) → IsInside g b path → (i from node : ℕ) → slice_get path 0 ≡ Some from →
+    slice_get path i ≡ Some node →
     IsWrittenBefore g path i element ⊎ Comes (InsidePast g b element) (λ n. n ≡ node) from
-unwritten_or g b element path inside zero from node first is = inr (there from (let both : Some from ≡ Some node = sym first ∙ is in let e : from ≡ node = cc in e))
+unwritten_or g b element path inside zero from node first is =
+    inr (there from (let both : Some from ≡ Some node = sym first ∙ is in let e : from ≡ node = cc in e))
 unwritten_or g b element path (stays x) (suc i) from node first is = absurd (cc)
 unwritten_or g b element path (goes_on x to rest edge free inside) (suc i) from node first is =
     elim (writes_same_or_not g element x) [
-      | inl w ↦ inl (record { earlier = 0; written = w.written; before = omega arith; writes = record { node = x; is = w.is; there = refl; at = w.at; writes = w.writes }; is = w.same })
+      | inl w ↦ inl (record {
+        earlier = 0;
+        written = w.written;
+        before = omega arith;
+        writes =
+            record { node = x; is = w.is; there = refl; at = w.at; writes = w.writes };
+        is = w.same;
+      })
       | inr past ↦ elim (unwritten_or g b element (to ∷ rest) inside i to node refl is) [
         | inl w ↦ inl (record {
           earlier = suc w.earlier;
@@ -151,11 +168,13 @@ unwritten_or g b element path (goes_on x to rest edge free inside) (suc i) from 
         })
         | inr comes ↦ inr (
             let e : x ≡ from = cc in
-            subst (λ (n : ℕ). Comes (InsidePast g b element) (λ m. m ≡ node) n) e (s.goes_on x to (record { inside = record { edge = edge; free = free }; past = past }) comes))
+            subst (λ (n : ℕ). Comes (InsidePast g b element) (λ m. m ≡ node) n) e
+            (s.goes_on x to (record { inside = record { edge = edge; free = free }; past = past }) comes))
       ]
     ]
 
-comes_over : (g : Graph) (b : Boundaries) (elements : Location) (path : List ℕ) → IsInside g b path → (j from : ℕ) (written : Location) → slice_get path 0 ≡ Some from → WritesAt g path j written → IsTrue (overlap written elements) →
+comes_over : (g : Graph) (b : Boundaries) (elements : Location) (path : List ℕ) → IsInside g b path → (j from : ℕ) (written : Location) → slice_get path 0 ≡
+    Some from → WritesAt g path j written → IsTrue (overlap written elements) →
     Comes (Inside g b) (WritesOver g elements) from
 comes_over g b elements path inside zero from written first w over =
     let both : Some w.node ≡ Some from = sym w.there ∙ first in
@@ -165,9 +184,11 @@ comes_over g b elements path (stays x) (suc j) from written first w over = absur
 comes_over g b elements path (goes_on x to rest edge free inside) (suc j) from written first w over =
     let e : x ≡ from = cc in
     subst (λ (n : ℕ). Comes (Inside g b) (WritesOver g elements) n) e
-    (s.goes_on x to (record { edge = edge; free = free }) (comes_over g b elements (to ∷ rest) inside j to written refl (record { node = w.node; is = w.is; there = w.there; at = w.at; writes = w.writes }) over))
+    (s.goes_on x to (record { edge = edge; free = free })
+    (comes_over g b elements (to ∷ rest) inside j to written refl (record { node = w.node; is = w.is; there = w.there; at = w.at; writes = w.writes }) over))
 
-over_at : (g : Graph) (b : Boundaries) (elements : Location) (path : List ℕ) → IsInside g b path → (i j node : ℕ) (written : Location) → i < j → slice_get path i ≡ Some node → WritesAt g path j written →
+over_at : (g : Graph) (b : Boundaries) (elements : Location) (path : List ℕ) → IsInside g b path → (i j node : ℕ) (written : Location) → i < j →
+    slice_get path i ≡ Some node → WritesAt g path j written →
     IsTrue (overlap written elements) → IsOverwritten g b elements node
 over_at g b elements path inside i zero node written lt is w over = absurd (omega arith)
 over_at g b elements path (stays x) i (suc j) node written lt is w over = absurd (let e = w.there in cc)
@@ -176,10 +197,12 @@ over_at g b elements path (goes_on x to rest edge free inside) zero (suc j) node
     subst (λ (n : ℕ). IsOverwritten g b elements n) e (record {
       to = to;
       inside = record { edge = edge; free = free };
-      comes = comes_over g b elements (to ∷ rest) inside j to written refl (record { node = w.node; is = w.is; there = w.there; at = w.at; writes = w.writes }) over;
+      comes = comes_over g b elements (to ∷ rest) inside j to written refl
+          (record { node = w.node; is = w.is; there = w.there; at = w.at; writes = w.writes }) over;
     })
 over_at g b elements path (goes_on x to rest edge free inside) (suc i) (suc j) node written lt is w over =
-    over_at g b elements (to ∷ rest) inside i j node written (omega arith) is (record { node = w.node; is = w.is; there = w.there; at = w.at; writes = w.writes }) over
+    over_at g b elements (to ∷ rest) inside i j node written (omega arith) is
+    (record { node = w.node; is = w.is; there = w.there; at = w.at; writes = w.writes }) over
 
 -- ---- Paths that pass the node
 
@@ -192,46 +215,90 @@ record Front (g : Graph) (b : Boundaries) (path : List ℕ) (j : ℕ) : Type 0 w
   pub rest : List ℕ
   pub is : front ≡ first ∷ rest
 
-ahead : (g : Graph) (b : Boundaries) (n : ℕ) (seen : List Bool) → AreAhead g b n seen → (path : List ℕ) → IsInside g b path → (j from node : ℕ) → slice_get path 0 ≡ Some from → IsSeen seen from →
+-- the path comes to the node no later than there
+record Passed (path : List ℕ) (n j : ℕ) : Type 0 where
+  pub k : ℕ
+  pub before : k ≤ j
+  pub at : slice_get path k ≡ Some n
+
+-- where a later node exists, the first one does
+first_within : (g : Graph) (b : Boundaries) (path : List ℕ) → IsInside g b path → (j from node : ℕ) → slice_get path 0 ≡ Some from → slice_get path j ≡
+    Some node → node < length g.nodes → from < length g.nodes
+first_within g b path inside zero from node first is lt = (let both : Some from ≡ Some node = sym first ∙ is in let e : from ≡ node = cc in omega arith)
+first_within g b path (stays x) (suc j) from node first is lt = absurd (cc)
+first_within g b path (goes_on x to rest edge free inside) (suc j) from node first is lt =
+    (let e : x ≡ from = cc in let w = slice_get_within g.nodes x edge.is edge.at in omega (arith, w, e))
+
+-- a path of which one node is in the window begins there
+window_back : (g : Graph) (b : Boundaries) (m : ℕ) (w : Window) → IsWindow g b m w → (path : List ℕ) → IsInside g b path → (k from n : ℕ) →
+    slice_get path 0 ≡ Some from → slice_get path k ≡ Some n → n < length g.nodes →
+    IsIn w n → IsIn w from
+window_back g b m w h path inside zero from n first at lt has =
+    (let both : Some n ≡ Some from = sym at ∙ first in let e : n ≡ from = cc in subst (λ (l : ℕ). IsIn w l) e has)
+window_back g b m w h path (stays x) (suc k) from n first at lt has = absurd (cc)
+window_back g b m w h path (goes_on x to rest edge free inside) (suc k) from n first at lt has =
+    let e : x ≡ from = cc in
+    let near = first_within g b (to ∷ rest) inside k to n refl at lt in
+    let next = window_back g b m w h (to ∷ rest) inside k to n refl at lt has in
+    subst (λ (l : ℕ). IsIn w l) e ((h.closed x to (record { edge = edge; free = free }) near).1 next)
+
+-- and one that begins there stays there
+window_front : (g : Graph) (b : Boundaries) (m : ℕ) (w : Window) → IsWindow g b m w → (path : List ℕ) → IsInside g b path → (k from n : ℕ) →
+    slice_get path 0 ≡ Some from → slice_get path k ≡ Some n → n < length g.nodes →
+    IsIn w from → IsIn w n
+window_front g b m w h path inside zero from n first at lt has =
+    (let both : Some from ≡ Some n = sym first ∙ at in let e : from ≡ n = cc in subst (λ (l : ℕ). IsIn w l) e has)
+window_front g b m w h path (stays x) (suc k) from n first at lt has = absurd (cc)
+window_front g b m w h path (goes_on x to rest edge free inside) (suc k) from n first at lt has =
+    let e : from ≡ x = cc in
+    let near = first_within g b (to ∷ rest) inside k to n refl at lt in
+    window_front g b m w h (to ∷ rest) inside k to n refl at lt
+    ((h.closed x to (record { edge = edge; free = free }) near).0 (subst (λ (l : ℕ). IsIn w l) e has))
+
+ahead : (g : Graph) (b : Boundaries) (n : ℕ) (seen : List Bool) → AreAhead g b n seen → (path : List ℕ) → IsInside g b path → (j from node : ℕ) →
+    slice_get path 0 ≡ Some from → IsSeen seen from →
     slice_get path j ≡ Some node → node < length g.nodes → IsSeen seen node
-ahead g b n seen a path inside zero from node first h is lt = (let both : Some from ≡ Some node = sym first ∙ is in let e : from ≡ node = cc in subst (λ (m : ℕ). IsSeen seen m) e h)
+ahead g b n seen a path inside zero from node first h is lt =
+    (let both : Some from ≡ Some node = sym first ∙ is in let e : from ≡ node = cc in subst (λ (m : ℕ). IsSeen seen m) e h)
 ahead g b n seen a path (stays x) (suc j) from node first h is lt = absurd (cc)
 ahead g b n seen a path (goes_on x to (rest) edge free inside) (suc j) from node first h is lt =
     let e : from ≡ x = cc in
-    let near : to < length g.nodes = within g b (to ∷ rest) inside j to node refl is lt in
+    let near : to < length g.nodes = first_within g b (to ∷ rest) inside j to node refl is lt in
     ahead g b n seen a (to ∷ rest) inside j to node refl (a.closed x to (subst (λ (m : ℕ). IsSeen seen m) e h) (record { edge = edge; free = free }) near) is lt
-  where
-    within : (g : Graph) (b : Boundaries) (path : List ℕ) → IsInside g b path → (j from node : ℕ) → slice_get path 0 ≡ Some from → slice_get path j ≡ Some node → node < length g.nodes → from < length g.nodes
-    within g b path inside zero from node first is lt = (let both : Some from ≡ Some node = sym first ∙ is in let e : from ≡ node = cc in omega arith)
-    within g b path (stays x) (suc j) from node first is lt = absurd (cc)
-    within g b path (goes_on x to rest edge free inside) (suc j) from node first is lt =
-        (let e : x ≡ from = cc in let w = slice_get_within g.nodes x edge.is edge.at in omega (arith, w, e))
 
 -- ways that are inside without the boundary, and lead elsewhere, were inside with it
 inside_before : (g : Graph) (b : Boundaries) (n from to : ℕ) → (to ≡ n → ⊥) → ¬ (IsBoundary g (without b n) from to) → ¬ (IsBoundary g b from to)
 inside_before g b n from to other free (inl behind) = free (inl (record { locks = behind.locks; stands = behind.stands }))
 inside_before g b n from to other free (inr has) = free (inr (get_set_other b.before n to false other ∙ has))
 
-front_or_ahead : (g : Graph) (b : Boundaries) (n : ℕ) (seen : List Bool) → AreAhead g (without b n) n seen → (path : List ℕ) → IsInside g (without b n) path → (j node : ℕ) → slice_get path j ≡ Some node → node < length g.nodes →
-    Front g b path j ⊎ IsSeen seen node
-front_or_ahead g b n seen a path (stays x) j node is lt = inl (record { front = x ∷ []; inside = stays x; same = λ k le. refl; first = x; rest = []; is = refl })
-front_or_ahead g b n seen a path (goes_on x to rest edge free inside) zero node is lt = inl (record { front = x ∷ []; inside = stays x; same = λ k le. first_only x to rest k le; first = x; rest = []; is = refl })
+front_or_ahead : (g : Graph) (b : Boundaries) (n : ℕ) (seen : List Bool) → AreAhead g (without b n) n seen → (path : List ℕ) →
+    IsInside g (without b n) path → (j node : ℕ) → slice_get path j ≡ Some node → node < length g.nodes →
+    Front g b path j ⊎ (Passed path n j × IsSeen seen node)
+front_or_ahead g b n seen a path (stays x) j node is lt =
+    inl (record { front = x ∷ []; inside = stays x; same = λ k le. refl; first = x; rest = []; is = refl })
+front_or_ahead g b n seen a path (goes_on x to rest edge free inside) zero node is lt =
+    inl (record { front = x ∷ []; inside = stays x; same = λ k le. first_only x to rest k le; first = x; rest = []; is = refl })
   where
     first_only : (x to : ℕ) (rest : List ℕ) (k : ℕ) → k ≤ 0 → slice_get (x ∷ []) k ≡ slice_get (x ∷ to ∷ rest) k
     first_only x to rest zero le = refl
     first_only x to rest (suc k) le = absurd (omega arith)
 front_or_ahead g b n seen a path (goes_on x to rest edge free inside) (suc j) node is lt = elim (cases_eq to n) [
   | inl here ↦ inr (
-      let near : to < length g.nodes = within_first g (without b n) (to ∷ rest) inside j to node refl is lt in
-      ahead g (without b n) n seen a (to ∷ rest) inside j to node refl (subst (λ (m : ℕ). IsSeen seen m) (sym here) (a.begun (omega (arith, near, here)))) is lt)
+      let near : to < length g.nodes = first_within g (without b n) (to ∷ rest) inside j to node refl is lt in (
+        record { k = 1; before = omega arith; at = ap (λ (l : ℕ). Some l) here },
+        ahead g (without b n) n seen a (to ∷ rest) inside j to node refl
+            (subst (λ (m : ℕ). IsSeen seen m) (sym here) (a.begun (omega (arith, near, here)))) is lt,
+      ))
   | inr other ↦ elim (front_or_ahead g b n seen a (to ∷ rest) inside j node is lt) [
-    | inr seen' ↦ inr seen'
+    | inr seen' ↦ inr (record { k = suc seen'.0.k; before = (let le = seen'.0.before in omega (arith, le)); at = seen'.0.at }, seen'.1)
     | inl f ↦ inl (record {
       front = x ∷ f.front;
       inside =
-          let first : f.first ≡ to = (let at = f.same 0 (omega arith) in let e : slice_get f.front 0 ≡ Some f.first = ap (λ (p : List ℕ). slice_get p 0) f.is in let both : Some f.first ≡ Some to = sym e ∙ at in let z : f.first ≡ to = cc in z) in
+          let first : f.first ≡ to = (let at = f.same 0 (omega arith) in let e : slice_get f.front 0 ≡ Some f.first =
+          ap (λ (p : List ℕ). slice_get p 0) f.is in let both : Some f.first ≡ Some to = sym e ∙ at in let z : f.first ≡ to = cc in z) in
           let tail : f.front ≡ to ∷ f.rest = f.is ∙ ap (λ (m : ℕ). m ∷ f.rest) first in
-          subst (λ (p : List ℕ). IsInside g b (x ∷ p)) (sym tail) (goes_on x to f.rest edge (inside_before g b n x to other free) (subst (λ (p : List ℕ). IsInside g b p) tail f.inside));
+          subst (λ (p : List ℕ). IsInside g b (x ∷ p)) (sym tail)
+          (goes_on x to f.rest edge (inside_before g b n x to other free) (subst (λ (p : List ℕ). IsInside g b p) tail f.inside));
       same = λ k le. longer x f.front (to ∷ rest) j f.same k le;
       first = x;
       rest = f.front;
@@ -240,15 +307,10 @@ front_or_ahead g b n seen a path (goes_on x to rest edge free inside) (suc j) no
   ]
 ]
   where
-    longer : (x : ℕ) (front path : List ℕ) (j : ℕ) → ((k : ℕ) → k ≤ j → slice_get front k ≡ slice_get path k) → (k : ℕ) → k ≤ suc j → slice_get (x ∷ front) k ≡ slice_get (x ∷ path) k
+    longer : (x : ℕ) (front path : List ℕ) (j : ℕ) → ((k : ℕ) → k ≤ j → slice_get front k ≡ slice_get path k) → (k : ℕ) → k ≤ suc j →
+        slice_get (x ∷ front) k ≡ slice_get (x ∷ path) k
     longer x front path j same zero le = refl
     longer x front path j same (suc k) le = same k (omega arith)
-
-    within_first : (g : Graph) (b : Boundaries) (path : List ℕ) → IsInside g b path → (j from node : ℕ) → slice_get path 0 ≡ Some from → slice_get path j ≡ Some node → node < length g.nodes → from < length g.nodes
-    within_first g b path inside zero from node first is lt = (let both : Some from ≡ Some node = sym first ∙ is in let e : from ≡ node = cc in omega arith)
-    within_first g b path (stays x) (suc j) from node first is lt = absurd (cc)
-    within_first g b path (goes_on x to rest edge free inside) (suc j) from node first is lt =
-        (let e : x ≡ from = cc in let w = slice_get_within g.nodes x edge.is edge.at in omega (arith, w, e))
 
 -- ---- Nothing is exposed
 
@@ -256,19 +318,14 @@ begins_before : (g : Graph) (b : Boundaries) (n from : ℕ) → Begins g (withou
 begins_before g b n from (behind_lock x behind edge) = behind_lock x (record { locks = behind.locks; stands = behind.stands }) edge
 begins_before g b n from (at_boundary has) = at_boundary (had b.before n from has)
 
-edge_there : (g : Graph) (b : Boundaries) (from : ℕ) (path : List ℕ) → IsInside g b (from ∷ path) → (j node : ℕ) → slice_get (from ∷ path) (suc j) ≡ Some node → from < length g.nodes
-edge_there g b from path inside j node is = at (from ∷ path) inside refl is
-  where
-    at : (p : List ℕ) → IsInside g b p → slice_get p 0 ≡ Some from → slice_get p (suc j) ≡ Some node → from < length g.nodes
-    at p (stays x) first e = absurd (cc)
-    at p (goes_on x to rest edge free inside) first e = (let same : x ≡ from = cc in let w = slice_get_within g.nodes x edge.is edge.at in omega (arith, w, same))
-
-pub none_exposed : (g : Graph) (b : Boundaries) (n : ℕ) (seen : List Bool) (writes : List Location) → AreAhead g (without b n) n seen → AreWritten g seen writes → IsIdempotent g b →
-    ((elements : Location) → IsOverAny writes elements → ¬ (IsExposed g (without b n) elements)) → IsIdempotent g (without b n)
-none_exposed g b n seen writes a are h none from path begins inside i j read written lt reads w over =
+pub none_exposed : (g : Graph) (b : Boundaries) (n : ℕ) (near : Window) (seen : List Bool) (writes : List Location) → IsWindow g (without b n) n near →
+    AreAhead g (without b n) n seen → AreWritten g near seen writes → IsIdempotent g b →
+    ((elements : Location) → IsOverAny writes elements → ¬ (IsExposed g (without b n) near elements)) → IsIdempotent g (without b n)
+none_exposed g b n near seen writes window a are h none from path begins inside i j read written lt reads w over =
     elim (front_or_ahead g b n seen a (from ∷ path) inside j w.node w.there (slice_get_within g.nodes w.node w.is w.at)) [
       | inl f ↦ (
-          let first : f.first ≡ from = (let at = f.same 0 (omega arith) in let e : slice_get f.front 0 ≡ Some f.first = ap (λ (p : List ℕ). slice_get p 0) f.is in let both : Some f.first ≡ Some from = sym e ∙ at in let z : f.first ≡ from = cc in z) in
+          let first : f.first ≡ from = (let at = f.same 0 (omega arith) in let e : slice_get f.front 0 ≡ Some f.first =
+          ap (λ (p : List ℕ). slice_get p 0) f.is in let both : Some f.first ≡ Some from = sym e ∙ at in let z : f.first ≡ from = cc in z) in
           let tail : f.front ≡ from ∷ f.rest = f.is ∙ ap (λ (m : ℕ). m ∷ f.rest) first in
           let same = λ (k : ℕ) (le : k ≤ j). ap (λ (p : List ℕ). slice_get p k) (sym tail) ∙ f.same k le in
           let r = h from f.rest (begins_before g b n from begins) (subst (λ (p : List ℕ). IsInside g b p) tail f.inside) i j read written lt
@@ -278,22 +335,68 @@ none_exposed g b n seen writes a are h none from path begins inside i j read wri
             earlier = r.earlier;
             written = r.written;
             before = r.before;
-            writes = record { node = r.writes.node; is = r.writes.is; there = sym (same r.earlier (let l = r.before in omega (arith, l, lt))) ∙ r.writes.there; at = r.writes.at; writes = r.writes.writes };
+            writes = record {
+              node = r.writes.node;
+              is = r.writes.is;
+              there = sym (same r.earlier (let l = r.before in omega (arith, l, lt))) ∙
+                  r.writes.there;
+              at = r.writes.at;
+              writes = r.writes.writes;
+            };
             is = r.is;
           })
       | inr ahead' ↦ elim (unwritten_or g (without b n) read (from ∷ path) inside i from reads.node refl reads.there) [
         | inl before ↦ before
-        | inr comes ↦ absurd (none read (record { written = written; among = are w.node w.is written ahead' w.at w.writes; over = over }) (record {
-          node = reads.node;
-          at = record {
-            reads = record { is = reads.is; at = reads.at; reads = reads.reads };
-            unwritten = record { from = from; begins = record { begins = begins; exists = exists i j lt w }; comes = comes };
-            overwritten = over_at g (without b n) read (from ∷ path) inside i j reads.node written lt reads.there w over;
-          };
-        }))
+        | inr comes ↦ (
+            let has = window.has.below_end in
+            let begin = window_back g (without b n) n near window (from ∷ path) inside ahead'.0.k from n refl ahead'.0.at
+            (omega (arith, has, window.within)) window.has in
+            let stays_near = λ (k m : ℕ) (there : slice_get (from ∷ path) k ≡ Some m) (lt' : m < length g.nodes). window_front g (without b n) n near window
+            (from ∷ path) inside k from m refl there lt' begin in
+            absurd (none read (record {
+              written = written;
+              among =
+                  are w.node w.is written (stays_near j w.node w.there (slice_get_within g.nodes w.node w.is w.at)) ahead'.1 w.at w.writes;
+              over = over;
+            }) (record {
+              node = reads.node;
+              near = stays_near i reads.node reads.there (slice_get_within g.nodes reads.node reads.is reads.at);
+              exposes = record {
+                reads = record { is = reads.is; at = reads.at; reads = reads.reads };
+                unwritten = record { from = from; begins = record { begins = begins; near = begin }; comes = comes };
+              };
+              overwritten = over_at g (without b n) read (from ∷ path) inside i j reads.node written lt reads.there w over;
+            })))
       ]
     ]
-  where
-    exists : (i j : ℕ) → i < j → WritesAt g (from ∷ path) j written → from < length g.nodes
-    exists i zero l v = absurd (omega arith)
-    exists i (suc j) l v = edge_there g (without b n) from path inside j v.node v.there
+
+-- where none of a window's nodes exposes what the window writes, regions that begin there may be run again
+pub window_safe : (g : Graph) (b : Boundaries) (n : ℕ) (near : Window) (writes : List Location) → IsWindow g b n near →
+    ((m : ℕ) (x : Node) (written : Location) → IsIn near m → NodeAt g m x → x.writes ≡ Some written → Contains writes written) →
+    ((elements : Location) → IsOverAny writes elements → ¬ (IsExposed g b near elements)) → (from : ℕ) → IsIn near from → IsIdempotentFrom g b from
+window_safe g b n near writes window are none from begin path begins inside i j read written lt reads w over =
+    let stays_near = λ (k m : ℕ) (there : slice_get (from ∷ path) k ≡ Some m) (lt' : m < length g.nodes). window_front g b n near window
+    (from ∷ path) inside k from m refl there lt' begin in
+    elim (unwritten_or g b read (from ∷ path) inside i from reads.node refl reads.there) [
+      | inl before ↦ before
+      | inr comes ↦ absurd (none read
+          (record {
+            written = written;
+            among = are w.node w.is written (stays_near j w.node w.there (slice_get_within g.nodes w.node w.is w.at)) w.at w.writes;
+            over = over;
+          }) (record {
+            node = reads.node;
+            near = stays_near i reads.node reads.there (slice_get_within g.nodes reads.node reads.is reads.at);
+            exposes = record {
+              reads = record { is = reads.is; at = reads.at; reads = reads.reads };
+              unwritten = record { from = from; begins = record { begins = begins; near = begin }; comes = comes };
+            };
+            overwritten = over_at g b read (from ∷ path) inside i j reads.node written lt reads.there w over;
+          }))
+    ]
+
+-- regions that could overwrite anything begin at nodes that exist
+pub all_safe : (g : Graph) (b : Boundaries) → ((from : ℕ) → from < length g.nodes → IsIdempotentFrom g b from) → IsIdempotent g b
+all_safe g b safe from path begins inside i j read written lt reads w over =
+    safe from (first_within g b (from ∷ path) inside j from w.node refl w.there
+    (slice_get_within g.nodes w.node w.is w.at)) path begins inside i j read written lt reads w over

@@ -1,5 +1,6 @@
 -- A search that has gone on from all that it came to has found each end to which steps lead.
-use Rattle.std.proofs.Common.{◌≡◌, ◌⊎◌, ◌↔◌, inl, inr, ℕ, zero, suc, ◌<◌, Bool, true, false, not, cond, List, [], ◌∷◌, ◌++◌, length, get_or, set, replicate, Some, refl, ap, sym, subst, ◌∙◌, arith, length-set}
+use Rattle.std.proofs.Common.{◌≡◌, ◌⊎◌, ◌↔◌, inl, inr, ℕ, zero, suc, ◌<◌, Bool, true, false, not, cond, List, [], ◌∷◌, ◌++◌, length, get_or, set, replicate}
+use Rattle.std.proofs.Common.{Some, refl, ap, sym, subst, ◌∙◌, arith, length-set}
 use Rattle.std.specs.Prelude.{Contains, slice_get}
 use Rattle.std.proofs.lemmas.Bool.{cases_eq}
 use Rattle.std.proofs.lemmas.List.{length-replicate, length_push}
@@ -16,15 +17,23 @@ none_seen zero node e = cc
 none_seen (suc n) zero e = cc
 none_seen (suc n) (suc node) e = none_seen n node e
 
+pub all_seen : (n node : ℕ) → node < n → IsSeen (replicate n true) node
+all_seen zero node lt = absurd (omega (arith, lt))
+all_seen (suc n) zero lt = refl
+all_seen (suc n) (suc node) lt = all_seen n node (omega (arith, lt))
+
 pub none_waits : (waiting : List ℕ) (node : ℕ) → waiting ≡ [] → Contains waiting node → ⊥
 none_waits waiting node e k = omega (arith, k.1, ap length e)
 
 -- ---- Nodes to come to
 
-pub follows_none : (to : ℕ → Type 0) (seen : List Bool) (waiting : List ℕ) → ((node : ℕ) → to node → node < length seen → IsSeen seen node) → Follows to seen waiting seen waiting
-follows_none to seen waiting all = record { long = refl; new = λ n k. inl k; waits = λ n k. k; kept = λ n s. s; known = λ n s. inl s; all = all; less = omega arith }
+pub follows_none : (to : ℕ → Type 0) (seen : List Bool) (waiting : List ℕ) → ((node : ℕ) → to node → node < length seen → IsSeen seen node) →
+    Follows to seen waiting seen waiting
+follows_none to seen waiting all =
+    record { long = refl; new = λ n k. inl k; waits = λ n k. k; kept = λ n s. s; known = λ n s. inl s; all = all; less = omega arith }
 
-pub follows_new : (seen : List Bool) (waiting : List ℕ) (number : ℕ) → slice_get seen number ≡ Some false → Follows (λ node. number ≡ node) seen waiting (set seen number true) (waiting ++ number ∷ [])
+pub follows_new : (seen : List Bool) (waiting : List ℕ) (number : ℕ) → slice_get seen number ≡ Some false →
+    Follows (λ node. number ≡ node) seen waiting (set seen number true) (waiting ++ number ∷ [])
 follows_new seen waiting number was =
     let within = slice_get_within seen number false was in
     let same : IsSeen (set seen number true) number = get_set_same seen number true within in record {
@@ -59,7 +68,8 @@ follows_as to other seen waiting seen' waiting' same f = record {
   less = f.less;
 }
 
-pub follows_both : (to other : ℕ → Type 0) (s : List Bool) (w : List ℕ) (s' : List Bool) (w' : List ℕ) (s'' : List Bool) (w'' : List ℕ) → Follows to s w s' w' → Follows other s' w' s'' w'' →
+pub follows_both : (to other : ℕ → Type 0) (s : List Bool) (w : List ℕ) (s' : List Bool) (w' : List ℕ) (s'' : List Bool) (w'' : List ℕ) →
+    Follows to s w s' w' → Follows other s' w' s'' w'' →
     Follows (λ node. to node ⊎ other node) s w s'' w''
 follows_both to other s w s' w' s'' w'' f h = record {
   long = h.long ∙ f.long;
@@ -80,7 +90,8 @@ follows_both to other s w s' w' s'' w'' f h = record {
 -- ---- A search
 
 module _ (Step : ℕ → ℕ → Type 0) (End Start : ℕ → Type 0) (found : Type 0) where
-  pub searched_first : (to : ℕ → Type 0) (size : ℕ) (seen : List Bool) (waiting : List ℕ) → Follows to (replicate size false) [] seen waiting → ((node : ℕ) → to node → Comes Step End node → found) →
+  pub searched_first : (to : ℕ → Type 0) (size : ℕ) (seen : List Bool) (waiting : List ℕ) → Follows to (replicate size false) [] seen waiting →
+      ((node : ℕ) → to node → Comes Step End node → found) →
       ((node : ℕ) → Start node → node < size → to node) → Searched Step End Start found seen waiting
   searched_first to size seen waiting f leads starts = record {
     led = λ n k. elim (f.new n k) [
@@ -93,7 +104,8 @@ module _ (Step : ℕ → ℕ → Type 0) (End Start : ℕ → Type 0) (found : T
         f.all n (starts n start (omega (arith, f.long, all))) (omega (arith, f.long));
   }
 
-  pub searched_step : (s : List Bool) (w rest : List ℕ) (s' : List Bool) (w' : List ℕ) (node : ℕ) → w ≡ rest ++ node ∷ [] → Searched Step End Start found s w → ¬ (End node) →
+  pub searched_step : (s : List Bool) (w rest : List ℕ) (s' : List Bool) (w' : List ℕ) (node : ℕ) → w ≡ rest ++ node ∷ [] →
+      Searched Step End Start found s w → ¬ (End node) →
       Follows (λ to. Step node to) s rest s' w' → Searched Step End Start found s' w'
   searched_step s w rest s' w' node e h free f =
       let hand = h.led node (subst (λ (x : List ℕ). Contains x node) (sym e) (Contains-push rest node)) in record {
@@ -109,7 +121,8 @@ module _ (Step : ℕ → ℕ → Type 0) (End Start : ℕ → Type 0) (found : T
             | inr done ↦ inr (record { no_end = done.no_end; followed = λ to step lt. f.kept to (done.followed to step (omega (arith, f.long))) })
             | inl waited ↦ elim (Contains-push_cases rest node n (subst (λ (x : List ℕ). Contains x n) e waited)) [
               | inl still ↦ inl (f.waits n still)
-              | inr is ↦ inr (subst (λ (m : ℕ). Followed Step End s' m) is (record { no_end = free; followed = λ to step lt. f.all to step (omega (arith, f.long)) }))
+              | inr is ↦ inr (subst (λ (m : ℕ). Followed Step End s' m) is
+                  (record { no_end = free; followed = λ to step lt. f.all to step (omega (arith, f.long)) }))
             ]
           ]
         ];
@@ -121,12 +134,14 @@ module _ (Step : ℕ → ℕ → Type 0) (End Start : ℕ → Type 0) (found : T
   searched_found s w rest node e h end = (h.led node (subst (λ (x : List ℕ). Contains x node) (sym e) (Contains-push rest node))).1 (there node end)
 
   -- nothing waits
-  not_come : (s : List Bool) → ((node : ℕ) → Comes Step End node → node < length s) → ((node : ℕ) → IsSeen s node → Followed Step End s node) → (node : ℕ) → IsSeen s node → Comes Step End node → ⊥
+  not_come : (s : List Bool) → ((node : ℕ) → Comes Step End node → node < length s) → ((node : ℕ) → IsSeen s node → Followed Step End s node) → (node : ℕ) →
+      IsSeen s node → Comes Step End node → ⊥
   not_come s within done node seen (there _ end) = (done node seen).no_end end
   not_come s within done node seen (goes_on _ to step rest) = not_come s within done to ((done node seen).followed to step (within to rest)) rest
 
   pub all_followed : (s : List Bool) (w : List ℕ) → w ≡ [] → Searched Step End Start found s w → (node : ℕ) → IsSeen s node → Followed Step End s node
   all_followed s w e h n seen = elim (h.state n seen) [ inl waits ↦ absurd (none_waits w n e waits) | inr done ↦ done ]
 
-  pub searched_none : (s : List Bool) (w : List ℕ) → w ≡ [] → ((node : ℕ) → Comes Step End node → node < length s) → Searched Step End Start found s w → (from : ℕ) → Start from → ¬ (Comes Step End from)
+  pub searched_none : (s : List Bool) (w : List ℕ) → w ≡ [] → ((node : ℕ) → Comes Step End node → node < length s) → Searched Step End Start found s w →
+      (from : ℕ) → Start from → ¬ (Comes Step End from)
   searched_none s w e within h from start comes = not_come s within (all_followed s w e h) from (h.begun from start (within from comes)) comes

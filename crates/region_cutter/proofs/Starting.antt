@@ -1,5 +1,6 @@
 -- Boundaries wherever they may stand are cuts: no path comes to a node that writes.
-use Rattle.std.proofs.Common.{◌≡◌, ◌⊎◌, inl, inr, ℕ, zero, suc, ◌<◌, ◌||◌, Bool, true, false, List, ◌∷◌, length, Option, Some, None, refl, ap, sym, subst, ◌∙◌, arith}
+use Rattle.std.proofs.Common.{◌≡◌, ◌⊎◌, inl, inr, ℕ, zero, suc, ◌<◌, ◌||◌, Bool, true, false, List, ◌∷◌, length, Option, Some, None, refl, ap, sym, subst}
+use Rattle.std.proofs.Common.{◌∙◌, arith}
 use Rattle.std.specs.Prelude.{slice_get, is_some}
 use Rattle.std.proofs.lemmas.List.{length-map}
 use Rattle.ido_base.specs.declared.location.Location.{Location}
@@ -37,7 +38,8 @@ entered g b path (goes_on from to rest edge free inside) zero node at has =
     free (inr (subst (λ (k : ℕ). HasBefore b k) same has))
 entered g b path (goes_on from to rest edge free inside) (suc j) node at has = entered g b (to ∷ rest) inside j node at has
 
-uncrossed : (g : Graph) (b : Boundaries) → ((node : ℕ) → Writes g node → HasBefore b node) → (path : List ℕ) → IsInside g b path → (i j : ℕ) (written : Location) → i < j → WritesAt g path j written → ⊥
+uncrossed : (g : Graph) (b : Boundaries) → ((node : ℕ) → Writes g node → HasBefore b node) → (path : List ℕ) → IsInside g b path →
+    (i j : ℕ) (written : Location) → i < j → WritesAt g path j written → ⊥
 uncrossed g b stands path inside i zero written lt w = absurd (omega arith)
 uncrossed g b stands path inside i (suc j) written lt w =
     entered g b path inside j w.node w.there (stands w.node (record { is = w.is; at = w.at; written = written; writes = w.writes }))
@@ -65,7 +67,8 @@ is_there (Some x) e = (x, refl)
 
 pub everywhere_kept : (g : Graph) (b : Boundaries) → t.AreEverywhere g b → t.AreKept g b
 everywhere_kept g b e =
-    let stands = λ (n : ℕ) (x : Node) (at : NodeAt g n x) (may : t.may_stand x ≡ true). subst (λ (bs : List Bool). slice_get bs n ≡ Some true) (sym e.before) (answered t.may_stand g.nodes n x at may) in
+    let stands = λ (n : ℕ) (x : Node) (at : NodeAt g n x) (may : t.may_stand x ≡ true). subst (λ (bs : List Bool). slice_get bs n ≡ Some true)
+    (sym e.before) (answered t.may_stand g.nodes n x at may) in
     let behind : (n : ℕ) → IsLock g n → HasBehind g b n = λ n lock. elim lock [
       | locks x mutex next at is ↦ record {
         locks = locks x mutex next at is;
@@ -75,7 +78,8 @@ everywhere_kept g b e =
     let before : (n : ℕ) → IsUnlock g n → HasBefore b n = λ n unlock. elim unlock [
       | unlocks x mutex next at is ↦ stands n x at (or_left (t.unlocks x.action) (is_some x.writes) (ap t.unlocks is))
     ] in
-    let writes : (n : ℕ) → Writes g n → HasBefore b n = λ n w. stands n w.is w.at (or_right (t.unlocks w.is.action) (is_some w.is.writes) (ap is_some w.writes)) in
+    let writes : (n : ℕ) → Writes g n → HasBefore b n =
+    λ n w. stands n w.is w.at (or_right (t.unlocks w.is.action) (is_some w.is.writes) (ap is_some w.writes)) in
     record {
       cuts = record { behind_locks = behind; before_unlocks = before; idempotent = idempotent g b writes };
       places = record {

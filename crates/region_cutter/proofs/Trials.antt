@@ -11,7 +11,8 @@ use Rattle.region_cutter.proofs.Lists.{get_set_other, had}
 
 -- ---- A trial
 
-pub tried : (g : Graph) (old new : Boundaries) (node : ℕ) (taken : Bool) → (IsTrue taken ↔ IsIdempotent g (without old node)) → (taken ≡ true → new ≡ without old node) → (taken ≡ false → new ≡ old) →
+pub tried : (g : Graph) (old new : Boundaries) (node : ℕ) (taken : Bool) → (IsTrue taken ↔ IsIdempotent g (without old node)) →
+    (taken ≡ true → new ≡ without old node) → (taken ≡ false → new ≡ old) →
     IsTried g old new node taken
 tried g old new node true k gone same = record {
   gone = gone;
@@ -19,7 +20,8 @@ tried g old new node true k gone same = record {
   same = λ t. absurd (cc);
   needed = λ t. absurd (cc);
 }
-tried g old new node false k gone same = record { gone = λ t. absurd (cc); idempotent = λ t. absurd (cc); same = same; needed = λ t h. let e : false ≡ true = k.1 h in cc }
+tried g old new node false k gone same =
+    record { gone = λ t. absurd (cc); idempotent = λ t. absurd (cc); same = same; needed = λ t h. let e : false ≡ true = k.1 h in cc }
 
 -- ---- What is kept
 
@@ -54,47 +56,56 @@ at_most : (g : Graph) (old new : Boundaries) (number : ℕ) (taken : Bool) → P
 at_most g old new number true p = omega (arith, p.fewer refl)
 at_most g old new number false p = omega (arith, ap standing (p.same refl))
 
-below_or_at : (g : Graph) (b : Boundaries) (number node : ℕ) → node < number + 1 → (node < number → ¬ (IsIdempotent g (without b node))) → (node ≡ number → ¬ (IsIdempotent g (without b node))) →
+below_or_at : (g : Graph) (b : Boundaries) (number node : ℕ) → node < number + 1 → (node < number → ¬ (IsIdempotent g (without b node))) →
+    (node ≡ number → ¬ (IsIdempotent g (without b node))) →
     ¬ (IsIdempotent g (without b node))
 below_or_at g b number node lt below at = elim (cases_eq node number) [
   | inl e ↦ at e
   | inr ne ↦ below (omega arith)
 ]
 
-pub pass_over : (g : Graph) (old new : Boundaries) (number : ℕ) (taken : Bool) → Passes g old new number taken → ¬ (IsChosen g new number) → Passes g old new (number + 1) taken
+pub pass_over : (g : Graph) (old new : Boundaries) (number : ℕ) (taken : Bool) → Passes g old new number taken → ¬ (IsChosen g new number) →
+    Passes g old new (number + 1) taken
 pass_over g old new number taken p free = record {
   kept = p.kept;
   fewer = p.fewer;
   same = p.same;
-  needed = λ t node lt chosen. below_or_at g new number node lt (λ less. p.needed t node less chosen) (λ e. absurd (free (subst (λ (m : ℕ). IsChosen g new m) e chosen)));
+  needed = λ t node lt chosen. below_or_at g new number node lt (λ less. p.needed t node less chosen)
+      (λ e. absurd (free (subst (λ (m : ℕ). IsChosen g new m) e chosen)));
 }
 
-pub pass_gone : (g : Graph) (old new next : Boundaries) (number : ℕ) (taken : Bool) → Passes g old new number taken → IsChosen g new number → IsTried g new next number true →
+pub pass_gone : (g : Graph) (old new next : Boundaries) (number : ℕ) (taken : Bool) → Passes g old new number taken → IsChosen g new number →
+    IsTried g new next number true →
     Passes g old next (number + 1) true
 pass_gone g old new next number taken p chosen tried =
     let e = tried.gone refl in
     let less : standing next < standing new = subst (λ (b : Boundaries). standing b < standing new) (sym e) (falls new number chosen.stands) in
     let most = at_most g old new number taken p in record {
-      kept = subst (λ (b : Boundaries). AreKept g b) (sym e) (kept_without g new number p.kept chosen (subst (λ (b : Boundaries). IsIdempotent g b) e (tried.idempotent refl)));
+      kept = subst (λ (b : Boundaries). AreKept g b) (sym e)
+          (kept_without g new number p.kept chosen (subst (λ (b : Boundaries). IsIdempotent g b) e (tried.idempotent refl)));
       fewer = λ t. omega (arith, less, most);
       same = λ t. absurd (cc);
       needed = λ t. absurd (cc);
     }
 
-needed_same : (g : Graph) (old new : Boundaries) (number : ℕ) (taken : Bool) → Passes g old new number taken → IsChosen g new number → ¬ (IsIdempotent g (without new number)) → Passes g old new (number + 1) taken
+needed_same : (g : Graph) (old new : Boundaries) (number : ℕ) (taken : Bool) → Passes g old new number taken → IsChosen g new number →
+    ¬ (IsIdempotent g (without new number)) → Passes g old new (number + 1) taken
 needed_same g old new number taken p chosen h = record {
   kept = p.kept;
   fewer = p.fewer;
   same = p.same;
-  needed = λ t node lt chosen'. below_or_at g new number node lt (λ less. p.needed t node less chosen') (λ e. subst (λ (m : ℕ). ¬ (IsIdempotent g (without new m))) (sym e) h);
+  needed = λ t node lt chosen'. below_or_at g new number node lt (λ less. p.needed t node less chosen')
+      (λ e. subst (λ (m : ℕ). ¬ (IsIdempotent g (without new m))) (sym e) h);
 }
 
-pub pass_kept : (g : Graph) (old new next : Boundaries) (number : ℕ) (taken : Bool) → Passes g old new number taken → IsChosen g new number → IsTried g new next number false →
+pub pass_kept : (g : Graph) (old new next : Boundaries) (number : ℕ) (taken : Bool) → Passes g old new number taken → IsChosen g new number →
+    IsTried g new next number false →
     Passes g old next (number + 1) taken
 pass_kept g old new next number taken p chosen tried =
     subst (λ (b : Boundaries). Passes g old b (number + 1) taken) (sym (tried.same refl)) (needed_same g old new number taken p chosen (tried.needed refl))
 
 -- a pass over all nodes that took none away
-pub pass_minimal : (g : Graph) (old new : Boundaries) (number : ℕ) (taken : Bool) → length g.nodes ≡ number → taken ≡ false → Passes g old new number taken → IsMinimal g new
+pub pass_minimal : (g : Graph) (old new : Boundaries) (number : ℕ) (taken : Bool) → length g.nodes ≡ number → taken ≡ false →
+    Passes g old new number taken → IsMinimal g new
 pass_minimal g old new number taken all none p node chosen =
     p.needed none node (omega (arith, slice_get_within new.before node true chosen.stands, p.kept.places.before_count)) chosen

@@ -2,3 +2,4 @@ pub mod Trying
 pub mod Searching
 pub mod Lines
 pub mod Local
+pub mod Marking

@@ -4,6 +4,7 @@ ghost use Rattle.flow_graph.specs.Nodes.{graph_of};
 ghost use Rattle.flow_graph.specs.Cutting.{AreCuts, IsMinimal, boundaries_of};
 ghost use Rattle.region_cutter.specs.Places.{AreAtWrites};
 
+use crate::marks::marks_of;
 use crate::start::everywhere;
 use crate::trying::take_away;
 use flow_graph::cuts::Cuts;
@@ -19,6 +20,7 @@ pub fn cut(alloc: Global, graph: &Graph) -> Result<Cuts, Memory>
     ensures places { IfOk result (λ cuts. AreAtWrites (graph_of graph.now) (boundaries_of cuts)) }
 {
     let mut cuts = everywhere(alloc, graph)?;
-    while take_away(alloc, graph, &mut cuts)? {}
+    let marks = marks_of(alloc, graph)?;
+    while take_away(alloc, graph, &mut cuts, &marks)? {}
     Ok(cuts)
 }

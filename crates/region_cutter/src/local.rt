@@ -1,12 +1,15 @@
-//! What may change where one boundary is taken away: only paths that pass the node before which it stood.
-ghost use Rattle.std.specs.Prelude.{◌≡◌, ◌↔◌, ◌<◌, [], ℕ, Contains, IfOk, OnOk, IsTrue, Some, false, length, replicate, slice_get};
+//! What may change where one boundary is taken away: only paths that pass the node before which it stood, and so only what is near it.
+ghost use Rattle.std.specs.Prelude.{◌≡◌, ◌↔◌, ◌<◌, ◌≤◌, [], ℕ, Contains, IfOk, OnOk, IsTrue, Some, false, length, replicate, slice_get};
 ghost use Rattle.flow_graph.specs.Nodes.{graph_of, node_of};
-ghost use Rattle.flow_graph.specs.Cutting.{HasBefore, boundaries_of};
-ghost use Rattle.region_cutter.specs.links.Local.{AddsRead, AddsWritten, AreAhead, AreReadOver, AreUnwritten, AreWritten, BeginsBelow, BeginsBy, Inside, InsidePast, IsExposed, IsExposedAt, IsKnownWithout, IsOverAny, IsOverwritten, WritesOver, WritesSame};
-ghost use Rattle.region_cutter.specs.links.Searching.{Comes, Follows};
+ghost use Rattle.flow_graph.specs.Cutting.{Begins, HasBefore, boundaries_of};
+ghost use Rattle.region_cutter.specs.links.Local.{AddsRead, AddsWritten, AllBehind, AreAhead, AreReadOver, AreUnwritten, AreWritten, BeginsBy, BeginsIn, Exposes, Inside, InsidePast, IsBehindExposed, IsBehindExposedIn, IsExposed, IsExposedAny, IsKnownWithout, IsOverAny, WritesOver, WritesSame};
+ghost use Rattle.region_cutter.specs.links.Marking.{AreMarks};
+ghost use Rattle.region_cutter.specs.links.Searching.{Follows};
 
 use crate::cleaning::{has_behind, stands};
+use crate::marks::Marks;
 use crate::search::Search;
+use crate::window::{Window, window_at};
 use flow_alias::{overlap, same};
 use flow_graph::cuts::Cuts;
 use flow_graph::graph::{Graph, Node};
@@ -14,8 +17,8 @@ use ido_base::location::Location;
 use ido_base::memory::Memory;
 use std::alloc::Global;
 
-// The node, unless a boundary is passed on the way to it.
-fn inside(cuts: &Cuts, behind: bool, to: Option<usize>) -> Option<usize>
+/// The node, unless a boundary is passed on the way to it.
+pub(crate) fn inside(cuts: &Cuts, behind: bool, to: Option<usize>) -> Option<usize>
     ensures { (node : ℕ) → (result ≡ Some node) ↔ ((to ≡ Some node) × (IsTrue behind → ⊥) × ¬ (HasBefore (boundaries_of cuts.now) node)) }
 {
     match to {
@@ -69,14 +72,20 @@ fn add_written(writes: &mut Vec<Location>, node: &Node) -> Result<(), Memory>
     Ok(())
 }
 
-// What the nodes among these write.
-fn written(alloc: Global, graph: &Graph, among: &[bool]) -> Result<Vec<Location>, Memory>
-    ensures { IfOk result (λ writes. AreWritten (graph_of graph.now) among.now writes.items) }
+/// What the window's nodes among these write.
+pub(crate) fn written(
+    alloc: Global,
+    graph: &Graph,
+    window: Window,
+    among: &[bool],
+) -> Result<Vec<Location>, Memory>
+    requires { window.end ≤ length graph.now.nodes.items }
+    ensures { IfOk result (λ writes. AreWritten (graph_of graph.now) window among.now writes.items) }
 {
     let mut writes = Vec::new(alloc);
-    for (number, node) in graph.nodes.iter().enumerate() {
+    for number in window.first..window.end {
         if stands(among, number) {
-            add_written(&mut writes, node)?;
+            add_written(&mut writes, &graph.nodes[number])?;
         }
     }
     Ok(writes)
@@ -116,109 +125,53 @@ fn writes_same(graph: &Graph, element: Location, number: usize, node: &Node) -> 
     }
 }
 
-// Whether the region goes on from this node, or is there, to one that may write one of the elements.
-fn comes_over(
-    alloc: Global,
-    graph: &Graph,
-    cuts: &Cuts,
-    elements: Location,
-    from: usize,
-) -> Result<bool, Memory>
-    ensures { IfOk result (λ yes. IsTrue yes ↔ Comes (Inside (graph_of graph.now) (boundaries_of cuts.now)) (WritesOver (graph_of graph.now) elements) from) }
+// Whether a region begins at the node.
+fn begins_at(graph: &Graph, cuts: &Cuts, marks: &Marks, number: usize) -> bool
+    requires exists { number < length graph.now.nodes.items }
+    requires marks { AreMarks (graph_of graph.now) marks.now }
+    requires locks { AllBehind (graph_of graph.now) (boundaries_of cuts.now) }
+    ensures { IsTrue result ↔ Begins (graph_of graph.now) (boundaries_of cuts.now) number }
 {
-    let mut search = Search::at(alloc, graph.nodes.len(), from)?;
-    while let Some(number) = search.waiting.pop() {
-        let node = &graph.nodes[number];
-        if writes_over(graph, elements, number, node) {
-            return Ok(true);
-        }
-        go_on(graph, cuts, &mut search, number, node)?;
-    }
-    Ok(false)
+    let before = stands(&cuts.before, number);
+    let behind = stands(&marks.begun, number);
+    before || behind
 }
 
-// The same of a node that may be none.
-fn comes_over_any(
-    alloc: Global,
-    graph: &Graph,
-    cuts: &Cuts,
-    elements: Location,
-    from: Option<usize>,
-) -> Result<bool, Memory>
-    ensures { IfOk result (λ yes. IsTrue yes ↔ ((node : ℕ) × (from ≡ Some node) × Comes (Inside (graph_of graph.now) (boundaries_of cuts.now)) (WritesOver (graph_of graph.now) elements) node)) }
-{
-    match from {
-        Some(node) => {
-            let comes = comes_over(alloc, graph, cuts, elements, node)?;
-            Ok(comes)
-        }
-        None => Ok(false),
-    }
-}
-
-// Whether the region goes on behind the node to one that may write one of the elements.
-fn is_overwritten(
-    alloc: Global,
-    graph: &Graph,
-    cuts: &Cuts,
-    elements: Location,
-    number: usize,
-    node: &Node,
-) -> Result<bool, Memory>
-    requires { slice_get graph.now.nodes.items number ≡ Some node.now }
-    ensures { IfOk result (λ yes. IsTrue yes ↔ IsOverwritten (graph_of graph.now) (boundaries_of cuts.now) elements number) }
-{
-    let behind = has_behind(graph, cuts, number, node);
-    let next = inside(cuts, behind, node.next());
-    let other = inside(cuts, behind, node.other());
-    let by_next = comes_over_any(alloc, graph, cuts, elements, next)?;
-    let by_other = comes_over_any(alloc, graph, cuts, elements, other)?;
-    Ok(by_next || by_other)
-}
-
-// The node, if a boundary stands before it.
-fn begun_here(cuts: &Cuts, number: usize) -> Option<usize>
-    ensures { (node : ℕ) → (result ≡ Some node) ↔ ((number ≡ node) × HasBefore (boundaries_of cuts.now) number) }
-{
-    if stands(&cuts.before, number) {
-        Some(number)
-    } else {
-        None
-    }
-}
-
-// The node, if a boundary stands behind the one before it.
-fn begun_behind(behind: bool, to: Option<usize>) -> Option<usize>
-    ensures { (node : ℕ) → (result ≡ Some node) ↔ ((to ≡ Some node) × IsTrue behind) }
-{
-    if behind { to } else { None }
-}
-
-// Comes to the nodes at which regions begin because of this one.
+// Comes to the node, if a region begins there.
 fn come_to_begun(
     graph: &Graph,
     cuts: &Cuts,
+    marks: &Marks,
     search: &mut Search,
     number: usize,
-    node: &Node,
 ) -> Result<(), Memory>
-    requires { slice_get graph.now.nodes.items number ≡ Some node.now }
+    requires exists { number < length graph.now.nodes.items }
+    requires marks { AreMarks (graph_of graph.now) marks.now }
+    requires locks { AllBehind (graph_of graph.now) (boundaries_of cuts.now) }
     ensures { OnOk result (Follows (BeginsBy (graph_of graph.now) (boundaries_of cuts.now) number) search.old.seen.items search.old.waiting.items search.new.seen.items search.new.waiting.items) }
 {
-    let behind = has_behind(graph, cuts, number, node);
-    search.come_to_any(begun_here(cuts, number))?;
-    search.come_to_any(begun_behind(behind, node.next()))?;
-    search.come_to_any(begun_behind(behind, node.other()))?;
+    if begins_at(graph, cuts, marks, number) {
+        search.come_to(number)?;
+    }
     Ok(())
 }
 
-// A search that has come to each node where a region begins.
-fn begin_search(alloc: Global, graph: &Graph, cuts: &Cuts) -> Result<Search, Memory>
-    ensures { IfOk result (λ search. Follows (BeginsBelow (graph_of graph.now) (boundaries_of cuts.now) (length graph.now.nodes.items)) (replicate (length graph.now.nodes.items) false) [] search.seen.items search.waiting.items) }
+// A search that has come to each node of the window where a region begins.
+fn begin_search(
+    alloc: Global,
+    graph: &Graph,
+    cuts: &Cuts,
+    marks: &Marks,
+    window: Window,
+) -> Result<Search, Memory>
+    requires within { window.end ≤ length graph.now.nodes.items }
+    requires marks { AreMarks (graph_of graph.now) marks.now }
+    requires locks { AllBehind (graph_of graph.now) (boundaries_of cuts.now) }
+    ensures { IfOk result (λ search. Follows (BeginsIn (graph_of graph.now) (boundaries_of cuts.now) window) (replicate (length graph.now.nodes.items) false) [] search.seen.items search.waiting.items) }
 {
     let mut search = Search::nowhere(alloc, graph.nodes.len())?;
-    for (number, node) in graph.nodes.iter().enumerate() {
-        come_to_begun(graph, cuts, &mut search, number, node)?;
+    for number in window.first..window.end {
+        come_to_begun(graph, cuts, marks, &mut search, number)?;
     }
     Ok(search)
 }
@@ -246,11 +199,16 @@ fn unwritten(
     alloc: Global,
     graph: &Graph,
     cuts: &Cuts,
+    marks: &Marks,
+    window: Window,
     element: Location,
 ) -> Result<Vec<bool>, Memory>
-    ensures { IfOk result (λ seen. AreUnwritten (graph_of graph.now) (boundaries_of cuts.now) element seen.items) }
+    requires within { window.end ≤ length graph.now.nodes.items }
+    requires marks { AreMarks (graph_of graph.now) marks.now }
+    requires locks { AllBehind (graph_of graph.now) (boundaries_of cuts.now) }
+    ensures { IfOk result (λ seen. AreUnwritten (graph_of graph.now) (boundaries_of cuts.now) window element seen.items) }
 {
-    let mut search = begin_search(alloc, graph, cuts)?;
+    let mut search = begin_search(alloc, graph, cuts, marks, window)?;
     while let Some(number) = search.waiting.pop() {
         go_on_past(
             graph,
@@ -301,48 +259,134 @@ fn add_reads(reads: &mut Vec<Location>, writes: &[Location], node: &Node) -> Res
     Ok(())
 }
 
-// What nodes read and one of these writes may be over, each location once.
-fn reads_over(alloc: Global, graph: &Graph, writes: &[Location]) -> Result<Vec<Location>, Memory>
-    ensures { IfOk result (λ reads. AreReadOver (graph_of graph.now) writes.now reads.items) }
+// What the window's nodes read and one of these writes may be over, each location once.
+fn reads_over(
+    alloc: Global,
+    graph: &Graph,
+    window: Window,
+    writes: &[Location],
+) -> Result<Vec<Location>, Memory>
+    requires { window.end ≤ length graph.now.nodes.items }
+    ensures { IfOk result (λ reads. AreReadOver (graph_of graph.now) window writes.now reads.items) }
 {
     let mut reads = Vec::new(alloc);
-    for node in &graph.nodes {
-        add_reads(&mut reads, writes, node)?;
+    for number in window.first..window.end {
+        add_reads(&mut reads, writes, &graph.nodes[number])?;
     }
     Ok(reads)
 }
 
-// Whether the node reads elements that its region may overwrite, where these are the nodes at which they are unwritten.
-fn is_exposed_at(
-    alloc: Global,
+// Whether the node reads the elements, where these are the nodes at which they are unwritten.
+fn exposes(
     graph: &Graph,
     cuts: &Cuts,
+    window: Window,
     unwritten: &[bool],
     elements: Location,
     number: usize,
-) -> Result<bool, Memory>
-    requires exists { number < length graph.now.nodes.items }
-    requires unwritten { AreUnwritten (graph_of graph.now) (boundaries_of cuts.now) elements unwritten.now }
-    ensures { IfOk result (λ yes. IsTrue yes ↔ IsExposedAt (graph_of graph.now) (boundaries_of cuts.now) elements number) }
+    node: &Node,
+) -> bool
+    requires node { slice_get graph.now.nodes.items number ≡ Some node.now }
+    requires unwritten { AreUnwritten (graph_of graph.now) (boundaries_of cuts.now) window elements unwritten.now }
+    ensures { IsTrue result ↔ Exposes (graph_of graph.now) (boundaries_of cuts.now) window elements number }
 {
-    let node = &graph.nodes[number];
-    if !stands(unwritten, number) {
-        return Ok(false);
-    }
-    if !is_among(&node.reads, elements) {
-        return Ok(false);
-    }
-    let overwritten = is_overwritten(alloc, graph, cuts, elements, number, node)?;
-    Ok(overwritten)
+    stands(unwritten, number) && is_among(&node.reads, elements)
 }
 
-// Whether a node reads the elements that its region may overwrite.
-fn is_exposed(alloc: Global, graph: &Graph, cuts: &Cuts, elements: Location) -> Result<bool, Memory>
-    ensures { IfOk result (λ yes. IsTrue yes ↔ IsExposed (graph_of graph.now) (boundaries_of cuts.now) elements) }
+// Goes on from the node, if it exposes the elements.
+fn come_behind_exposed(
+    graph: &Graph,
+    cuts: &Cuts,
+    search: &mut Search,
+    window: Window,
+    unwritten: &[bool],
+    elements: Location,
+    number: usize,
+    node: &Node,
+) -> Result<(), Memory>
+    requires node { slice_get graph.now.nodes.items number ≡ Some node.now }
+    requires unwritten { AreUnwritten (graph_of graph.now) (boundaries_of cuts.now) window elements unwritten.now }
+    ensures { OnOk result (Follows (IsBehindExposed (graph_of graph.now) (boundaries_of cuts.now) window elements number) search.old.seen.items search.old.waiting.items search.new.seen.items search.new.waiting.items) }
 {
-    let unwritten = unwritten(alloc, graph, cuts, elements)?;
-    for number in 0..graph.nodes.len() {
-        let exposed = is_exposed_at(alloc, graph, cuts, &unwritten, elements, number)?;
+    if exposes(graph, cuts, window, unwritten, elements, number, node) {
+        go_on(graph, cuts, search, number, node)?;
+    }
+    Ok(())
+}
+
+// A search that has come to each node behind one of the window that exposes the elements.
+fn behind_exposed(
+    alloc: Global,
+    graph: &Graph,
+    cuts: &Cuts,
+    window: Window,
+    unwritten: &[bool],
+    elements: Location,
+) -> Result<Search, Memory>
+    requires within { window.end ≤ length graph.now.nodes.items }
+    requires unwritten { AreUnwritten (graph_of graph.now) (boundaries_of cuts.now) window elements unwritten.now }
+    ensures { IfOk result (λ search. Follows (IsBehindExposedIn (graph_of graph.now) (boundaries_of cuts.now) window elements) (replicate (length graph.now.nodes.items) false) [] search.seen.items search.waiting.items) }
+{
+    let mut search = Search::nowhere(alloc, graph.nodes.len())?;
+    for number in window.first..window.end {
+        let node = &graph.nodes[number];
+        come_behind_exposed(
+            graph,
+            cuts,
+            &mut search,
+            window,
+            unwritten,
+            elements,
+            number,
+            node,
+        )?;
+    }
+    Ok(search)
+}
+
+// Whether a node of the window exposes the elements and its region may overwrite them. One search goes on from all such nodes.
+fn is_exposed(
+    alloc: Global,
+    graph: &Graph,
+    cuts: &Cuts,
+    marks: &Marks,
+    window: Window,
+    elements: Location,
+) -> Result<bool, Memory>
+    requires within { window.end ≤ length graph.now.nodes.items }
+    requires marks { AreMarks (graph_of graph.now) marks.now }
+    requires locks { AllBehind (graph_of graph.now) (boundaries_of cuts.now) }
+    ensures { IfOk result (λ yes. IsTrue yes ↔ IsExposed (graph_of graph.now) (boundaries_of cuts.now) window elements) }
+{
+    let unwritten = unwritten(alloc, graph, cuts, marks, window, elements)?;
+    let mut search = behind_exposed(alloc, graph, cuts, window, &unwritten, elements)?;
+    while let Some(number) = search.waiting.pop() {
+        let node = &graph.nodes[number];
+        if writes_over(graph, elements, number, node) {
+            return Ok(true);
+        }
+        go_on(graph, cuts, &mut search, number, node)?;
+    }
+    Ok(false)
+}
+
+/// Whether a node of the window exposes elements that its region may overwrite, where these are what the region may write.
+pub(crate) fn exposes_any(
+    alloc: Global,
+    graph: &Graph,
+    cuts: &Cuts,
+    marks: &Marks,
+    window: Window,
+    writes: &[Location],
+) -> Result<bool, Memory>
+    requires within { window.end ≤ length graph.now.nodes.items }
+    requires marks { AreMarks (graph_of graph.now) marks.now }
+    requires locks { AllBehind (graph_of graph.now) (boundaries_of cuts.now) }
+    ensures { IfOk result (IsExposedAny (graph_of graph.now) (boundaries_of cuts.now) window writes.now) }
+{
+    let reads = reads_over(alloc, graph, window, writes)?;
+    for elements in &reads {
+        let exposed = is_exposed(alloc, graph, cuts, marks, window, *elements)?;
         if exposed {
             return Ok(true);
         }
@@ -355,18 +399,17 @@ pub(crate) fn is_idempotent_without(
     alloc: Global,
     graph: &Graph,
     cuts: &Cuts,
+    marks: &Marks,
     node: usize,
 ) -> Result<bool, Memory>
+    requires exists { node < length graph.now.nodes.items }
+    requires marks { AreMarks (graph_of graph.now) marks.now }
+    requires locks { AllBehind (graph_of graph.now) (boundaries_of cuts.now) }
     ensures { IfOk result (IsKnownWithout (graph_of graph.now) (boundaries_of cuts.now) node) }
 {
+    let window = window_at(graph, cuts, marks, node);
     let seen = ahead(alloc, graph, cuts, node)?;
-    let writes = written(alloc, graph, &seen)?;
-    let reads = reads_over(alloc, graph, &writes)?;
-    for elements in &reads {
-        let exposed = is_exposed(alloc, graph, cuts, *elements)?;
-        if exposed {
-            return Ok(false);
-        }
-    }
-    Ok(true)
+    let writes = written(alloc, graph, window, &seen)?;
+    let exposed = exposes_any(alloc, graph, cuts, marks, window, &writes)?;
+    Ok(!exposed)
 }

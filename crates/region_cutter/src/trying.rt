@@ -1,10 +1,13 @@
 //! Trials: a boundary is taken away, and put back where regions could not be run again without it.
-ghost use Rattle.std.specs.Prelude.{IfOk, length};
+ghost use Rattle.std.specs.Prelude.{◌<◌, IfOk, length};
 ghost use Rattle.flow_graph.specs.Nodes.{graph_of};
 ghost use Rattle.flow_graph.specs.Cutting.{HasBefore, IsIdempotent, boundaries_of};
+ghost use Rattle.region_cutter.specs.links.Local.{AllBehind};
+ghost use Rattle.region_cutter.specs.links.Marking.{AreMarks};
 ghost use Rattle.region_cutter.specs.links.Trying.{AreKept, IsTried, Passes};
 
 use crate::local::is_idempotent_without;
+use crate::marks::Marks;
 use crate::start::unlocks;
 use flow_graph::cuts::Cuts;
 use flow_graph::graph::Graph;
@@ -12,13 +15,22 @@ use ido_base::memory::Memory;
 use std::alloc::Global;
 
 // Takes the boundary before the node away, if regions can be run again without it. Whether it is gone.
-fn try_without(alloc: Global, graph: &Graph, cuts: &mut Cuts, node: usize) -> Result<bool, Memory>
+fn try_without(
+    alloc: Global,
+    graph: &Graph,
+    cuts: &mut Cuts,
+    marks: &Marks,
+    node: usize,
+) -> Result<bool, Memory>
+    requires exists { node < length graph.now.nodes.items }
+    requires marks { AreMarks (graph_of graph.now) marks.now }
+    requires locks { AllBehind (graph_of graph.now) (boundaries_of cuts.old) }
     requires stands { HasBefore (boundaries_of cuts.old) node }
     requires idempotent { IsIdempotent (graph_of graph.now) (boundaries_of cuts.old) }
     ensures { IfOk result (λ taken. IsTried (graph_of graph.now) (boundaries_of cuts.old) (boundaries_of cuts.new) node taken) }
 {
     cuts.before[node] = false;
-    let taken = is_idempotent_without(alloc, graph, cuts, node)?;
+    let taken = is_idempotent_without(alloc, graph, cuts, marks, node)?;
     if !taken {
         cuts.before[node] = true;
     }
@@ -27,14 +39,20 @@ fn try_without(alloc: Global, graph: &Graph, cuts: &mut Cuts, node: usize) -> Re
 
 /// Tries each boundary that stands by choice, in the order of the nodes: so on straight code those that are left stand as late
 /// as they can. Whether any was taken away.
-pub(crate) fn take_away(alloc: Global, graph: &Graph, cuts: &mut Cuts) -> Result<bool, Memory>
-    requires { AreKept (graph_of graph.now) (boundaries_of cuts.old) }
+pub(crate) fn take_away(
+    alloc: Global,
+    graph: &Graph,
+    cuts: &mut Cuts,
+    marks: &Marks,
+) -> Result<bool, Memory>
+    requires kept { AreKept (graph_of graph.now) (boundaries_of cuts.old) }
+    requires marks { AreMarks (graph_of graph.now) marks.now }
     ensures { IfOk result (λ taken. Passes (graph_of graph.now) (boundaries_of cuts.old) (boundaries_of cuts.new) (length graph.now.nodes.items) taken) }
 {
     let mut any = false;
     for (number, node) in graph.nodes.iter().enumerate() {
         if cuts.before[number] && !unlocks(node) {
-            if try_without(alloc, graph, cuts, number)? {
+            if try_without(alloc, graph, cuts, marks, number)? {
                 any = true;
             }
         }

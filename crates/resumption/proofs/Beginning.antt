@@ -15,11 +15,12 @@ use Rattle.resumption.specs.Attempts.{Attempt, attempt_at, solo, IsInnerStep, Is
 use Rattle.resumption.specs.Moments.{Moment, now, attempt_of, IsTried, IsUntouched, IsCaughtUp, Invariant}
 use Rattle.resumption.specs.Events.{stepped, begun, IsGoing, GoesOn, Stores, Passes}
 use Rattle.resumption.proofs.Histories.{there_with, live_with, stable_again}
-use Rattle.resumption.proofs.Steps.{store_same, locks_same, unlocks_same, store_inner, number_stays, unstored, number_unstored, number_stored}
+use Rattle.source_machine.proofs.Exchanging.{locks_same, unlocks_same}
+use Rattle.resumption.proofs.Steps.{store_same, store_inner, number_stays, unstored, number_unstored, number_stored}
 use Rattle.resumption.proofs.Paths.{none_some, held_same, beside, writes_more}
 use Rattle.resumption.proofs.Schedules.{counted_own, counted_other, runs_more, after_more, same_back, tried_of, tried_same, alone}
 
-below_max : (k a b : ℕ) → k < max a b → (k < a) ⊎ (k < b)
+pub below_max : (k a b : ℕ) → k < max a b → (k < a) ⊎ (k < b)
 below_max k a b h = ⊎_elim (λ l. inl l) (λ g. ⊎_elim (λ l. inr l) (λ g'.
     let no : max a b ≤ k = max-le g g' in absurd (omega (arith, h, no))) (cases_lt k b)) (cases_lt k a)
 

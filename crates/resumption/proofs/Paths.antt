@@ -18,7 +18,8 @@ use Rattle.source_machine.proofs.Discipline.{step_keeps, run_keeps}
 use Rattle.source_machine.proofs.Guarded.{reads_guarded}
 use Rattle.resumption.specs.Histories.{number_at}
 use Rattle.resumption.specs.Attempts.{solo, IsInnerStep, IsInner, store_ahead, WritesAt, Writes}
-use Rattle.resumption.proofs.Steps.{store_same, locks_same, unlocks_same, storing, number_unstored, inner_holders}
+use Rattle.source_machine.proofs.Exchanging.{locks_same, unlocks_same, held_there}
+use Rattle.resumption.proofs.Steps.{store_same, storing, number_unstored, inner_holders}
 
 -- behind a step that is made
 pub solo_first : (s next : m.State) (t k : ℕ) → source_step s t ≡ Some next → solo s t (suc k) ≡ solo next t k
@@ -26,16 +27,6 @@ solo_first s next t k h = ap (after_by (replicate k t) s) h
 
 pub inner_rest : (s : m.State) (t n : ℕ) (inner : IsInner s t (suc n)) (next : m.State) → source_step s t ≡ Some next → IsInner next t n
 inner_rest s t n inner next h k l = subst (λ (z : m.State). IsInnerStep z t) (solo_first s next t k h) (inner (suc k) (omega (arith, l)))
-
-pub held_there : (t : ℕ) (hs : List (Option ℕ)) (k : ℕ) → slice_get hs k ≡ Some (Some t) → holds (held_by t hs) k ≡ true
-held_there t [] k h = cc
-held_there t (o ∷ hs) zero h =
-    let is : o ≡ Some t = some_is o (Some t) h in
-    ap (is_held_by t) is ∙ equal t
-  where
-    equal : (a : ℕ) → (a == a) ≡ true
-    equal a = grind (arith, nat_tests)
-held_there t (o ∷ hs) (suc k) h = held_there t hs k h
 
 -- what one state's thread holds the other's does
 pub held_same : (t : ℕ) (hs gs : List (Option ℕ)) (k : ℕ) → held_by t hs ≡ held_by t gs → slice_get hs k ≡ Some (Some t) → slice_get gs k ≡ Some (Some t)

@@ -23,7 +23,7 @@ no_hands s c = empty (c.before ++ c.giver ∷ c.between) c.taker c.rest c.is
 
 -- ---- The start
 
-none_yet : {X : Type 0} (xs : List X) (k : ℕ) → slice_index_or (map (λ (t : X). no_attempt) xs) k no_attempt ≡ no_attempt
+pub none_yet : {X : Type 0} (xs : List X) (k : ℕ) → slice_index_or (map (λ (t : X). no_attempt) xs) k no_attempt ≡ no_attempt
 none_yet [] k = refl
 none_yet (x ∷ xs) zero = refl
 none_yet (x ∷ xs) (suc k) = none_yet xs k

@@ -110,18 +110,6 @@ store_by o = elim o [
 pub store_same : (s z : m.State) (t : ℕ) → slice_get z.threads t ≡ slice_get s.threads t → store_ahead z t ≡ store_ahead s t
 store_same s z t h = ap store_by h
 
-abbrev lock_by_thread : Option m.Thread → Option ℕ
-lock_by_thread o = elim o [ Some found ↦ lock_ahead found | None ↦ None ]
-
-abbrev unlock_by_thread : Option m.Thread → Option ℕ
-unlock_by_thread o = elim o [ Some found ↦ unlock_ahead found | None ↦ None ]
-
-pub locks_same : (s z : m.State) (t : ℕ) → slice_get z.threads t ≡ slice_get s.threads t → locks z t ≡ locks s t
-locks_same s z t h = ap lock_by_thread h
-
-pub unlocks_same : (s z : m.State) (t : ℕ) → slice_get z.threads t ≡ slice_get s.threads t → unlocks z t ≡ unlocks s t
-unlocks_same s z t h = ap unlock_by_thread h
-
 unstored_by : (s next : m.State) (t : ℕ) (o : Option m.Thread) → slice_get s.threads t ≡ o → store_by o ≡ None → source_step s t ≡ Some next →
     next.variables ≡ s.variables
 unstored_by s next t None e g h = let none = step_missing s t e in cc

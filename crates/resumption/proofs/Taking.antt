@@ -15,43 +15,13 @@ use Rattle.source_machine.proofs.Keeping.{keeps_unlock}
 use Rattle.source_machine.proofs.Changes.{some_is, locks_found, unlocks_found, Passed, takes, gives, Stepped}
 use Rattle.source_machine.proofs.Discipline.{stepped, run_keeps}
 use Rattle.source_machine.proofs.Swapping.{mutex_stays, mutex_passed}
-use Rattle.source_machine.proofs.Exchanging.{solo as solo_law}
+use Rattle.source_machine.proofs.Exchanging.{unlocks_held, solo as solo_law}
 use Rattle.resumption.specs.Attempts.{solo}
 use Rattle.resumption.specs.Moments.{Moment, now, attempt_of, Invariant}
 use Rattle.resumption.specs.Laws.{LeftIsFree, HasLocked, HasUnlocked, HeldNow, HeldBefore}
 use Rattle.resumption.proofs.Paths.{none_some, held_same, solo_holders}
 use Rattle.resumption.proofs.Schedules.{equal_self}
 use Rattle.resumption.proofs.Settling.{front_runs, LastStep, last_step}
-
--- ---- What a thread unlocks it holds
-
-unlocks_left : (vs : List Variable) (h after : Held) (left : List f.Statement) (k : ℕ) → KeepList vs h left after → first_unlock left ≡ Some k →
-    holds h k ≡ true
-unlocks_left vs h after [] k keep e = cc
-unlocks_left vs h after (f.Assign place target value ∷ rest) k keep e = cc
-unlocks_left vs h after (f.If place arms otherwise ∷ rest) k keep e = cc
-unlocks_left vs h after (f.While place condition body ∷ rest) k keep e = cc
-unlocks_left vs h after (f.Do place body condition ∷ rest) k keep e = cc
-unlocks_left vs h after (f.Lock place mutex ∷ rest) k keep e = cc
-unlocks_left vs h after (f.Unlock place mutex ∷ rest) k keep e = subst (λ (j : ℕ). holds h j ≡ true) (some_is mutex k e) (keeps_unlock vs keep.1).0
-
-unlocks_pending : (o : Option m.Pending) (left : List f.Statement) (k : ℕ) →
-    (let r : Option ℕ = elim o [ Some p ↦ None | None ↦ first_unlock left ] in r ≡ Some k) → first_unlock left ≡ Some k
-unlocks_pending (Some p) left k e = cc
-unlocks_pending None left k e = e
-
-unlocks_by : (x : f.Flat) (s : m.State) (t k : ℕ) (o : Option m.Thread) → slice_get s.threads t ≡ o → StateKeeps x s → unlocks s t ≡ Some k →
-    slice_get s.holders k ≡ Some (Some t)
-unlocks_by x s t k None e keeps h =
-    let no : unlocks s t ≡ None = ap (λ (o : Option m.Thread). let r : Option ℕ = elim o [ Some found ↦ unlock_ahead found | None ↦ None ] in r) e in
-    let off : None ≡ Some k = sym no ∙ h in
-    cc
-unlocks_by x s t k (Some thread) e keeps h =
-    held_found t s.holders k (unlocks_left x.variables (held_by t s.holders) _ thread.left k (keeps.each t thread e).left
-    (unlocks_pending thread.pending thread.left k (sym (unlocks_found s t thread e) ∙ h)))
-
-unlocks_held : (x : f.Flat) (s : m.State) (t k : ℕ) → StateKeeps x s → unlocks s t ≡ Some k → slice_get s.holders k ≡ Some (Some t)
-unlocks_held x s t k keeps h = unlocks_by x s t k (slice_get s.threads t) refl keeps h
 
 -- ---- A front of a schedule
 
@@ -70,7 +40,7 @@ assoc : (xs ys zs : List ℕ) → (xs ++ ys) ++ zs ≡ xs ++ (ys ++ zs)
 assoc [] ys zs = refl
 assoc (x ∷ xs) ys zs = ap (λ (ks : List ℕ). x ∷ ks) (assoc xs ys zs)
 
-front_hands : (s : m.State) (us vs : List ℕ) → ¬ (ChangesHands s (us ++ vs)) → ¬ (ChangesHands s us)
+pub front_hands : (s : m.State) (us vs : List ℕ) → ¬ (ChangesHands s (us ++ vs)) → ¬ (ChangesHands s us)
 front_hands s us vs never c = never (record {
   before = c.before;
   giver = c.giver;

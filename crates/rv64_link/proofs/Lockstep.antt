@@ -1,5 +1,5 @@
 -- The words of a thread's items do what the items do.
-use Rattle.std.proofs.Common.{◌≡◌, ℕ, ◌+◌, ◌-◌, ◌*◌, ◌^◌, ◌<◌, ◌≤◌, List, length, map, Some, None, Bool, true, false, refl, sym, ap, ap₂, subst, ◌∙◌, arith}
+use Rattle.std.proofs.Common.{◌≡◌, ℕ, ◌+◌, ◌-◌, ◌*◌, ◌^◌, ◌<◌, ◌≤◌, List, length, map, Some, None, Bool, true, false, refl, sym, ap, ap₂, subst, ◌∙◌, arith, lit≤}
 use Rattle.std.specs.Prelude.{slice_get, sum_by, nat_le, not, ◌&&◌, if◌then◌else◌}
 use Rattle.rv64_isa.specs.Arithmetic.{is_taken}
 use Rattle.rv64_isa.specs.Programs.{code_base}
@@ -13,10 +13,10 @@ use Rattle.rv64_isa.specs.declared.object.CodeItem.TheVariants.{Instruction, Bra
 use Rattle.rv64_isa.specs.declared.object.Label.{Label}
 use Rattle.rv64_isa.specs.declared.object.Slot.{Slot}
 use Rattle.rv64_isa.specs.declared.object.Slot.TheVariants.{Row}
-use Rattle.rv64_link.specs.LabelledCode.{does, label_position, most_words_of, positions_from, is_mark, is_resume}
-use Rattle.rv64_link.specs.Linked.{Stands, Does, in_one, in_two, IsLinked}
+use Rattle.rv64_link.specs.LabelledCode.{does, label_position, least_words_of, most_words_of, positions_from, is_mark, is_resume}
+use Rattle.rv64_link.specs.Linked.{Stands, Does, in_one, in_two, IsRoom, IsLinked}
 use Rattle.rv64_link.specs.links.Layout.{is_near, inverse, offset, size, numbers, number_at, slots_of, slots}
-use Rattle.rv64_link.proofs.Places.{within, number_first, number_next, number_last, number_steps, number_bounded, stands_at, label_within}
+use Rattle.rv64_link.proofs.Places.{within, size_small, number_first, number_next, number_last, number_steps, number_bounded, stands_at, label_within}
 
 -- ---- Offsets
 
@@ -132,7 +132,7 @@ module _ (all : List CodeItem) (first : ℕ) (few : sum_by most_words_of all ≤
       let b = high_at q inside in
       jump_lands f (at q) (omega (arith, high_f, low)) (small_at q inside) (omega (arith, low_f, b)) (omega (arith, high_f, a))
 
-  jump : (p : ℕ) (rd : ℕ) (to : Label) (x : List ℕ) → slice_get all p ≡ Some (JumpTo rd to) → Does start code x (address p) (GoesOn (written x rd (address (p + 1))) (address (label_position to.0 all)))
+  jump : (p : ℕ) (rd : ℕ) (to : Label) (x : List ℕ) → slice_get all p ≡ Some (JumpTo rd to) → Does start code x (address p) (address (p + 1)) (GoesOn (written x rd (address (p + 1))) (address (label_position to.0 all)))
   jump p rd to x e =
       let inside : p ≤ length all = omega (arith, within all p (JumpTo rd to) e) in
       let lands = jump_goes (at p) to.0 (low_at p inside) (omega (arith, high_at p inside)) in
@@ -140,7 +140,7 @@ module _ (all : List CodeItem) (first : ℕ) (few : sum_by most_words_of all ≤
       (row_of_jump rd _ x (address p) ∙ ap₂ (λ v pc. GoesOn (written x rd v) pc) (one_word p (JumpTo rd to) e refl) lands)
 
   near_branch : (p : ℕ) (c : Condition) (rs1 rs2 : ℕ) (to : Label) (x : List ℕ) → slice_get all p ≡ Some (BranchTo c rs1 rs2 to) → is_near p (label_position to.0 all) ≡ true
-      → Does start code x (address p) (GoesOn x (if is_taken c (read x rs1) (read x rs2) then address (label_position to.0 all) else address (p + 1)))
+      → Does start code x (address p) (address (p + 1)) (GoesOn x (if is_taken c (read x rs1) (read x rs2) then address (label_position to.0 all) else address (p + 1)))
   near_branch p c rs1 rs2 to x e near =
       let q = label_position to.0 all in
       let item : CodeItem = BranchTo c rs1 rs2 to in
@@ -165,7 +165,7 @@ module _ (all : List CodeItem) (first : ℕ) (few : sum_by most_words_of all ≤
           by false e = let le : q ≤ p = omega (arith, lt_of p q e) in let m = upward q p le hp in (omega (arith, m.0), omega (arith, m.1, down))
 
   far_branch : (p : ℕ) (c : Condition) (rs1 rs2 : ℕ) (to : Label) (x : List ℕ) → slice_get all p ≡ Some (BranchTo c rs1 rs2 to) → is_near p (label_position to.0 all) ≡ false
-      → Does start code x (address p) (GoesOn x (if is_taken c (read x rs1) (read x rs2) then address (label_position to.0 all) else address (p + 1)))
+      → Does start code x (address p) (address (p + 1)) (GoesOn x (if is_taken c (read x rs1) (read x rs2) then address (label_position to.0 all) else address (p + 1)))
   far_branch p c rs1 rs2 to x e far = by (is_taken c (read x rs1) (read x rs2)) refl
     where
       q : ℕ
@@ -186,14 +186,19 @@ module _ (all : List CodeItem) (first : ℕ) (few : sum_by most_words_of all ≤
       away : Instr
       away = Jal 0 (offset 21 (at p + 1) (at q))
 
-      by : (b : Bool) → is_taken c (read x rs1) (read x rs2) ≡ b → Does start code x (address p) (GoesOn x (if is_taken c (read x rs1) (read x rs2) then address q else address (p + 1)))
+      by : (b : Bool) → is_taken c (read x rs1) (read x rs2) ≡ b → Does start code x (address p) (address (p + 1)) (GoesOn x (if is_taken c (read x rs1) (read x rs2) then address q else address (p + 1)))
       by true taken =
           let between : ℕ = code_base + 4 * (at p + 1) in
           let untaken : is_taken (inverse c) (read x rs1) (read x rs2) ≡ false = inverse_taken c (read x rs1) (read x rs2) ∙ ap not taken in
           let goes : row over x (address p) ≡ GoesOn x between = row_of_branch (inverse c) rs1 rs2 8 x (address p) ∙ ap (λ t. GoesOn x (if t then displaced (address p) 13 8 else next (address p))) untaken ∙ ap (GoesOn x) (next_of (address p) (omega (arith, small)) ∙ omega arith) in
           let lands : displaced between 21 (offset 21 (at p + 1) (at q)) ≡ address q = jump_goes (at p + 1) to.0 (omega (arith, low_at p inside)) (omega (arith, high_at p inside)) in
           let jumps : row away x between ≡ GoesOn x (address q) = row_of_jump 0 (offset 21 (at p + 1) (at q)) x between ∙ ap (GoesOn x) lands in
-          in_two over away between (first_place p item over e (rw far refl)) goes (place p 1 item away e (rw far refl)) (jumps ∙ sym (ap (λ t. GoesOn x (if t then address q else address (p + 1))) taken))
+          let apart : address p + 4 ≡ between = omega arith in
+          let two : at (p + 1) ≡ at p + 2 = next_at p item e ∙ ap (λ (b : Bool). at p + (if b then 1 else 2)) far in
+          let Q : ℕ → Type 0 = λ n. Stands start code n away in
+          in_two over away (omega (arith, two)) (first_place p item over e (rw far refl)) (goes ∙ ap (GoesOn x) (sym apart))
+          (subst Q (sym apart) (place p 1 item away e (rw far refl)))
+          (ap (λ (n : ℕ). row away x n) apart ∙ jumps ∙ sym (ap (λ t. GoesOn x (if t then address q else address (p + 1))) taken))
       by false untaken =
           let taken : is_taken (inverse c) (read x rs1) (read x rs2) ≡ true = inverse_taken c (read x rs1) (read x rs2) ∙ ap not untaken in
           let two : at (p + 1) ≡ at p + 2 = next_at p item e ∙ ap (λ (b : Bool). at p + (if b then 1 else 2)) far in
@@ -202,10 +207,10 @@ module _ (all : List CodeItem) (first : ℕ) (few : sum_by most_words_of all ≤
           (row_of_branch (inverse c) rs1 rs2 8 x (address p) ∙ ap (λ t. GoesOn x (if t then displaced (address p) 13 8 else next (address p))) taken ∙ ap (GoesOn x) lands ∙ sym (ap (λ t. GoesOn x (if t then address q else address (p + 1))) untaken))
 
   branch : (p : ℕ) (c : Condition) (rs1 rs2 : ℕ) (to : Label) (x : List ℕ) → slice_get all p ≡ Some (BranchTo c rs1 rs2 to)
-      → Does start code x (address p) (GoesOn x (if is_taken c (read x rs1) (read x rs2) then address (label_position to.0 all) else address (p + 1)))
+      → Does start code x (address p) (address (p + 1)) (GoesOn x (if is_taken c (read x rs1) (read x rs2) then address (label_position to.0 all) else address (p + 1)))
   branch p c rs1 rs2 to x e = by (is_near p (label_position to.0 all)) refl
     where
-      by : (b : Bool) → is_near p (label_position to.0 all) ≡ b → Does start code x (address p) (GoesOn x (if is_taken c (read x rs1) (read x rs2) then address (label_position to.0 all) else address (p + 1)))
+      by : (b : Bool) → is_near p (label_position to.0 all) ≡ b → Does start code x (address p) (address (p + 1)) (GoesOn x (if is_taken c (read x rs1) (read x rs2) then address (label_position to.0 all) else address (p + 1)))
       by true near = near_branch p c rs1 rs2 to x e near
       by false far = far_branch p c rs1 rs2 to x e far
 
@@ -215,35 +220,41 @@ module _ (all : List CodeItem) (first : ℕ) (few : sum_by most_words_of all ≤
   none_some : (a : Effect) → None ≡ Some a → ⊥
   none_some a e = cc e
 
-  some_none : (a : Effect) → Some a ≡ None → ⊥
-  some_none a e = cc e
-
-  steps : (p : ℕ) (item : CodeItem) (x : List ℕ) (effect : Effect) → slice_get all p ≡ Some item → does all address p x item ≡ Some effect → Does start code x (address p) effect
+  steps : (p : ℕ) (item : CodeItem) (x : List ℕ) (effect : Effect) → slice_get all p ≡ Some item → does all address p x item ≡ Some effect → Does start code x (address p) (address (p + 1)) effect
   steps p (Instruction instr) x effect e h = in_one instr (first_place p (Instruction instr) instr e refl) (effect_is _ effect h)
-  steps p (BranchTo c rs1 rs2 to) x effect e h = subst (Does start code x (address p)) (effect_is _ effect h) (branch p c rs1 rs2 to x e)
-  steps p (JumpTo rd to) x effect e h = subst (Does start code x (address p)) (effect_is _ effect h) (jump p rd to x e)
+  steps p (BranchTo c rs1 rs2 to) x effect e h = subst (Does start code x (address p) (address (p + 1))) (effect_is _ effect h) (branch p c rs1 rs2 to x e)
+  steps p (JumpTo rd to) x effect e h = subst (Does start code x (address p) (address (p + 1))) (effect_is _ effect h) (jump p rd to x e)
   steps p (Here here) x effect e h = absurd (none_some effect h)
   steps p MarkNext x effect e h = absurd (none_some effect h)
   steps p ResumeNext x effect e h = absurd (none_some effect h)
 
-  no_room : (p : ℕ) (item : CodeItem) (x : List ℕ) → slice_get all p ≡ Some item → does all address p x item ≡ None → address (p + 1) ≡ address p
-  no_room p (Instruction instr) x e h = absurd (some_none _ h)
-  no_room p (BranchTo c rs1 rs2 to) x e h = absurd (some_none _ h)
-  no_room p (JumpTo rd to) x e h = absurd (some_none _ h)
-  no_room p (Here here) x e h = let more = next_at p (Here here) e in omega (arith, more)
-  no_room p MarkNext x e h = let more = next_at p MarkNext e in omega (arith, more)
-  no_room p ResumeNext x e h = let more = next_at p ResumeNext e in omega (arith, more)
+  least_is : (p : ℕ) (item : CodeItem) → least_words_of item ≤ size all p item
+  least_is p (Instruction instr) = lit≤ tt
+  least_is p (BranchTo c rs1 rs2 to) = by (is_near p (label_position to.0 all))
+    where
+      by : (b : Bool) → 1 ≤ (if b then 1 else 2)
+      by true = lit≤ tt
+      by false = lit≤ tt
+  least_is p (JumpTo rd to) = lit≤ tt
+  least_is p (Here here) = lit≤ tt
+  least_is p MarkNext = lit≤ tt
+  least_is p ResumeNext = lit≤ tt
 
-  word_each : (p : ℕ) (instr : Instr) → slice_get all p ≡ Some (Instruction instr) → address (p + 1) ≡ address p + 4
-  word_each p instr e = let more = next_at p (Instruction instr) e in omega (arith, more)
+  has_room : (p : ℕ) (item : CodeItem) → slice_get all p ≡ Some item → IsRoom item (address p) (address (p + 1))
+  has_room p item e = record {
+    words = size all p item;
+    to_is = let more = next_at p item e in omega (arith, more);
+    least = least_is p item;
+    most = size_small all p item;
+  }
 
   pub linked : (nodes resumes : List ℕ) → nodes ≡ map address (positions_from 0 is_mark all) → resumes ≡ map address (positions_from 0 is_resume all) → IsLinked start all code nodes resumes
   linked nodes resumes n r = record {
     address_of = address;
     begins = ap (λ k. code_base + 4 * k) (number_first all first 0 all);
     ends = let last = number_last all ns first 0 all in omega (arith, last);
-    passes = no_room;
-    takes = word_each;
+    room = has_room;
+    stands = λ p instr e. first_place p (Instruction instr) instr e refl;
     lockstep = steps;
     nodes_are = n;
     resumes_are = r;

@@ -57,3 +57,12 @@ most_words_of (JumpTo rd to) = 1
 most_words_of (Here here) = 0
 most_words_of MarkNext = 0
 most_words_of ResumeNext = 0
+
+-- and at least: labels and marks take none
+abbrev pub least_words_of : CodeItem → ℕ
+least_words_of (Instruction instr) = 1
+least_words_of (BranchTo condition rs1 rs2 to) = 1
+least_words_of (JumpTo rd to) = 1
+least_words_of (Here here) = 0
+least_words_of MarkNext = 0
+least_words_of ResumeNext = 0

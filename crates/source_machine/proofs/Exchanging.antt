@@ -246,15 +246,15 @@ unlocks_by x s t k (Some thread) e keeps h =
     held_found t s.holders k (unlocks_left x.variables (held_by t s.holders) _ thread.left k (keeps.each t thread e).left
     (unlocks_pending thread.pending thread.left k (sym (unlocks_found s t thread e) ∙ h)))
 
-unlocks_held : (x : f.Flat) (s : m.State) (t k : ℕ) → StateKeeps x s → unlocks s t ≡ Some k → slice_get s.holders k ≡ Some (Some t)
+pub unlocks_held : (x : f.Flat) (s : m.State) (t k : ℕ) → StateKeeps x s → unlocks s t ≡ Some k → slice_get s.holders k ≡ Some (Some t)
 unlocks_held x s t k keeps h = unlocks_by x s t k (slice_get s.threads t) refl keeps h
 
 -- ---- Two steps at the front of a schedule
 
-locks_same : (s z : m.State) (t : ℕ) → slice_get z.threads t ≡ slice_get s.threads t → locks z t ≡ locks s t
+pub locks_same : (s z : m.State) (t : ℕ) → slice_get z.threads t ≡ slice_get s.threads t → locks z t ≡ locks s t
 locks_same s z t h = ap (λ (o : Option m.Thread). let r : Option ℕ = elim o [ Some found ↦ lock_ahead found | None ↦ None ] in r) h
 
-unlocks_same : (s z : m.State) (t : ℕ) → slice_get z.threads t ≡ slice_get s.threads t → unlocks z t ≡ unlocks s t
+pub unlocks_same : (s z : m.State) (t : ℕ) → slice_get z.threads t ≡ slice_get s.threads t → unlocks z t ≡ unlocks s t
 unlocks_same s z t h = ap (λ (o : Option m.Thread). let r : Option ℕ = elim o [ Some found ↦ unlock_ahead found | None ↦ None ] in r) h
 
 module _ (x : f.Flat) (s one two last : m.State) (u t : ℕ) (us : List ℕ) (keeps : StateKeeps x s) (n : t ≢ u) (g : source_step s u ≡ Some one)
@@ -407,7 +407,7 @@ exchange x s us t n keeps runs never l =
 
 -- ---- One thread alone
 
-held_there : (t : ℕ) (hs : List (Option ℕ)) (k : ℕ) → slice_get hs k ≡ Some (Some t) → holds (held_by t hs) k ≡ true
+pub held_there : (t : ℕ) (hs : List (Option ℕ)) (k : ℕ) → slice_get hs k ≡ Some (Some t) → holds (held_by t hs) k ≡ true
 held_there t [] k h = cc
 held_there t (o ∷ hs) zero h =
     let is : o ≡ Some t = some_is o (Some t) h in

@@ -19,7 +19,8 @@ use Rattle.source_machine.specs.declared.code.Node.TheVariants as node
 use Rattle.source_machine.specs.declared.thread.ThreadState.{ThreadState}
 use Rattle.source_machine.specs.links.Codes.{At, behind, chooses, repeats, Does, IsCode}
 use Rattle.source_machine.specs.Answers.{answer_of}
-use Rattle.source_machine.specs.links.Threads.{pending_of, model_of, IsLeft, state_in, reached, IsMade}
+use Rattle.source_machine.specs.Assignments.{pending_of}
+use Rattle.source_machine.specs.links.Threads.{model_of, IsLeft, state_in, reached, IsMade}
 use Rattle.source_machine.specs.Mutexes.{first_lock, lock_ahead}
 
 module _ (vs : List (List ℤ)) (hs : List (Option ℕ)) (threads : List m.Thread) (n : ℕ) (t : ThreadState) (left : List f.Statement) where

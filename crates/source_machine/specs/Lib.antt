@@ -1,4 +1,5 @@
 pub mod Answers
+pub mod Assignments
 pub mod Mutexes
 pub mod Sections
 pub mod links

@@ -3,6 +3,7 @@
 #![tactic(auto)]
 
 mod answers;
+pub mod assignment;
 mod code;
 pub mod evaluation;
 pub mod formed;

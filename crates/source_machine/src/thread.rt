@@ -1,27 +1,18 @@
 //! A thread of a run.
 ghost use Rattle.std.specs.Prelude.{◌≡◌, ℕ, ◌+◌, IfOk};
-ghost use Rattle.c_tree.specs.Exprs.{expr_of, target_of};
 ghost use Rattle.c_tree.specs.Flats.{thread_of};
 ghost use Rattle.source_machine.specs.Sections.{AreCounted, ends};
-ghost use Rattle.source_machine.specs.links.Threads.{Evaluates, IsStarted, StepIsMade};
+ghost use Rattle.source_machine.specs.links.Threads.{IsStarted, StepIsMade};
 
 use crate::answers::Stepped;
+use crate::assignment::{Pending, assign};
 use crate::code::{self, Code, Node};
-use crate::evaluation::{element_at, evaluate};
+use crate::evaluation::evaluate;
 use crate::locks;
 use crate::variables::Variables;
-use c_tree::expr::{Expr, Target};
 use c_tree::flat::Thread;
 use ido_base::memory::Memory;
 use std::alloc::Global;
-
-/// A store that is still to be made.
-#[derive(Clone, Copy)]
-pub(crate) struct Pending {
-    variable: u32,
-    element: u128,
-    number: i128,
-}
 
 /// A thread: where it stands in its code, its locals, its pending store, and whether its last step is done.
 #[derive(Drop)]
@@ -81,7 +72,13 @@ impl<'a> ThreadState<'a> {
                 value,
                 next,
             } => {
-                self.assign(target, &value.expr, variables);
+                assign(
+                    target,
+                    &value.expr,
+                    &mut self.locals,
+                    &mut self.pending,
+                    variables,
+                );
                 self.at = next;
                 Stepped::Did
             }
@@ -108,45 +105,6 @@ impl<'a> ThreadState<'a> {
                 Stepped::Did
             }
             Node::Never => Stepped::Ended,
-        }
-    }
-
-    // Evaluates a value for a target: a local has it, a store of a variable is pending.
-    fn assign(&mut self, target: &Target, value: &Expr, variables: &Variables)
-        ensures model { Evaluates self.old self.new variables.now (target_of target.now) (expr_of value.now) }
-        ensures nodes { self.new.nodes ≡ self.old.nodes }
-    {
-        let value = evaluate(value, &self.locals, variables);
-        match target {
-            Target::Local { local, kind } => {
-                let local = *local as usize;
-                let number = value.convert(*kind).number();
-                if local < self.locals.len() {
-                    self.locals[local] = number;
-                }
-            }
-            Target::Variable { variable, kind, .. } => {
-                let number = value.convert(*kind).number();
-                self.pending = Some(Pending {
-                    variable: *variable,
-                    element: 0,
-                    number,
-                });
-            }
-            Target::Element {
-                variable,
-                kind,
-                index,
-                ..
-            } => {
-                let number = value.convert(*kind).number();
-                let element = element_at(evaluate(&index.expr, &self.locals, variables));
-                self.pending = Some(Pending {
-                    variable: *variable,
-                    element,
-                    number,
-                });
-            }
         }
     }
 }

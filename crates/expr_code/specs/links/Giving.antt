@@ -1,16 +1,20 @@
 -- Which temporaries are free where so many are held, and code of operands.
-use Rattle.std.specs.Prelude.{◌≡◌, ℕ, zero, suc, ◌+◌, Bool, false, not, ◌==◌, ◌&&◌, ◌||◌, if◌then◌else◌, List}
+use Rattle.std.specs.Prelude.{◌≡◌, ℕ, zero, suc, ◌*◌, Bool, false, not, ◌==◌, ◌&&◌, ◌||◌, if◌then◌else◌, List}
 use Rattle.ido_ints.specs.declared.kinds.Kind.TheVariants.{Int}
+use Rattle.ido_ints.specs.Kinds.{rank_of}
 use Rattle.ido_ints.specs.Operators.{is_zero, truth}
-use Rattle.ido_ints.specs.Typed.{Typed, typed}
+use Rattle.ido_ints.specs.Typed.{Typed, typed, converted, register_form_of}
 use Rattle.c_tree.specs.Values.{value}
 use Rattle.c_tree.specs.Exprs as e
 use Rattle.rv64_isa.specs.declared.instr.Instr.{Instr}
 use Rattle.log_layout.specs.Roles.{is_temporary}
 use Rattle.operator_code.specs.declared.branches.Test.{Test}
-use Rattle.operator_code.specs.Computing.{Carries, passes}
+use Rattle.operator_code.specs.declared.operation.BinaryOperation.{BinaryOperation}
+use Rattle.operator_code.specs.declared.immediates.ImmediateForm.{ImmediateForm}
+use Rattle.operator_code.specs.Constants.{IsWithConstant}
+use Rattle.operator_code.specs.Computing.{Carries, passes, right_kind}
 use Rattle.expr_code.specs.declared.operand.Pair as pair
-use Rattle.expr_code.specs.Running.{Surroundings, Moment}
+use Rattle.code_runs.specs.Running.{Surroundings, Moment}
 use Rattle.expr_code.specs.Evaluating.{Homes, Source, IsLegal, Begins, Ends, Gives}
 
 -- the temporaries that are held, in the order in which they are taken; x31 is held by none
@@ -42,8 +46,15 @@ IsTest h x held test code = Gives h x code (is_free held) (λ v y. passes test y
 
 -- two operands have their values
 pub record IsPair (h : Homes) (left right : e.Expr) (held : ℕ) (x : pair.Pair) : Type 0 where
-  pub ends : (s : Source) (r : Surroundings) (m : Moment) → IsLegal h s r left → IsLegal h s r right → Begins h s r x.code.items m →
+  pub ends : (s : Source) (r : Surroundings) (m : Moment) → IsLegal h s r left → IsLegal h s r right →
+      Begins h s r left x.code.items m → Begins h s r right x.code.items m →
       Ends r x.code.items (is_free held) (λ y. Carries y x.left (value s.locals s.numbers left) × Carries y x.right (value s.locals s.numbers right)) m
+
+-- an expression is a constant, and an instruction gives what the operator gives for the left operand, converted, and it
+pub record IsConstantForm (o : BinaryOperation) (y : e.Expr) (form : ImmediateForm) : Type 0 where
+  pub number : Typed
+  pub is : y ≡ e.Constant number
+  pub gives : IsWithConstant o (register_form_of (converted number (right_kind o))) form
 
 -- a condition, and what is chosen by it: each an expression and what is made of its value
 pub record Choice : Type 0 where
@@ -56,7 +67,8 @@ pub record Choice : Type 0 where
 -- rd gets what is chosen
 pub record IsChoice (h : Homes) (c : Choice) (held rd : ℕ) (code : List Instr) : Type 0 where
   pub ends : (s : Source) (r : Surroundings) (m : Moment) →
-      IsLegal h s r c.condition → IsLegal h s r c.chosen → IsLegal h s r c.otherwise → Begins h s r code m →
+      IsLegal h s r c.condition → IsLegal h s r c.chosen → IsLegal h s r c.otherwise →
+      Begins h s r c.condition code m → Begins h s r c.chosen code m → Begins h s r c.otherwise code m →
       Ends r code (λ n. n == rd || is_free held n)
       (λ y. Carries y rd (if is_zero (value s.locals s.numbers c.condition).number then c.from_otherwise (value s.locals s.numbers c.otherwise)
       else c.from_chosen (value s.locals s.numbers c.chosen))) m
@@ -69,14 +81,7 @@ IsMade h x made held rd code = Gives h x code (λ n. n == rd || is_free held n) 
 abbrev pub truth_of : Typed → Typed
 truth_of v = typed Int (truth (not (is_zero v.number)))
 
--- a measure of expressions
-abbrev pub size_of : e.Expr → ℕ
-size_of (e.Constant value) = 1
-size_of (e.Local local kind) = 1
-size_of (e.Variable place variable kind) = 1
-size_of (e.Element place variable kind index_place index) = 1 + size_of index
-size_of (e.Unary operator operand) = 1 + size_of operand
-size_of (e.Cast kind operand) = 1 + size_of operand
-size_of (e.Converted kind operand) = 1 + size_of operand
-size_of (e.Binary operator left right) = 1 + size_of left + size_of right
-size_of (e.Conditional kind condition chosen otherwise) = 1 + size_of condition + size_of chosen + size_of otherwise
+-- Words of conversions, which count no node: of those that stand in one another each is to a wider kind.
+abbrev pub conversion_words : e.Expr → ℕ
+conversion_words (e.Converted kind operand) = 2 * rank_of kind
+conversion_words x = 0

@@ -3,7 +3,8 @@ use Rattle.std.specs.Prelude.{ℕ, Bool, true, false, ◌==◌, if◌then◌else
 use Rattle.ido_ints.specs.declared.kinds.Kind.{Kind}
 use Rattle.ido_ints.specs.declared.kinds.Kind.TheVariants.{Char, UnsignedChar, SignedChar, Short, UnsignedShort, Int, UnsignedInt, Long, UnsignedLong}
 use Rattle.ido_ints.specs.declared.operators.Binary.{Binary}
-use Rattle.ido_ints.specs.declared.operators.Binary.TheVariants.{Mul, Div, Rem, Add, Sub, ShiftLeft, ShiftRight, Less, Greater, LessEqual, GreaterEqual, Equal, NotEqual, And, Xor, Or}
+use Rattle.ido_ints.specs.declared.operators.Binary.TheVariants.{Mul, Div, Rem, Add, Sub, ShiftLeft, ShiftRight, Less, Greater, LessEqual, GreaterEqual}
+use Rattle.ido_ints.specs.declared.operators.Binary.TheVariants.{Equal, NotEqual, And, Xor, Or}
 use Rattle.ido_ints.specs.Kinds.{bits_of, is_signed}
 use Rattle.rv64_isa.specs.declared.instr.Operation as Codes
 use Rattle.rv64_isa.specs.declared.instr.Operation.{Operation}
@@ -24,7 +25,8 @@ instruction_of Mul k = Some (by_width k Codes.TheVariants.Mul Codes.TheVariants.
 instruction_of Div k = Some (by_width k (by_sign k Codes.TheVariants.Div Codes.TheVariants.Divu) (by_sign k Codes.TheVariants.Divw Codes.TheVariants.Divuw))
 instruction_of Rem k = Some (by_width k (by_sign k Codes.TheVariants.Rem Codes.TheVariants.Remu) (by_sign k Codes.TheVariants.Remw Codes.TheVariants.Remuw))
 instruction_of ShiftLeft k = Some (by_width k Codes.TheVariants.Sll Codes.TheVariants.Sllw)
-instruction_of ShiftRight k = Some (by_width k (by_sign k Codes.TheVariants.Sra Codes.TheVariants.Srl) (by_sign k Codes.TheVariants.Sraw Codes.TheVariants.Srlw))
+instruction_of ShiftRight k = Some
+    (by_width k (by_sign k Codes.TheVariants.Sra Codes.TheVariants.Srl) (by_sign k Codes.TheVariants.Sraw Codes.TheVariants.Srlw))
 instruction_of And k = Some Codes.TheVariants.And
 instruction_of Xor k = Some Codes.TheVariants.Xor
 instruction_of Or k = Some Codes.TheVariants.Or

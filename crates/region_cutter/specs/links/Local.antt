@@ -1,10 +1,12 @@
 -- What may change where one boundary is taken away: paths that pass the node before which it stood.
-use Rattle.std.specs.Prelude.{◌≡◌, ◌↔◌, ◌<◌, ℕ, List, length, Bool, Contains, IsTrue, Some}
+use Rattle.std.specs.Prelude.{◌≡◌, ◌↔◌, ◌<◌, ◌≤◌, ℕ, List, ◌∷◌, length, Bool, true, false, Contains, IsTrue, Some}
 use Rattle.ido_base.specs.declared.location.Location.{Location}
 use Rattle.ido_base.specs.Locations.{overlap, same}
 use Rattle.flow_graph.specs.Nodes.{Node, Graph}
 use Rattle.flow_graph.specs.Liveness.{NodeAt}
-use Rattle.flow_graph.specs.Cutting.{Boundaries, IsEdge, IsBoundary, Begins, HasBefore, HasBehind, IsIdempotent, without}
+use Rattle.flow_graph.specs.Cutting.{Boundaries, IsEdge, IsBoundary, Begins, HasBehind, IsIdempotent, IsInside, IsLock, IsWrittenBefore, ReadsAt, WritesAt}
+use Rattle.flow_graph.specs.Cutting.{without}
+use Rattle.region_cutter.specs.declared.window.Window.{Window}
 use Rattle.region_cutter.specs.links.Searching.{Comes, IsSeen}
 
 -- a way on which no boundary is passed
@@ -38,25 +40,47 @@ pub record InsidePast (g : Graph) (b : Boundaries) (element : Location) (from to
   pub inside : Inside g b from to
   pub past : ¬ (WritesSame g element from)
 
-pub record BeginsAt (g : Graph) (b : Boundaries) (node : ℕ) : Type 0 where
+-- ---- Windows
+
+-- no region goes on over the place before the node
+abbrev pub IsBorder : Graph → Boundaries → (place : ℕ) → Type 0
+IsBorder g b place = (from to : ℕ) → Inside g b from to → to < length g.nodes → (from < place) ↔ (to < place)
+
+pub record IsIn (w : Window) (node : ℕ) : Type 0 where
+  pub from_first : w.first ≤ node
+  pub below_end : node < w.end
+
+-- the node is in the window, and no region goes on between its nodes and others
+pub record IsWindow (g : Graph) (b : Boundaries) (node : ℕ) (w : Window) : Type 0 where
+  pub has : IsIn w node
+  pub within : w.end ≤ length g.nodes
+  pub closed : (from to : ℕ) → Inside g b from to → to < length g.nodes → IsIn w from ↔ IsIn w to
+
+-- ---- What nodes of a window read and write
+
+-- boundaries stand behind all locks
+abbrev pub AllBehind : Graph → Boundaries → Type 0
+AllBehind g b = (node : ℕ) → IsLock g node → HasBehind g b node
+
+-- a region begins at the node, which is in the window
+pub record BeginsIn (g : Graph) (b : Boundaries) (w : Window) (node : ℕ) : Type 0 where
   pub begins : Begins g b node
-  pub exists : node < length g.nodes
+  pub near : IsIn w node
 
--- a region begins at the node of this number, or at one behind it, if it takes a mutex
-pub data BeginsBy (g : Graph) (b : Boundaries) (number : ℕ) : (node : ℕ) → Type 0 where
-  at_node : HasBefore b number → BeginsBy g b number number
-  behind_node : (node : ℕ) → HasBehind g b number → IsEdge g number node → BeginsBy g b number node
+-- the node has that number, and a region begins at it
+pub record BeginsBy (g : Graph) (b : Boundaries) (number node : ℕ) : Type 0 where
+  pub is : number ≡ node
+  pub begins : Begins g b node
 
--- the same for one of the nodes below that number
-pub record BeginsBelow (g : Graph) (b : Boundaries) (number node : ℕ) : Type 0 where
-  pub one : ℕ
-  pub below : one < number
-  pub by : BeginsBy g b one node
+-- a region begins at the node, which is one of the window's below that number
+pub record BeginsBelow (g : Graph) (b : Boundaries) (w : Window) (number node : ℕ) : Type 0 where
+  pub of : BeginsIn g b w node
+  pub below : node < number
 
 -- a region comes to the node and has not written the very element before
-pub record IsUnwritten (g : Graph) (b : Boundaries) (element : Location) (node : ℕ) : Type 0 where
+pub record IsUnwritten (g : Graph) (b : Boundaries) (w : Window) (element : Location) (node : ℕ) : Type 0 where
   pub from : ℕ
-  pub begins : BeginsAt g b from
+  pub begins : BeginsIn g b w from
   pub comes : Comes (InsidePast g b element) (λ n. n ≡ node) from
 
 -- a region goes on from the node to one that may write one of the elements
@@ -71,38 +95,64 @@ pub record IsOverAny (writes : List Location) (elements : Location) : Type 0 whe
   pub among : Contains writes written
   pub over : IsTrue (overlap written elements)
 
--- the node reads the elements; its region has not written them before and overwrites them later
-pub record IsExposedAt (g : Graph) (b : Boundaries) (elements : Location) (node : ℕ) : Type 0 where
+-- the node reads the elements, and its region has not written them before
+pub record Exposes (g : Graph) (b : Boundaries) (w : Window) (elements : Location) (node : ℕ) : Type 0 where
   pub reads : Reads g elements node
-  pub unwritten : IsUnwritten g b elements node
+  pub unwritten : IsUnwritten g b w elements node
+
+-- one of the window's nodes does, and its region overwrites them later
+pub record IsExposed (g : Graph) (b : Boundaries) (w : Window) (elements : Location) : Type 0 where
+  pub node : ℕ
+  pub near : IsIn w node
+  pub exposes : Exposes g b w elements node
   pub overwritten : IsOverwritten g b elements node
 
--- there is such a node
-pub record IsExposed (g : Graph) (b : Boundaries) (elements : Location) : Type 0 where
-  pub node : ℕ
-  pub at : IsExposedAt g b elements node
+-- some elements are exposed; or none over which one of these writes may be
+abbrev pub IsExposedAny : Graph → Boundaries → Window → List Location → Bool → Type 0
+IsExposedAny g b w writes true = (elements : Location) × IsExposed g b w elements
+IsExposedAny g b w writes false = (elements : Location) → IsOverAny writes elements → ¬ (IsExposed g b w elements)
+
+-- a region goes on from the node of this number, which exposes the elements, to that one
+pub record IsBehindExposed (g : Graph) (b : Boundaries) (w : Window) (elements : Location) (number node : ℕ) : Type 0 where
+  pub exposes : Exposes g b w elements number
+  pub inside : Inside g b number node
+
+-- the same for one of the window's nodes
+pub record IsBehindExposedIn (g : Graph) (b : Boundaries) (w : Window) (elements : Location) (node : ℕ) : Type 0 where
+  pub one : ℕ
+  pub near : IsIn w one
+  pub by : IsBehindExposed g b w elements one node
+
+-- and for one of them below that number
+pub record IsBehindExposedBelow (g : Graph) (b : Boundaries) (w : Window) (elements : Location) (number node : ℕ) : Type 0 where
+  pub one : ℕ
+  pub near : IsIn w one
+  pub below : one < number
+  pub by : IsBehindExposed g b w elements one node
 
 -- the nodes to which a region comes that has not written the very element before
-abbrev pub AreUnwritten : Graph → Boundaries → (element : Location) → List Bool → Type 0
-AreUnwritten g b element seen = (node : ℕ) → node < length g.nodes → IsSeen seen node ↔ IsUnwritten g b element node
+abbrev pub AreUnwritten : Graph → Boundaries → Window → (element : Location) → List Bool → Type 0
+AreUnwritten g b w element seen = (node : ℕ) → node < length g.nodes → IsSeen seen node ↔ IsUnwritten g b w element node
 
 -- what is read and one of these writes may be over is among them too
 pub record AddsRead (writes : List Location) (IsRead : Location → Type 0) (old new : List Location) : Type 0 where
   pub kept : (read : Location) → Contains old read → Contains new read
   pub added : (read : Location) → IsRead read → IsOverAny writes read → Contains new read
 
--- what nodes read and one of these writes may be over is among these
-abbrev pub AreReadOver : Graph → (writes reads : List Location) → Type 0
-AreReadOver g writes reads = (node : ℕ) (x : Node) (read : Location) → NodeAt g node x → Contains x.reads read → IsOverAny writes read → Contains reads read
+-- what the window's nodes read and one of these writes may be over is among these
+abbrev pub AreReadOver : Graph → Window → (writes reads : List Location) → Type 0
+AreReadOver g w writes reads = (node : ℕ) (x : Node) (read : Location) → IsIn w node → NodeAt g node x → Contains x.reads read → IsOverAny writes read →
+    Contains reads read
 
 -- the nodes to which regions go on from that one are among these
 pub record AreAhead (g : Graph) (b : Boundaries) (from : ℕ) (seen : List Bool) : Type 0 where
   pub begun : from < length g.nodes → IsSeen seen from
   pub closed : (node to : ℕ) → IsSeen seen node → Inside g b node to → to < length g.nodes → IsSeen seen to
 
--- what the nodes among these write
-abbrev pub AreWritten : Graph → List Bool → List Location → Type 0
-AreWritten g seen writes = (node : ℕ) (x : Node) (written : Location) → IsSeen seen node → NodeAt g node x → x.writes ≡ Some written → Contains writes written
+-- what the window's nodes among these write
+abbrev pub AreWritten : Graph → Window → List Bool → List Location → Type 0
+AreWritten g w seen writes = (node : ℕ) (x : Node) (written : Location) → IsIn w node → IsSeen seen node → NodeAt g node x → x.writes ≡ Some written →
+    Contains writes written
 
 -- what the node writes is among them too
 pub record AddsWritten (x : Node) (old new : List Location) : Type 0 where
@@ -115,3 +165,8 @@ Never node = ⊥
 -- without that boundary regions can be run again or not, if they could with it
 abbrev pub IsKnownWithout : Graph → Boundaries → (node : ℕ) → Bool → Type 0
 IsKnownWithout g now node known = (b : Boundaries) → now ≡ without b node → IsIdempotent g b → IsTrue known ↔ IsIdempotent g now
+
+-- no region that begins there overwrites what it has read, unless it had written that element before it read it
+abbrev pub IsIdempotentFrom : Graph → Boundaries → (from : ℕ) → Type 0
+IsIdempotentFrom g b from = (path : List ℕ) → Begins g b from → IsInside g b (from ∷ path) → (i j : ℕ) (read written : Location) → i < j →
+    ReadsAt g (from ∷ path) i read → WritesAt g (from ∷ path) j written → IsTrue (overlap written read) → IsWrittenBefore g (from ∷ path) i read

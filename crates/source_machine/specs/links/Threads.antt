@@ -1,19 +1,15 @@
 -- What a thread in the code stands for, and what a step of it is.
 use Rattle.std.specs.Prelude.{◌≡◌, ℕ, List, slice_set, Option, Some, None, ℤ}
 use Rattle.std.specs.Option.{option_map}
-use Rattle.c_tree.specs.Exprs.{Expr, Target}
 use Rattle.c_tree.specs.Flats as f
 use Rattle.c_tree.specs.Source as m
 use Rattle.source_machine.specs.Answers.{answer_of}
+use Rattle.source_machine.specs.Assignments.{pending_of}
 use Rattle.source_machine.specs.links.Codes.{Lefts, At, IsCode}
 use Rattle.source_machine.specs.declared.answers.Stepped.{Stepped}
-use Rattle.source_machine.specs.declared.thread.Pending.{Pending}
 use Rattle.source_machine.specs.declared.thread.ThreadState.{ThreadState}
 
 -- ---- Threads and states
-
-abbrev pub pending_of : Pending → m.Pending
-pending_of p = record { variable = p.variable; element = p.element; number = p.number }
 
 -- the thread, where these statements are left to do
 abbrev pub model_of : ThreadState → (left : List f.Statement) → m.Thread
@@ -56,9 +52,3 @@ abbrev pub StepIsMade : (before after : ThreadState) → (variables variables' :
 StepIsMade before after variables variables' holders holders' answer number =
     (left : List f.Statement) (threads : List m.Thread) → IsLeft before left →
     IsMade before after variables variables' holders holders' answer number threads left
-
--- the thread becomes the one that has evaluated a value for a target
-abbrev pub Evaluates : (before after : ThreadState) → (variables : List (List ℤ)) → Target → Expr → Type 0
-Evaluates before after variables target value =
-    (left : List f.Statement) (holders : List (Option ℕ)) (threads : List m.Thread) →
-    model_of after left ≡ m.evaluated (state_in variables holders threads) (model_of before left) target value

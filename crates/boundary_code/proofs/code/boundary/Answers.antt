@@ -1,4 +1,4 @@
-use Rattle.std.proofs.Common.{◌≡◌, ◌==◌, ℕ, List, true, false, subst, ap, sym, ◌∙◌, eq-eqb, arith}
+use Rattle.std.proofs.Common.{◌≡◌, ◌≤◌, ◌+◌, length, ◌==◌, ℕ, List, true, false, subst, ap, sym, ◌∙◌, eq-eqb, arith}
 use Rattle.std.specs.Prelude.{ℤ}
 use Rattle.std.specs.Int.{cast_signed, cast_unsigned, w32}
 use Rattle.std.proofs.lemmas.Int.{to_z-of_z}
@@ -11,6 +11,7 @@ use Rattle.operator_code.specs.Straight.{IsConstant}
 use Rattle.boundary_code.specs.Boundaries.{Boundary, HasEffects, HasOffset, KeepsRegisters}
 use Rattle.boundary_code.specs.links.Listing.{boundary_list, last_list}
 use Rattle.boundary_code.proofs.Whole.{Pieces, boundary-effects, boundary-offset, boundary-others, last-effects, last-offset, last-others}
+use Rattle.boundary_code.proofs.Lengths.{boundary_short, last_short}
 use Rattle.boundary_code.proofs.code.boundary.Goals as goal
 
 is_log : (value thread : ℕ) (log : List Instr) → value ≡ log_of thread → IsConstant 31 value log → IsConstant 31 (log_of thread) log
@@ -36,7 +37,7 @@ returns-then-mask-eq0-clause-effects c =
     IfOk-weaker c.emit_last_boundary.result _ _
     (λ code k. subst (λ (is : List Instr). HasEffects b is) (sym (k ∙ ap (λ (is : List Instr). last_list is) c.deref.ensures.value))
     (last-effects b c.in_ok-log.log.items c.requires.thread (no_mask c.args.mask c.if-mask-eq0.true)
-    (is_log c.log_of.result c.args.thread c.in_ok-log.log.items c.log_of.ensures c.in_ok-log.ensures)))
+    (is_log c.log_of.result c.args.thread c.in_ok-log.log.items c.log_of.ensures c.in_ok-log.ensures.code)))
     c.emit_last_boundary.ensures
 
 pub returns-then-mask-eq0-clause-offset : goal.returns-then-mask-eq0-clause-offset
@@ -45,7 +46,7 @@ returns-then-mask-eq0-clause-offset c =
     IfOk-weaker c.emit_last_boundary.result _ _
     (λ code k. subst (λ (is : List Instr). HasOffset c.args.mask is) (sym (k ∙ ap (λ (is : List Instr). last_list is) c.deref.ensures.value))
     (last-offset c.args.mask c.args.thread c.in_ok-log.log.items c.requires.thread (no_mask c.args.mask c.if-mask-eq0.true)
-    (is_log c.log_of.result c.args.thread c.in_ok-log.log.items c.log_of.ensures c.in_ok-log.ensures)))
+    (is_log c.log_of.result c.args.thread c.in_ok-log.log.items c.log_of.ensures c.in_ok-log.ensures.code)))
     c.emit_last_boundary.ensures
 
 pub returns-then-mask-eq0-clause-others : goal.returns-then-mask-eq0-clause-others
@@ -54,7 +55,7 @@ returns-then-mask-eq0-clause-others c =
     IfOk-weaker c.emit_last_boundary.result _ _
     (λ code k. subst (λ (is : List Instr). KeepsRegisters is) (sym (k ∙ ap (λ (is : List Instr). last_list is) c.deref.ensures.value))
     (last-others c.args.thread c.in_ok-log.log.items c.requires.thread
-    (is_log c.log_of.result c.args.thread c.in_ok-log.log.items c.log_of.ensures c.in_ok-log.ensures)))
+    (is_log c.log_of.result c.args.thread c.in_ok-log.log.items c.log_of.ensures c.in_ok-log.ensures.code)))
     c.emit_last_boundary.ensures
 
 pub returns-clause-effects : goal.returns-clause-effects
@@ -66,8 +67,8 @@ returns-clause-effects c =
       live = c.requires.live;
       low = c.requires.low;
       high = c.requires.high;
-      is_log = is_log c.log_of.result c.args.thread c.in_ok-log.log.items c.log_of.ensures c.in_ok-log.ensures;
-      is_mask = c.in_ok-record.ensures;
+      is_log = is_log c.log_of.result c.args.thread c.in_ok-log.log.items c.log_of.ensures c.in_ok-log.ensures.code;
+      is_mask = c.in_ok-record.ensures.code;
     } in
     IfOk-weaker c.emit_boundary.result _ _
     (λ code k. subst (λ (is : List Instr). HasEffects b is)
@@ -85,8 +86,8 @@ returns-clause-offset c =
       live = c.requires.live;
       low = c.requires.low;
       high = c.requires.high;
-      is_log = is_log c.log_of.result c.args.thread c.in_ok-log.log.items c.log_of.ensures c.in_ok-log.ensures;
-      is_mask = c.in_ok-record.ensures;
+      is_log = is_log c.log_of.result c.args.thread c.in_ok-log.log.items c.log_of.ensures c.in_ok-log.ensures.code;
+      is_mask = c.in_ok-record.ensures.code;
     } in
     IfOk-weaker c.emit_boundary.result _ _
     (λ code k. subst (λ (is : List Instr). HasOffset c.args.mask is)
@@ -104,12 +105,31 @@ returns-clause-others c =
       live = c.requires.live;
       low = c.requires.low;
       high = c.requires.high;
-      is_log = is_log c.log_of.result c.args.thread c.in_ok-log.log.items c.log_of.ensures c.in_ok-log.ensures;
-      is_mask = c.in_ok-record.ensures;
+      is_log = is_log c.log_of.result c.args.thread c.in_ok-log.log.items c.log_of.ensures c.in_ok-log.ensures.code;
+      is_mask = c.in_ok-record.ensures.code;
     } in
     IfOk-weaker c.emit_boundary.result _ _
     (λ code k. subst (λ (is : List Instr). KeepsRegisters is)
     (sym (listed c.in_ok-log.log.items c.deref-2.result.now c.in_ok-record.record.items c.deref-3.result.now _ c.args.live.now c.args.resume
     (cast_signed w32 (cast_unsigned w32 c.args.resume)) c.deref-2.ensures.value c.deref-3.ensures.value (to_z-of_z w32 c.args.resume c.ranges.resume) k))
     (boundary-others b c.in_ok-log.log.items c.in_ok-record.record.items pieces))
+    c.emit_boundary.ensures
+
+short_as : (code list : List Instr) (n : ℕ) → code ≡ list → length list ≤ n → length code ≤ n
+short_as code list n e h = subst (λ (is : List Instr). length is ≤ n) (sym e) h
+
+pub returns-then-mask-eq0-clause-short : goal.returns-then-mask-eq0-clause-short
+returns-then-mask-eq0-clause-short c =
+    IfOk-weaker c.emit_last_boundary.result _ _
+    (λ code k. short_as code.items (last_list c.deref.result.now) (length c.args.live.now + 35) k
+    (last_short c.deref.result.now c.args.live.now (subst (λ (is : List Instr). length is ≤ 8) (sym c.deref.ensures.value) c.in_ok-log.ensures.short)))
+    c.emit_last_boundary.ensures
+
+pub returns-clause-short : goal.returns-clause-short
+returns-clause-short c =
+    IfOk-weaker c.emit_boundary.result _ _
+    (λ code k. short_as code.items (boundary_list c.deref-2.result.now c.deref-3.result.now c.args.live.now (twos_complement 32 (cast_signed w32 (cast_unsigned w32 c.args.resume)))) (length c.args.live.now + 35) k
+    (boundary_short c.deref-2.result.now c.deref-3.result.now c.args.live.now (twos_complement 32 (cast_signed w32 (cast_unsigned w32 c.args.resume)))
+    (subst (λ (is : List Instr). length is ≤ 8) (sym c.deref-2.ensures.value) c.in_ok-log.ensures.short)
+    (subst (λ (is : List Instr). length is ≤ 8) (sym c.deref-3.ensures.value) c.in_ok-record.ensures.short)))
     c.emit_boundary.ensures

@@ -4,10 +4,11 @@ use Rattle.expr_code.specs.links.Giving.{IsChoice}
 use Rattle.expr_code.proofs.Skips.{choice}
 use Rattle.expr_code.proofs.branches.choose.Goals as goal
 
-pub returns-in_ok-append-in-Some-3 : goal.returns-in_ok-append-in-Some-3
-returns-in_ok-append-in-Some-3 c = λ h k held rd tests makes others.
-    let e : c.append-in-Some-2.new.code.items ≡ (((c.args.code.items ++ c.in_ok-guard.guard.items) ++ c.args.chosen.now) ++ c.in-Some.past ∷ []) ++ c.args.otherwise.now =
-    cc (c.in_ok-append-in-Some.ensures, c.in_ok-append-in-Some-2.ensures, c.in_ok-push-in-Some.ensures.items, c.in_ok-append-in-Some-3.ensures, c.deref.ensures.value) in
+pub returns-clause-code : goal.returns-clause-code
+returns-clause-code c = λ h k held rd tests makes others.
+    let e : c.append-3.new.code.items ≡ (((c.args.code.items ++ c.in_ok-guard.guard.items) ++ c.args.chosen.now) ++ c.jump-past.result ∷ []) ++
+    c.args.otherwise.now =
+    cc (c.in_ok-append.ensures, c.in_ok-append-2.ensures, c.in_ok-push.ensures.items, c.in_ok-append-3.ensures, c.deref.ensures.value) in
     subst (λ (code : List Instr). IsChoice h k held rd code) (sym e)
-    (choice h k held rd c.args.test c.args.code.items c.in_ok-guard.guard.items c.args.chosen.now c.in-Some.past c.args.otherwise.now
-    c.in_ok-guard.ensures c.in-Some.ensures.skips tests makes others)
+    (choice h k held rd c.args.test c.args.code.items c.in_ok-guard.guard.items c.args.chosen.now c.jump-past.result c.args.otherwise.now
+    c.in_ok-guard.ensures.code c.jump-past.ensures tests makes others)

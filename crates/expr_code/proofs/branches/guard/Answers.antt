@@ -1,10 +1,15 @@
 use Rattle.std.proofs.Common.{sym, subst, List}
 use Rattle.rv64_isa.specs.declared.instr.Instr.{Instr}
 use Rattle.expr_code.specs.links.Skipping.{IsGuard}
-use Rattle.expr_code.proofs.Skips.{far_guard}
+use Rattle.expr_code.proofs.Skips.{near_guard, far_guard}
 use Rattle.expr_code.proofs.branches.guard.Goals as goal
 
-pub returns-in_ok-vec-in-Some : goal.returns-in_ok-vec-in-Some
-returns-in_ok-vec-in-Some c =
-    subst (λ (code : List Instr). IsGuard c.args.words c.args.test code) (sym c.in_ok-vec-in-Some.ensures.items)
-    (far_guard c.args.words c.args.test c.unwrap.result c.in-Some.far (rw c.unwrap.ensures at c.branch-test.ensures.skips) c.in-Some.ensures.skips)
+pub returns-in_Some-near-clause-code : goal.returns-in_Some-near-clause-code
+returns-in_Some-near-clause-code c =
+    subst (λ (code : List Instr). IsGuard c.args.words c.args.test code) (sym c.in_ok-vec.ensures.items)
+    (near_guard c.args.words c.args.test c.negated.result c.in_Some-near.near c.negated.ensures c.in_Some-near.ensures.skips)
+
+pub returns-clause-code : goal.returns-clause-code
+returns-clause-code c =
+    subst (λ (code : List Instr). IsGuard c.args.words c.args.test code) (sym c.in_ok-vec-2.ensures.items)
+    (far_guard c.args.words c.args.test c.unwrap.result c.jump.result (rw c.unwrap.ensures at c.branch-test.ensures.skips) c.jump.ensures)

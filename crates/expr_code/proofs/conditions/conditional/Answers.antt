@@ -5,9 +5,10 @@ use Rattle.expr_code.specs.links.Giving.{IsEvaluation}
 use Rattle.expr_code.proofs.Choosing.{conditional, as_made, conditional_code}
 use Rattle.expr_code.proofs.conditions.conditional.Goals as goal
 
-pub returns : goal.returns
-returns c = λ h k x y z held rd tests chosen otherwise.
+pub returns-clause-code : goal.returns-clause-code
+returns-clause-code c = λ h k x y z held rd tests chosen otherwise.
     conditional_code h k x y z held rd c.in_ok-code.code.items
-    (c.in_ok-code.ensures h (conditional k x y z) held rd tests
+    (c.in_ok-code.ensures.code h (conditional k x y z) held rd tests
     (as_made h k y held rd c.deref.result.now (subst (λ (code : List Instr). IsEvaluation h (e.Converted k y) held rd code) (sym c.deref.ensures.value) chosen))
-    (as_made h k z held rd c.deref-2.result.now (subst (λ (code : List Instr). IsEvaluation h (e.Converted k z) held rd code) (sym c.deref-2.ensures.value) otherwise)))
+    (as_made h k z held rd c.deref-2.result.now
+    (subst (λ (code : List Instr). IsEvaluation h (e.Converted k z) held rd code) (sym c.deref-2.ensures.value) otherwise)))

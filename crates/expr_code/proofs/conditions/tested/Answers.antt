@@ -3,5 +3,6 @@ use Rattle.c_tree.specs.Typing.{kind_of}
 use Rattle.expr_code.proofs.Operating.{nonzero_test}
 use Rattle.expr_code.proofs.conditions.tested.Goals as goal
 
-pub returns : goal.returns
-returns c = λ h x held operand. nonzero_test c.nonzero.result (kind_of x) c.args.operand.register c.args.operand.code.items (c.nonzero.ensures (kind_of x)) h x held refl operand
+pub returns-clause-test : goal.returns-clause-test
+returns-clause-test c = λ h x held operand. nonzero_test c.nonzero.result (kind_of x) c.args.operand.register c.args.operand.code.items
+    (c.nonzero.ensures (kind_of x)) h x held refl operand

@@ -6,12 +6,12 @@ use Rattle.expr_code.specs.Evaluating.{IsElementAddressCode}
 use Rattle.expr_code.proofs.Loading.{element_address_code}
 use Rattle.expr_code.proofs.elements.element_address.Goals as goal
 
-pub returns : goal.returns
-returns c =
+pub returns-clause-code : goal.returns-clause-code
+returns-clause-code c =
     let small : c.args.rd < 32 = search rules in
     λ h variable x is operand.
     let seen : c.push.new.self.items ≡ c.in_ok-code.code.items ++ OpImmediate Addi c.args.rd 31 (c.args.address % 4096) ∷ [] =
     cc (c.in_ok-push.ensures.items, c.immediate.ensures, c.lower.ensures.value) in
     subst (λ (code : List Instr). IsElementAddressCode h variable c.args.kind x c.args.rd code) (sym seen)
     (element_address_code c.args.kind c.args.rd c.args.address c.in_ok-code.code.items c.requires small h variable x is
-    (λ low. c.in_ok-code.ensures h x.expr low operand))
+    (λ low. c.in_ok-code.ensures.code h x.expr low operand))

@@ -10,16 +10,17 @@ use Rattle.expr_code.specs.links.Loading.{places_of, HasUpper}
 use Rattle.expr_code.proofs.Loading.{scaled_upper, plain_upper}
 use Rattle.expr_code.proofs.elements.element_upper.Goals as goal
 
-pub returns-then-count-eq0 : goal.returns-then-count-eq0
-returns-then-count-eq0 c = λ h x low operand.
+pub returns-then-count-eq0-clause-code : goal.returns-then-count-eq0-clause-code
+returns-then-count-eq0-clause-code c = λ h x low operand.
     let seen : c.push-then-count-eq0.new.self.items ≡
     (c.args.index.code.items ++ Lui 31 ((c.args.address + 2048) % 2 ^ 32 / 4096) ∷ []) ++ Op Add 31 31 c.args.index.register ∷ [] =
     cc (c.in_ok-push.ensures.items, c.in_ok-push-2.ensures.items, c.upper.ensures, c.add.ensures) in
     subst (λ (code : List Instr). Gives h x code (is_free c.args.held) (HasUpper c.args.address (bytes_of c.args.kind))) (sym seen)
-    (plain_upper c.args.kind c.args.held c.args.index.register c.args.address c.args.index.code.items (sym c.scale-count.ensures.value ∙ c.if-count-eq0.true) h x low operand)
+    (plain_upper c.args.kind c.args.held c.args.index.register c.args.address c.args.index.code.items
+    (sym c.scale-count.ensures.value ∙ c.if-count-eq0.true) h x low operand)
 
-pub returns : goal.returns
-returns c = λ h x low operand.
+pub returns-clause-code : goal.returns-clause-code
+returns-clause-code c = λ h x low operand.
     let seen : c.push-3.new.self.items ≡
     ((c.args.index.code.items ++ Lui 31 ((c.args.address + 2048) % 2 ^ 32 / 4096) ∷ []) ++
     ShiftImmediate Slli (temporary c.args.held) c.args.index.register (places_of c.args.kind) ∷ []) ++ Op Add 31 31 (temporary c.args.held) ∷ [] =

@@ -6,8 +6,8 @@ use Rattle.expr_code.specs.Evaluating.{IsVariableAddressCode}
 use Rattle.expr_code.proofs.Loading.{variable_address_code}
 use Rattle.expr_code.proofs.elements.variable_address.Goals as goal
 
-pub returns : goal.returns
-returns c =
+pub returns-clause-code : goal.returns-clause-code
+returns-clause-code c =
     let small : c.args.rd < 32 = search rules in
     λ h variable is.
     let seen : c.in_ok-vec.field-0.items ≡ Lui 31 ((c.args.address + 2048) % 2 ^ 32 / 4096) ∷ OpImmediate Addi c.args.rd 31 (c.args.address % 4096) ∷ [] =

@@ -7,11 +7,12 @@ use Rattle.expr_code.specs.links.Loading.{loaded_by}
 use Rattle.expr_code.proofs.Loading.{variable_value}
 use Rattle.expr_code.proofs.elements.variable_code.Goals as goal
 
-pub returns : goal.returns
-returns c =
+pub returns-clause-code : goal.returns-clause-code
+returns-clause-code c =
     let small : c.args.rd < 32 = search rules in
     λ h place variable held is.
-    let seen : c.in_ok-vec.field-0.items ≡ Lui 31 ((c.args.address + 2048) % 2 ^ 32 / 4096) ∷ Load (loaded_by c.args.kind) c.args.rd 31 (c.args.address % 4096) ∷ [] =
+    let seen : c.in_ok-vec.field-0.items ≡
+    Lui 31 ((c.args.address + 2048) % 2 ^ 32 / 4096) ∷ Load (loaded_by c.args.kind) c.args.rd 31 (c.args.address % 4096) ∷ [] =
     cc (c.in_ok-vec.ensures.items, c.upper.ensures, c.load.ensures) in
     subst (λ (code : List Instr). IsEvaluation h (e.Variable place variable c.args.kind) held c.args.rd code) (sym seen)
     (variable_value c.args.kind c.args.rd c.args.address c.requires small h place variable held is)

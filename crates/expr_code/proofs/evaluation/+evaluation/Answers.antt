@@ -1,17 +1,26 @@
 -- What the recursion owes besides the contracts of the functions that it calls.
-use Rattle.std.proofs.Common.{◌≡◌, ◌<◌, ◌∙◌, ap, sym, subst, arith, ℕ, List, length, get_or}
+use Rattle.std.proofs.Common.{rules, ◌≡◌, ◌+◌, ◌*◌, ◌<◌, ◌≤◌, ◌∙◌, ap, sym, subst, arith, ℕ, List, length, get_or}
 use Rattle.std.specs.Prelude.{slice_index, true}
 use Rattle.std.proofs.lemmas.Option.{slice_get-get_or, same_Some}
 use Rattle.rv64_isa.specs.declared.instr.Instr.{Instr}
+use Rattle.ido_ints.specs.declared.kinds.Kind.{Kind}
+use Rattle.ido_ints.specs.Kinds.{bits_of, rank_of}
+use Rattle.c_tree.specs.declared.expr.Expr.{Expr}
 use Rattle.c_tree.specs.Exprs as e
 use Rattle.c_tree.specs.Exprs.{expr_of}
 use Rattle.log_layout.specs.Roles.{is_local}
-use Rattle.operator_code.specs.Computing.{is_comparison}
+use Rattle.c_tree.specs.Prices.{nodes_of}
+use Rattle.c_tree.specs.Typing.{kind_of}
+use Rattle.operator_code.specs.declared.operation.BinaryOperation.{BinaryOperation}
+use Rattle.operator_code.specs.Computing.{is_comparison, left_kind}
 use Rattle.expr_code.specs.Evaluating.{Homes, homes_of, AreAtHome}
-use Rattle.expr_code.specs.links.Giving.{IsEvaluation, IsOperand, IsMade, truth_of}
+use Rattle.expr_code.specs.links.Giving.{IsEvaluation, IsOperand, IsMade, IsConstantForm, truth_of, conversion_words}
 use Rattle.expr_code.proofs.Needs.{need_some}
-use Rattle.expr_code.proofs.Operating.{comparison_made}
+use Rattle.expr_code.proofs.Operating.{comparison_made, skipped_code, kept_value}
+use Rattle.expr_code.proofs.Words.{wider_rank, some_rank}
 use Rattle.expr_code.proofs.evaluation.+evaluation.Goals as goal
+use Rattle.expr_code.proofs.evaluation.+evaluation.Goals.{evaluate_converted-in_default-via-in-Converted+else-bits}
+use Rattle.expr_code.proofs.evaluation.+evaluation.Goals.{evaluate_converted-in_default-via-in_default}
 
 -- ---- A temporary is free where one is needed
 
@@ -26,8 +35,8 @@ operand_in-converted-requires t c = let some = need_some (expr_of c.args.expr.no
 
 -- ---- A comparison's value is its truth
 
-pub evaluate_truth-returns-in_ok-code-in-Binary : goal.evaluate_truth-returns-in_ok-code-in-Binary
-evaluate_truth-returns-in_ok-code-in-Binary t c =
+pub evaluate_truth-returns-in_ok-code-in-Binary-clause-code : goal.evaluate_truth-returns-in_ok-code-in-Binary-clause-code
+evaluate_truth-returns-in_ok-code-in-Binary-clause-code t c =
     let w = c.in-Binary in
     let h = homes_of c.args.frame.now in
     let code : List Instr = c.in_ok-code-in-Binary.code.items in
@@ -35,7 +44,7 @@ evaluate_truth-returns-in_ok-code-in-Binary t c =
     let y = expr_of w.right.value in
     let seen : expr_of c.args.expr.now ≡ e.Binary w.operator x y = ap expr_of w.is in
     let compares : is_comparison w.operator ≡ true = sym c.is_comparison.ensures ∙ c.if-is_comparison.true in
-    let g : IsEvaluation h (expr_of c.args.expr.now) c.args.held c.args.rd code = c.in_ok-code-in-Binary.ensures in
+    let g : IsEvaluation h (expr_of c.args.expr.now) c.args.held c.args.rd code = c.in_ok-code-in-Binary.ensures.code in
     subst (λ (z : e.Expr). IsMade h z truth_of c.args.held c.args.rd code) (sym seen)
     (comparison_made h w.operator x y c.args.held c.args.rd code compares
     (subst (λ (z : e.Expr). IsEvaluation h z c.args.held c.args.rd code) seen g))
@@ -47,15 +56,16 @@ record IsHome (h : Homes) (local r : ℕ) : Type 0 where
   is : slice_index h.registers local ≡ r
   home : is_local r ≡ true
 
-is_home : (h : Homes) (local d : ℕ) → (local < length h.registers) × (is_local (slice_index h.registers local) ≡ true) → IsHome h local (get_or h.registers local d)
+is_home : (h : Homes) (local d : ℕ) → (local < length h.registers) × (is_local (slice_index h.registers local) ≡ true) →
+    IsHome h local (get_or h.registers local d)
 is_home h local d home =
     let at : slice_index h.registers local ≡ get_or h.registers local d =
     same_Some (get_or h.registers local 0) (get_or h.registers local d)
     (sym (slice_get-get_or h.registers local 0 home.0) ∙ slice_get-get_or h.registers local d home.0) in
     record { is = at; home = ap is_local (sym at) ∙ home.1 }
 
-pub evaluate-returns-in_ok-copied-in-Local : goal.evaluate-returns-in_ok-copied-in-Local
-evaluate-returns-in_ok-copied-in-Local t c =
+pub evaluate-returns-in_ok-copied-in-Local-clause-code : goal.evaluate-returns-in_ok-copied-in-Local-clause-code
+evaluate-returns-in_ok-copied-in-Local-clause-code t c =
     let w = c.in-Local in
     let h = homes_of c.args.frame.now in
     let code : List Instr = c.in_ok-copied-in-Local.field-0.items in
@@ -63,14 +73,88 @@ evaluate-returns-in_ok-copied-in-Local t c =
     let home : AreAtHome h (e.Local w.local w.kind) = subst (λ (z : e.Expr). AreAtHome h z) seen c.requires.home in
     let it = is_home h w.local c.index-frame-local.result home in
     subst (λ (z : e.Expr). IsEvaluation h z c.args.held c.args.rd code) (sym seen)
-    (c.in_ok-copied-in-Local.ensures h (e.Local w.local w.kind) c.args.held (c.local_operand-local.ensures h w.local w.kind c.args.held it.is it.home))
+    (c.in_ok-copied-in-Local.ensures.code h (e.Local w.local w.kind) c.args.held
+    (c.local_operand-local.ensures.operand h w.local w.kind c.args.held it.is it.home))
 
-pub operand-returns-in-Local : goal.operand-returns-in-Local
-operand-returns-in-Local t c =
+pub operand-returns-in-Local-clause-operand : goal.operand-returns-in-Local-clause-operand
+operand-returns-in-Local-clause-operand t c =
     let w = c.in-Local in
     let h = homes_of c.args.frame.now in
     let seen : expr_of c.args.expr.now ≡ e.Local w.local w.kind = ap expr_of w.is in
     let home : AreAtHome h (e.Local w.local w.kind) = subst (λ (z : e.Expr). AreAtHome h z) seen c.requires.home in
     let it = is_home h w.local c.index-frame-local.result home in
     subst (λ (z : e.Expr). IsOperand h z c.args.held c.local_operand.result.register c.local_operand.result.code.items) (sym seen)
-    (c.local_operand.ensures h w.local w.kind c.args.held it.is it.home)
+    (c.local_operand.ensures.operand h w.local w.kind c.args.held it.is it.home)
+
+-- ---- Conversions
+
+pub evaluate_converted-returns-in_ok-code-in-Converted-clause-code : goal.evaluate_converted-returns-in_ok-code-in-Converted-clause-code
+evaluate_converted-returns-in_ok-code-in-Converted-clause-code t c =
+    let w = c.in-Converted in
+    let h = homes_of c.args.frame.now in
+    let code : List Instr = c.in_ok-code-in-Converted.code.items in
+    let x = expr_of w.inner.value in
+    let seen : expr_of c.args.expr.now ≡ e.Converted w.between x = ap expr_of w.is in
+    let narrow : bits_of c.args.kind ≤ bits_of w.between = omega arith in
+    let passed : c.deref.result.now ≡ w.inner.value = c.deref.ensures in
+    let g : IsEvaluation h (e.Converted c.args.kind x) c.args.held c.args.rd code =
+    subst (λ (z : Expr). IsEvaluation h (e.Converted c.args.kind (expr_of z)) c.args.held c.args.rd code) passed c.in_ok-code-in-Converted.ensures.code in
+    subst (λ (z : e.Expr). IsEvaluation h (e.Converted c.args.kind z) c.args.held c.args.rd code) (sym seen)
+    (skipped_code h w.between c.args.kind x c.args.held c.args.rd code narrow g)
+
+pub evaluate_converted-returns-in_ok-code-in_default-clause-code : goal.evaluate_converted-returns-in_ok-code-in_default-clause-code
+evaluate_converted-returns-in_ok-code-in_default-clause-code t c =
+    kept_value c.kind_of-from.result c.args.kind c.args.rd c.in_ok-code-in_default.code.items (c.keeps_form.ensures.0 c.if-keeps_form.true)
+    (homes_of c.args.frame.now) (expr_of c.args.expr.now) c.args.held (sym c.kind_of-from.ensures) c.in_ok-code-in_default.ensures.code
+
+pub evaluate_converted-returns-in_ok-with_conversion-in_default-clause-short : goal.evaluate_converted-returns-in_ok-with_conversion-in_default-clause-short
+evaluate_converted-returns-in_ok-with_conversion-in_default-clause-short t c =
+    let some = some_rank c.args.kind in
+    let wider : conversion_words (expr_of c.args.expr.now) + 2 ≤ 2 * rank_of c.args.kind = elim c.in_default.branch [
+      | evaluate_converted-in_default-via-in-Converted+else-bits w ↦
+          let less : bits_of w.in-Converted.between < bits_of c.args.kind = omega arith in
+          let rank = wider_rank w.in-Converted.between c.args.kind less in
+          subst (λ (x : Expr). conversion_words (expr_of x) + 2 ≤ 2 * rank_of c.args.kind) (sym w.in-Converted.is)
+          (let e : 2 * rank_of w.in-Converted.between + 2 ≤ 2 * rank_of c.args.kind = omega arith in e)
+      | evaluate_converted-in_default-via-in_default w ↦ search rules
+    ] in
+    let before = c.in_ok-inner-in_default.ensures.short in
+    let more = c.in_ok-with_conversion-in_default.ensures.short in
+    omega arith
+
+-- ---- A constant operand
+
+pub evaluate-returns-in_ok-with_immediate-in_default-clause-code : goal.evaluate-returns-in_ok-with_immediate-in_default-clause-code
+evaluate-returns-in_ok-with_immediate-in_default-clause-code t c =
+    let w = c.in-Binary in
+    let h = homes_of c.args.frame.now in
+    let code : List Instr = c.in_ok-with_immediate-in_default.field-0.items in
+    let x = expr_of w.left.value in
+    let y = expr_of w.right.value in
+    let o : BinaryOperation = record { operator = w.operator; left = c.kind_of.result; right = c.kind_of-in_default.result } in
+    let seen : expr_of c.args.expr.now ≡ e.Binary w.operator x y = ap expr_of w.is in
+    let kx : kind_of x ≡ o.left = sym (c.kind_of.ensures ∙ ap (λ (z : Expr). kind_of (expr_of z)) c.deref-in_default.ensures) in
+    let ky : kind_of y ≡ o.right = sym (c.kind_of-in_default.ensures ∙ ap (λ (z : Expr). kind_of (expr_of z)) c.deref-in_default-2.ensures) in
+    let form : IsConstantForm o y c.in-Some.form =
+    subst (λ (z : Expr). IsConstantForm o (expr_of z) c.in-Some.form) c.deref-in_default-3.ensures c.in-Some.ensures in
+    let left = c.in_ok-left-in_default.left in
+    let operand : IsOperand h (e.Converted (left_kind o) x) c.args.held left.register left.code.items =
+    subst (λ (k : Kind). IsOperand h (e.Converted k x) c.args.held left.register left.code.items) c.left_kind.ensures
+    (subst (λ (z : Expr). IsOperand h (e.Converted c.left_kind.result (expr_of z)) c.args.held left.register left.code.items) c.deref-in-Some.ensures
+    c.in_ok-left-in_default.ensures.operand) in
+    subst (λ (z : e.Expr). IsEvaluation h z c.args.held c.args.rd code) (sym seen)
+    (c.in_ok-with_immediate-in_default.ensures.code o h x y c.args.held kx ky form operand)
+
+pub evaluate-returns-in_ok-with_immediate-in_default-clause-short : goal.evaluate-returns-in_ok-with_immediate-in_default-clause-short
+evaluate-returns-in_ok-with_immediate-in_default-clause-short t c =
+    let w = c.in-Binary in
+    let code : List Instr = c.in_ok-with_immediate-in_default.field-0.items in
+    let x = expr_of w.left.value in
+    let y = expr_of w.right.value in
+    let left = c.in_ok-left-in_default.left in
+    let before : length left.code.items ≤ 16 * nodes_of x + 2 =
+    subst (λ (z : Expr). length left.code.items ≤ 16 * nodes_of (expr_of z) + 2) c.deref-in-Some.ensures c.in_ok-left-in_default.ensures.short in
+    let more = c.in_ok-with_immediate-in_default.ensures.short in
+    let few : length code + 8 ≤ 16 * (1 + nodes_of x + nodes_of y) + 0 = omega arith in
+    let seen : expr_of c.args.expr.now ≡ e.Binary w.operator x y = ap expr_of w.is in
+    subst (λ (z : e.Expr). length code + 8 ≤ 16 * nodes_of z + conversion_words z) (sym seen) few

@@ -4,9 +4,9 @@ use Rattle.operator_code.specs.Straight.{IsConstant}
 use Rattle.expr_code.proofs.Operating.{constant_value}
 use Rattle.expr_code.proofs.operators.constant_code.Goals as goal
 
-pub returns : goal.returns
-returns c =
+pub returns-clause-code : goal.returns-clause-code
+returns-clause-code c =
     let small : c.args.rd < 32 = search rules in
     let holds : Holds c.args.value.kind c.args.value.number = search rules in
     λ h held. constant_value c.args.value c.args.rd c.in_ok-code.code.items c.requires small holds
-    (subst (λ (n : ℕ). IsConstant c.args.rd n c.in_ok-code.code.items) c.register_form.ensures c.in_ok-code.ensures) h held
+    (subst (λ (n : ℕ). IsConstant c.args.rd n c.in_ok-code.code.items) c.register_form.ensures c.in_ok-code.ensures.code) h held

@@ -5,8 +5,8 @@ use Rattle.expr_code.specs.links.Giving.{IsEvaluation}
 use Rattle.expr_code.proofs.Operating.{copy_code}
 use Rattle.expr_code.proofs.operators.copied.Goals as goal
 
-pub returns : goal.returns
-returns c =
+pub returns-clause-code : goal.returns-clause-code
+returns-clause-code c =
     let small : c.args.rd < 32 = search rules in
     λ h x held operand.
     subst (λ (code : List Instr). IsEvaluation h x held c.args.rd code) (sym c.in_ok-push_to.ensures.code)

@@ -7,8 +7,8 @@ use Rattle.log_layout.specs.Roles.{is_local}
 use Rattle.expr_code.proofs.Operating as operating
 use Rattle.expr_code.proofs.operators.local_operand.Goals as goal
 
-pub returns : goal.returns
-returns c = λ h local kind held is home.
+pub returns-clause-operand : goal.returns-clause-operand
+returns-clause-operand c = λ h local kind held is home.
     let l : is_local (slice_index h.registers local) ≡ true = ap is_local is ∙ home in
     let code : c.new.result.items ≡ [] = c.new.ensures.items in
     subst (λ (code : List Instr). IsOperand h (e.Local local kind) held c.args.register code) (sym code)

@@ -6,9 +6,10 @@ use Rattle.expr_code.specs.links.Giving.{IsEvaluation}
 use Rattle.expr_code.proofs.Operating.{binary_code}
 use Rattle.expr_code.proofs.operators.with_binary.Goals as goal
 
-pub returns : goal.returns
-returns c =
+pub returns-clause-code : goal.returns-clause-code
+returns-clause-code c =
     let small : c.args.rd < 32 = search rules in
     λ h x y held kx ky both.
     subst (λ (code : List Instr). IsEvaluation h (e.Binary c.args.operation.operator x y) held c.args.rd code) (sym c.in_ok-push_to.ensures.code)
-    (binary_code c.args.operation c.args.rd c.args.pair (listed c.unwrap-last.result) c.requires.some small (rw c.unwrap-last.ensures at c.binary.ensures.code) h x y held kx ky both)
+    (binary_code c.args.operation c.args.rd c.args.pair (listed c.unwrap-last.result) c.requires.some small
+    (rw c.unwrap-last.ensures at c.binary.ensures.code) h x y held kx ky both)

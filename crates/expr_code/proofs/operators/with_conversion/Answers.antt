@@ -6,9 +6,10 @@ use Rattle.expr_code.specs.links.Giving.{IsEvaluation}
 use Rattle.expr_code.proofs.Operating.{conversion_code}
 use Rattle.expr_code.proofs.operators.with_conversion.Goals as goal
 
-pub returns : goal.returns
-returns c =
+pub returns-clause-code : goal.returns-clause-code
+returns-clause-code c =
     let small : c.args.rd < 32 = search rules in
     λ h x held kind operand.
     subst (λ (code : List Instr). IsEvaluation h (e.Converted c.args.to x) held c.args.rd code) (sym c.in_ok-push_to.ensures.code)
-    (conversion_code c.args.from c.args.to c.args.rd c.args.operand.register c.args.operand.code.items (listed c.convert.result) c.requires small c.convert.ensures h x held kind operand)
+    (conversion_code c.args.from c.args.to c.args.rd c.args.operand.register c.args.operand.code.items
+    (listed c.convert.result) c.requires small c.convert.ensures h x held kind operand)

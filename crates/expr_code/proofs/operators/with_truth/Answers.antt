@@ -6,9 +6,10 @@ use Rattle.c_tree.specs.Typing.{kind_of}
 use Rattle.expr_code.proofs.Operating.{truth_code}
 use Rattle.expr_code.proofs.operators.with_truth.Goals as goal
 
-pub returns : goal.returns
-returns c =
+pub returns-clause-code : goal.returns-clause-code
+returns-clause-code c =
     let small : c.args.rd < 32 = search rules in
     λ h x held operand.
     subst (λ (code : List Instr). IsMade h x truth_of held c.args.rd code) (sym c.in_ok-push_to.ensures.code)
-    (truth_code (kind_of x) c.args.rd c.args.operand.register c.args.operand.code.items (listed c.truth.result) c.requires small (c.truth.ensures (kind_of x)) h x held refl operand)
+    (truth_code (kind_of x) c.args.rd c.args.operand.register c.args.operand.code.items (listed c.truth.result) c.requires small
+    (c.truth.ensures (kind_of x)) h x held refl operand)

@@ -6,9 +6,10 @@ use Rattle.expr_code.specs.links.Giving.{IsEvaluation}
 use Rattle.expr_code.proofs.Operating.{unary_code}
 use Rattle.expr_code.proofs.operators.with_unary.Goals as goal
 
-pub returns : goal.returns
-returns c =
+pub returns-clause-code : goal.returns-clause-code
+returns-clause-code c =
     let small : c.args.rd < 32 = search rules in
     λ h x held kind operand.
     subst (λ (code : List Instr). IsEvaluation h (e.Unary c.args.operator x) held c.args.rd code) (sym c.in_ok-push_to.ensures.code)
-    (unary_code c.args.operator c.args.kind c.args.rd c.args.operand.register c.args.operand.code.items (listed c.unary.result) c.requires small c.unary.ensures h x held kind operand)
+    (unary_code c.args.operator c.args.kind c.args.rd c.args.operand.register c.args.operand.code.items
+    (listed c.unary.result) c.requires small c.unary.ensures h x held kind operand)

@@ -5,7 +5,7 @@ use Rattle.expr_code.specs.Evaluating.{homes_of}
 use Rattle.expr_code.proofs.Selecting.{value_code}
 use Rattle.expr_code.proofs.selection.select.Goals as goal
 
-pub returns-in-Ok : goal.returns-in-Ok
-returns-in-Ok c =
+pub returns-in-Ok-clause-code : goal.returns-in-Ok-clause-code
+returns-in-Ok-clause-code c =
     let few : need_of (expr_of c.args.expr.now.expr) ≤ 4 = omega arith in
-    (few, value_code (homes_of c.args.frame.now) (expr_of c.args.expr.now.expr) c.args.destination c.in-Ok.code.items c.in-Ok.ensures)
+    (few, value_code (homes_of c.args.frame.now) (expr_of c.args.expr.now.expr) c.args.destination c.in-Ok.code.items c.in-Ok.ensures.code)

@@ -5,7 +5,7 @@ use Rattle.expr_code.specs.Evaluating.{homes_of}
 use Rattle.expr_code.proofs.Selecting.{test_code}
 use Rattle.expr_code.proofs.selection.select_test.Goals as goal
 
-pub returns-in-Ok : goal.returns-in-Ok
-returns-in-Ok c =
+pub returns-in-Ok-clause-code : goal.returns-in-Ok-clause-code
+returns-in-Ok-clause-code c =
     let few : need_of (expr_of c.args.condition.now.expr) ≤ 4 = omega arith in
-    (few, test_code (homes_of c.args.frame.now) (expr_of c.args.condition.now.expr) c.in-Ok.code.test c.in-Ok.code.code.items c.in-Ok.ensures)
+    (few, test_code (homes_of c.args.frame.now) (expr_of c.args.condition.now.expr) c.in-Ok.code.test c.in-Ok.code.code.items c.in-Ok.ensures.test)

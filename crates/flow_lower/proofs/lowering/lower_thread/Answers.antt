@@ -2,6 +2,7 @@ use Rattle.std.proofs.Common.{◌≡◌, ℕ, suc, ◌+◌, List, length, ap, ar
 use Rattle.c_tree.specs.Flats as f
 use Rattle.c_tree.specs.declared.flat.Statement.{Statement}
 use Rattle.flow_graph.specs.Lowering.{statements_count}
+use Rattle.flow_graph.proofs.Counted.{length-statements_nodes}
 use Rattle.flow_lower.proofs.Growing as g
 use Rattle.flow_lower.proofs.lowering.lower_thread.Goals as goal
 
@@ -10,7 +11,7 @@ returns-clause-part c =
     let old = c.args.nodes.now.items in
     let mid = c.lower_all.new.nodes.items in
     let inner = g.length_after old mid _ c.in_ok-lower_all.ensures in
-    let counted = g.length-statements_nodes (f.statements_of c.deref-2.result.now) (length old) c.in_ok-last.last in
+    let counted = length-statements_nodes (f.statements_of c.deref-2.result.now) (length old) c.in_ok-last.last in
     let same = ap (λ (ys : List Statement). statements_count (f.statements_of ys)) c.deref-2.ensures.value in
     let one = g.length_pushed mid c.push.new.self.items c.plain.result c.in_ok-push.ensures.items in
     g.part_is (f.thread_of c.args.thread.now) (length old) c.len-first.result c.len.result c.len-2.result (omega (arith, c.len-first.ensures, c.args.nodes.now.ok.0))

@@ -8,7 +8,8 @@ use Rattle.region_cutter.proofs.Edges.{has_behind_is, and_then, and_else}
 use Rattle.region_cutter.proofs.cleaning.has_behind.Goals as goal
 use Rattle.region_cutter.proofs.cleaning.has_behind.Goals.{After-stands-stands}
 
-asked : (c : After-stands-stands) → IsTrue (c.locks-takes.result && c.stands-stands.result) ↔ HasBehind (graph_of c.args.graph.now) (boundaries_of c.args.cuts.now) c.args.number
+asked : (c : After-stands-stands) →
+    IsTrue (c.locks-takes.result && c.stands-stands.result) ↔ HasBehind (graph_of c.args.graph.now) (boundaries_of c.args.cuts.now) c.args.number
 asked c =
     let nodes = c.args.graph.now.nodes.items in
     let n = c.args.number in

@@ -9,7 +9,8 @@ use Rattle.region_cutter.proofs.Edges.{leaves_is, or_then, or_else}
 use Rattle.region_cutter.proofs.cleaning.leaves.Goals as goal
 use Rattle.region_cutter.proofs.cleaning.leaves.Goals.{After-leads_over-other}
 
-asked : (c : After-leads_over-other) → IsTrue (c.leads_over-next.result || c.leads_over-other.result) ↔ Leaves (graph_of c.args.graph.now) (boundaries_of c.args.cuts.now) c.args.number
+asked : (c : After-leads_over-other) →
+    IsTrue (c.leads_over-next.result || c.leads_over-other.result) ↔ Leaves (graph_of c.args.graph.now) (boundaries_of c.args.cuts.now) c.args.number
 asked c =
     let nodes = c.args.graph.now.nodes.items in
     let n = c.args.number in
@@ -27,5 +28,6 @@ returns-then-next c =
 
 pub returns-else-next : goal.returns-else-next
 returns-else-next c =
-    or_else c.leads_over-next.result c.leads_over-other.result (Leaves (graph_of c.args.graph.now) (boundaries_of c.args.cuts.now) c.args.number) c.if-next.false
+    or_else c.leads_over-next.result c.leads_over-other.result
+    (Leaves (graph_of c.args.graph.now) (boundaries_of c.args.cuts.now) c.args.number) c.if-next.false
     (asked (goal.at.returns-else-next c).After-leads_over-other)

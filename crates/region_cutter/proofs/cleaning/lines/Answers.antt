@@ -13,7 +13,8 @@ at_hand nodes items i x same lt is = subst (λ (xs : List code.Node). slice_get 
 
 pub loop-node-init : goal.loop-node-init
 loop-node-init c =
-    subst (λ (xs : List (Option ℕ)). AreFirstLines c.args.graph.now.nodes.items c.args.shapes.now xs 0) (sym c.in_ok-lines.ensures.items) (first_none c.args.graph.now.nodes.items c.args.shapes.now)
+    subst (λ (xs : List (Option ℕ)). AreFirstLines c.args.graph.now.nodes.items c.args.shapes.now xs 0) (sym c.in_ok-lines.ensures.items)
+    (first_none c.args.graph.now.nodes.items c.args.shapes.now)
 
 pub line_of-requires-clause-element : goal.line_of-requires-clause-element
 line_of-requires-clause-element c =
@@ -36,4 +37,5 @@ returns c =
     let i = c.loop-node.node-index in
     let most : i ≤ length c.deref-node-items.result.now = c.loop-node.auto.node-index-end in
     let all : length c.deref-node-items.result.now ≤ i = c.loop-node-test.false in
-    first_all (graph_of c.args.graph.now) nodes c.args.shapes.now c.loop-node.lines.items i refl (omega (arith, ap length c.deref-node-items.ensures.value)) c.loop-node.invariant
+    first_all (graph_of c.args.graph.now) nodes c.args.shapes.now c.loop-node.lines.items i refl
+    (omega (arith, ap length c.deref-node-items.ensures.value)) c.loop-node.invariant

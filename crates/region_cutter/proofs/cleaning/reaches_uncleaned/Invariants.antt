@@ -6,7 +6,9 @@ use Rattle.region_cutter.specs.links.Lines.{GoesOnPast, Leaves}
 use Rattle.region_cutter.proofs.cleaning.reaches_uncleaned.Given as goal
 
 abbrev pub invariant-loop-number : goal.invariant-loop-number
-invariant-loop-number l = Searched (GoesOnPast (graph_of l.graph) (boundaries_of l.cuts) l.lines l.line) (Leaves (graph_of l.graph) (boundaries_of l.cuts)) (λ n. l.from ≡ n) (Comes (GoesOnPast (graph_of l.graph) (boundaries_of l.cuts) l.lines l.line) (Leaves (graph_of l.graph) (boundaries_of l.cuts)) l.from) l.search.seen.items l.search.waiting.items
+invariant-loop-number l = Searched (GoesOnPast (graph_of l.graph) (boundaries_of l.cuts) l.lines l.line) (Leaves (graph_of l.graph) (boundaries_of l.cuts))
+    (λ n. l.from ≡ n) (Comes (GoesOnPast (graph_of l.graph) (boundaries_of l.cuts) l.lines l.line)
+    (Leaves (graph_of l.graph) (boundaries_of l.cuts)) l.from) l.search.seen.items l.search.waiting.items
     × (length l.search.seen.items ≡ length l.graph.nodes.items)
 
 abbrev pub decreases-loop-number : goal.decreases-loop-number

@@ -6,10 +6,11 @@ use Rattle.region_cutter.proofs.Starting.{everywhere_kept}
 use Rattle.region_cutter.proofs.Trials.{pass_minimal}
 use Rattle.region_cutter.proofs.cutting.cut.Goals as goal
 
-pub loop-cuts-init : goal.loop-cuts-init
-loop-cuts-init c = everywhere_kept (graph_of c.args.graph.now) (boundaries_of c.in_ok-cuts.cuts) c.in_ok-cuts.ensures
+pub loop-marks-init : goal.loop-marks-init
+loop-marks-init c = everywhere_kept (graph_of c.args.graph.now) (boundaries_of c.in_ok-cuts.cuts) c.in_ok-cuts.ensures
 
 pub returns-clause-minimal : goal.returns-clause-minimal
 returns-clause-minimal c =
-    pass_minimal (graph_of c.args.graph.now) (boundaries_of c.loop-cuts.cuts) (boundaries_of c.take_away.new.cuts) (length c.args.graph.now.nodes.items) c.in_ok-take_away.field-0
+    pass_minimal (graph_of c.args.graph.now) (boundaries_of c.loop-marks.cuts) (boundaries_of c.take_away.new.cuts)
+    (length c.args.graph.now.nodes.items) c.in_ok-take_away.field-0
     (simp length-map) c.if-branch.false c.in_ok-take_away.ensures

@@ -3,8 +3,8 @@ use Rattle.flow_graph.specs.Cutting.{boundaries_of}
 use Rattle.region_cutter.specs.links.Trying.{AreKept, standing}
 use Rattle.region_cutter.proofs.cutting.cut.Given as goal
 
-abbrev pub invariant-loop-cuts : goal.invariant-loop-cuts
-invariant-loop-cuts l = AreKept (graph_of l.graph) (boundaries_of l.cuts)
+abbrev pub invariant-loop-marks : goal.invariant-loop-marks
+invariant-loop-marks l = AreKept (graph_of l.graph) (boundaries_of l.cuts)
 
-abbrev pub decreases-loop-cuts : goal.decreases-loop-cuts
-decreases-loop-cuts l = standing (boundaries_of l.cuts)
+abbrev pub decreases-loop-marks : goal.decreases-loop-marks
+decreases-loop-marks l = standing (boundaries_of l.cuts)

@@ -21,5 +21,6 @@ pub returns : goal.returns
 returns c =
     let items = c.deref-elements-items.result.now in
     let least : length items ≤ c.loop-elements.elements-index = c.loop-elements-test.false in
-    subst (λ (xs : List Location). AddsRead c.args.writes.now (Contains xs) c.args.reads.now.items c.loop-elements.reads.items) c.deref-elements-items.ensures.value
+    subst (λ (xs : List Location). AddsRead c.args.writes.now
+    (Contains xs) c.args.reads.now.items c.loop-elements.reads.items) c.deref-elements-items.ensures.value
     (adds_all c.args.writes.now items c.args.reads.now.items c.loop-elements.reads.items c.loop-elements.elements-index least c.loop-elements.invariant)

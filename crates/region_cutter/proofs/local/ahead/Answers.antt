@@ -29,14 +29,16 @@ loop-number-init c =
     let b = boundaries_of c.args.cuts.now in
     let start : ℕ → Type 0 = λ n. c.args.from ≡ n in
     let f = c.in_ok-search.ensures in (
-      searched_first (Inside g b) Never start ⊥ start c.len.result c.in_ok-search.search.seen.items c.in_ok-search.search.waiting.items f (λ n is comes. never g b n comes) (λ n is lt. is),
+      searched_first (Inside g b) Never start ⊥ start c.len.result c.in_ok-search.search.seen.items c.in_ok-search.search.waiting.items f
+          (λ n is comes. never g b n comes) (λ n is lt. is),
       omega (arith, f.long, length-replicate c.len.result false, c.len.ensures, c.args.graph.now.nodes.ok.0),
     )
 
 pub index-requires : goal.index-requires
 index-requires c = omega (arith, popped (goal.at.index-requires c).In-Some, c.args.graph.now.nodes.ok.0)
 
-found : (c : After-index) → c.in-Some.number < length c.args.graph.now.nodes.items → slice_get c.args.graph.now.nodes.items c.in-Some.number ≡ Some c.index.result.now
+found : (c : After-index) → c.in-Some.number < length c.args.graph.now.nodes.items → slice_get c.args.graph.now.nodes.items c.in-Some.number ≡
+    Some c.index.result.now
 found c lt = slice_get_read c.args.graph.now.nodes.items (length c.args.graph.now.nodes.items) c.in-Some.number c.index.result.now refl lt c.index.ensures
 
 pub go_on-requires : goal.go_on-requires
@@ -51,7 +53,8 @@ loop-number-preserved c =
     let rest = c.pop.new.self.items in
     let s' = c.go_on.new.search in
     let f : Follows (λ to. Inside g b n to) s.seen.items rest s'.seen.items s'.waiting.items = c.in_ok-go_on.ensures in (
-      searched_step (Inside g b) Never (λ m. c.args.from ≡ m) ⊥ s.seen.items s.waiting.items rest s'.seen.items s'.waiting.items n c.in-Some.ensures.items c.loop-number.invariant.0 (λ h. h) f,
+      searched_step (Inside g b) Never
+          (λ m. c.args.from ≡ m) ⊥ s.seen.items s.waiting.items rest s'.seen.items s'.waiting.items n c.in-Some.ensures.items c.loop-number.invariant.0 (λ h. h) f,
       f.long ∙ c.loop-number.invariant.1,
     )
 
@@ -74,6 +77,7 @@ returns c =
     let count : length s.seen.items ≡ length g.nodes = c.loop-number.invariant.1 ∙ sym (length-map c.args.graph.now.nodes.items node_of) in
     let done : AreAhead g b c.args.from s.seen.items = record {
       begun = λ lt. c.loop-number.invariant.0.begun c.args.from refl (omega (arith, count));
-      closed = λ n to seen step lt. (all_followed (Inside g b) Never (λ m. c.args.from ≡ m) ⊥ s.seen.items s.waiting.items none c.loop-number.invariant.0 n seen).followed to step (omega (arith, count));
+      closed = λ n to seen step lt. (all_followed (Inside g b) Never
+          (λ m. c.args.from ≡ m) ⊥ s.seen.items s.waiting.items none c.loop-number.invariant.0 n seen).followed to step (omega (arith, count));
     } in
     done

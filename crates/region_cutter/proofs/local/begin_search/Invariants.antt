@@ -1,4 +1,4 @@
-use Rattle.std.proofs.Common.{[], length, replicate, false}
+use Rattle.std.proofs.Common.{[], ◌≤◌, length, replicate, false}
 use Rattle.flow_graph.specs.Nodes.{graph_of}
 use Rattle.flow_graph.specs.Cutting.{boundaries_of}
 use Rattle.region_cutter.specs.links.Searching.{Follows}
@@ -6,4 +6,6 @@ use Rattle.region_cutter.specs.links.Local.{BeginsBelow}
 use Rattle.region_cutter.proofs.local.begin_search.Given as goal
 
 abbrev pub invariant-loop-number : goal.invariant-loop-number
-invariant-loop-number l = Follows (BeginsBelow (graph_of l.graph) (boundaries_of l.cuts) l.number) (replicate (length l.graph.nodes.items) false) [] l.search.seen.items l.search.waiting.items
+invariant-loop-number l = Follows (BeginsBelow (graph_of l.graph) (boundaries_of l.cuts) l.fn.window l.number)
+    (replicate (length l.graph.nodes.items) false) [] l.search.seen.items l.search.waiting.items
+    × (l.fn.window.first ≤ l.number)

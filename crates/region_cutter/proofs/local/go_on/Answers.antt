@@ -19,6 +19,8 @@ returns c =
     let s' = c.come_to_any.new.self in
     let s'' = c.come_to_any-2.new.self in
     follows_as (λ to. (one ≡ Some to) ⊎ (two ≡ Some to)) (Inside g b n) s.seen.items s.waiting.items s''.seen.items s''.waiting.items
-    (inside_both g b n (node_of c.args.node.now) c.has_behind-behind.result c.next.result c.other.result one two (slice_get-map node_of c.args.graph.now.nodes.items n ∙ ap (option_map node_of) c.requires)
+    (inside_both g b n (node_of c.args.node.now) c.has_behind-behind.result c.next.result c.other.result one two
+    (slice_get-map node_of c.args.graph.now.nodes.items n ∙ ap (option_map node_of) c.requires)
     c.has_behind-behind.ensures c.next.ensures c.other.ensures c.inside.ensures c.inside-2.ensures)
-    (follows_both (λ to. one ≡ Some to) (λ to. two ≡ Some to) s.seen.items s.waiting.items s'.seen.items s'.waiting.items s''.seen.items s''.waiting.items c.in_ok-come_to_any.ensures c.in_ok-come_to_any-2.ensures)
+    (follows_both (λ to. one ≡ Some to)
+    (λ to. two ≡ Some to) s.seen.items s.waiting.items s'.seen.items s'.waiting.items s''.seen.items s''.waiting.items c.in_ok-come_to_any.ensures c.in_ok-come_to_any-2.ensures)

@@ -14,7 +14,11 @@ returns-in_ok-go_on c =
     let s' = c.go_on.new.search in
     follows_as (Inside g b n) (InsidePast g b c.args.element n) s.seen.items s.waiting.items s'.seen.items s'.waiting.items
     (λ to. (
-      λ i. record { inside = i; past = λ w. let yes' : c.writes_same.result ≡ true = c.writes_same.ensures.1 w in let no' : c.writes_same.result ≡ false = c.if-not-writes_same.true in cc },
+      λ i. record {
+        inside = i;
+        past = λ w. let yes' : c.writes_same.result ≡ true = c.writes_same.ensures.1 w in let no' : c.writes_same.result ≡ false =
+            c.if-not-writes_same.true in cc;
+      },
       λ p. p.inside,
     ))
     c.in_ok-go_on.ensures

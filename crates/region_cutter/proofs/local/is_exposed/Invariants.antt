@@ -1,8 +1,16 @@
-use Rattle.std.proofs.Common.{ℕ, ◌<◌}
+use Rattle.std.proofs.Common.{◌≡◌, length}
 use Rattle.flow_graph.specs.Nodes.{graph_of}
 use Rattle.flow_graph.specs.Cutting.{boundaries_of}
-use Rattle.region_cutter.specs.links.Local.{IsExposedAt}
+use Rattle.region_cutter.specs.links.Searching.{Searched, left}
+use Rattle.region_cutter.specs.links.Local.{Inside, WritesOver, IsBehindExposedIn, IsExposed}
 use Rattle.region_cutter.proofs.local.is_exposed.Given as goal
 
 abbrev pub invariant-loop-number : goal.invariant-loop-number
-invariant-loop-number l = (n : ℕ) → n < l.number → ¬ (IsExposedAt (graph_of l.graph) (boundaries_of l.cuts) l.elements n)
+invariant-loop-number l =
+    Searched (Inside (graph_of l.graph) (boundaries_of l.cuts)) (WritesOver (graph_of l.graph) l.elements)
+    (IsBehindExposedIn (graph_of l.graph) (boundaries_of l.cuts) l.fn.window l.elements)
+    (IsExposed (graph_of l.graph) (boundaries_of l.cuts) l.fn.window l.elements) l.search.seen.items l.search.waiting.items
+    × (length l.search.seen.items ≡ length l.graph.nodes.items)
+
+abbrev pub decreases-loop-number : goal.decreases-loop-number
+decreases-loop-number l = left l.search.seen.items l.search.waiting.items

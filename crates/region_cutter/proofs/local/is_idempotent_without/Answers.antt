@@ -1,43 +1,17 @@
-use Rattle.std.proofs.Common.{◌≡◌, ◌≤◌, true, false, Bool, List, length, get_or, subst, sym, arith}
-use Rattle.std.specs.Prelude.{Contains}
-use Rattle.std.proofs.lemmas.Option.{slice_get-get_or}
+use Rattle.std.proofs.Common.{List, Bool, subst}
 use Rattle.ido_base.specs.declared.location.Location.{Location}
 use Rattle.flow_graph.specs.Nodes.{graph_of}
 use Rattle.flow_graph.specs.Cutting.{boundaries_of}
-use Rattle.region_cutter.specs.links.Local.{AreReadOver, AreWritten, IsExposed}
-use Rattle.region_cutter.proofs.Exposing.{below_more, contained, known_false, known_true}
+use Rattle.region_cutter.specs.links.Local.{AreWritten, IsExposedAny}
+use Rattle.region_cutter.proofs.Exposing.{known_by}
 use Rattle.region_cutter.proofs.local.is_idempotent_without.Goals as goal
-
-pub returns-then-exposed : goal.returns-then-exposed
-returns-then-exposed c =
-    let g = graph_of c.args.graph.now in
-    let now = boundaries_of c.args.cuts.now in
-    let item : Location = get_or c.deref-elements-items.result.now c.loop-elements.elements-index (record { variable = 0; lo = 0; hi = 0 }) in
-    known_false g now item c.args.node (c.in_ok-exposed.ensures.0 c.if-exposed.true)
-
-pub loop-elements-preserved : goal.loop-elements-preserved
-loop-elements-preserved c =
-    let g = graph_of c.args.graph.now in
-    let now = boundaries_of c.args.cuts.now in
-    let i = c.loop-elements.elements-index in
-    let items = c.deref-elements-items.result.now in
-    let item : Location = get_or items i (record { variable = 0; lo = 0; hi = 0 }) in
-    let at = slice_get-get_or items i (record { variable = 0; lo = 0; hi = 0 }) c.loop-elements-test.true in
-    let P : Location → Type 0 = λ e. ¬ (IsExposed g now e) in
-    let free : P item = λ e. let yes' : c.in_ok-exposed.exposed ≡ true = c.in_ok-exposed.ensures.1 e in let no' : c.in_ok-exposed.exposed ≡ false = c.if-exposed.false in cc in
-    below_more P items i item at free c.loop-elements.invariant
 
 pub returns : goal.returns
 returns c =
     let g = graph_of c.args.graph.now in
     let now = boundaries_of c.args.cuts.now in
+    let w = c.window_at-window.result in
     let writes = c.in_ok-writes.writes.items in
-    let reads = c.in_ok-reads.reads.items in
-    let least : length c.deref-elements-items.result.now ≤ c.loop-elements.elements-index = c.loop-elements-test.false in
-    known_true g now c.in_ok-seen.seen.items writes reads c.args.node c.in_ok-seen.ensures
-    (subst (λ (seen : List Bool). AreWritten g seen writes) c.deref.ensures.value c.in_ok-writes.ensures)
-    (subst (λ (ws : List Location). AreReadOver g ws reads) c.deref-2.ensures.value c.in_ok-reads.ensures)
-    (λ e k.
-    let at = contained c.deref-elements-items.result.now e (subst (λ (xs : List Location). Contains xs e) (sym c.deref-elements-items.ensures.value) k) in
-    let lt = at.1 in
-    c.loop-elements.invariant at.0 e (omega (arith, lt, least)) at.2)
+    known_by g now w c.in_ok-seen.seen.items writes c.args.node c.in_ok-exposed.exposed c.window_at-window.ensures c.in_ok-seen.ensures
+    (subst (λ (seen : List Bool). AreWritten g w seen writes) c.deref.ensures.value c.in_ok-writes.ensures)
+    (subst (λ (ws : List Location). IsExposedAny g now w ws c.in_ok-exposed.exposed) c.deref-2.ensures.value c.in_ok-exposed.ensures)

@@ -7,8 +7,10 @@ use Rattle.region_cutter.proofs.local.writes_over.Goals as goal
 
 pub returns-in-Some : goal.returns-in-Some
 returns-in-Some c =
-    over_some (graph_of c.args.graph.now) c.args.elements c.args.number (node_of c.args.node.now) c.in-Some.written c.overlap.result (slice_get-map node_of c.args.graph.now.nodes.items c.args.number ∙ ap (option_map node_of) c.requires)
+    over_some (graph_of c.args.graph.now) c.args.elements c.args.number (node_of c.args.node.now) c.in-Some.written c.overlap.result
+    (slice_get-map node_of c.args.graph.now.nodes.items c.args.number ∙ ap (option_map node_of) c.requires)
     c.in-Some.is c.overlap.ensures
 
 pub returns-in-None : goal.returns-in-None
-returns-in-None c = over_none (graph_of c.args.graph.now) c.args.elements c.args.number (node_of c.args.node.now) (slice_get-map node_of c.args.graph.now.nodes.items c.args.number ∙ ap (option_map node_of) c.requires) c.in-None.is
+returns-in-None c = over_none (graph_of c.args.graph.now) c.args.elements c.args.number (node_of c.args.node.now)
+    (slice_get-map node_of c.args.graph.now.nodes.items c.args.number ∙ ap (option_map node_of) c.requires) c.in-None.is

@@ -11,7 +11,9 @@ use Rattle.region_cutter.specs.links.Trying.{IsTried, Passes, unlocks}
 use Rattle.region_cutter.proofs.Starting.{unlocked, not_unlocked}
 use Rattle.region_cutter.proofs.Trials.{pass_first, pass_over, pass_gone, pass_kept}
 use Rattle.region_cutter.proofs.trying.take_away.Goals as goal
-use Rattle.region_cutter.proofs.trying.take_away.Goals.{Joined-index, then-index+then-not-unlocks+in_ok-try_without+then-branch, then-index+then-not-unlocks+in_ok-try_without+else-branch, else-index, else-index-via-then-index+else-not-unlocks, else-index-via-else-index}
+use Rattle.region_cutter.proofs.trying.take_away.Goals.{Joined-index, then-index+then-not-unlocks+in_ok-try_without+then-branch}
+use Rattle.region_cutter.proofs.trying.take_away.Goals.{then-index+then-not-unlocks+in_ok-try_without+else-branch, else-index}
+use Rattle.region_cutter.proofs.trying.take_away.Goals.{else-index-via-then-index+else-not-unlocks, else-index-via-else-index}
 
 -- the node in hand
 at_hand : (c : Joined-index) → NodeAt (graph_of c.args.graph.now) c.loop-number.number (node_of c.node-item.result)
@@ -34,7 +36,7 @@ stands c is =
     slice_get_read bs (length bs) i true refl lt (let P : Bool → Type 0 = λ b. b ≡ get_or bs i b in subst P is c.index.ensures)
 
 pub loop-number-init : goal.loop-number-init
-loop-number-init c = pass_first (graph_of c.args.graph.now) (boundaries_of c.args.cuts.now) c.requires
+loop-number-init c = pass_first (graph_of c.args.graph.now) (boundaries_of c.args.cuts.now) c.requires.kept
 
 pub loop-number-preserved : goal.loop-number-preserved
 loop-number-preserved c =
@@ -53,14 +55,16 @@ loop-number-preserved c =
           let gone : IsTried g now next i true = subst (λ (b : Bool). IsTried g now next i b) w.if-branch.true tried in
           let no : unlocks (node_of c.node-item.result).action ≡ false = cc (w.unlocks.ensures, w.if-not-unlocks.true) in
           subst (λ (x : Cuts). Passes g old (boundaries_of x) (i + 1) c.if-index.any) (sym w.cuts-is)
-          (subst (λ (b : Bool). Passes g old next (i + 1) b) (sym w.any-is) (pass_gone g old now next i any c.loop-number.invariant (chosen w.if-index.true no) gone)))
+          (subst (λ (b : Bool). Passes g old next (i + 1) b) (sym w.any-is)
+          (pass_gone g old now next i any c.loop-number.invariant (chosen w.if-index.true no) gone)))
       | then-index+then-not-unlocks+in_ok-try_without+else-branch w ↦ (
           let next = boundaries_of w.try_without.new.cuts in
           let tried : IsTried g now next i w.in_ok-try_without.field-0 = w.in_ok-try_without.ensures in
           let kept : IsTried g now next i false = subst (λ (b : Bool). IsTried g now next i b) w.if-branch.false tried in
           let no : unlocks (node_of c.node-item.result).action ≡ false = cc (w.unlocks.ensures, w.if-not-unlocks.true) in
           subst (λ (x : Cuts). Passes g old (boundaries_of x) (i + 1) c.if-index.any) (sym w.cuts-is)
-          (subst (λ (b : Bool). Passes g old next (i + 1) b) (sym w.any-is) (pass_kept g old now next i any c.loop-number.invariant (chosen w.if-index.true no) kept)))
+          (subst (λ (b : Bool). Passes g old next (i + 1) b) (sym w.any-is)
+          (pass_kept g old now next i any c.loop-number.invariant (chosen w.if-index.true no) kept)))
       | else-index w ↦ (
           let free : ¬ (IsChosen g now i) = elim w.else-index.branch [
             | else-index-via-then-index+else-not-unlocks v ↦ (λ k.

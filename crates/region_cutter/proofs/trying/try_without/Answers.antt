@@ -1,10 +1,18 @@
-use Rattle.std.proofs.Common.{◌≡◌, ◌↔◌, Bool, true, false, List, set, refl, ap}
+use Rattle.std.proofs.Common.{◌≡◌, ◌↔◌, Bool, true, false, List, set, refl, ap, arith}
 use Rattle.std.specs.Prelude.{IsTrue}
+use Rattle.std.proofs.lemmas.Option.{slice_get_within}
 use Rattle.flow_graph.specs.Nodes.{graph_of}
 use Rattle.flow_graph.specs.Cutting.{Boundaries, IsIdempotent, boundaries_of, without}
 use Rattle.region_cutter.proofs.Lists.{set_back}
 use Rattle.region_cutter.proofs.Trials.{tried}
 use Rattle.region_cutter.proofs.trying.try_without.Goals as goal
+
+pub is_idempotent_without-requires-clause-locks : goal.is_idempotent_without-requires-clause-locks
+is_idempotent_without-requires-clause-locks c = λ n lock. let h = c.requires.locks n lock in record { locks = h.locks; stands = h.stands }
+
+pub index_mut-requires-then-not-taken : goal.index_mut-requires-then-not-taken
+index_mut-requires-then-not-taken c =
+    omega (arith, slice_get_within c.args.cuts.now.before.items c.args.node true c.requires.stands, c.args.cuts.now.before.ok.0)
 
 pub returns-then-not-taken : goal.returns-then-not-taken
 returns-then-not-taken c =

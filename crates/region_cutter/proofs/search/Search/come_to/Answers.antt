@@ -7,7 +7,8 @@ use Rattle.region_cutter.proofs.search.Search.come_to.Goals as goal
 use Rattle.region_cutter.proofs.search.Search.come_to.Goals.{else-number-len-via-then-number-len+else-not-index, else-number-len-via-else-number-len}
 
 -- what was found in the list
-found : (seen : List Bool) (number : ℕ) (found is : Bool) → number < length seen → found ≡ get_or seen number found → found ≡ is → slice_get seen number ≡ Some is
+found : (seen : List Bool) (number : ℕ) (found is : Bool) → number < length seen → found ≡ get_or seen number found → found ≡ is → slice_get seen number ≡
+    Some is
 found seen number x y lt e is = let P : Bool → Type 0 = λ b. b ≡ get_or seen number b in slice_get_read seen (length seen) number y refl lt (subst P is e)
 
 pub returns-in_ok-push : goal.returns-in_ok-push
@@ -17,7 +18,8 @@ returns-in_ok-push c =
     let number = c.args.number in
     let lt : number < length seen = search rules in
     let was : slice_get seen number ≡ Some false = found seen number c.index.result.now false lt c.index.ensures c.if-not-index.true in
-    subst (λ (w : List ℕ). Follows (λ n. number ≡ n) seen waiting (set seen number true) w) (sym c.in_ok-push.ensures.items) (follows_new seen waiting number was)
+    subst (λ (w : List ℕ). Follows (λ n. number ≡ n) seen waiting (set seen number true) w) (sym c.in_ok-push.ensures.items)
+    (follows_new seen waiting number was)
 
 pub returns-else-number-len : goal.returns-else-number-len
 returns-else-number-len c =

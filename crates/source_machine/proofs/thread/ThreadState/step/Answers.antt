@@ -1,12 +1,18 @@
-use Rattle.std.proofs.Common.{◌≡◌, ◌∙◌, ap, sym, Some, ℕ, List, Option, subst, refl, false, true}
+use Rattle.std.proofs.Common.{◌≡◌, ◌∙◌, ap, sym, Some, ℕ, List, length, Option, subst, refl, false, true, arith}
 use Rattle.std.specs.Prelude.{ℤ}
-use Rattle.c_tree.specs.Exprs.{expr_of}
+use Rattle.std.specs.Vec.{with_items}
+use Rattle.std.specs.Option.{option_map}
+use Rattle.std.proofs.lemmas.List.{with_items_is}
+use Rattle.c_tree.specs.Source as m
+use Rattle.c_tree.specs.Exprs.{expr_of, target_of}
 use Rattle.c_tree.specs.Values.{value}
 use Rattle.ido_ints.specs.Operators.{is_zero}
 use Rattle.ido_ints.specs.Typed.{Typed}
 use Rattle.source_machine.specs.declared.answers.Stepped.TheVariants.{Did, Waits}
+use Rattle.source_machine.specs.declared.thread.ThreadState.{ThreadState}
+use Rattle.source_machine.specs.Assignments.{Evaluates, assigning, pending_of, thread_with}
 use Rattle.source_machine.specs.Sections.{ends}
-use Rattle.source_machine.specs.links.Threads.{IsMade}
+use Rattle.source_machine.specs.links.Threads.{IsMade, model_of, state_in}
 use Rattle.source_machine.proofs.Ends.{ends_taken, counted_same}
 use Rattle.source_machine.proofs.Steps.{node_read, end_over, end_made, never_made, unlock_made, lock_made, lock_waits, fails_made, holds_made, assign_made}
 use Rattle.source_machine.proofs.thread.ThreadState.step.Goals as goal
@@ -28,8 +34,23 @@ pub returns-in-Assign-clause-made : goal.returns-in-Assign-clause-made
 returns-in-Assign-clause-made c =
     let g = node_read c.args.self.now.nodes.items _ c.args.self.now.at c.get.result c.in-Some-copied.node c.in-Some-copied.ensures c.get.ensures.lookup.0
     c.get.ensures.lookup.1 c.deref.ensures.value ∙ ap Some c.in-Assign.is in
-    λ left threads l. assign_made c.args.variables.now c.args.holders.now threads c.args.number c.args.self.now left c.in_default.is l c.in-Assign.target
-    c.in-Assign.value c.in-Assign.next c.assign.new.self g c.assign.ensures.nodes (c.assign.ensures.model left c.args.holders.now threads)
+    λ left threads l.
+    let u : ThreadState = record c.args.self.now {
+      locals =
+          with_items c.args.self.now.locals c.assign.new.locals;
+      pending =
+          c.assign.new.pending;
+    } in
+    let before : List ℤ → Type 0 = λ ls. Evaluates (target_of c.in-Assign.target.now) (expr_of c.in-Assign.value.now.expr) c.args.variables.now
+    (assigning ls c.args.self.now.pending) (assigning c.assign.new.locals c.assign.new.pending) in
+    let after : List ℤ → Type 0 = λ ls. thread_with (record { locals = ls; pending = option_map pending_of c.assign.new.pending }) left c.args.self.now.ended ≡
+    m.evaluated (state_in c.args.variables.now c.args.holders.now threads) (model_of c.args.self.now left) (target_of c.in-Assign.target.now)
+    (expr_of c.in-Assign.value.now.expr) in
+    let written : (with_items c.args.self.now.locals c.assign.new.locals).items ≡ c.assign.new.locals = with_items_is c.args.self.now.locals c.assign.new.locals
+    (omega (arith, c.assign.auto.locals, ap length c.deref_mut.ensures.value, c.args.self.now.locals.ok.0)) in
+    assign_made c.args.variables.now c.args.holders.now threads c.args.number c.args.self.now left c.in_default.is l c.in-Assign.target
+    c.in-Assign.value c.in-Assign.next u g refl
+    (subst after (sym written) (subst before c.deref_mut.ensures.value c.assign.ensures left c.args.self.now.ended c.args.holders.now threads))
 
 pub returns-after-is_zero-clause-made : goal.returns-after-is_zero-clause-made
 returns-after-is_zero-clause-made c =

@@ -1,0 +1,5 @@
+use Rattle.code_runs.proofs.Walking.{silent_from}
+use Rattle.code_runs.proofs.laws.computing_is_unseen_from.Goals as goal
+
+pub returns : goal.returns
+returns c = silent_from

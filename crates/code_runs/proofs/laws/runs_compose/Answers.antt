@@ -1,0 +1,5 @@
+use Rattle.code_runs.proofs.Walking.{along}
+use Rattle.code_runs.proofs.laws.runs_compose.Goals as goal
+
+pub returns : goal.returns
+returns c = along

@@ -1,0 +1,5 @@
+use Rattle.code_runs.proofs.Walking.{walk_answers}
+use Rattle.code_runs.proofs.laws.runs_stay.Goals as goal
+
+pub returns : goal.returns
+returns c = walk_answers

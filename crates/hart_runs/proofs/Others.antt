@@ -1,0 +1,134 @@
+-- What other events leave, and runs one behind the other.
+use Rattle.std.proofs.Common.{◌≡◌, ℕ, zero, suc, ◌+◌, List, [], ◌++◌, length, refl, ap, arith, sym, ◌∙◌, subst, Some, zero-add, append_assoc}
+use Rattle.std.specs.Prelude.{slice_get}
+use Rattle.ido_base.specs.declared.event.Event.{Event}
+use Rattle.ido_base.specs.declared.event.Event.TheVariants.{Step, Evict, Crash}
+use Rattle.rv64_isa.specs.declared.object.Slot.{Slot}
+use Rattle.rv64_isa.specs.declared.phase.Phase.TheVariants.{Run}
+use Rattle.rv64_isa.specs.Machine.{Hart, World, Outcome, moved, happens, after_event}
+use Rattle.rv64_isa.specs.Frames.{IsSound, Touches}
+use Rattle.rv64_isa.proofs.Frames.{get-set_same, steps_touch}
+use Rattle.code_runs.specs.Running.{Moment, moment}
+use Rattle.code_runs.specs.Walks.{Setting, Sight, Walk, Answers}
+use Rattle.code_runs.proofs.Walking.{along, walk_answers}
+use Rattle.hart_runs.specs.Standing.{IsAt, MayGo, StandsOn}
+use Rattle.hart_runs.specs.Laws.{IsOfOthers, StandsAsBefore, StandsOnFirst}
+use Rattle.hart_runs.proofs.Going.{may_left, may_right, may_both}
+
+pub others_leave : (program : List (List Slot)) (w : World) (h : ℕ) (event : Event) → IsSound w → IsOfOthers h event →
+    (slice_get (after_event program w event).harts h ≡ slice_get w.harts h) × (length (after_event program w event).harts ≡ length w.harts)
+unfolding happens
+others_leave program w h (Step g) sound other =
+    let t : Touches g w (after_event program w (Step g)) = steps_touch program w g sound in
+    (t.others h (λ e. other (sym e)), t.count)
+others_leave program w h (Evict line mask) sound other = (refl, refl)
+others_leave program w h Crash sound other = absurd other
+
+pub others_keep_runs : (program : List (List Slot)) (w : World) (h : ℕ) (event : Event) → IsSound w → IsOfOthers h event →
+    (s : Setting) (steps : ℕ) (seen : List Sight) (to : Moment) (on : StandsOn w h s steps seen to) →
+    StandsAsBefore (after_event program w event) h s steps seen to on.hart
+others_keep_runs program w h event sound other s steps seen to on =
+    let leave : (slice_get (after_event program w event).harts h ≡ slice_get w.harts h) × (length (after_event program w event).harts ≡ length w.harts) =
+    others_leave program w h event sound other in
+    record {
+      on = record {
+        hart = on.hart;
+        here = leave.0 ∙ on.here;
+        runs = on.runs;
+        walks = on.walks;
+        may = subst (λ (n : ℕ). MayGo n seen) (sym leave.1) on.may;
+      };
+      same = refl;
+    }
+
+-- ---- Runs one behind the other
+
+pub runs_join : (w : World) (h : ℕ) (s : Setting) (n k : ℕ) (first later : List Sight) (by to : Moment) → StandsOn w h s n first by → Walk s k by later to →
+    MayGo (length w.harts) later → StandsOn w h s (n + k) (first ++ later) to
+runs_join w h s n k first later by to on walks may = record {
+  hart = on.hart;
+  here = on.here;
+  runs = on.runs;
+  walks = along s n k (moment on.hart.registers on.hart.pc) by to first later on.walks walks;
+  may = may_both (length w.harts) first later on.may may;
+}
+
+regrouped : (seen head tail first later : List Sight) → seen ≡ head ++ tail → tail ≡ first ++ later → seen ≡ (head ++ first) ++ later
+regrouped seen head tail first later e g = e ∙ (ap (λ (x : List Sight). head ++ x) g ∙ sym (append_assoc head first later))
+
+-- a run in two parts
+record InParts (s : Setting) (n k : ℕ) (m : Moment) (seen : List Sight) (to : Moment) : Type 0 where
+  by : Moment
+  first : List Sight
+  later : List Sight
+  seen_is : seen ≡ first ++ later
+  before : Walk s n m first by
+  behind : Walk s k by later to
+
+in_parts : (s : Setting) (n k : ℕ) (m : Moment) (seen : List Sight) (to : Moment) → Walk s (n + k) m seen to → InParts s n k m seen to
+in_parts s zero k m seen to w = record {
+  by = m;
+  first = [];
+  later = seen;
+  seen_is = refl;
+  before = (refl, refl);
+  behind = subst (λ (i : ℕ). Walk s i m seen to) (zero-add k) w;
+}
+in_parts s (suc n) k m seen to w =
+    let e : suc n + k ≡ suc (n + k) = omega arith in
+    let v : Walk s (suc (n + k)) m seen to = subst (λ (i : ℕ). Walk s i m seen to) e w in
+    let p : InParts s n k v.0 v.2 to = in_parts s n k v.0 v.2 to v.4 in
+    record {
+      by = p.by;
+      first = v.1 ++ p.first;
+      later = p.later;
+      seen_is = regrouped seen v.1 v.2 p.first p.later v.5 p.seen_is;
+      before = (v.0, v.1, p.first, v.3, p.before, refl);
+      behind = p.behind;
+    }
+
+pub runs_split : (w : World) (h : ℕ) (s : Setting) (n k : ℕ) (seen : List Sight) (to : Moment) → StandsOn w h s (n + k) seen to →
+    StandsOnFirst w h s n k seen to
+runs_split w h s n k seen to on =
+    let p : InParts s n k (moment on.hart.registers on.hart.pc) seen to = in_parts s n k (moment on.hart.registers on.hart.pc) seen to on.walks in
+    let may : MayGo (length w.harts) (p.first ++ p.later) = subst (λ (x : List Sight). MayGo (length w.harts) x) p.seen_is on.may in
+    record {
+      by = p.by;
+      first = p.first;
+      later = p.later;
+      seen_is = p.seen_is;
+      on = record { hart = on.hart; here = on.here; runs = on.runs; walks = p.before; may = may_left (length w.harts) p.first p.later may };
+      behind = p.behind;
+      may = may_right (length w.harts) p.first p.later may;
+    }
+
+pub runs_begin : (w : World) (h : ℕ) (s : Setting) (steps : ℕ) (seen : List Sight) (m to : Moment) → IsAt w h m → Walk s steps m seen to →
+    MayGo (length w.harts) seen →
+    StandsOn w h s steps seen to
+runs_begin w h s steps seen m to at walks may = record {
+  hart = at.hart;
+  here = at.here;
+  runs = at.runs;
+  walks = subst (λ (x : Moment). Walk s steps x seen to) (sym at.is) walks;
+  may = may;
+}
+
+pub moved_harts_begin : (program : List (List Slot)) (w v : World) (h : ℕ) (old after : Hart) → slice_get v.harts h ≡ Some old →
+    happens program w (Step h) ≡ moved v h after →
+    after.phase ≡ Run → IsAt (after_event program w (Step h)) h (moment after.registers after.pc)
+moved_harts_begin program w v h old after here does runs =
+    subst (λ (o : Outcome). IsAt o.0 h (moment after.registers after.pc)) (sym does)
+    (record { hart = after; here = get-set_same v.harts h after old here; runs = runs; is = refl })
+
+pub runs_stay_on : (w : World) (h : ℕ) (s z : Setting) (steps : ℕ) (seen : List Sight) (to : Moment) → Answers s z → (on : StandsOn w h s steps seen to) →
+    StandsAsBefore w h z steps seen to on.hart
+runs_stay_on w h s z steps seen to answers on = record {
+  on = record {
+    hart = on.hart;
+    here = on.here;
+    runs = on.runs;
+    walks = walk_answers s z answers steps (moment on.hart.registers on.hart.pc) to seen on.walks;
+    may = on.may;
+  };
+  same = refl;
+}

@@ -1,0 +1,5 @@
+use Rattle.hart_runs.proofs.Well.{none_is_stuck}
+use Rattle.hart_runs.proofs.laws.none_is_stuck.Goals as goal
+
+pub returns : goal.returns
+returns c = none_is_stuck

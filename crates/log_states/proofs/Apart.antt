@@ -1,0 +1,45 @@
+-- Steps that store nothing to a thread's log.
+use Rattle.std.proofs.Common.{◌≡◌, ◌≢◌, ℕ, ◌+◌, ◌*◌, ◌/◌, List, ap, arith, sym, ◌∙◌, subst}
+use Rattle.std.proofs.lemmas.Bool.{true≢false}
+use Rattle.ido_base.specs.Layout.{log_of, byte_number}
+use Rattle.rv64_isa.specs.declared.object.Slot.{Slot}
+use Rattle.rv64_isa.specs.Rows.{Effect, Stores}
+use Rattle.rv64_isa.specs.Machine.{Hart, World}
+use Rattle.rv64_isa.specs.Schedule.{effect_at}
+use Rattle.log_states.specs.Logs.{log_word}
+use Rattle.log_states.specs.Stages.{is_store}
+use Rattle.log_states.specs.Machines.{IsNext, IsLogEffect, StoresWord, CleansLine, PassesFence, StoresNothing, StoresToVariable, StoresToOtherLog}
+use Rattle.log_states.proofs.Heads.{address_of}
+use Rattle.log_states.proofs.Numbers.{byte_of_log, word_of_point, variables_are_apart, logs_are_apart}
+use Rattle.log_states.proofs.Machines.{some_same}
+
+-- a hart has one next effect
+pub one_effect : (program : List (List Slot)) (w : World) (g : ℕ) (hart other : Hart) (e f : Effect) → IsNext program w g hart e →
+    IsNext program w g other f → e ≡ f
+one_effect program w g hart other e f one two =
+    let same : hart ≡ other = some_same hart other (sym one.here ∙ two.here) in
+    some_same e f (sym one.is ∙ ap (λ (x : Hart). effect_at program g x) same ∙ two.is)
+
+pub stores_nothing : StoresNothing
+stores_nothing program w g thread hart effect one none other address bytes value two i below =
+    let same : effect ≡ Stores address bytes value = one_effect program w g hart other effect (Stores address bytes value) one two in
+    absurd (true≢false (sym (ap is_store same) ∙ none))
+
+pub stores_to_variable : StoresToVariable
+stores_to_variable program w g thread hart place count stored one inside other address bytes value two i below =
+    let same : Stores place count stored ≡ Stores address bytes value =
+    one_effect program w g hart other (Stores place count stored) (Stores address bytes value) one two in
+    subst (λ (a : ℕ). byte_number a / 8 ≢ log_word thread i) (ap address_of same) (variables_are_apart thread place i inside)
+
+pub stores_to_other_log : StoresToOtherLog
+stores_to_other_log program w g thread hart effect apart one is other address bytes value two i below =
+    by is (one_effect program w g hart other effect (Stores address bytes value) one two)
+  where
+    by : IsLogEffect g effect → effect ≡ Stores address bytes value → byte_number address / 8 ≢ log_word thread i
+    by (StoresWord k v inside here) same =
+        let place : address ≡ log_of g + 8 * k = ap address_of (sym same ∙ here) in
+        let word : byte_number (log_of g + 8 * k) / 8 ≡ log_word g k = omega (arith, byte_of_log g k, word_of_point g) in
+        subst (λ (a : ℕ). byte_number a / 8 ≢ log_word thread i) (sym place)
+        (λ meets. logs_are_apart thread g i k apart below inside (sym word ∙ meets))
+    by (CleansLine k inside here) same = absurd (true≢false (sym (ap is_store same) ∙ ap is_store here))
+    by (PassesFence here) same = absurd (true≢false (sym (ap is_store same) ∙ ap is_store here))

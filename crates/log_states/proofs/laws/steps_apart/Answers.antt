@@ -1,0 +1,11 @@
+use Rattle.log_states.proofs.Apart.{stores_nothing, stores_to_variable, stores_to_other_log}
+use Rattle.log_states.proofs.laws.steps_apart.Goals as goal
+
+pub returns-clause-nothing : goal.returns-clause-nothing
+returns-clause-nothing c = stores_nothing
+
+pub returns-clause-variable : goal.returns-clause-variable
+returns-clause-variable c = stores_to_variable
+
+pub returns-clause-boundary : goal.returns-clause-boundary
+returns-clause-boundary c = stores_to_other_log

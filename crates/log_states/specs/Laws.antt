@@ -1,0 +1,196 @@
+-- What holds of a log at each moment of a boundary, between boundaries, and after a crash.
+use Rattle.std.specs.Prelude.{◌≡◌, ◌≢◌, ◌⊎◌, ℕ, ◌+◌, ◌-◌, ◌*◌, ◌/◌, ◌%◌, ◌^◌, ◌<◌, ◌≤◌, List, [], length, map, replicate, ◌∷◌, true, false, not, nat_le, ◌==◌}
+use Rattle.std.specs.Prelude.{if◌then◌else◌}
+use Rattle.std.specs.List.{Contains, list_any}
+use Rattle.ido_base.specs.Words.{Word, Entry, word_at, last_position, stored, crashed}
+use Rattle.ido_base.specs.Growth.{Stable, AreEntries, Reaches}
+use Rattle.ido_base.specs.Layout.{variables_base, variable_lines, line_bytes, bank_bytes, log_lines, point_at, byte_number}
+use Rattle.rv64_isa.specs.declared.object.Slot.{Slot}
+use Rattle.rv64_isa.specs.Rows.{Effect, Stores, read}
+use Rattle.rv64_isa.specs.Machine.{durable_point, live_at, bank_of, resume_of, record_of, resumed_register, numbers_from, start_of}
+use Rattle.rv64_isa.specs.Schedule.{is_point_store}
+use Rattle.log_layout.specs.Roles.{bank_offset, is_kept}
+use Rattle.boundary_code.specs.Boundaries.{Boundary, boundary_effects, AtBank}
+use Rattle.log_states.specs.Logs.{Record, nothing_recorded, IsKeepable, IsRecord, log_word, bank_word, point_in, HasLog, IsUnstored, IsDurable, IsRecorded}
+use Rattle.log_states.specs.Stages.{Moment, Moves, Leads, LogIs, fences_ahead, is_store, is_committed, left_by_crash}
+
+-- ---- Boundaries
+
+-- what a boundary records, in the bank of this number
+abbrev pub recorded_by : Boundary → (bank resume : ℕ) → (registers : List ℕ) → Record
+recorded_by b bank resume x = record { point = if b.mask == 0 then 0 else (resume + bank) % 2 ^ 64; mask = b.mask; live = b.live; registers = x }
+
+-- a boundary that can be recovered from: it resumes at an instruction, and keeps registers of 64 bits that have a slot
+pub record IsRecoverable (b : Boundary) (resume : ℕ) (x : List ℕ) : Type 0 where
+  pub mask : b.mask < 2 ^ 64
+  pub live : (register : ℕ) → Contains b.live register → IsKeepable register
+  pub registers : (register : ℕ) → Contains b.live register → read x register < 2 ^ 64
+  pub aligned : resume % 4 ≡ 0
+  pub somewhere : 0 < resume
+  pub below : resume < 2 ^ 64
+
+-- as all are that a boundary may keep
+abbrev pub KeptAreKeepable : Type 0
+KeptAreKeepable = (register : ℕ) → is_kept register ≡ true → IsKeepable register
+
+-- x3 has the offset of the record's bank, if it has one
+pub record IsAtRecord (r : Record) (bank : ℕ) (x : List ℕ) : Type 0 where
+  pub registers : AtBank bank x
+  pub is : r.point ≢ 0 → bank_of r.point ≡ bank
+
+-- a log begins a boundary from its record, where this one writes the other bank
+abbrev pub Begins : Type 0
+Begins = (b : Boundary) (old : Record) (bank resume : ℕ) (x : List ℕ) (words : List Word) (queue : List Entry) →
+    HasLog b.thread words → AreEntries words queue → IsRecord old → IsRecorded b.thread old words → IsAtRecord old bank x → IsRecoverable b resume x →
+    LogIs b.thread old (recorded_by b (1 - bank) resume x) (record { words = words; queue = queue; rest = boundary_effects b (1 - bank) resume x })
+
+-- a log that has a record is one on its way that has arrived
+abbrev pub Rests : Type 0
+Rests = (thread : ℕ) (r : Record) (m : Moment) → m.rest ≡ [] → HasLog thread m.words → AreEntries m.words m.queue → IsRecord r → IsRecorded thread r m.words →
+    LogIs thread nothing_recorded r m
+
+-- x3 goes with the record: behind a boundary it has the offset of the other bank, but the same bank's where none was written
+abbrev pub OffsetFollows : Type 0
+OffsetFollows = (b : Boundary) (bank resume : ℕ) (x y : List ℕ) → IsRecoverable b resume x → bank < 2 → length y ≡ 32 → read y 0 ≡ 0 →
+    let next = if b.mask == 0 then bank else 1 - bank in
+    read y bank_offset ≡ bank_bytes * next → IsAtRecord (recorded_by b (1 - bank) resume x) next y
+
+-- ---- Every event
+
+-- at each moment of a boundary
+abbrev pub Keeps : Type 0
+Keeps = (thread : ℕ) (old new : Record) (m n : Moment) → LogIs thread old new m → Moves thread m n → LogIs thread old new n
+
+-- between boundaries
+abbrev pub StaysRecorded : Type 0
+StaysRecorded = (thread : ℕ) (r : Record) (m n : Moment) → IsRecord r → m.rest ≡ [] → HasLog thread m.words → AreEntries m.words m.queue →
+    IsRecorded thread r m.words → Moves thread m n →
+    HasLog thread n.words × AreEntries n.words n.queue × IsRecorded thread r n.words
+
+-- what is recorded is stable: its bytes are these whatever a crash leaves
+abbrev pub DurableIsStable : Type 0
+DurableIsStable = (w : Word) (value : ℕ) → value < 2 ^ 64 → IsDurable w value → Stable w 0 8 value
+
+-- a boundary ends with its record
+abbrev pub Ends : Type 0
+Ends = (thread : ℕ) (old new : Record) (m : Moment) → LogIs thread old new m → m.rest ≡ [] → IsRecorded thread new m.words
+
+-- a store elsewhere leaves a log as it is, as one to another thread's log does
+abbrev pub StoresElsewhere : Type 0
+StoresElsewhere = (thread number count value : ℕ) (words : List Word) → ((i : ℕ) → i < 8 * log_lines → number / 8 ≢ log_word thread i) →
+    IsUnstored thread words (stored words number count value)
+
+abbrev pub LogsAreApart : Type 0
+LogsAreApart = (thread other i j : ℕ) → other ≢ thread → i < 8 * log_lines → j < 8 * log_lines → log_word other j ≢ log_word thread i
+
+-- the slots of its banks are words of a log
+abbrev pub SlotsAreIn : Type 0
+SlotsAreIn = (thread bank slot : ℕ) → bank_word thread bank slot ≡ log_word thread (8 + 32 * bank + slot)
+
+-- and no byte of a variable is in one
+abbrev pub VariablesAreApart : Type 0
+VariablesAreApart = (thread address i : ℕ) → address < variables_base + line_bytes * variable_lines → byte_number address / 8 ≢ log_word thread i
+
+-- ---- Commitment
+
+-- the durable point is the old one until the new one's store is durable
+abbrev pub PointIs : Type 0
+PointIs = (thread : ℕ) (old new : Record) (m : Moment) → LogIs thread old new m → durable_point m.words thread ≡ (left_by_crash thread old new m).point
+
+-- which it isn't at the beginning
+abbrev pub BeginsUncommitted : Type 0
+BeginsUncommitted = (b : Boundary) (bank resume : ℕ) (x : List ℕ) (words : List Word) (queue : List Entry) →
+    is_committed b.thread (record { words = words; queue = queue; rest = boundary_effects b bank resume x }) ≡ false
+
+-- and from then on the new one
+abbrev pub StaysCommitted : Type 0
+StaysCommitted = (thread : ℕ) (old new : Record) (m n : Moment) → LogIs thread old new m → Moves thread m n → is_committed thread m ≡ true →
+    is_committed thread n ≡ true
+
+-- at the latest at its end
+abbrev pub EndsCommitted : Type 0
+EndsCommitted = (thread : ℕ) (old new : Record) (m : Moment) → LogIs thread old new m → m.rest ≡ [] → is_committed thread m ≡ true
+
+-- the last store of a boundary, and no other, is that of its point
+abbrev pub PointStoreIsLast : Type 0
+PointStoreIsLast = (thread : ℕ) (old new : Record) (m : Moment) (address bytes value : ℕ) (later : List Effect) → LogIs thread old new m →
+    m.rest ≡ Stores address bytes value ∷ later → is_point_store thread (Stores address bytes value) ≡ not (list_any is_store later)
+
+-- from then on its position is the last
+abbrev pub PositionStays : Type 0
+PositionStays = (thread : ℕ) (old new : Record) (m n : Moment) → LogIs thread old new m → Moves thread m n → list_any is_store m.rest ≡ false →
+    last_position (point_in n.words thread) ≡ last_position (point_in m.words thread)
+
+-- and the boundary is committed where the durable position is no less
+abbrev pub CommittedWhere : Type 0
+CommittedWhere = (thread : ℕ) (old new : Record) (m : Moment) → LogIs thread old new m → list_any is_store m.rest ≡ false →
+    is_committed thread m ≡ nat_le (last_position (point_in m.words thread)) (point_in m.words thread).durable
+
+-- what is durable stays so
+abbrev pub DurableStays : Type 0
+DurableStays = (thread : ℕ) (m n : Moment) (word : ℕ) → Moves thread m n → (word_at m.words word).durable ≤ (word_at n.words word).durable
+
+-- the fence is still ahead, and the queue still reaches that far
+pub record IsAhead (m n : Moment) (word position : ℕ) : Type 0 where
+  pub fences : fences_ahead n.rest ≡ fences_ahead m.rest
+  pub reaches : Reaches n.words n.queue word position
+
+-- what the queue reaches it goes on to reach, up to a fence, behind which that is durable
+abbrev pub ReachGoesOn : Type 0
+ReachGoesOn = (thread : ℕ) (m n : Moment) (word position : ℕ) → Moves thread m n → Reaches m.words m.queue word position →
+    IsAhead m n word position ⊎ (position ≤ (word_at n.words word).durable)
+
+-- so it is durable once one more fence is passed
+abbrev pub FencesSettle : Type 0
+FencesSettle = (thread : ℕ) (m n : Moment) (word position : ℕ) → Leads thread m n → Reaches m.words m.queue word position →
+    fences_ahead n.rest < fences_ahead m.rest → position ≤ (word_at n.words word).durable
+
+-- a boundary has two
+abbrev pub BoundariesFence : Type 0
+BoundariesFence = (b : Boundary) (bank resume : ℕ) (x : List ℕ) → fences_ahead (boundary_effects b bank resume x) ≡ 2
+
+-- and where it is committed, it has passed the first: what was queued before it is durable
+abbrev pub CommittedBehindFence : Type 0
+CommittedBehindFence = (thread : ℕ) (old new : Record) (m : Moment) → LogIs thread old new m → is_committed thread m ≡ true → fences_ahead m.rest < 2
+
+-- ---- Crashes and starts
+
+-- a crash leaves the new record where it is committed, and the old one where it isn't
+abbrev pub CrashesLeave : Type 0
+CrashesLeave = (thread : ℕ) (old new : Record) (m : Moment) → LogIs thread old new m →
+    IsRecorded thread (left_by_crash thread old new m) (crashed m.words) × HasLog thread (crashed m.words)
+
+-- between boundaries, the record
+abbrev pub CrashesKeep : Type 0
+CrashesKeep = (thread : ℕ) (r : Record) (words : List Word) → HasLog thread words → IsRecorded thread r words →
+    IsRecorded thread r (crashed words) × HasLog thread (crashed words)
+
+-- what a hart is resumed with
+abbrev pub resumed_registers : List Word → (thread : ℕ) → List ℕ
+resumed_registers words thread = map (resumed_register words thread) (numbers_from 0 32)
+
+-- what recovery makes of a record
+pub record IsResumed (thread : ℕ) (r : Record) (words : List Word) : Type 0 where
+  pub point : durable_point words thread ≡ r.point
+  pub live_point : live_at words (point_at thread) ≡ r.point
+  pub locks : record_of words thread ≡ (if r.point == 0 then 0 else r.mask)
+  pub registers : r.point ≢ 0 → (register : ℕ) → Contains r.live register → read (resumed_registers words thread) register ≡ read r.registers register
+  pub bank : IsAtRecord r (bank_of r.point) (resumed_registers words thread)
+
+abbrev pub RecordIsResumed : Type 0
+RecordIsResumed = (thread : ℕ) (r : Record) (words : List Word) → IsRecord r → IsRecorded thread r words → IsResumed thread r words
+
+-- so a crash in a boundary is recovered from as the old record says, or as the new one
+abbrev pub CrashesResume : Type 0
+CrashesResume = (thread : ℕ) (old new : Record) (m : Moment) → LogIs thread old new m → IsResumed thread (left_by_crash thread old new m) (crashed m.words)
+
+-- the point of a boundary says its bank and where it resumes
+abbrev pub PointSays : Type 0
+PointSays = (b : Boundary) (bank resume : ℕ) (x : List ℕ) → IsRecoverable b resume x → bank < 2 → b.mask ≢ 0 →
+    let new = recorded_by b bank resume x in (new.point ≢ 0) × (bank_of new.point ≡ bank) × (resume_of new.point ≡ resume)
+
+-- at the start nothing is recorded, and the first bank's offset in x3 will do
+abbrev pub StartsEmpty : Type 0
+StartsEmpty = (program : List (List Slot)) (locks thread : ℕ) (initial : List ℕ) → thread < length program →
+    let words = (start_of program locks initial).words in
+    IsRecord nothing_recorded × HasLog thread words × IsRecorded thread nothing_recorded words × IsAtRecord nothing_recorded 0 (replicate 32 0)

@@ -1,0 +1,5 @@
+pub mod Logs
+pub mod Stages
+pub mod Machines
+pub mod Laws
+pub mod Standing

@@ -1,0 +1,93 @@
+-- What the machine's events are to a thread's log.
+use Rattle.std.specs.Prelude.{◌≡◌, ◌≢◌, ◌⊎◌, ℕ, ◌+◌, ◌*◌, ◌/◌, ◌<◌, List, ◌∷◌, slice_get, Some, Bool, true, false, ◌==◌, if◌then◌else◌}
+use Rattle.ido_base.specs.declared.event.Event.TheVariants.{Step, Evict, Crash}
+use Rattle.ido_base.specs.declared.event.Reply.TheVariants.{Moved, Drained}
+use Rattle.ido_base.specs.Words.{crashed}
+use Rattle.ido_base.specs.Layout.{variables_base, variable_lines, line_bytes, log_lines, log_of, byte_number}
+use Rattle.rv64_isa.specs.declared.object.Slot.{Slot}
+use Rattle.rv64_isa.specs.Rows.{Effect, GoesOn, Loads, Stores, Cleans, Fences, Calls}
+use Rattle.rv64_isa.specs.Machine.{Hart, World, after_event, reply_to}
+use Rattle.rv64_isa.specs.Frames.{IsSound}
+use Rattle.rv64_isa.specs.Schedule.{has_moved, is_running, effect_at}
+use Rattle.log_states.specs.Logs.{Record, log_word}
+use Rattle.log_states.specs.Stages.{Moment, Moves, LogIs, is_store}
+
+abbrev pub moment_of : World → Hart → (rest : List Effect) → Moment
+moment_of w hart rest = record { words = w.words; queue = hart.queue; rest = rest }
+
+-- hart h is there behind an event, and the event is a move of its log
+pub record MovesTo (h : ℕ) (w : World) (hart : Hart) (rest : List Effect) (after : World) (rest_after : List Effect) : Type 0 where
+  pub next : Hart
+  pub there : slice_get after.harts h ≡ Some next
+  pub moves : Moves h (moment_of w hart rest) (moment_of after next rest_after)
+
+-- an effect such as a boundary has
+abbrev pub is_boundary_effect : Effect → Bool
+is_boundary_effect (GoesOn registers pc) = false
+is_boundary_effect (Loads address bytes signed register) = false
+is_boundary_effect (Stores address bytes value) = bytes == 8
+is_boundary_effect (Cleans address) = true
+is_boundary_effect Fences = true
+is_boundary_effect Calls = false
+
+-- the hart runs, and this is the effect of its next instruction
+pub record IsNext (program : List (List Slot)) (w : World) (h : ℕ) (hart : Hart) (effect : Effect) : Type 0 where
+  pub here : slice_get w.harts h ≡ Some hart
+  pub runs : is_running hart.phase ≡ true
+  pub is : effect_at program h hart ≡ Some effect
+
+-- the step of hart g stores nothing to the thread's log
+abbrev pub IsElsewhere : List (List Slot) → World → (g thread : ℕ) → Type 0
+IsElsewhere program w g thread = (hart : Hart) (address bytes value : ℕ) → IsNext program w g hart (Stores address bytes value) →
+    (i : ℕ) → i < 8 * log_lines → byte_number address / 8 ≢ log_word thread i
+
+-- ---- Laws
+
+-- where the next instruction is the boundary's next effect, that is made as soon as the step completes the instruction
+abbrev pub OwnStepsMove : Type 0
+OwnStepsMove = (program : List (List Slot)) (w : World) (h : ℕ) (hart : Hart) (effect : Effect) (later : List Effect) → IsNext program w h hart effect →
+    is_boundary_effect effect ≡ true →
+    MovesTo h w hart (effect ∷ later) (after_event program w (Step h)) (if has_moved (reply_to program w (Step h)) then later else effect ∷ later)
+
+-- a step of any hart, this one or another, that stores elsewhere
+abbrev pub StepsMove : Type 0
+StepsMove = (program : List (List Slot)) (w : World) (g h : ℕ) (hart : Hart) (rest : List Effect) → IsSound w → slice_get w.harts h ≡ Some hart →
+    IsElsewhere program w g h →
+    MovesTo h w hart rest (after_event program w (Step g)) rest
+
+abbrev pub EvictionsMove : Type 0
+EvictionsMove = (program : List (List Slot)) (w : World) (line mask h : ℕ) (hart : Hart) (rest : List Effect) → slice_get w.harts h ≡ Some hart →
+    MovesTo h w hart rest (after_event program w (Evict line mask)) rest
+
+-- a crash
+abbrev pub CrashesCrash : Type 0
+CrashesCrash = (program : List (List Slot)) (w : World) → (after_event program w Crash).words ≡ crashed w.words
+
+-- a store of a word of the thread's log, the clean of one of its lines, or a fence
+pub data IsLogEffect (thread : ℕ) (effect : Effect) : Type 0 where
+  StoresWord : (i value : ℕ) → i < 8 * log_lines → effect ≡ Stores (log_of thread + 8 * i) 8 value → IsLogEffect thread effect
+  CleansLine : (i : ℕ) → i < 8 * log_lines → effect ≡ Cleans (log_of thread + 8 * i) → IsLogEffect thread effect
+  PassesFence : effect ≡ Fences → IsLogEffect thread effect
+
+-- a boundary has no other effects
+abbrev pub BoundariesStayIn : Type 0
+BoundariesStayIn = (thread : ℕ) (old new : Record) (m : Moment) (effect : Effect) (later : List Effect) → LogIs thread old new m →
+    m.rest ≡ effect ∷ later → IsLogEffect thread effect × (is_boundary_effect effect ≡ true)
+
+-- and so is never stuck: its next instruction is completed, or an entry written back first
+abbrev pub LogEffectsGo : Type 0
+LogEffectsGo = (program : List (List Slot)) (w : World) (h : ℕ) (hart : Hart) (effect : Effect) → IsNext program w h hart effect →
+    IsLogEffect h effect → (reply_to program w (Step h) ≡ Moved) ⊎ (reply_to program w (Step h) ≡ Drained)
+
+-- a step elsewhere: one that stores nothing, one that stores to a variable, and a boundary of another thread
+abbrev pub StoresNothing : Type 0
+StoresNothing = (program : List (List Slot)) (w : World) (g thread : ℕ) (hart : Hart) (effect : Effect) → IsNext program w g hart effect →
+    is_store effect ≡ false → IsElsewhere program w g thread
+
+abbrev pub StoresToVariable : Type 0
+StoresToVariable = (program : List (List Slot)) (w : World) (g thread : ℕ) (hart : Hart) (address bytes value : ℕ) →
+    IsNext program w g hart (Stores address bytes value) → address < variables_base + line_bytes * variable_lines → IsElsewhere program w g thread
+
+abbrev pub StoresToOtherLog : Type 0
+StoresToOtherLog = (program : List (List Slot)) (w : World) (g thread : ℕ) (hart : Hart) (effect : Effect) → g ≢ thread → IsNext program w g hart effect →
+    IsLogEffect g effect → IsElsewhere program w g thread

@@ -1,0 +1,132 @@
+//! Laws of a thread's log, beside whatever the other threads do: nothing is computed here.
+ghost use Rattle.log_states.specs.Laws.{
+  Begins,
+  BeginsUncommitted,
+  BoundariesFence,
+  CommittedBehindFence,
+  CommittedWhere,
+  CrashesKeep,
+  CrashesLeave,
+  CrashesResume,
+  DurableIsStable,
+  DurableStays,
+  EndsCommitted,
+  Ends,
+  FencesSettle,
+  Keeps,
+  KeptAreKeepable,
+  LogsAreApart,
+  OffsetFollows,
+  PointIs,
+  PointSays,
+  PointStoreIsLast,
+  PositionStays,
+  ReachGoesOn,
+  RecordIsResumed,
+  Rests,
+  SlotsAreIn,
+  StartsEmpty,
+  StaysCommitted,
+  StaysRecorded,
+  StoresElsewhere,
+  VariablesAreApart,
+};
+ghost use Rattle.log_states.specs.Machines.{
+  BoundariesStayIn,
+  CrashesCrash,
+  EvictionsMove,
+  LogEffectsGo,
+  OwnStepsMove,
+  StepsMove,
+  StoresNothing,
+  StoresToOtherLog,
+  StoresToVariable,
+};
+ghost use Rattle.log_states.specs.Standing.{BeginsStanding, CrashesStanding, EvictionsKeep, OwnStepsKeep, StartsStanding, StepsKeep};
+
+/// A log on its way from one record to the next: a boundary begins from any record, whose bank it leaves alone; every event
+/// keeps that; and the boundary ends with its own record.
+pub fn boundaries_record()
+    ensures begins { Begins }
+    ensures event { Keeps }
+    ensures ends { Ends }
+    ensures rests { Rests }
+{}
+
+/// Between boundaries the log keeps its record, whatever is stored elsewhere, as to another thread's log.
+pub fn records_stay()
+    ensures event { StaysRecorded }
+    ensures stable { DurableIsStable }
+    ensures elsewhere { StoresElsewhere }
+    ensures apart { LogsAreApart }
+    ensures slots { SlotsAreIn }
+    ensures variables { VariablesAreApart }
+{}
+
+/// The durable point is the old one until the store of the new one is durable, and the new one from then on.
+pub fn points_commit()
+    ensures begins { BeginsUncommitted }
+    ensures point { PointIs }
+    ensures stays { StaysCommitted }
+    ensures ends { EndsCommitted }
+    ensures store { PointStoreIsLast }
+    ensures position { PositionStays }
+    ensures durable { CommittedWhere }
+{}
+
+/// What the hart's queue reaches is durable once one more fence is passed. A boundary has two, and is committed behind the first.
+pub fn fences_settle()
+    ensures durable { DurableStays }
+    ensures reach { ReachGoesOn }
+    ensures settles { FencesSettle }
+    ensures two { BoundariesFence }
+    ensures committed { CommittedBehindFence }
+{}
+
+/// A crash at any moment leaves the whole record of the durable point.
+pub fn crashes_leave()
+    ensures boundary { CrashesLeave }
+    ensures between { CrashesKeep }
+    ensures resumed { CrashesResume }
+{}
+
+/// Recovery makes of a record what the boundary made it of: its locks, its resume address, its registers, and the bank's offset.
+pub fn records_resume()
+    ensures record { RecordIsResumed }
+    ensures point { PointSays }
+    ensures offset { OffsetFollows }
+    ensures kept { KeptAreKeepable }
+{}
+
+/// At the machine's start nothing is recorded.
+pub fn starts_empty()
+    ensures { StartsEmpty }
+{}
+
+/// Events of the machine are what can happen to a log: steps of its own hart, of others, evictions, crashes. A boundary is never stuck.
+pub fn events_move()
+    ensures effects { BoundariesStayIn }
+    ensures goes { LogEffectsGo }
+    ensures own { OwnStepsMove }
+    ensures steps { StepsMove }
+    ensures evictions { EvictionsMove }
+    ensures crash { CrashesCrash }
+{}
+
+/// Steps that store nothing to a thread's log.
+pub fn steps_apart()
+    ensures nothing { StoresNothing }
+    ensures variable { StoresToVariable }
+    ensures boundary { StoresToOtherLog }
+{}
+
+/// A thread's log in a machine stands from the start on, whatever happens: when a boundary begins, at each of its instructions, at every other
+/// step and eviction, and behind a crash.
+pub fn logs_stand()
+    ensures start { StartsStanding }
+    ensures begins { BeginsStanding }
+    ensures own { OwnStepsKeep }
+    ensures steps { StepsKeep }
+    ensures evictions { EvictionsKeep }
+    ensures crash { CrashesStanding }
+{}

@@ -1,0 +1,10 @@
+pub mod Lying
+pub mod Running
+pub mod Legs
+pub mod Making
+pub mod Keeping
+pub mod Asking
+pub mod Jumping
+pub mod Computing
+pub mod Places
+pub mod Halves

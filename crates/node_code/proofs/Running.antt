@@ -1,0 +1,224 @@
+-- Runs of parts of linked code.
+use Rattle.std.proofs.Common.{◌≡◌, ℕ, zero, suc, ◌+◌, ◌*◌, ◌^◌, ◌<◌, ◌≤◌, List, [], ◌∷◌, ◌++◌, length, map, refl, ap, sym, ◌∙◌, arith, subst, Bool}
+use Rattle.std.proofs.Common.{true, false, Some, ◌==◌, lit≤}
+use Rattle.std.specs.List.{list_any}
+use Rattle.std.specs.Prelude.{slice_get, if◌then◌else◌}
+use Rattle.std.proofs.lemmas.List.{length-append}
+use Rattle.rv64_isa.specs.declared.instr.Instr.{Instr}
+use Rattle.rv64_isa.specs.declared.instr.Condition.{Condition}
+use Rattle.rv64_isa.specs.declared.object.Label.{Label}
+use Rattle.rv64_isa.specs.declared.object.CodeItem.{CodeItem}
+use Rattle.rv64_isa.specs.declared.object.CodeItem.TheVariants.{Instruction, BranchTo, JumpTo}
+use Rattle.rv64_isa.specs.Arithmetic.{is_taken}
+use Rattle.rv64_isa.specs.Rows.{Effect, GoesOn, row, read}
+use Rattle.rv64_link.specs.LabelledCode.{label_position, least_words_of, most_words_of, is_mark}
+use Rattle.rv64_link.specs.Linked as l
+use Rattle.rv64_link.specs.Linked.{Does, in_one, in_two}
+use Rattle.operator_code.specs.Straight.{effects, registers_after}
+use Rattle.code_runs.specs.Running as r
+use Rattle.code_runs.specs.Walks.{Sight, Mark, marked, AreUnmarked, AreMemory, Walk, Goes, outside, passed, seen_effects}
+use Rattle.code_runs.proofs.Walking.{along, one, straight_from, silent_from}
+use Rattle.node_code.specs.Sites.{mark_waits, Linking, IsPart}
+use Rattle.node_code.proofs.Lying.{Lay, Lies, lay_of, goes_up, one_each, item_at, stand, HasNone, unmarked_within, marked_first}
+use Rattle.node_code.proofs.Lying.{instructions_have_none, unmarked_words, length_map}
+
+abbrev pub waiting : Bool → List Sight
+waiting w = if w then Mark ∷ [] else []
+
+module _ (all : List CodeItem) (n : Linking all) where
+  abbrev at : ℕ → ℕ
+  at = n.linked.address_of
+
+  -- addresses of a part are below 2 ^ 64
+  pub has_room : (k : ℕ) (part : List CodeItem) → IsPart all k part → at (k + length part) < 2 ^ 64
+  has_room k part p =
+      let lay : Lay at k p.before part p.behind = lay_of all k part n p in
+      let up : at (k + length part) ≤ at (k + length part + length p.behind) = goes_up at (k + length part) p.behind lay.last in
+      let whole : length all ≡ k + length part + length p.behind =
+      ap (λ (is : List CodeItem). length is) p.split ∙
+      (let e : k ≡ length p.before = p.at in omega (arith, e, length-append p.before (part ++ p.behind), length-append part p.behind)) in
+      let last : at (k + length part + length p.behind) ≡ n.program.start + 4 * length n.program.code = ap at (sym whole) ∙ n.linked.ends in
+      let room : n.program.start + 4 * length n.program.code < 2 ^ 64 = n.room in
+      omega arith
+
+  pub up_to : (k : ℕ) (part : List CodeItem) → IsPart all k part → at k ≤ at (k + length part)
+  up_to k part p = goes_up at k part (lay_of all k part n p).own
+
+  -- an item that takes no room
+  pub stays_at : (k : ℕ) (item : CodeItem) (rest : List CodeItem) → IsPart all k (item ∷ rest) → most_words_of item ≡ 0 → at (k + 1) ≡ at k
+  stays_at k item rest p none =
+      let own : Lies at k (item ∷ rest) = (lay_of all k (item ∷ rest) n p).own in
+      let here : at (k + 1) ≡ at k + 4 * own.0.words = own.0.to_is in
+      let most : own.0.words ≤ most_words_of item = own.0.most in
+      omega (arith, none)
+
+  -- ---- Straight code
+
+  pub code_end : (k : ℕ) (code : List Instr) → IsPart all k (map Instruction code) → at (k + length code) ≡ at k + 4 * length code
+  code_end k code p = one_each at k code (lay_of all k (map Instruction code) n p).own
+
+  code_room : (k : ℕ) (code : List Instr) → IsPart all k (map Instruction code) → at k + 4 * length code < 2 ^ 64
+  code_room k code p =
+      let room : at (k + length (map Instruction code)) < 2 ^ 64 = has_room k (map Instruction code) p in
+      let same : k + length (map Instruction code) ≡ k + length code = ap (λ (m : ℕ). k + m) (length_map all n code) in
+      let here : at (k + length code) < 2 ^ 64 = subst (λ (m : ℕ). at m < 2 ^ 64) same room in
+      let e : at (k + length code) ≡ at k + 4 * length code = code_end k code p in
+      omega arith
+
+  -- no mark stands within it
+  pub unmarked_code : (k : ℕ) (code : List Instr) → IsPart all k (map Instruction code) → (pc : ℕ) → at k < pc → pc < at k + 4 * length code →
+      marked n.setting.marks pc ≡ []
+  unmarked_code k code p pc low high =
+      let e : at (k + length code) ≡ at k + 4 * length code = code_end k code p in
+      let same : k + length (map Instruction code) ≡ k + length code = ap (λ (m : ℕ). k + m) (length_map all n code) in
+      let below : pc < at (k + length code) = omega arith in
+      unmarked_within all n k (map Instruction code) p (instructions_have_none all n code) pc low (subst (λ (m : ℕ). pc < at m) (sym same) below)
+
+  -- at its first instruction one is passed where one waits
+  pub marked_code : (k : ℕ) (i : Instr) (is : List Instr) (p : IsPart all k (map Instruction (i ∷ is))) →
+      marked n.setting.marks (at k) ≡ waiting (mark_waits false p.before)
+  marked_code k i is p =
+      let e : at (k + length (i ∷ is)) ≡ at k + 4 * length (i ∷ is) = code_end k (i ∷ is) p in
+      let same : k + length (map Instruction (i ∷ is)) ≡ k + length (i ∷ is) = ap (λ (m : ℕ). k + m) (length_map all n (i ∷ is)) in
+      let up : at k < at (k + length (i ∷ is)) = omega arith in
+      marked_first all n k (map Instruction (i ∷ is)) p (instructions_have_none all n (i ∷ is)) (subst (λ (m : ℕ). at k < at m) (sym same) up)
+
+  -- straight code is a run of its effects, behind the mark that waits for its first instruction
+  pub straight_part : (k : ℕ) (i : Instr) (is : List Instr) (p : IsPart all k (map Instruction (i ∷ is))) (x : List ℕ) (w : Bool) →
+      mark_waits false p.before ≡ w →
+      AreMemory (effects (i ∷ is) x (at k)) →
+      Walk n.setting (length (i ∷ is)) (r.moment x (at k)) (waiting w ++ seen_effects (effects (i ∷ is) x (at k)))
+      (r.moment (registers_after (i ∷ is) x (at k)) (at (k + length (i ∷ is))))
+  straight_part k i is p x w waits memory =
+      let e : at (k + length (i ∷ is)) ≡ at k + 4 * length (i ∷ is) = code_end k (i ∷ is) p in
+      let free : AreUnmarked n.setting (at k + 4) (length is) =
+      unmarked_words all n (at k + 4) (length is) (λ pc low high. unmarked_code k (i ∷ is) p pc (omega arith) (omega arith)) in
+      let walk : Walk n.setting (length (i ∷ is)) (r.moment x (at k)) (marked n.setting.marks (at k) ++ seen_effects (effects (i ∷ is) x (at k)))
+      (r.moment (registers_after (i ∷ is) x (at k)) (at k + 4 * length (i ∷ is))) =
+      straight_from n.setting i is x (at k) (stand all k (i ∷ is) n p) (code_room k (i ∷ is) p) memory free in
+      let first : marked n.setting.marks (at k) ≡ waiting w = marked_code k i is p ∙ ap (λ (b : Bool). waiting b) waits in
+      subst (λ (m : ℕ). Walk n.setting (length (i ∷ is)) (r.moment x (at k)) (waiting w ++ seen_effects (effects (i ∷ is) x (at k)))
+      (r.moment (registers_after (i ∷ is) x (at k)) m)) (sym e)
+      (subst (λ (ss : List Sight). Walk n.setting (length (i ∷ is)) (r.moment x (at k)) (ss ++ seen_effects (effects (i ∷ is) x (at k)))
+      (r.moment (registers_after (i ∷ is) x (at k)) (at k + 4 * length (i ∷ is)))) first walk)
+
+  -- likewise any straight code for which no mark waits
+  pub straight_part_on : (k : ℕ) (code : List Instr) (p : IsPart all k (map Instruction code)) (x : List ℕ) → mark_waits false p.before ≡ false →
+      AreMemory (effects code x (at k)) →
+      Walk n.setting (length code) (r.moment x (at k)) (seen_effects (effects code x (at k))) (r.moment (registers_after code x (at k)) (at (k + length code)))
+  straight_part_on k [] p x closed memory = (let e : at k ≡ at (k + 0) = let z : k ≡ k + 0 = omega arith in ap at z in ap (λ (m : ℕ). r.moment x m) e, refl)
+  straight_part_on k (i ∷ is) p x closed memory = straight_part k i is p x false closed memory
+
+  -- ---- Code that computes
+
+  -- a run of code that only computes, behind the mark that waits for its first instruction
+  pub computing_part : (k : ℕ) (code : List Instr) (p : IsPart all k (map Instruction code)) (x y : List ℕ) (steps : ℕ) (w : Bool) →
+      mark_waits false p.before ≡ w →
+      r.LeadsIn n.setting.around (suc steps) (r.moment x (at k)) (r.moment y (at k + 4 * length code)) →
+      Walk n.setting (suc steps) (r.moment x (at k)) (waiting w) (r.moment y (at (k + length code)))
+  computing_part k [] p x y steps w waits leads = absurd (no_way steps leads)
+    where
+      behind_it : (steps : ℕ) (a b : r.Moment) → r.LeadsIn n.setting.around steps a b → a.pc ≤ b.pc
+      behind_it zero a b h = let e : a.pc ≡ b.pc = ap (λ (m : r.Moment). m.pc) h in omega arith
+      behind_it (suc steps) a b h = let f : a.pc < h.0.pc = h.1.forward in let later : h.0.pc ≤ b.pc = behind_it steps h.0 b h.2 in omega arith
+
+      no_way : (steps : ℕ) → r.LeadsIn n.setting.around (suc steps) (r.moment x (at k)) (r.moment y (at k + 4 * 0)) → ⊥
+      no_way steps h = let f : at k < h.0.pc = h.1.forward in let later : h.0.pc ≤ at k + 4 * 0 = behind_it steps h.0 (r.moment y (at k + 4 * 0)) h.2 in
+          omega arith
+  computing_part k (i ∷ is) p x y steps w waits leads =
+      let e : at (k + length (i ∷ is)) ≡ at k + 4 * length (i ∷ is) = code_end k (i ∷ is) p in
+      let walk : Walk n.setting (suc steps) (r.moment x (at k)) (marked n.setting.marks (at k)) (r.moment y (at k + 4 * length (i ∷ is))) =
+      silent_from n.setting steps (r.moment x (at k)) (r.moment y (at k + 4 * length (i ∷ is))) (λ pc low high. unmarked_code k (i ∷ is) p pc low high) leads in
+      let first : marked n.setting.marks (at k) ≡ waiting w = marked_code k i is p ∙ ap (λ (b : Bool). waiting b) waits in
+      subst (λ (m : ℕ). Walk n.setting (suc steps) (r.moment x (at k)) (waiting w) (r.moment y m)) (sym e)
+      (subst (λ (ss : List Sight). Walk n.setting (suc steps) (r.moment x (at k)) ss (r.moment y (at k + 4 * length (i ∷ is)))) first walk)
+
+  -- ---- Jumps
+
+  has_none_one : (item : CodeItem) → is_mark item ≡ false → HasNone all n (item ∷ [])
+  has_none_one item none k pc = ap (λ (b : Bool). list_any (λ m. m == pc) (map at (if b then k ∷ [] else []))) none
+
+  none_behind : (w : Bool) → waiting w ++ [] ≡ waiting w
+  none_behind true = refl
+  none_behind false = refl
+
+  goes_in_one : (x : List ℕ) (pc to : ℕ) (instr : Instr) (w : Bool) → l.Stands n.program.start n.program.code pc instr → row instr x pc ≡ GoesOn x to →
+      marked n.setting.marks pc ≡ waiting w → Walk n.setting 1 (r.moment x pc) (waiting w) (r.moment x to)
+  goes_in_one x pc to instr w stands e first = one n.setting (r.moment x pc) (r.moment x to) (waiting w) (record {
+    instr = instr;
+    stands = n.meets.fetches pc instr stands;
+    does = ap (λ (f : Effect). passed n.setting.around (r.moment x pc) f) e;
+    sees = sym (ap (λ (ss : List Sight). ss ++ outside (row instr x pc)) first ∙ ap (λ (f : Effect). waiting w ++ outside f) e ∙ none_behind w);
+  })
+
+  -- what an item's words do is a run to where they lead, behind the mark that waits for the item
+  pub jumping : (k : ℕ) (item : CodeItem) (p : IsPart all k (item ∷ [])) (x : List ℕ) (to : ℕ) (w : Bool) → mark_waits false p.before ≡ w →
+      is_mark item ≡ false → 1 ≤ least_words_of item →
+      Does n.program.start n.program.code x (at k) (at (k + 1)) (GoesOn x to) →
+      Goes n.setting (record { registers = x; from = at k; to = to; most = most_words_of item }) (waiting w) (λ y. y ≡ x)
+  jumping k item p x to w waits none some d = by d
+    where
+      own : Lies at k (item ∷ [])
+      own = (lay_of all k (item ∷ []) n p).own
+
+      here : at (k + 1) ≡ at k + 4 * own.0.words
+      here = own.0.to_is
+
+      least : 1 ≤ own.0.words
+      least = let e : least_words_of item ≤ own.0.words = own.0.least in omega (arith, some)
+
+      most : own.0.words ≤ most_words_of item
+      most = own.0.most
+
+      first : marked n.setting.marks (at k) ≡ waiting w
+      first = marked_first all n k (item ∷ []) p (has_none_one item none) (omega (arith, here, least)) ∙ ap (λ (b : Bool). waiting b) waits
+
+      by : Does n.program.start n.program.code x (at k) (at (k + 1)) (GoesOn x to) →
+          Goes n.setting (record { registers = x; from = at k; to = to; most = most_words_of item }) (waiting w) (λ y. y ≡ x)
+      by (in_one instr stands e) = record {
+        registers = x;
+        steps = 1;
+        walks = goes_in_one x (at k) to instr w stands e first;
+        short = omega (arith, least, most);
+        are = refl;
+      }
+      by (in_two instr next two stands e stands_next f) =
+          let second : marked n.setting.marks (at k + 4) ≡ [] =
+          unmarked_within all n k (item ∷ []) p (has_none_one item none) (at k + 4) (omega arith) (omega (arith, two)) in
+          record {
+            registers = x;
+            steps = 2;
+            walks = subst (λ (ss : List Sight). Walk n.setting 2 (r.moment x (at k)) ss (r.moment x to)) (none_behind w)
+                (along n.setting 1 1 (r.moment x (at k)) (r.moment x (at k + 4)) (r.moment x to) (waiting w) []
+                (goes_in_one x (at k) (at k + 4) instr w stands e first) (goes_in_one x (at k + 4) to next false stands_next f second));
+            short = omega (arith, here, most, two);
+            are = refl;
+          }
+
+  item_here : (k : ℕ) (item : CodeItem) → IsPart all k (item ∷ []) → slice_get all k ≡ Some item
+  item_here k item p = let z : k + 0 ≡ k = omega arith in ap (λ (m : ℕ). slice_get all m) (sym z) ∙ item_at all k (item ∷ []) p 0 item refl
+
+  pub jump_part : (k : ℕ) (to : Label) (p : IsPart all k (JumpTo 0 to ∷ [])) (x : List ℕ) → mark_waits false p.before ≡ false →
+      Goes n.setting (record { registers = x; from = at k; to = at (label_position to.0 all); most = 1 }) [] (λ y. y ≡ x)
+  jump_part k to p x closed =
+      jumping k (JumpTo 0 to) p x (at (label_position to.0 all)) false closed refl (lit≤ tt)
+      (n.linked.lockstep k (JumpTo 0 to) x (GoesOn x (at (label_position to.0 all))) (item_here k (JumpTo 0 to) p) refl)
+
+  pub branch_part : (k : ℕ) (c : Condition) (rs1 rs2 : ℕ) (to : Label) (p : IsPart all k (BranchTo c rs1 rs2 to ∷ [])) (x : List ℕ) (w : Bool) →
+      mark_waits false p.before ≡ w →
+      Goes n.setting (record {
+        registers = x;
+        from = at k;
+        to = (if is_taken c (read x rs1) (read x rs2) then at (label_position to.0 all) else at (k + 1));
+        most = 2;
+      }) (waiting w) (λ y. y ≡ x)
+  branch_part k c rs1 rs2 to p x w waits =
+      let item : CodeItem = BranchTo c rs1 rs2 to in
+      let there : ℕ = if is_taken c (read x rs1) (read x rs2) then at (label_position to.0 all) else at (k + 1) in
+      jumping k item p x there w waits refl (lit≤ tt) (n.linked.lockstep k item x (GoesOn x there) (item_here k item p) refl)
+
+  -- an instruction stands
+  pub stands_part : (k : ℕ) (instr : Instr) → IsPart all k (Instruction instr ∷ []) → l.Stands n.program.start n.program.code (at k) instr
+  stands_part k instr p =
+      let z : k + 0 ≡ k = omega arith in
+      n.linked.stands k instr (ap (λ (m : ℕ). slice_get all m) (sym z) ∙ item_at all k (Instruction instr ∷ []) p 0 (Instruction instr) refl)

@@ -1,0 +1,6 @@
+use Rattle.std.proofs.lemmas.Result.{on_ok_weaker}
+use Rattle.node_code.proofs.Jumping.{is_jump}
+use Rattle.node_code.proofs.jumps.push_jump.Goals as goal
+
+pub returns : goal.returns
+returns c = on_ok_weaker c.push_item.result (λ e. record { piece = _; appended = e; is = is_jump c.args.to }) c.push_item.ensures

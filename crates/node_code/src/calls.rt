@@ -1,0 +1,125 @@
+//! Calls: a mutex is taken or given back, a thread ends.
+ghost use Rattle.std.specs.Prelude.{◌≡◌, ◌<◌, ◌++◌, ◌∷◌, [], IsTrue, OnOk};
+ghost use Rattle.std.specs.List.{list_all};
+ghost use Rattle.log_layout.specs.Roles.{is_kept};
+ghost use Rattle.node_code.specs.Pieces.{Appends, IsLock, IsUnlock, IsEnd, boundary_of};
+ghost use Rattle.node_code.specs.links.Listing.{plain, asking, lock_items, unlock_items, end_items};
+
+use crate::boundaries::{append_boundary, boundary_code};
+use crate::items::{load_small, push_plain};
+use crate::kept::Kept;
+use ido_base::memory::Memory;
+use rv64_isa::field::Register;
+use rv64_isa::instr::Instr;
+use rv64_isa::object::CodeItem;
+use std::alloc::Global;
+
+/// The register of the mutex that a call names.
+const LOCK: Register = Register::X10;
+
+/// The register of a call's number.
+const CALL: Register = Register::X17;
+
+/// The number of the call that takes a mutex.
+const TAKES: u16 = 1;
+
+/// The number of the call that gives a mutex back.
+const GIVES: u16 = 2;
+
+/// The number of the call that ends the thread.
+const ENDS: u16 = 3;
+
+/// Bytes from the end of an unlock's boundary to the instruction behind its call.
+const GIVING_BYTES: u16 = 12;
+
+/// The registers of a call of one mutex are set.
+fn append_asking(items: &mut Vec<CodeItem>, mutex: u16, number: u16) -> Result<(), Memory>
+    requires mutex { mutex < 2048 }
+    requires number { number < 2048 }
+    ensures { OnOk result (items.new.items ≡ items.old.items ++ plain (asking mutex number)) }
+{
+    items.push(CodeItem::Instruction(load_small(LOCK, mutex)))?;
+    items.push(CodeItem::Instruction(load_small(CALL, number)))?;
+    Ok(())
+}
+
+/// A mutex is taken; then comes the boundary.
+fn append_lock(items: &mut Vec<CodeItem>, mutex: u16, boundary: &[Instr]) -> Result<(), Memory>
+    requires { mutex < 2048 }
+    ensures { OnOk result (items.new.items ≡ items.old.items ++ lock_items mutex boundary.now) }
+{
+    append_asking(items, mutex, TAKES)?;
+    items.push(CodeItem::MarkNext)?;
+    items.push(CodeItem::Instruction(Instr::Ecall))?;
+    append_boundary(items, boundary)
+}
+
+/// The boundary, behind which a mutex is given back.
+fn append_unlock(
+    items: &mut Vec<CodeItem>,
+    mutex: u16,
+    mask: u64,
+    boundary: &[Instr],
+) -> Result<(), Memory>
+    requires { mutex < 2048 }
+    ensures { OnOk result (items.new.items ≡ items.old.items ++ unlock_items mutex mask boundary.now) }
+{
+    items.push(CodeItem::MarkNext)?;
+    push_plain(items, boundary)?;
+    append_asking(items, mutex, GIVES)?;
+    items.push(CodeItem::Instruction(Instr::Ecall))?;
+    if mask != 0 {
+        items.push(CodeItem::ResumeNext)?;
+    }
+    Ok(())
+}
+
+/// A thread ends.
+fn append_end(items: &mut Vec<CodeItem>) -> Result<(), Memory>
+    ensures { OnOk result (items.new.items ≡ items.old.items ++ end_items) }
+{
+    items.push(CodeItem::MarkNext)?;
+    items.push(CodeItem::Instruction(load_small(CALL, ENDS)))?;
+    items.push(CodeItem::Instruction(Instr::Ecall))?;
+    Ok(())
+}
+
+/// Appends the code that takes a mutex. Behind the call, which is the mark, stands a boundary that keeps these.
+pub fn push_lock(
+    alloc: Global,
+    items: &mut Vec<CodeItem>,
+    kept: &Kept,
+    mutex: u16,
+) -> Result<(), Memory>
+    requires thread { kept.now.thread < 8 }
+    requires live { IsTrue (list_all is_kept kept.now.live.now) }
+    requires mutex { mutex < 2048 }
+    ensures { OnOk result (Appends items.old.items items.new.items (IsLock (boundary_of kept.now 0) mutex)) }
+{
+    let boundary = boundary_code(alloc, kept, 0)?;
+    append_lock(items, mutex, &boundary)
+}
+
+/// Appends the code that gives a mutex back. Before the call stands a boundary that keeps these, and resumes behind the
+/// call; its first instruction is the mark. A boundary that leaves the thread with no mutex is resumed nowhere.
+pub fn push_unlock(
+    alloc: Global,
+    items: &mut Vec<CodeItem>,
+    kept: &Kept,
+    mutex: u16,
+) -> Result<(), Memory>
+    requires thread { kept.now.thread < 8 }
+    requires live { IsTrue (list_all is_kept kept.now.live.now) }
+    requires mutex { mutex < 2048 }
+    ensures { OnOk result (Appends items.old.items items.new.items (IsUnlock (boundary_of kept.now 12) mutex)) }
+{
+    let boundary = boundary_code(alloc, kept, GIVING_BYTES)?;
+    append_unlock(items, mutex, kept.mask, &boundary)
+}
+
+/// Appends the code that ends the thread; its first instruction is the mark.
+pub fn push_end(items: &mut Vec<CodeItem>) -> Result<(), Memory>
+    ensures { OnOk result (Appends items.old.items items.new.items IsEnd) }
+{
+    append_end(items)
+}

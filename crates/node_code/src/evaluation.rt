@@ -1,0 +1,65 @@
+//! Code that only computes.
+ghost use Rattle.std.specs.Prelude.{◌≡◌, ◌++◌, OnOk};
+ghost use Rattle.node_code.specs.Pieces.{Appends, IsComputing, IsChoice};
+ghost use Rattle.node_code.specs.links.Listing.{computing_items, choice_items};
+
+use crate::items::{load_small, push_item, push_plain};
+use ido_base::memory::Memory;
+use operator_code::Test;
+use rv64_isa::field::Register;
+use rv64_isa::instr::Instr;
+use rv64_isa::object::{CodeItem, Label};
+
+/// The mark, and code; where there is none, an instruction that leaves all registers as they are.
+fn append_computing(items: &mut Vec<CodeItem>, code: &[Instr]) -> Result<(), Memory>
+    ensures { OnOk result (items.new.items ≡ items.old.items ++ computing_items code.now) }
+{
+    items.push(CodeItem::MarkNext)?;
+    if code.is_empty() {
+        items.push(CodeItem::Instruction(load_small(Register::X0, 0)))?;
+    }
+    push_plain(items, code)
+}
+
+/// The mark, code, and a branch.
+fn append_choice(
+    items: &mut Vec<CodeItem>,
+    code: &[Instr],
+    test: Test,
+    to: Label,
+) -> Result<(), Memory>
+    ensures { OnOk result (items.new.items ≡ items.old.items ++ choice_items code.now test to) }
+{
+    items.push(CodeItem::MarkNext)?;
+    push_plain(items, code)?;
+    push_item(
+        items,
+        CodeItem::BranchTo {
+            condition: test.condition,
+            rs1: test.rs1,
+            rs2: test.rs2,
+            to,
+        },
+    )
+}
+
+/// Appends code that only computes; its first instruction is the mark. Where there is none, an instruction stands there
+/// that leaves all registers as they are.
+pub fn push_computing(items: &mut Vec<CodeItem>, code: &[Instr]) -> Result<(), Memory>
+    ensures { OnOk result (Appends items.old.items items.new.items (IsComputing code.now)) }
+{
+    append_computing(items, code)
+}
+
+/// Appends code that only computes, and a branch to the label, which is taken where the test is passed behind the code. The
+/// first instruction is the mark.
+pub fn push_choice(
+    items: &mut Vec<CodeItem>,
+    code: &[Instr],
+    test: Test,
+    to: Label,
+) -> Result<(), Memory>
+    ensures { OnOk result (Appends items.old.items items.new.items (IsChoice code.now test to.0)) }
+{
+    append_choice(items, code, test, to)
+}

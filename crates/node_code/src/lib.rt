@@ -1,0 +1,20 @@
+//! The code of what the nodes of a flow graph do, wherever it stands in a thread's linked code.
+#![tactic(auto)]
+
+mod boundaries;
+mod calls;
+mod evaluation;
+mod items;
+mod jumps;
+mod kept;
+pub mod laws;
+mod stores;
+#[cfg(test)]
+mod tests;
+
+pub use boundaries::push_boundary;
+pub use calls::{push_end, push_lock, push_unlock};
+pub use evaluation::{push_choice, push_computing};
+pub use jumps::{push_branch, push_jump};
+pub use kept::Kept;
+pub use stores::push_store;

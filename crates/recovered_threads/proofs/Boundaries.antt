@@ -1,0 +1,80 @@
+-- The boundaries of a thread's code can be recovered from.
+use Rattle.std.proofs.Common.{◌≡◌, ℕ, zero, suc, ◌+◌, ◌^◌, ◌<◌, List, [], ◌∷◌, length, get_or, refl, ap, arith, sym, ◌∙◌, subst, true, Some, lt_of_lt_of_le}
+use Rattle.std.proofs.Common.{pow_mono}
+use Rattle.std.specs.Prelude.{slice_get, slice_index}
+use Rattle.std.specs.List.{list_all}
+use Rattle.std.proofs.lemmas.Bool.{and_parts}
+use Rattle.std.proofs.lemmas.Bool.Decides.{nat_tests}
+use Rattle.std.proofs.lemmas.List.{get_or-map, length-map}
+use Rattle.std.proofs.lemmas.List.Elements.{Contains-get_or}
+use Rattle.std.proofs.lemmas.Option.{none-some, same_Some, slice_get_within}
+use Rattle.ido_ints.specs.declared.kinds.Kind.{Kind}
+use Rattle.ido_base.specs.Locks.{is_held_by}
+use Rattle.c_tree.specs.Flats as f
+use Rattle.source_machine.specs.Mutexes.{held_by}
+use Rattle.lock_discipline.proofs.Masks.{mask_of-bound}
+use Rattle.log_layout.specs.declared.roles.TheConstants.{LOCALS}
+use Rattle.log_layout.specs.Roles.{is_kept}
+use Rattle.flow_graph.specs.declared.graph.Part.{Part}
+use Rattle.flow_graph.specs.Nodes.{Graph}
+use Rattle.flow_graph.specs.Lowering.{thread_count, part, parts}
+use Rattle.flow_graph.proofs.Lockstep.{lowered_threads}
+use Rattle.log_states.specs.Logs.{IsKeepable}
+use Rattle.thread_code.specs.Plans.{Plan, Thread, IsThread, IsPlan, IsKept, of_local, of_address, of_value}
+use Rattle.recovered_threads.specs.Laws.{BoundariesRecover}
+use Rattle.recovered_threads.proofs.Holding.{mask_is}
+
+-- ---- Registers that have a slot
+
+keepable : (register : ℕ) → is_kept register ≡ true → IsKeepable register
+keepable register h = record {
+  is_register = grind (arith, nat_tests);
+  exists = grind (arith, nat_tests);
+  not_offset = λ e. (let z : is_kept 3 ≡ true = ap (λ (n : ℕ). is_kept n) (sym e) ∙ h in cc z);
+}
+
+one_kept : (xs : List ℕ) (at : ℕ) → list_all is_kept xs ≡ true → at < length xs → is_kept (slice_index xs at) ≡ true
+one_kept [] at h below = absurd (let z : ⊥ = omega (arith, below) in z)
+one_kept (x ∷ xs) zero h below = (and_parts (is_kept x) (list_all is_kept xs) h).0
+one_kept (x ∷ xs) (suc at) h below = one_kept xs at (and_parts (is_kept x) (list_all is_kept xs) h).1 (omega (arith, below))
+
+-- the locals of a thread's part
+locals_of : (ts : List f.Thread) (first k : ℕ) (p : Part) (t : f.Thread) → slice_get (parts ts first) k ≡ Some p → slice_get ts k ≡ Some t →
+    p.locals ≡ length t.locals
+locals_of [] first k p t g i = absurd (none-some t i)
+locals_of (u ∷ us) first zero p t g i =
+    sym (ap (λ (q : Part). q.locals) (same_Some (part u first) p g)) ∙ ap (λ (v : f.Thread). length v.locals) (same_Some u t i)
+locals_of (u ∷ us) first (suc k) p t g i = locals_of us (first + thread_count u) k p t g i
+
+module _ (p : Plan) (plan : IsPlan p) (t : Thread) (is : IsThread p t) where
+  part_is : slice_get (parts p.flat.threads 0) t.number ≡ Some t.part
+  part_is = ap (λ (ps : List Part). slice_get ps t.number) (sym (ap (λ (g : Graph). g.threads) plan.lowered ∙ lowered_threads p.flat)) ∙ is.nodes
+
+  -- each local has a register
+  local_kept : (local : ℕ) → local < length t.kinds → is_kept (slice_index t.registers local) ≡ true
+  local_kept local below =
+      let count = plan.registers.locals t.number t.part is.colours is.nodes is.of_colours in
+      let inside : local < length is.colours =
+      omega (arith, below, count, locals_of p.flat.threads 0 t.number t.part is.text part_is is.of_text, ap (λ (ks : List Kind). length ks) is.kinds) in
+      let colour = get_or is.colours local 0 in
+      let exists : colour < 18 = plan.registers.exist t.number colour is.colours is.of_colours (Contains-get_or is.colours local 0 inside) in
+      let at : slice_index t.registers local ≡ slice_index LOCALS colour =
+      ap (λ (rs : List ℕ). slice_index rs local) is.registers ∙ get_or-map (λ (c : ℕ). slice_index LOCALS c) is.colours local 0 0 inside in
+      ap is_kept at ∙ one_kept LOCALS colour refl exists
+
+  kept_is : (node register : ℕ) → IsKept p t node register → is_kept register ≡ true
+  kept_is node register (of_local local k there live) = local_kept local (slice_get_within t.kinds local k there)
+  kept_is node register (of_address store) = refl
+  kept_is node register (of_value store) = refl
+
+pub boundaries_recover : BoundariesRecover
+boundaries_recover p code s bank resume x plan orderly b = record {
+  mask = subst (λ (mask : ℕ). mask < 2 ^ 64) (sym (mask_is p s plan orderly code.thread code.of b.walker b.there b.own))
+      (lt_of_lt_of_le (mask_of-bound (held_by code.thread.number s.holders)) (pow_mono {i = length (held_by code.thread.number s.holders)} {j = 64}
+      (omega (arith, length-map s.holders (λ o. is_held_by code.thread.number o), orderly.locks, plan.formed.shared.mutexes))));
+  live = λ register has. keepable register (kept_is p plan code.thread code.of b.walker.at register ((code.is.kept b.walker.at b.own register).0 has));
+  registers = λ register has. b.registers register;
+  aligned = b.aligned;
+  somewhere = b.somewhere;
+  below = b.below;
+}

@@ -1,0 +1,87 @@
+-- Worked rows: records, what harts hold of them, and a crash right at the start.
+use Rattle.std.proofs.Common.{◌≡◌, ℕ, zero, suc, List, [], ◌∷◌, length, refl, arith, sym, cond, Bool, true, false, Option, Some, None}
+use Rattle.std.proofs.lemmas.Bool.{true≢false}
+use Rattle.std.proofs.lemmas.Option.{none-some, same_Some}
+use Rattle.ido_base.specs.declared.event.Event.TheVariants.{Crash}
+use Rattle.source_machine.specs.Mutexes.{held_by}
+use Rattle.lock_discipline.specs.Masks.{mask_of}
+use Rattle.rv64_isa.specs.declared.object.Slot.{Slot}
+use Rattle.rv64_isa.specs.declared.phase.Phase.TheVariants.{Take, Resume, Done}
+use Rattle.rv64_isa.specs.Machine.{World, bank_of, resume_of, start_of, after_event}
+use Rattle.rv64_isa.proofs.Frames.{starts_stand}
+use Rattle.log_states.specs.Logs.{Record, nothing_recorded}
+use Rattle.log_states.specs.Stages.{is_committed}
+use Rattle.log_states.specs.Machines.{moment_of}
+use Rattle.log_states.proofs.Standing.{starts_standing}
+use Rattle.recovered_threads.specs.Telling.{locks_of}
+use Rattle.recovered_threads.specs.Recovering.{HoldsAll, HoldsOnly, Gathers, AreGathering}
+use Rattle.recovered_threads.proofs.Crashing.{crashes_gather}
+
+-- a point in the second bank, with locks 0 and 2
+abbrev two_locks : Record
+two_locks = record { point = 4097; mask = 5; live = 8 ∷ []; registers = [] }
+
+locks_two : locks_of two_locks ≡ 5
+locks_two = refl
+
+locks_none : locks_of nothing_recorded ≡ 0
+locks_none = refl
+
+-- what is left of a record without a point has no locks
+locks_old : locks_of (record two_locks { point = 0 }) ≡ 0
+locks_old = refl
+
+bank_two : bank_of two_locks.point ≡ 1
+bank_two = refl
+
+resumes_two : resume_of two_locks.point ≡ 4096
+resumes_two = refl
+
+-- the mask of what a thread holds
+mask_two : mask_of (held_by 3 (Some 3 ∷ Some 1 ∷ Some 3 ∷ None ∷ [])) ≡ 5
+mask_two = refl
+
+abbrev with_holders : List (Option ℕ) → World
+with_holders holders = record { words = []; harts = []; holders = holders; recovering = true }
+
+-- it holds both, and another hart the one between them
+has_both : HoldsAll (with_holders (Some 0 ∷ Some 1 ∷ Some 0 ∷ [])) 0 two_locks
+has_both zero holder there has = sym (same_Some (Some 0) holder there)
+has_both (suc zero) holder there has = absurd (true≢false (sym has))
+has_both (suc (suc zero)) holder there has = sym (same_Some (Some 0) holder there)
+has_both (suc (suc (suc lock))) holder there has = absurd (none-some holder there)
+
+-- not all where one is free or another's, and not only these where it holds a third
+lacks_one : ¬ (HoldsAll (with_holders (Some 0 ∷ None ∷ None ∷ [])) 0 two_locks)
+lacks_one all = none-some 0 (all 2 None refl refl)
+
+others_one : ¬ (HoldsAll (with_holders (Some 0 ∷ None ∷ Some 1 ∷ [])) 0 two_locks)
+others_one all = (let z : 1 ≡ 0 = same_Some 1 0 (all 2 (Some 1) refl refl) in omega (arith, z))
+
+has_third : ¬ (HoldsOnly (with_holders (Some 0 ∷ Some 0 ∷ Some 0 ∷ [])) 0 two_locks)
+has_third only = true≢false (sym (only 1 refl))
+
+-- a hart with a point isn't done, and one without doesn't take
+not_done : ¬ (Gathers (with_holders []) 0 two_locks Done)
+not_done none = omega (arith, none)
+
+not_taking : ¬ (Gathers (with_holders []) 0 nothing_recorded Take)
+not_taking some = some refl
+
+-- nobody goes on while locks are gathered
+none_resumes : ¬ (Gathers (with_holders []) 0 two_locks Resume)
+none_resumes going = going
+
+same_both : {A : Type 0} (b : Bool) (x : A) → x ≡ cond b x x
+same_both true x = refl
+same_both false x = refl
+
+-- a crash right at the start leaves harts that are done
+crash_at_start : (program : List (List Slot)) (locks : ℕ) (initial : List ℕ) →
+    AreGathering (after_event program (start_of program locks initial) Crash) (λ n. nothing_recorded)
+crash_at_start program locks initial =
+    let w : World = start_of program locks initial in
+    let count : length w.harts ≡ length program = (starts_stand program locks initial).1 in
+    crashes_gather program w (λ n. nothing_recorded) (λ n. nothing_recorded) (λ n. nothing_recorded) (λ n. []) (sym count)
+    (λ h below. starts_standing program locks h initial (omega (arith, below, count)))
+    (λ h below. same_both (is_committed h (moment_of w (starts_standing program locks h initial (omega (arith, below, count))).hart [])) nothing_recorded)

@@ -1,0 +1,5 @@
+use Rattle.recovered_threads.proofs.Kept.{points_settle}
+use Rattle.recovered_threads.proofs.laws.points_settle.Goals as goal
+
+pub returns : goal.returns
+returns c = points_settle

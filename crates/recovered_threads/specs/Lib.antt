@@ -1,0 +1,4 @@
+pub mod Telling
+pub mod Recovering
+pub mod Machines
+pub mod Laws

@@ -1,0 +1,12 @@
+pub mod Whole
+pub mod Alike
+pub mod Walking
+pub mod Nodes
+pub mod Region
+pub mod Reading
+pub mod Keeping
+pub mod Flushing
+pub mod Following
+pub mod Paths
+pub mod Living
+pub mod Worked

@@ -1,0 +1,250 @@
+-- What a thread's next step says of the node at which it stands.
+use Rattle.std.proofs.Common.{◌≡◌, refl, ℕ, zero, suc, List, [], ◌∷◌, ◌++◌, sym, ◌∙◌, ap, subst, arith, Option, Some, None, Bool, true, false, ⊎_elim}
+use Rattle.std.specs.Prelude.{is_some, Contains}
+use Rattle.std.specs.Option.{option_map}
+use Rattle.std.proofs.lemmas.List.Elements.{Contains-append_cases}
+use Rattle.ido_base.specs.declared.location.Location.{Location}
+use Rattle.ido_ints.specs.declared.kinds.Kind.{Kind}
+use Rattle.c_tree.specs.Exprs as e
+use Rattle.c_tree.specs.Programs.{Variable}
+use Rattle.c_tree.specs.Flats as f
+use Rattle.c_tree.specs.Source as m
+use Rattle.c_tree.specs.Source.{Pending}
+use Rattle.c_tree.specs.Locking.{Held, holds, expr_uses, target_uses, guard_of, AreGuarded}
+use Rattle.source_machine.specs.Mutexes.{first_lock, first_unlock, locks, unlocks}
+use Rattle.source_machine.proofs.Guarding.{guarded_first, guarded_rest, guarded_left, guarded_right}
+use Rattle.source_machine.proofs.Changes.{locks_found, unlocks_found}
+use Rattle.flow_graph.specs.Nodes.{Action, Eval, Store, Test, Lock, Unlock, End, Node}
+use Rattle.flow_graph.specs.Actions.{Seen, Walker, Effect, Makes, Takes, Gives, Ends, effect_of, element_in}
+use Rattle.flow_graph.specs.Lockstep.{Standing, threads_standings}
+use Rattle.flow_graph.specs.Paths.{Element, element, expr_elements, target_elements, reads_of, stored_element, write_of}
+use Rattle.flow_graph.proofs.Standing.{Does, chooses, repeats}
+use Rattle.flow_graph.proofs.Shapes.{ShapedAs}
+use Rattle.flow_graph.proofs.Lying.{contains_none}
+use Rattle.region_attempts.proofs.Alike.{action_uses, IsThere}
+
+-- ---- What is read is guarded
+
+module _ (vs : List Variable) (h : Held) (seen : Seen) (one : Element) where
+  abbrev IsHeld : Type 0
+  IsHeld = holds h (guard_of vs one.variable) ≡ true
+
+  held_head : (v n : ℕ) → holds h (guard_of vs v) ≡ true → element v n ≡ one → IsHeld
+  held_head v n g is = subst (λ (z : Element). holds h (guard_of vs z.variable) ≡ true) is g
+
+  of_either : (es fs : List Element) → (Contains es one → IsHeld) → (Contains fs one → IsHeld) → Contains (es ++ fs) one → IsHeld
+  of_either es fs l r c = ⊎_elim l r (Contains-append_cases es fs one c)
+
+  of_first : (v n : ℕ) (es : List Element) → holds h (guard_of vs v) ≡ true → (Contains es one → IsHeld) → Contains (element v n ∷ es) one → IsHeld
+  of_first v n es g more (zero, l, is) = held_head v n g is
+  of_first v n es g more (suc k, l, is) = more (k, omega arith, is)
+
+  expr_held : (x : e.Expr) → AreGuarded vs h (expr_uses x) → Contains (expr_elements x seen) one → IsHeld
+  expr_held (e.Constant value) g c = absurd (contains_none one c)
+  expr_held (e.Local local kind) g c = absurd (contains_none one c)
+  expr_held (e.Variable place v kind) g c = of_first v 0 [] (guarded_first vs h _ [] g) (λ d. absurd (contains_none one d)) c
+  expr_held (e.Element place v kind index_place index) g c =
+      of_first v (element_in seen index) (expr_elements index seen) (guarded_first vs h _ (expr_uses index) g)
+      (λ d. expr_held index (guarded_rest vs h _ (expr_uses index) g) d) c
+  expr_held (e.Unary operator operand) g c = expr_held operand g c
+  expr_held (e.Cast kind operand) g c = expr_held operand g c
+  expr_held (e.Converted kind operand) g c = expr_held operand g c
+  expr_held (e.Binary operator left right) g c =
+      of_either (expr_elements left seen) (expr_elements right seen)
+      (λ d. expr_held left (guarded_left vs h (expr_uses left) (expr_uses right) g) d)
+      (λ d. expr_held right (guarded_right vs h (expr_uses left) (expr_uses right) g) d) c
+  expr_held (e.Conditional kind condition chosen otherwise) g c =
+      let first = guarded_left vs h (expr_uses condition ++ expr_uses chosen) (expr_uses otherwise) g in
+      of_either (expr_elements condition seen ++ expr_elements chosen seen) (expr_elements otherwise seen)
+      (of_either (expr_elements condition seen) (expr_elements chosen seen)
+      (λ d. expr_held condition (guarded_left vs h (expr_uses condition) (expr_uses chosen) first) d)
+      (λ d. expr_held chosen (guarded_right vs h (expr_uses condition) (expr_uses chosen) first) d))
+      (λ d. expr_held otherwise (guarded_right vs h (expr_uses condition ++ expr_uses chosen) (expr_uses otherwise) g) d) c
+
+  target_held : (target : e.Target) → AreGuarded vs h (target_uses target) → Contains (target_elements target seen) one → IsHeld
+  target_held (e.ToLocal local kind) g c = absurd (contains_none one c)
+  target_held (e.ToVariable place v kind) g c = absurd (contains_none one c)
+  target_held (e.ToElement place v kind index) g c = expr_held index.expr (guarded_rest vs h _ (expr_uses index.expr) g) c
+
+  -- what a node reads is of variables whose mutexes are held there
+  pub read_held : (a : Action) → AreGuarded vs h (action_uses a) → Contains (reads_of a seen) one → IsHeld
+  read_held (Eval target value next) g c =
+      of_either (target_elements target seen) (expr_elements value.expr seen)
+      (λ d. target_held target (guarded_right vs h (expr_uses value.expr) (target_uses target) g) d)
+      (λ d. expr_held value.expr (guarded_left vs h (expr_uses value.expr) (target_uses target) g) d) c
+  read_held (Store variable kind next) g c = absurd (contains_none one c)
+  read_held (Test condition holds fails) g c = expr_held condition.expr g c
+  read_held (Lock mutex next) g c = absurd (contains_none one c)
+  read_held (Unlock mutex next) g c = absurd (contains_none one c)
+  read_held End g c = absurd (contains_none one c)
+
+-- ---- Stores
+
+pub record StoresHere (a : Action) : Type 0 where
+  pub variable : ℕ
+  pub kind : Kind
+  pub next : ℕ
+  pub is : a ≡ Store variable kind next
+
+not_owing : (left more : List f.Statement) → (let s : Standing = record { left = left; owes = true } in
+    let t : Standing = record { left = more; owes = false } in s ≡ t) → ⊥
+not_owing left more h = let b : true ≡ false = ap (λ (s : Standing). s.owes) h in cc
+
+owing_by : (all : List Standing) (a : Action) (left : List f.Statement) → Does all a (record { left = left; owes = true }) → StoresHere a
+owing_by all (Eval target value next) left d = absurd (not_owing left _ d.is)
+owing_by all (Store variable kind next) left d = record { variable = variable; kind = kind; next = next; is = refl }
+owing_by all (Test condition holds fails) left d = elim d [
+  | chooses place body arms otherwise rest is a b ↦ absurd (not_owing left _ is)
+  | repeats place body rest is a b ↦ absurd (not_owing left _ is)
+]
+owing_by all (Lock mutex next) left d = absurd (not_owing left _ d.is)
+owing_by all (Unlock mutex next) left d = absurd (not_owing left _ d.is)
+owing_by all End left d = absurd (not_owing left _ d)
+
+-- a store is pending at a node that stores
+pub owing_at : (all : List Standing) (a : Action) (left : List f.Statement) (p : Option Pending) (store : Pending) → p ≡ Some store →
+    Does all a (record { left = left; owes = is_some p }) → StoresHere a
+owing_at all a left p store is d =
+    owing_by all a left (subst (λ (b : Bool). Does all a (record { left = left; owes = b })) (ap is_some is) d)
+
+owes_by : (all : List Standing) (a : Action) (left : List f.Statement) (p : Option Pending) → StoresHere a →
+    Does all a (record { left = left; owes = is_some p }) → (store : Pending) × (p ≡ Some store)
+owes_by all a left None s d =
+    let stores = subst (λ (z : Action). Does all z (record { left = left; owes = false })) s.is d in
+    let b : false ≡ true = ap (λ (z : Standing). z.owes) stores.is in cc
+owes_by all a left (Some store) s d = (store, refl)
+
+-- and at a node that stores one is pending
+pub owes_at : (all : List Standing) (a : Action) (left : List f.Statement) (p : Option Pending) → StoresHere a →
+    Does all a (record { left = left; owes = is_some p }) → (store : Pending) × (p ≡ Some store)
+owes_at all a left p s d = owes_by all a left p s d
+
+-- a node that writes stores
+pub writing_stores : (ns : List Node) (node : Node) (a : Action) (l : Location) → ShapedAs ns node a → node.writes ≡ Some l → StoresHere a
+writing_stores ns node (Eval target value next) l shape h = let none = shape.writes in cc
+writing_stores ns node (Store variable kind next) l shape h = record { variable = variable; kind = kind; next = next; is = refl }
+writing_stores ns node (Test condition holds fails) l shape h = let none = shape.writes in cc
+writing_stores ns node (Lock mutex next) l shape h = cc
+writing_stores ns node (Unlock mutex next) l shape h = cc
+writing_stores ns node End l shape h = cc
+
+pub written_of : (a : Action) (seen : Seen) (store : Pending) → StoresHere a → seen.pending ≡ Some store → write_of a seen ≡ Some (stored_element store)
+written_of a seen store s h = ap (λ (z : Action). write_of z seen) s.is ∙ ap (option_map stored_element) h
+
+pub reads_nothing : (a : Action) (seen : Seen) (one : Element) → StoresHere a → Contains (reads_of a seen) one → ⊥
+reads_nothing a seen one s c = contains_none one (subst (λ (z : Action). Contains (reads_of z seen) one) s.is c)
+
+-- ---- Mutexes
+
+abbrev lock_by : Option Pending → List f.Statement → Option ℕ
+lock_by p left = elim p [
+  | Some store ↦ None
+  | None ↦ first_lock left
+]
+
+abbrev unlock_by : Option Pending → List f.Statement → Option ℕ
+unlock_by p left = elim p [
+  | Some store ↦ None
+  | None ↦ first_unlock left
+]
+
+-- what is left begins with another statement
+no_lock : (left more : List f.Statement) (mutex : ℕ) → left ≡ more → first_lock more ≡ None → first_lock left ≡ Some mutex → ⊥
+no_lock left more mutex is none h = let same = ap first_lock is in cc
+
+no_unlock : (left more : List f.Statement) (mutex : ℕ) → left ≡ more → first_unlock more ≡ None → first_unlock left ≡ Some mutex → ⊥
+no_unlock left more mutex is none h = let same = ap first_unlock is in cc
+
+abbrev left_of : Standing → List f.Statement
+left_of s = s.left
+
+none_left : (store : Pending) (mutex : ℕ) (p : Option Pending) (left : List f.Statement) → p ≡ Some store → lock_by p left ≡ Some mutex → ⊥
+none_left store mutex p left is h = let none = ap (λ (o : Option Pending). lock_by o left) is in cc
+
+locking_by : (all : List Standing) (a : Action) (left : List f.Statement) (mutex : ℕ) → Does all a (record { left = left; owes = false }) →
+    first_lock left ≡ Some mutex → (next : ℕ) × (a ≡ Lock mutex next)
+locking_by all (Eval target value next) left mutex d h = absurd (no_lock left _ mutex (ap left_of d.is) refl h)
+locking_by all (Store variable kind next) left mutex d h = let b : false ≡ true = ap (λ (z : Standing). z.owes) d.is in cc
+locking_by all (Test condition holds fails) left mutex d h = elim d [
+  | chooses place body arms otherwise rest is a b ↦ absurd (no_lock left _ mutex (ap left_of is) refl h)
+  | repeats place body rest is a b ↦ absurd (no_lock left _ mutex (ap left_of is) refl h)
+]
+locking_by all (Lock other next) left mutex d h =
+    let same : first_lock left ≡ Some other = ap first_lock (ap left_of d.is) in
+    let is : other ≡ mutex = cc in
+    (next, ap (λ (k : ℕ). Lock k next) is)
+locking_by all (Unlock other next) left mutex d h = absurd (no_lock left _ mutex (ap left_of d.is) refl h)
+locking_by all End left mutex d h = absurd (no_lock left [] mutex (ap left_of d) refl h)
+
+unlocking_by : (all : List Standing) (a : Action) (left : List f.Statement) (mutex : ℕ) → Does all a (record { left = left; owes = false }) →
+    first_unlock left ≡ Some mutex → (next : ℕ) × (a ≡ Unlock mutex next)
+unlocking_by all (Eval target value next) left mutex d h = absurd (no_unlock left _ mutex (ap left_of d.is) refl h)
+unlocking_by all (Store variable kind next) left mutex d h = let b : false ≡ true = ap (λ (z : Standing). z.owes) d.is in cc
+unlocking_by all (Test condition holds fails) left mutex d h = elim d [
+  | chooses place body arms otherwise rest is a b ↦ absurd (no_unlock left _ mutex (ap left_of is) refl h)
+  | repeats place body rest is a b ↦ absurd (no_unlock left _ mutex (ap left_of is) refl h)
+]
+unlocking_by all (Lock other next) left mutex d h = absurd (no_unlock left _ mutex (ap left_of d.is) refl h)
+unlocking_by all (Unlock other next) left mutex d h =
+    let same : first_unlock left ≡ Some other = ap first_unlock (ap left_of d.is) in
+    let is : other ≡ mutex = cc in
+    (next, ap (λ (k : ℕ). Unlock k next) is)
+unlocking_by all End left mutex d h = absurd (no_unlock left [] mutex (ap left_of d) refl h)
+
+locking_if : (all : List Standing) (a : Action) (left : List f.Statement) (mutex : ℕ) (p : Option Pending) →
+    Does all a (record { left = left; owes = is_some p }) → lock_by p left ≡ Some mutex → (next : ℕ) × (a ≡ Lock mutex next)
+locking_if all a left mutex None d h = locking_by all a left mutex d h
+locking_if all a left mutex (Some store) d h = cc
+
+unlocking_if : (all : List Standing) (a : Action) (left : List f.Statement) (mutex : ℕ) (p : Option Pending) →
+    Does all a (record { left = left; owes = is_some p }) → unlock_by p left ≡ Some mutex → (next : ℕ) × (a ≡ Unlock mutex next)
+unlocking_if all a left mutex None d h = unlocking_by all a left mutex d h
+unlocking_if all a left mutex (Some store) d h = cc
+
+locks_if : (all : List Standing) (left : List f.Statement) (mutex next : ℕ) (p : Option Pending) →
+    Does all (Lock mutex next) (record { left = left; owes = is_some p }) → lock_by p left ≡ Some mutex
+locks_if all left mutex next None d = ap first_lock (ap left_of d.is)
+locks_if all left mutex next (Some store) d = let b : true ≡ false = ap (λ (z : Standing). z.owes) d.is in cc
+
+module _ (x : f.Flat) (s : m.State) (t : ℕ) (walker : Walker) (node : Node) (th : IsThere x s t walker node) where
+  -- a thread that locks next stands at a node that locks
+  pub locking_at : (mutex : ℕ) → locks s t ≡ Some mutex → (next : ℕ) × (node.action ≡ Lock mutex next)
+  locking_at mutex h = locking_if (threads_standings x.threads) node.action th.thread.left mutex th.thread.pending th.does
+      (sym (locks_found s t th.thread th.there) ∙ h)
+
+  pub unlocking_at : (mutex : ℕ) → unlocks s t ≡ Some mutex → (next : ℕ) × (node.action ≡ Unlock mutex next)
+  unlocking_at mutex h = unlocking_if (threads_standings x.threads) node.action th.thread.left mutex th.thread.pending th.does
+      (sym (unlocks_found s t th.thread th.there) ∙ h)
+
+  -- and at one that locks the thread locks next
+  pub locks_at : (mutex next : ℕ) → node.action ≡ Lock mutex next → locks s t ≡ Some mutex
+  locks_at mutex next is = locks_found s t th.thread th.there
+      ∙ locks_if (threads_standings x.threads) th.thread.left mutex next th.thread.pending
+      (subst (λ (a : Action). Does (threads_standings x.threads) a (record { left = th.thread.left; owes = is_some th.thread.pending })) is th.does)
+
+-- ---- The end
+
+ends_by : (next : ℕ) (o : Option Pending) → (let step : Option Effect = elim o [ Some store ↦ Some (Makes store next) | None ↦ None ] in step ≡ Some Ends) → ⊥
+ends_by next None h = cc
+ends_by next (Some p) h = cc
+
+-- a node that ends does nothing else
+pub ends_only : (a : Action) (seen later : Seen) (effect : Effect) → effect_of a seen ≡ Some Ends → effect_of a later ≡ Some effect → effect ≡ Ends
+ends_only (Eval (e.ToLocal local kind) value next) seen later effect h k = cc
+ends_only (Eval (e.ToVariable place variable kind) value next) seen later effect h k = cc
+ends_only (Eval (e.ToElement place variable kind index) value next) seen later effect h k = cc
+ends_only (Store variable kind next) seen later effect h k = absurd (ends_by next seen.pending h)
+ends_only (Test condition holds fails) seen later effect h k = cc
+ends_only (Lock mutex next) seen later effect h k = cc
+ends_only (Unlock mutex next) seen later effect h k = cc
+ends_only End seen later effect h k = cc
+
+-- a node that stores, locks or unlocks doesn't end
+pub store_goes_on : (a : Action) (seen : Seen) → StoresHere a → effect_of a seen ≡ Some Ends → ⊥
+store_goes_on a seen s h = ends_by s.next seen.pending (ap (λ (z : Action). effect_of z seen) (sym s.is) ∙ h)
+
+pub lock_goes_on : (a : Action) (mutex next : ℕ) (seen : Seen) → a ≡ Lock mutex next → effect_of a seen ≡ Some Ends → ⊥
+lock_goes_on a mutex next seen is h = let takes : Some (Takes mutex next) ≡ Some Ends = ap (λ (z : Action). effect_of z seen) (sym is) ∙ h in cc
+
+pub unlock_goes_on : (a : Action) (mutex next : ℕ) (seen : Seen) → a ≡ Unlock mutex next → effect_of a seen ≡ Some Ends → ⊥
+unlock_goes_on a mutex next seen is h = let gives : Some (Gives mutex next) ≡ Some Ends = ap (λ (z : Action). effect_of z seen) (sym is) ∙ h in cc

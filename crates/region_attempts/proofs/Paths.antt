@@ -1,0 +1,93 @@
+-- A longest attempt as the graph's own solo path.
+use Rattle.std.proofs.Common.{◌≡◌, refl, ℕ, zero, suc, ◌<◌, List, [], ◌∷◌, ◌∙◌, ap, subst, arith, Option, Some, None}
+use Rattle.std.specs.Prelude.{slice_get}
+use Rattle.std.specs.Option.{option_map}
+use Rattle.c_tree.specs.Flats as f
+use Rattle.flow_graph.specs.Nodes.{Graph}
+use Rattle.flow_graph.specs.Lowering.{lowered}
+use Rattle.flow_graph.specs.Liveness.{NodeAt}
+use Rattle.flow_graph.specs.Actions.{Walker, FlowState, graph_step}
+use Rattle.flow_graph.specs.Cutting as cutting
+use Rattle.flow_graph.specs.Cutting.{IsBoundary}
+use Rattle.flow_graph.specs.Paths.{Element, Visit, solo_path}
+use Rattle.flow_graph.proofs.Paths.{path_runs}
+use Rattle.resumption.specs.Moments.{attempt_of}
+use Rattle.region_attempts.specs.Standing.{flow_kept, node_behind}
+use Rattle.region_attempts.specs.Laws.{InsideIsRegion, WritersStore}
+use Rattle.region_attempts.proofs.Region.{number, made_there, number_is, is_number, free}
+use Rattle.region_attempts.proofs.Reading.{kept_matches, kept_good, node_there, stores_there}
+
+-- a visit of a path is one of so many, and its walker stands in its state
+record IsVisited (t n i : ℕ) (v : Visit) : Type 0 where
+  within : i < n
+  found : slice_get v.before.walkers t ≡ Some v.walker
+
+abbrev path_by : Graph → FlowState → (t n : ℕ) → Option Walker → Option FlowState → List Visit
+path_by graph s t n o p = elim o [
+  | None ↦ []
+  | Some walker ↦ elim p [
+    | None ↦ []
+    | Some next ↦ record { walker = walker; before = s } ∷ solo_path graph next t n
+  ]
+]
+
+visited_by : (graph : Graph) (s : FlowState) (t n : ℕ) (o : Option Walker) (p : Option FlowState) → slice_get s.walkers t ≡ o →
+    ((next : FlowState) (i : ℕ) (v : Visit) → slice_get (solo_path graph next t n) i ≡ Some v → IsVisited t n i v) →
+    (i : ℕ) (v : Visit) → slice_get (path_by graph s t n o p) i ≡ Some v → IsVisited t (suc n) i v
+visited_by graph s t n None p found more i v h = cc
+visited_by graph s t n (Some walker) None found more i v h = cc
+visited_by graph s t n (Some walker) (Some next) found more zero v h =
+    let is : (let made : Visit = record { walker = walker; before = s } in made ≡ v) = cc in
+    subst (IsVisited t (suc n) 0) is (record { within = omega arith; found = found })
+visited_by graph s t n (Some walker) (Some next) found more (suc i) v h =
+    let one = more next i v h in
+    let within = one.within in
+    record { within = omega (arith, within); found = one.found }
+
+visited : (graph : Graph) (t n : ℕ) (s : FlowState) (i : ℕ) (v : Visit) → slice_get (solo_path graph s t n) i ≡ Some v → IsVisited t n i v
+visited graph t zero s i v h = cc
+visited graph t (suc n) s i v h = visited_by graph s t n (slice_get s.walkers t) (graph_step graph s t) refl (visited graph t n) i v h
+
+-- so the walker stands where so many of its own steps lead
+stands_there : (x : f.Flat) (kept : FlowState) (t n i : ℕ) (v : Visit) → slice_get (solo_path (lowered x) kept t n) i ≡ Some v →
+    node_behind x kept t i ≡ Some v.walker.at
+stands_there x kept t n i v h =
+    ap (λ (s : FlowState). option_map (λ (z : Walker). z.at) (slice_get s.walkers t)) (path_runs (lowered x) t n kept i v h).after
+    ∙ ap (option_map (λ (z : Walker). z.at)) (visited (lowered x) t n kept i v h).found
+
+same_number : {k n : ℕ} {o : Option ℕ} → o ≡ Some k → o ≡ Some n → k ≡ n
+same_number h i = cc
+
+pub inside_is_region : InsideIsRegion
+inside_is_region x b old schedule t w i by stays begins =
+    let kept = flow_kept x schedule in
+    let match = kept_matches x w old.kept schedule by in
+    let n = (attempt_of old t).longest in
+    record {
+      begins = λ first h. begins first.walker.at (stands_there x kept t n 0 first h);
+      inside = λ p one next h k boundary.
+          let low : suc p < n = (visited (lowered x) t n kept (suc p) next k).within in
+          let below : p < n = omega (arith, low) in
+          let from = same_number (stands_there x kept t n p one h) (is_number x w old t i kept match p below) in
+          let to = same_number (stands_there x kept t n (suc p) next k) (is_number x w old t i kept match (suc p) low) in
+          free x w old t i kept match b stays p low (subst (λ (z : ℕ). IsBoundary (lowered x) b (number x w old t i kept match p) z) to
+          (subst (λ (z : ℕ). IsBoundary (lowered x) b z next.walker.at) from boundary));
+    }
+
+pub writers_store : WritersStore
+writers_store x old schedule t k v number_of w i by l wr =
+    let kept = flow_kept x schedule in
+    let match = kept_matches x w old.kept schedule by in
+    let one : Element = record { variable = v; element = number_of } in
+    let s = stores_there x w old t i kept match (kept_good x w schedule) k l one wr in
+    let node = node_there x w old t i kept match (kept_good x w schedule) k l in
+    let at : NodeAt (lowered x) (number x w old t i kept match k) node =
+    ap (slice_get (lowered x).nodes) (number_is x w old t i kept match k l) ∙ (made_there x w old t i kept match k l).at in
+    record {
+      node = number x w old t i kept match k;
+      stands = is_number x w old t i kept match k l;
+      stores = cutting.stores node s.stores.variable s.stores.kind s.stores.next at s.stores.is;
+      is = node;
+      at = at;
+      lies = s.lies;
+    }

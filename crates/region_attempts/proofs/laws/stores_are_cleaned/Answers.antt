@@ -1,0 +1,5 @@
+use Rattle.region_attempts.proofs.Flushing.{stores_are_cleaned}
+use Rattle.region_attempts.proofs.laws.stores_are_cleaned.Goals as goal
+
+pub returns : goal.returns
+returns c = stores_are_cleaned

@@ -1,0 +1,37 @@
+-- What the stores of an attempt leave to be cleaned at its region's end.
+use Rattle.std.specs.Prelude.{◌≡◌, ◌≢◌, ℕ, ◌/◌, ◌<◌, ◌≤◌, List, slice_get, Some, Bool, true}
+use Rattle.ido_base.specs.declared.location.Shape.{Shape}
+use Rattle.ido_base.specs.Layout.{line_bytes, variable_at}
+use Rattle.c_tree.specs.Flats as f
+use Rattle.flow_graph.specs.Lowering.{lowered}
+use Rattle.flow_graph.specs.Actions.{FlowState}
+use Rattle.flow_graph.specs.Cutting.{Boundaries}
+use Rattle.flow_graph.specs.Cleaning.{IsCleanedLater}
+use Rattle.resumption.specs.Attempts.{WritesAt}
+use Rattle.resumption.specs.Moments.{Moment}
+use Rattle.region_attempts.specs.Standing.{node_behind}
+
+-- the line of an element
+abbrev pub line_of : List Shape → (variable element : ℕ) → ℕ
+line_of shapes variable element = variable_at shapes variable element / line_bytes
+
+-- cleans are left out only at stores that are cleaned later; of each node it is said whether its clean is left out
+abbrev pub AreLeftOut : f.Flat → Boundaries → List Shape → (left_out : List Bool) → Type 0
+AreLeftOut x b shapes left_out = (node : ℕ) → slice_get left_out node ≡ Some true → IsCleanedLater (lowered x) b shapes node
+
+-- the thread's step behind so many stores into the line, and cleans it
+pub record Cleans (x : f.Flat) (kept : FlowState) (m : Moment) (shapes : List Shape) (left_out : List Bool) (thread steps line : ℕ) : Type 0 where
+  pub node : ℕ
+  pub at : node_behind x kept thread steps ≡ Some node
+  pub variable : ℕ
+  pub element : ℕ
+  pub stores : WritesAt m.kept thread steps variable element
+  pub in_line : line_of shapes variable element ≡ line
+  pub cleans : slice_get left_out node ≢ Some true
+
+-- that step or a later one of its steps, so many, does
+pub record CleansSince (x : f.Flat) (kept : FlowState) (m : Moment) (shapes : List Shape) (left_out : List Bool) (thread first steps line : ℕ) : Type 0 where
+  pub last : ℕ
+  pub since : first ≤ last
+  pub within : last < steps
+  pub at : Cleans x kept m shapes left_out thread last line

@@ -1,0 +1,4 @@
+pub mod Standing
+pub mod Staying
+pub mod Flushing
+pub mod Laws

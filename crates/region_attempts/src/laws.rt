@@ -1,0 +1,78 @@
+//! Laws of attempts at regions: nothing is computed here.
+ghost use Rattle.region_attempts.specs.Laws.{
+  AttemptsAreWhole,
+  EventsStay,
+  GraphFollows,
+  GraphSettles,
+  GraphStands,
+  InsideIsRegion,
+  LivesStay,
+  NextResumes,
+  NothingIsWritten,
+  ReadersGuard,
+  ReadersGuardStill,
+  ReadsAreAsMade,
+  ReadsAreRight,
+  ReadsStayRight,
+  StartStays,
+  StoresAreCleaned,
+  WritersStore,
+};
+
+/// The graph's states match the source's, as of what is kept and now; a thread's walker is what its own steps alone leave; and the graph
+/// follows each event: where a thread's steps are kept, its walker is kept as it is now.
+pub fn graph_stands()
+    ensures stands { GraphStands }
+    ensures follows { GraphFollows }
+    ensures settles { GraphSettles }
+{}
+
+/// At the start each attempt stays within its region, and every event keeps that, where no attempt is taken over a boundary and steps
+/// are kept only at one.
+pub fn attempts_stay_inside()
+    ensures start { StartStays }
+    ensures event { EventsStay }
+{}
+
+/// An attempt that stays inside is a path within a region of the graph, where one begins at what is kept.
+pub fn attempts_are_paths()
+    ensures { InsideIsRegion }
+{}
+
+/// An attempt that stands before a boundary has come as far as any attempt from the same kept steps.
+pub fn attempts_are_whole()
+    ensures { AttemptsAreWhole }
+{}
+
+/// Where a thread's steps are kept, the next region begins, or an unlock is right before it.
+pub fn next_resumes()
+    ensures { NextResumes }
+{}
+
+/// What a thread reads in an attempt that stays within its region is the source's number, whatever earlier attempts have overwritten:
+/// at the node where it stands, and still behind its steps; and until it goes on from the node behind that one it is the number of the
+/// state in which the step that reads it is made.
+pub fn reads_are_right()
+    ensures guard { ReadersGuard }
+    ensures guard_still { ReadersGuardStill }
+    ensures right { ReadsAreRight }
+    ensures still { ReadsStayRight }
+    ensures made { ReadsAreAsMade }
+{}
+
+/// A thread writes at nodes that store, in their locations; one that has done nothing has written nothing.
+pub fn writers_store()
+    ensures store { WritersStore }
+    ensures nothing { NothingIsWritten }
+{}
+
+/// When an attempt has come to its region's end, the line of each element that it has stored was cleaned by that store or a later one.
+pub fn stores_are_cleaned()
+    ensures { StoresAreCleaned }
+{}
+
+/// Whatever happens from the start on, where boundaries are minded: the kept schedule leads to what is kept, and each attempt stays
+/// within its region.
+pub fn lives_stay()
+    ensures { LivesStay }
+{}

@@ -1,0 +1,117 @@
+-- Threads where memory is as it was.
+use Rattle.std.proofs.Common.{◌≡◌, ◌≢◌, refl, ℕ, ◌/◌, List, length, ap, sym, ◌∙◌, subst, Some, Bool, true}
+use Rattle.std.specs.Prelude.{slice_get}
+use Rattle.ido_base.specs.declared.event.Event.TheVariants.{Step}
+use Rattle.ido_base.specs.Words.{Word, Entry, loaded}
+use Rattle.ido_base.specs.Layout.{byte_number, variable_at}
+use Rattle.ido_base.specs.Growth.{Reaches}
+use Rattle.rv64_isa.specs.declared.phase.Phase.{Phase}
+use Rattle.rv64_isa.specs.declared.phase.Phase.TheVariants.{Take, Wait, Resume, Run, Done, Ended}
+use Rattle.rv64_isa.specs.Machine.{Hart, World, after_event}
+use Rattle.rv64_isa.specs.Frames.{IsSound}
+use Rattle.flow_graph.specs.Actions.{Walker}
+use Rattle.log_states.specs.Stages.{LogIs, is_committed, left_by_crash}
+use Rattle.code_runs.specs.Walks.{Setting}
+use Rattle.hart_runs.specs.Standing.{is_access, Agrees}
+use Rattle.hart_runs.proofs.Others.{others_leave}
+use Rattle.thread_runs.proofs.Others.{others_keep_ways}
+use Rattle.thread_runs.proofs.Cores.{others_keep_cores}
+use Rattle.recovered_threads.specs.Telling.{Code, Tells}
+use Rattle.resumed_programs.specs.Systems.{System, shapes_of}
+use Rattle.resumed_programs.specs.Histories.{Beside, kept_of}
+use Rattle.resumed_programs.specs.Courses.{Course, Fits, InPhase, Runs, on_way, at_core, IsComing, is_reached, is_ahead, ThreadStands, committed}
+
+-- memory agrees where it is as it was
+pub agrees_on : (y : System) (w v : World) (h : ℕ) (s : Setting) → v.words ≡ w.words → length v.harts ≡ length w.harts → Agrees y.program w h s →
+    Agrees y.program v h s
+agrees_on y w v h s words count a = record {
+  fetches = a.fetches;
+  loads = λ address bytes value e.
+      let g = a.loads address bytes value e in
+      record {
+        may = subst (λ (n : ℕ). is_access n address bytes ≡ true) (sym count) g.may;
+        is = subst (λ (ws : List Word). loaded ws (byte_number address) bytes ≡ value) (sym words) g.is;
+      };
+}
+
+module _ (y : System) (w v : World) (b : Beside y) (code : Code y.plan) (c : Course) (words : v.words ≡ w.words) where
+  same_committed : (old new : Hart) → committed y v b code c new ≡ committed y w b code c old
+  same_committed old new = ap (λ (ws : List Word). is_committed code.thread.number (record { words = ws; queue = new.queue; rest = c.rest })) words
+
+  coming : (old new : Hart) → new.queue ≡ old.queue → (u e position : ℕ) → IsComing y w b code c old u e position → IsComing y v b code c new u e position
+  coming old new queue u e position (is_reached r) =
+      let word : ℕ = byte_number (variable_at (shapes_of y) u e) / 8 in
+      let here : Reaches v.words old.queue word position = subst (λ (ws : List Word). Reaches ws old.queue word position) (sym words) r in
+      is_reached (subst (λ (q : List Entry). Reaches v.words q word position) (sym queue) here)
+  coming old new queue u e position (is_ahead variable element ahead line) = is_ahead variable element ahead line
+
+  -- the thread is as it was but for its phase
+  pub phase_moves : (t : ThreadStands y w b code c) (hart : Hart) → slice_get v.harts code.thread.number ≡ Some hart → hart.queue ≡ t.log.hart.queue →
+      InPhase y v b code c hart t.walker hart.phase → ThreadStands y v b code c
+  phase_moves t hart here queue phase = record {
+    log = record {
+      hart = hart;
+      here = here;
+      log = subst (λ (q : List Entry). LogIs code.thread.number c.old c.new (record { words = v.words; queue = q; rest = c.rest })) (sym queue)
+          (subst (λ (ws : List Word). LogIs code.thread.number c.old c.new (record { words = ws; queue = t.log.hart.queue; rest = c.rest })) (sym words)
+          t.log.log);
+    };
+    tells =
+        subst (λ (ws : List Word). Tells y.plan code (kept_of y b)
+        (left_by_crash code.thread.number c.old c.new (record { words = ws; queue = hart.queue; rest = c.rest }))) (sym words) t.tells;
+    will_tell = λ un. t.will_tell (sym (same_committed t.log.hart hart) ∙ un);
+    cleans = t.cleans;
+    walker = t.walker;
+    walks = t.walks;
+    phase = phase;
+    flushed = λ u e writes.
+        let f = t.flushed u e writes in
+        record {
+          before = f.before;
+          within = f.within;
+          writes = f.writes;
+          position = f.position;
+          since = f.since;
+          comes = λ since. coming t.log.hart hart queue u e f.position (f.comes since);
+          fenced = λ un. f.fenced (sym (same_committed t.log.hart hart) ∙ un);
+        };
+  }
+
+-- a step of another hart that leaves memory leaves the thread
+module _ (y : System) (w : World) (g : ℕ) (b : Beside y) (code : Code y.plan) (c : Course) (words : (after_event y.program w (Step g)).words ≡ w.words)
+    (sound : IsSound w) (other : g ≢ code.thread.number) where
+  abbrev after : World
+  after = after_event y.program w (Step g)
+
+  runs_on : (hart : Hart) (walker : Walker) → Runs y w b code c hart walker → Runs y after b code c hart walker
+  runs_on hart walker (on_way o) = on_way (record {
+    setting = o.setting;
+    answers = o.answers;
+    aim = o.aim;
+    bank = o.bank;
+    at_bank = o.at_bank;
+    steps = o.steps;
+    way = others_keep_ways y.plan code.thread code.is.places y.program w code.thread.number o.setting _ o.steps _ (Step g) sound other o.way
+        (agrees_on y w after code.thread.number o.setting words (others_leave y.program w code.thread.number (Step g) sound other).1 o.way.agrees);
+    fits = subst (λ (x : Bool). Fits y b code c x walker o.aim) (sym (same_committed y w after b code c words hart hart)) o.fits;
+  })
+  runs_on hart walker (at_core o) = at_core (record {
+    bank = o.bank;
+    at_bank = o.at_bank;
+    registers = o.registers;
+    core = others_keep_cores y.plan code.thread code.is.places y.program w code.thread.number walker.at _ o.bank o.registers (Step g) sound other o.core;
+    goes = o.goes;
+  })
+
+  in_phase_on : (hart : Hart) (walker : Walker) (phase : Phase) → InPhase y w b code c hart walker phase → InPhase y after b code c hart walker phase
+  in_phase_on hart walker Take p = p
+  in_phase_on hart walker Wait p = p
+  in_phase_on hart walker Resume p = p
+  in_phase_on hart walker Run p = runs_on hart walker p
+  in_phase_on hart walker Done p = p
+  in_phase_on hart walker Ended p = p
+
+  pub others_stand : ThreadStands y w b code c → ThreadStands y after b code c
+  others_stand t =
+      phase_moves y w after b code c words t t.log.hart ((others_leave y.program w code.thread.number (Step g) sound other).0 ∙ t.log.here) refl
+      (in_phase_on t.log.hart t.walker t.log.hart.phase t.phase)

@@ -1,0 +1,254 @@
+-- At its start the machine stands beside the source's start.
+use Rattle.std.proofs.Common.{◌≡◌, refl, ℕ, zero, suc, ◌+◌, ◌-◌, ◌*◌, ◌/◌, ◌%◌, ◌<◌, List, [], ◌∷◌, length, map, replicate, sym, ◌∙◌, ap, subst, arith}
+use Rattle.std.proofs.Common.{Option, Some, None, true, false, add-zero, ℤ}
+use Rattle.std.specs.Option.{option_map}
+use Rattle.std.specs.Prelude.{slice_get, slice_index, slice_index_or, pos, nat_le, ◌==◌, ◌&&◌}
+use Rattle.std.proofs.lemmas.Bool.{true≢false, cond-true}
+use Rattle.std.proofs.lemmas.Option.{none-some, same_Some, slice_get-map, slice_get_within}
+use Rattle.std.proofs.lemmas.List.{length-replicate}
+use Rattle.ido_ints.specs.Typed.{typed}
+use Rattle.ido_ints.proofs.Reduced.{Holds-zero}
+use Rattle.operator_code.specs.Computing.{Carries}
+use Rattle.operator_code.proofs.Negating.{zero_form}
+use Rattle.c_tree.specs.Flats as f
+use Rattle.rv64_isa.specs.declared.instr.Instr.{Instr}
+use Rattle.rv64_isa.specs.declared.object.Slot.{Slot}
+use Rattle.rv64_isa.specs.declared.object.Slot.TheVariants.{Row}
+use Rattle.rv64_isa.specs.declared.phase.Phase.{Phase}
+use Rattle.rv64_isa.specs.declared.phase.Phase.TheVariants.{Run}
+use Rattle.rv64_isa.specs.Programs.{code_start, code_of}
+use Rattle.rv64_isa.specs.Machine.{Hart, World, fresh_hart, numbers_from, start_of}
+use Rattle.rv64_isa.proofs.Frames.{starts_stand}
+use Rattle.code_runs.specs.Running.{moment}
+use Rattle.code_runs.specs.Walks.{Program, Setting, Meets}
+use Rattle.hart_runs.specs.Standing.{instr_of, instr_at, setting_of, Agrees}
+use Rattle.hart_runs.specs.Laws.{program_at, SettingsMeet}
+use Rattle.hart_runs.proofs.Queues.{starts_are_short}
+use Rattle.flow_graph.specs.declared.graph.Part.{Part}
+use Rattle.flow_graph.specs.Nodes.{Action, Eval, Store, Test, Lock, Unlock, End, Graph}
+use Rattle.flow_graph.specs.Lowering.{lowered, parts, part, thread_count}
+use Rattle.flow_graph.specs.Actions.{Seen, Walker, walker_start, seen_by}
+use Rattle.flow_graph.proofs.Lying.{contains_none}
+use Rattle.resumption.specs.Attempts.{no_attempt, attempt_at}
+use Rattle.resumption.specs.Lives.{first_moment, begins}
+use Rattle.variable_words.proofs.Beginning.{starts_hold}
+use Rattle.log_states.specs.Logs.{Record, nothing_recorded}
+use Rattle.log_states.specs.Stages.{is_committed}
+use Rattle.log_states.specs.Machines.{moment_of}
+use Rattle.log_states.proofs.Committing.{ends_committed}
+use Rattle.log_states.proofs.Standing.{starts_standing}
+use Rattle.thread_code.specs.Plans.{IsNodeOf}
+use Rattle.thread_code.specs.Entering.{IsPendingIn, Enters}
+use Rattle.thread_runs.specs.Ways.{Arrives}
+use Rattle.thread_runs.proofs.Cores.{threads_start}
+use Rattle.recovered_threads.specs.Telling.{Code, Tells, between}
+use Rattle.recovered_threads.specs.Recovering.{HasGathered}
+use Rattle.resumed_programs.specs.Systems as systems
+use Rattle.resumed_programs.specs.Systems.{System, IsSystem, flat_of, start_world}
+use Rattle.resumed_programs.specs.Histories.{Beside, kept_of, now_of}
+use Rattle.resumed_programs.specs.Courses.{Course, OnWay, on_way, InPhase, ThreadStands}
+use Rattle.resumed_programs.specs.Standing.{Stands, gathered}
+use Rattle.resumed_programs.specs.Laws.{StartStands}
+use Rattle.resumed_programs.proofs.Orderly.{free_holds_none, none_holds}
+
+-- ---- Lists
+
+row_of : {A : Type 0} (g : ℕ → A) (at count i : ℕ) → i < count → slice_get (map g (numbers_from at count)) i ≡ Some (g (at + i))
+row_of g at zero i below = absurd (omega (arith, below))
+row_of {A} g at (suc count) zero below = ap (λ (n : ℕ). Some (g n)) (sym (add-zero at))
+row_of {A} g at (suc count) (suc i) below =
+    let same : at + 1 + i ≡ at + suc i = omega arith in
+    row_of g (at + 1) count i (omega (arith, below)) ∙ ap (λ (n : ℕ). Some (g n)) same
+
+zero_read : (n r : ℕ) → slice_index (replicate n 0) r ≡ 0
+zero_read zero r = refl
+zero_read (suc n) zero = refl
+zero_read (suc n) (suc r) = zero_read n r
+
+zero_local : (n i : ℕ) → slice_index_or (replicate n (pos 0)) i (pos 0) ≡ pos 0
+zero_local zero i = refl
+zero_local (suc n) zero = refl
+zero_local (suc n) (suc i) = zero_local n i
+
+nothing_done : (ts : List f.Thread) (n : ℕ) → 0 ≡ (attempt_at (map (λ (t : f.Thread). no_attempt) ts) n).done
+nothing_done [] n = refl
+nothing_done (t ∷ ts) zero = refl
+nothing_done (t ∷ ts) (suc n) = nothing_done ts n
+
+nothing_free : (locks lock : ℕ) (holder : Option ℕ) → slice_get (replicate locks (let none : Option ℕ = None in none)) lock ≡ Some holder → holder ≡ None
+nothing_free zero lock holder h = absurd (none-some holder h)
+nothing_free (suc locks) zero holder h = sym (same_Some None holder h)
+nothing_free (suc locks) (suc lock) holder h = nothing_free locks lock holder h
+
+part_has_nodes : (ts : List f.Thread) (first n : ℕ) (own : Part) → slice_get (parts ts first) n ≡ Some own → own.first < own.end
+part_has_nodes [] first n own h = absurd (none-some own h)
+part_has_nodes (t ∷ ts) first zero own h = subst (λ (o : Part). o.first < o.end) (same_Some (part t first) own h) (omega arith)
+part_has_nodes (t ∷ ts) first (suc n) own h = part_has_nodes ts (first + thread_count t) n own h
+
+-- ---- A thread's code is met where it stands
+
+fetch_there : (program : List (List Slot)) (h i : ℕ) (instr : Instr) → slice_get (code_of program h) i ≡ Some (Row instr) →
+    instr_at program h (code_start program h + 4 * i) ≡ Some instr
+fetch_there program h i instr there =
+    let start : ℕ = code_start program h in
+    let test : (nat_le start (start + 4 * i) && ((start + 4 * i) % 4 == 0)) ≡ true = grind arith in
+    let index : (start + 4 * i - start) / 4 ≡ i = omega arith in
+    ap instr_of (cond-true _ _ _ test ∙ ap (slice_get (code_of program h)) index ∙ there)
+
+pub settings_meet : SettingsMeet
+settings_meet program marks resumes reads w h = record {
+  fetches = λ address instr st.
+      let at : code_start program h + 4 * st.0 ≡ address = sym st.1 in
+      subst (λ (a : ℕ). instr_at program h a ≡ Some instr) at (fetch_there program h st.0 instr st.2);
+  marks = refl;
+}
+
+-- ---- The start
+
+module _ (y : System) (s : IsSystem y) where
+  abbrev w : World
+  w = start_world y
+
+  abbrev beside : Beside y
+  beside = record { moment = first_moment (flat_of y); schedule = []; lives = begins; minds = tt }
+
+  abbrev courses : ℕ → Course
+  courses n = record { old = nothing_recorded; new = nothing_recorded; rest = []; cleans = []; giving = None }
+
+  fresh : (n : ℕ) → n < length y.program → slice_get w.harts n ≡ Some (fresh_hart y.program Run n)
+  unfolding start_of
+  fresh n below = row_of (fresh_hart y.program Run) 0 (length y.program) n below ∙ ap (λ (k : ℕ). Some (fresh_hart y.program Run k)) (omega arith)
+
+  count : length w.harts ≡ length y.program
+  count = (starts_stand y.program (length (flat_of y).mutexes) y.initial).1
+
+  holders_are : w.holders ≡ replicate (length (flat_of y).mutexes) None
+  unfolding start_of
+  holders_are = refl
+
+  abbrev setting : (number : ℕ) → Setting
+  setting number = setting_of y.program (slice_index_or y.marks number []) (λ address bytes. false) w number
+
+  agrees : (number : ℕ) → Agrees y.program w number (setting number)
+  agrees number = record { fetches = λ address instr e. e; loads = λ address bytes value e. absurd (none-some value e) }
+
+  pending_free : (action : Action) (seen : Seen) (x : List ℕ) → seen.pending ≡ None → IsPendingIn y.plan action seen x
+  pending_free (Eval target value next) seen x none = tt
+  pending_free (Store variable kind next) seen x none = λ store h. absurd (none-some store (sym none ∙ h))
+  pending_free (Test condition holds fails) seen x none = tt
+  pending_free (Lock mutex next) seen x none = tt
+  pending_free (Unlock mutex next) seen x none = tt
+  pending_free End seen x none = tt
+
+  abbrev walker : Code y.plan → Walker
+  walker code = walker_start code.thread.part
+
+  walks : (code : Code y.plan) → slice_get (now_of y beside).walkers code.thread.number ≡ Some (walker code)
+  walks code =
+      let there : slice_get (lowered (flat_of y)).threads code.thread.number ≡ Some code.thread.part =
+      subst (λ (graph : Graph). slice_get graph.threads code.thread.number ≡ Some code.thread.part) s.plan.lowered code.of.nodes in
+      slice_get-map walker_start (lowered (flat_of y)).threads code.thread.number ∙ ap (option_map walker_start) there
+
+  has_nodes : (n : ℕ) (own : Part) → slice_get (lowered (flat_of y)).threads n ≡ Some own → own.first < own.end
+  unfolding lowered
+  has_nodes n own there = part_has_nodes (flat_of y).threads 0 n own there
+
+  first_node : (code : Code y.plan) → IsNodeOf code.thread code.thread.part.first
+  first_node code =
+      let there : slice_get (lowered (flat_of y)).threads code.thread.number ≡ Some code.thread.part =
+      subst (λ (graph : Graph). slice_get graph.threads code.thread.number ≡ Some code.thread.part) s.plan.lowered code.of.nodes in
+      record { from_first = omega arith; below_end = has_nodes code.thread.number code.thread.part there }
+
+  enters : (code : Code y.plan) → Enters y.plan code.thread code.thread.part.first (seen_by (now_of y beside) (walker code)) 0 (replicate 32 0)
+  enters code = record {
+    at_bank = record { count = refl; zero_is = refl; offset = refl; exists = omega arith };
+    locals = λ local k there live.
+        let value = zero_local code.thread.part.locals local in
+        subst (λ (z : ℤ). Carries (replicate 32 0) (slice_index code.thread.registers local) (typed k z)) (sym value)
+        (record { held = Holds-zero k; form = zero_read 32 (slice_index code.thread.registers local) ∙ sym (zero_form k) });
+    pending = λ is at. pending_free is.action (seen_by (now_of y beside) (walker code)) (replicate 32 0) refl;
+  }
+
+  on_its_way : (n : ℕ) (below : n < systems.thread_count y) (hart : Hart) → slice_get w.harts (s.codes.each n below).thread.number ≡ Some hart →
+      OnWay y w beside (s.codes.each n below) (courses n) hart (walker (s.codes.each n below))
+  on_its_way n below hart here =
+      let code = s.codes.each n below in
+      let own = s.own n below in
+      let number = code.thread.number in
+      let c = s.count in
+      let same = s.codes.number n below in
+      let inside : number < length y.program = omega (arith, below, c, same) in
+      let is : program_at y.program number (slice_index_or y.marks number []) (slice_index_or y.resumes number []) ≡ code.is.places.program =
+      sym (code.is.of_program ∙ own.program) in
+      let meets : Meets code.is.places.program (setting number) =
+      subst (λ (p : Program). Meets p (setting number)) is
+      (settings_meet y.program (slice_index_or y.marks number []) (slice_index_or y.resumes number []) (λ address bytes. false) w number) in
+      let start : code_start y.program number ≡ code.program.start = ap (λ (p : Program). p.start) (sym own.program) in
+      record {
+        setting = setting number;
+        answers = λ address bytes value e. absurd (none-some value e);
+        aim = Arrives;
+        bank = 0;
+        at_bank = λ none. absurd (none refl);
+        steps = 0;
+        way = threads_start y.plan code.thread y.program code.program code.is w number (setting number) (seen_by (now_of y beside) (walker code)) 0
+            (replicate 32 0) meets (agrees number) (first_node code)
+            (record { hart = fresh_hart y.program Run number; here = fresh number inside; runs = refl; is = ap (moment (replicate 32 0)) start })
+            (enters code);
+        fits = (record { going = nothing_done (flat_of y).threads number; rest = refl; giving = refl }, refl);
+      }
+
+  thread : (n : ℕ) (below : n < systems.thread_count y) → ThreadStands y w beside (s.codes.each n below) (courses n)
+  thread n below =
+      let code = s.codes.each n below in
+      let number = code.thread.number in
+      let c = s.count in
+      let same = s.codes.number n below in
+      let inside : number < length y.program = omega (arith, below, c, same) in
+      let log = starts_standing y.program (length (flat_of y).mutexes) number y.initial inside in
+      let committed = ends_committed number nothing_recorded nothing_recorded (moment_of w log.hart []) log.log refl in
+      let is : fresh_hart y.program Run number ≡ log.hart = same_Some _ _ (sym (fresh number inside) ∙ log.here) in
+      let runs : Run ≡ log.hart.phase = ap (λ (h : Hart). h.phase) is in
+      let none = free_holds_none number 0 (kept_of y beside).holders (nothing_free (length (flat_of y).mutexes)) in
+      record {
+        log = log;
+        tells =
+            subst (λ (r : Record). Tells y.plan code (kept_of y beside) r)
+            (sym (cond-true (is_committed number (moment_of w log.hart [])) nothing_recorded nothing_recorded committed)) (between none refl);
+        will_tell = λ un. absurd (true≢false (sym committed ∙ un));
+        cleans = λ effect e. absurd (contains_none effect e);
+        walker = walker code;
+        walks = walks code;
+        phase = subst (λ (p : Phase). InPhase y w beside code (courses n) log.hart (walker code) p) runs (on_way (on_its_way n below log.hart log.here));
+        flushed = λ v e writes. let within = writes.within in let zero_done = nothing_done (flat_of y).threads number in
+            absurd (omega (arith, within, zero_done));
+      }
+
+  stands : Stands y s w
+  stands = record {
+    beside = beside;
+    memory = starts_hold (flat_of y) y.program (length (flat_of y).mutexes) y.initial s.plan.formed s.initial;
+    count = count ∙ s.count;
+    mutexes = ap length holders_are ∙ length-replicate (length (flat_of y).mutexes) None;
+    sound = (starts_stand y.program (length (flat_of y).mutexes) y.initial).0;
+    short = starts_are_short y.program (length (flat_of y).mutexes) y.initial;
+    courses = courses;
+    each = thread;
+    locks = gathered (record { each = all_run })
+        (record {
+          held = λ lock n there. absurd (none_holds (length (flat_of y).mutexes) lock n
+              (ap (λ (hs : List (Option ℕ)). slice_get hs lock) (sym holders_are) ∙ there));
+          holds = λ lock n there. absurd (none_holds (length (flat_of y).mutexes) lock n there);
+          giving = λ lock n giving. absurd (none-some lock giving.gives);
+        });
+  }
+    where
+      all_run : (h : ℕ) (hart : Hart) → slice_get w.harts h ≡ Some hart → HasGathered w h nothing_recorded hart.phase
+      all_run h hart there =
+          let inside = slice_get_within w.harts h hart there in
+          let c = count in
+          let below : h < length y.program = omega (arith, inside, c) in
+          subst (λ (x : Hart). HasGathered w h nothing_recorded x.phase) (same_Some _ hart (sym (fresh h below) ∙ there)) tt
+
+pub start_stands : StartStands
+start_stands y s = stands y s

@@ -1,0 +1,5 @@
+use Rattle.rv64_codegen.proofs.Reading.{live_is_enough}
+use Rattle.rv64_codegen.proofs.laws.live_is_enough.Goals as goal
+
+pub returns : goal.returns
+returns c = live_is_enough

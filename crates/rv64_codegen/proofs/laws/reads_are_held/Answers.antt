@@ -1,0 +1,5 @@
+use Rattle.rv64_codegen.proofs.Reading.{reads_are_held}
+use Rattle.rv64_codegen.proofs.laws.reads_are_held.Goals as goal
+
+pub returns : goal.returns
+returns c = reads_are_held

@@ -1,0 +1,124 @@
+-- What the code of nodes that evaluate and test does, wherever it stands in a thread's linked code.
+use Rattle.std.specs.Prelude.{◌≡◌, ℕ, ◌+◌, ◌*◌, ◌<◌, ◌≤◌, List, [], ◌∷◌, length, slice_index, sum_by, Contains, Bool, true, false, not, ◌==◌, ◌||◌}
+use Rattle.std.specs.Prelude.{if◌then◌else◌}
+use Rattle.std.specs.List.{AllByRecursion}
+use Rattle.ido_ints.specs.Operators.{is_zero}
+use Rattle.ido_ints.specs.Typed.{Typed, converted}
+use Rattle.c_tree.specs.Exprs as e
+use Rattle.c_tree.specs.Prices.{need_of, nodes_of}
+use Rattle.c_tree.specs.Temporaries.{most_temporaries}
+use Rattle.c_tree.specs.Values.{value, element_at}
+use Rattle.c_tree.specs.WellFormed.{IsDeclared, IndexFits}
+use Rattle.rv64_isa.specs.declared.object.CodeItem.{CodeItem}
+use Rattle.rv64_isa.specs.Rows.{read}
+use Rattle.rv64_link.specs.LabelledCode.{most_words_of}
+use Rattle.log_layout.specs.Roles as roles
+use Rattle.log_layout.specs.Roles.{is_temporary, is_local}
+use Rattle.operator_code.specs.Computing.{AreRegisters, Carries}
+use Rattle.code_runs.specs.Running.{Surroundings}
+use Rattle.code_runs.specs.Walks.{Mark}
+use Rattle.expr_code.specs.declared.selection.SelectError.{SelectError}
+use Rattle.expr_code.specs.declared.selection.SelectError.TheVariants.{Temporaries, Memory}
+use Rattle.expr_code.specs.Evaluating as x
+use Rattle.expr_code.specs.Evaluating.{Homes, Source}
+use Rattle.node_code.specs.Sites.{Site, begin_of, end_of, label_of}
+use Rattle.node_code.specs.Pieces.{IsClosed, Leads, marks_in, resumes_in}
+
+-- ---- Temporaries
+
+-- the expressions need few enough
+abbrev pub NeedFew : List e.Placed → Type 0
+NeedFew xs = AllByRecursion (λ (y : e.Placed). need_of y.expr ≤ most_temporaries) xs
+
+-- where it is said so one of them needs too many; want of memory may come at any time
+pub record NeedsTooMany (xs : List e.Placed) : Type 0 where
+  pub one : e.Placed
+  pub among : Contains xs one
+  pub needs : most_temporaries < need_of one.expr
+
+abbrev pub IsRefused : List e.Placed → SelectError → Type 0
+IsRefused xs (Temporaries place) = (n : NeedsTooMany xs) × (place ≡ n.one.place)
+IsRefused xs Memory = Unit {0}
+
+-- ---- What a node evaluates
+
+abbrev pub target_nodes : e.Target → ℕ
+target_nodes (e.ToLocal local kind) = 0
+target_nodes (e.ToVariable place variable kind) = 0
+target_nodes (e.ToElement place variable kind index) = nodes_of index.expr
+
+-- what is assigned has a register, or an address
+abbrev pub IsAtHome : Homes → e.Target → Type 0
+IsAtHome h (e.ToLocal local kind) = (local < length h.registers) × (is_local (slice_index h.registers local) ≡ true)
+IsAtHome h (e.ToVariable place variable kind) = variable < length h.addresses
+IsAtHome h (e.ToElement place variable kind index) = (variable < length h.addresses) × x.AreAtHome h index.expr
+
+module _ (h : Homes) (s : Source) (around : Surroundings) (registers : List ℕ) where
+  -- the expression may be evaluated from these registers
+  pub record MayEvaluate (t : e.Expr) : Type 0 where
+    pub legal : x.IsLegal h s around t
+    pub locals : x.HoldsLocals h s registers t
+
+  -- so may a target's index
+  abbrev pub MayReach : e.Target → Type 0
+  MayReach (e.ToLocal local kind) = Unit {0}
+  MayReach (e.ToVariable place variable kind) = variable < length s.variables
+  MayReach (e.ToElement place variable kind index) =
+      IsDeclared s.variables variable kind true × IndexFits s.variables variable index.place index.expr × MayEvaluate index.expr
+
+-- the registers that an evaluation may change
+abbrev pub may_write : Homes → e.Target → (register : ℕ) → Bool
+may_write h (e.ToLocal local kind) n = n == slice_index h.registers local || is_temporary n
+may_write h (e.ToVariable place variable kind) n = n == roles.pending_value || (n == roles.pending_address || is_temporary n)
+may_write h (e.ToElement place variable kind index) n = n == roles.pending_value || (n == roles.pending_address || is_temporary n)
+
+-- a local's register has the value, converted to its kind; or x28 has the address of an element, and x29 its value
+abbrev pub Has : Homes → Source → (registers : List ℕ) → e.Target → Typed → Type 0
+Has h s y (e.ToLocal local kind) v = Carries y (slice_index h.registers local) (converted v kind)
+Has h s y (e.ToVariable place variable kind) v = (read y roles.pending_address ≡ x.place_of s variable 0) × Carries y roles.pending_value (converted v kind)
+Has h s y (e.ToElement place variable kind index) v =
+    (read y roles.pending_address ≡ x.place_of s variable (element_at (value s.locals s.numbers index.expr))) × Carries y roles.pending_value (converted v kind)
+
+-- registers y behind an evaluation from registers x
+pub record IsAssigned (h : Homes) (s : Source) (target : e.Target) (t : e.Expr) (x y : List ℕ) : Type 0 where
+  pub are : AreRegisters y
+  pub unchanged : (n : ℕ) → may_write h target n ≡ false → read y n ≡ read x n
+  pub has : Has h s y target (value s.locals s.numbers t)
+
+-- ---- Evaluations
+
+-- the mark, and the evaluation; its loads are those of elements that the index and the value read
+pub record Evaluates (h : Homes) (target : e.Target) (t : e.Expr) (piece : List CodeItem) (at : Site piece) : Type 0 where
+  pub evaluates : (s : Source) (x : List ℕ) → AreRegisters x → MayReach h s at.linking.setting.around x target → MayEvaluate h s at.linking.setting.around x t →
+      Leads piece at x (begin_of piece at) (end_of piece at) (Mark ∷ []) (IsAssigned h s target t x)
+  pub marks : marks_in piece at ≡ begin_of piece at ∷ []
+  pub resumes : resumes_in piece at ≡ []
+
+pub record IsEvaluation (h : Homes) (target : e.Target) (t : e.Expr) (piece : List CodeItem) : Type 0 where
+  pub closed : IsClosed piece
+  pub few : sum_by most_words_of piece ≤ 16 * (target_nodes target + nodes_of t) + 17
+  pub at : (at : Site piece) → Evaluates h target t piece at
+
+-- ---- Tests
+
+-- registers y behind a test from registers x
+pub record IsTested (x y : List ℕ) : Type 0 where
+  pub are : AreRegisters y
+  pub unchanged : (n : ℕ) → is_temporary n ≡ false → read y n ≡ read x n
+
+-- whether the branch of a test, turned round or not, is taken where the condition has this value
+abbrev pub is_taken : (turned : Bool) → Typed → Bool
+is_taken turned v = if turned then is_zero v.number else not (is_zero v.number)
+
+-- the mark, and the test: to the label where the condition isn't 0 or, turned round, where it is, else to the piece's end
+pub record Tests (h : Homes) (t : e.Expr) (turned : Bool) (label : ℕ) (piece : List CodeItem) (at : Site piece) : Type 0 where
+  pub tests : (s : Source) (x : List ℕ) → AreRegisters x → MayEvaluate h s at.linking.setting.around x t →
+      Leads piece at x (begin_of piece at) (if is_taken turned (value s.locals s.numbers t) then label_of piece at label else end_of piece at) (Mark ∷ [])
+      (IsTested x)
+  pub marks : marks_in piece at ≡ begin_of piece at ∷ []
+  pub resumes : resumes_in piece at ≡ []
+
+pub record IsTest (h : Homes) (t : e.Expr) (turned : Bool) (label : ℕ) (piece : List CodeItem) : Type 0 where
+  pub closed : IsClosed piece
+  pub few : sum_by most_words_of piece ≤ 16 * nodes_of t + 10
+  pub at : (at : Site piece) → Tests h t turned label piece at

@@ -1,0 +1,3 @@
+pub mod Evaluations
+pub mod Locals
+pub mod links

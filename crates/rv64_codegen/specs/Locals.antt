@@ -1,0 +1,51 @@
+-- What a caller knows of an expression of a thread: it is formed, and the locals that it reads stand in their registers.
+use Rattle.std.specs.Prelude.{◌≡◌, ℕ, ◌<◌, List, length, slice_get, slice_index, slice_index_or, Contains, Some, true, pos}
+use Rattle.ido_ints.specs.declared.kinds.Kind.{Kind}
+use Rattle.ido_ints.specs.Typed.{typed}
+use Rattle.c_tree.specs.Exprs as e
+use Rattle.c_tree.specs.Programs as p
+use Rattle.c_tree.specs.WellFormed.{IsExpr, IsTarget}
+use Rattle.log_layout.specs.Roles.{is_local}
+use Rattle.operator_code.specs.Computing.{Carries}
+use Rattle.flow_graph.specs.Nodes.{Node, Graph}
+use Rattle.flow_graph.specs.Liveness.{NodeAt, IsLive}
+use Rattle.flow_graph.specs.Lowering.{expr_locals}
+use Rattle.expr_code.specs.Evaluating.{Homes, Source, AreAtHome, HoldsLocals}
+use Rattle.rv64_codegen.specs.Evaluations.{IsAtHome}
+
+-- ---- Locals that are read
+
+-- the local's register has its number
+abbrev pub IsHeld : Homes → Source → (registers : List ℕ) → (local : ℕ) → Kind → Type 0
+IsHeld h s x local k = Carries x (slice_index h.registers local) (typed k (slice_index_or s.locals local (pos 0)))
+
+-- each of these locals is in its register
+abbrev pub HoldsEach : Homes → Source → (registers : List ℕ) → List ℕ → Type 0
+HoldsEach h s x locals = (local : ℕ) (k : Kind) → Contains locals local → slice_get s.kinds local ≡ Some k → IsHeld h s x local k
+
+-- each local that is live at the node's entry is
+abbrev pub HoldsLive : Graph → (node : ℕ) → Homes → Source → (registers : List ℕ) → Type 0
+HoldsLive g node h s x = (local : ℕ) (k : Kind) → IsLive g local node → slice_get s.kinds local ≡ Some k → IsHeld h s x local k
+
+-- ---- Laws
+
+-- registers that hold the locals that an expression reads are those with which its code may begin
+abbrev pub ReadsAreHeld : Type 0
+ReadsAreHeld = (h : Homes) (s : Source) (x : List ℕ) (t : e.Expr) → IsExpr s.variables s.kinds t → HoldsEach h s x (expr_locals t) → HoldsLocals h s x t
+
+-- what a node reads is held where all that is live is
+abbrev pub LiveIsEnough : Type 0
+LiveIsEnough = (g : Graph) (node : ℕ) (is : Node) (h : Homes) (s : Source) (x : List ℕ) → NodeAt g node is → HoldsLive g node h s x → HoldsEach h s x is.uses
+
+-- every variable has an address, and every local a register of locals
+pub record HasHomes (vs : List p.Variable) (ks : List Kind) (h : Homes) : Type 0 where
+  pub variables : length h.addresses ≡ length vs
+  pub locals : length h.registers ≡ length ks
+  pub registers : (local : ℕ) → local < length ks → is_local (slice_index h.registers local) ≡ true
+
+-- then all that a formed expression names has
+abbrev pub FormedIsAtHome : Type 0
+FormedIsAtHome = (vs : List p.Variable) (ks : List Kind) (h : Homes) (t : e.Expr) → HasHomes vs ks h → IsExpr vs ks t → AreAtHome h t
+
+abbrev pub FormedTargetIsAtHome : Type 0
+FormedTargetIsAtHome = (vs : List p.Variable) (ks : List Kind) (h : Homes) (t : e.Target) → HasHomes vs ks h → IsTarget vs ks t → IsAtHome h t

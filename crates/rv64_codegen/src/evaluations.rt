@@ -1,0 +1,88 @@
+//! Evaluations.
+ghost use Rattle.std.specs.Prelude.{◌≡◌, ◌≤◌, ◌+◌, MatchResult};
+ghost use Rattle.c_tree.specs.Exprs.{expr_of, placed_of, target_of};
+ghost use Rattle.c_tree.specs.Prices.{nodes_of, node_price};
+ghost use Rattle.c_tree.specs.Temporaries.{most_price, assign_exprs};
+ghost use Rattle.expr_code.specs.Evaluating.{AreAtHome, homes_of};
+ghost use Rattle.node_code.specs.Pieces.{Appends};
+ghost use Rattle.rv64_codegen.specs.Evaluations.{IsRefused, NeedFew, IsAtHome, IsEvaluation, target_nodes};
+ghost use Rattle.rv64_codegen.specs.links.Targets.{IsSelected};
+
+use crate::targets::{Assigned, element_code, local_code, variable_code};
+use c_tree::expr::{Placed, Target};
+use expr_code::{Frame, SelectError};
+use node_code::push_computing;
+use rv64_isa::instr::Instr;
+use rv64_isa::object::CodeItem;
+use std::alloc::Global;
+
+/// The code of an evaluation. It may be empty where a local takes what its register has.
+fn target_code(
+    alloc: Global,
+    frame: &Frame,
+    target: &Target,
+    value: &Placed,
+) -> Result<Vec<Instr>, SelectError>
+    requires target { IsAtHome (homes_of frame.now) (target_of target.now) }
+    requires home { AreAtHome (homes_of frame.now) (expr_of value.now.expr) }
+    requires price { node_price (target_nodes (target_of target.now) + nodes_of (expr_of value.now.expr)) ≤ most_price }
+    ensures { MatchResult result
+        (λ code. IsSelected (homes_of frame.now) (target_of target.now) (placed_of value.now) code.items)
+        (λ error. IsRefused (assign_exprs (target_of target.now) (placed_of value.now)) error) }
+{
+    match target {
+        Target::Local { local, kind } => local_code(alloc, frame, *local, *kind, value),
+        Target::Variable {
+            place,
+            variable,
+            kind,
+        } => {
+            let assigned = Assigned {
+                place: *place,
+                variable: *variable,
+                kind: *kind,
+            };
+            variable_code(alloc, frame, assigned, value)
+        }
+        Target::Element {
+            place,
+            variable,
+            kind,
+            index,
+        } => {
+            let assigned = Assigned {
+                place: *place,
+                variable: *variable,
+                kind: *kind,
+            };
+            element_code(alloc, frame, assigned, index, value)
+        }
+    }
+}
+
+/// Appends the code of a node that evaluates: a local takes the value, or x28 and x29 take the address and the value of a
+/// store. The first instruction is the mark.
+pub fn push_evaluation(
+    alloc: Global,
+    items: &mut Vec<CodeItem>,
+    frame: &Frame,
+    target: &Target,
+    value: &Placed,
+) -> Result<(), SelectError>
+    requires target { IsAtHome (homes_of frame.now) (target_of target.now) }
+    requires home { AreAtHome (homes_of frame.now) (expr_of value.now.expr) }
+    requires price { node_price (target_nodes (target_of target.now) + nodes_of (expr_of value.now.expr)) ≤ most_price }
+    ensures { MatchResult result
+        (λ _. NeedFew (assign_exprs (target_of target.now) (placed_of value.now)) ×
+        Appends items.old.items items.new.items (IsEvaluation (homes_of frame.now) (target_of target.now) (expr_of value.now.expr)))
+        (λ error. IsRefused (assign_exprs (target_of target.now) (placed_of value.now)) error) }
+{
+    let code = match target_code(alloc, frame, target, value) {
+        Ok(code) => code,
+        Err(error) => return Err(error),
+    };
+    match push_computing(items, &code) {
+        Ok(()) => Ok(()),
+        Err(_) => Err(SelectError::Memory),
+    }
+}

@@ -1,0 +1,5 @@
+use Rattle.thread_code.proofs.Entering.{enters_again}
+use Rattle.thread_code.proofs.laws.kept_registers_suffice.Goals as goal
+
+pub returns : goal.returns
+returns c = enters_again

@@ -1,0 +1,90 @@
+-- What the code of threads is made of.
+use Rattle.std.specs.Prelude.{◌≡◌, ◌↔◌, ℕ, ◌-◌, ◌<◌, ◌≤◌, List, [], map, length, slice_get, slice_index, slice_index_or, Contains, Some, None, Bool}
+use Rattle.ido_base.specs.Layout.{variable_at}
+use Rattle.ido_ints.specs.declared.kinds.Kind.{Kind}
+use Rattle.c_tree.specs.Flats as f
+use Rattle.c_tree.specs.WellFormed.{shape_of, IsWellFormed}
+use Rattle.c_tree.specs.Temporaries.{price_fault}
+use Rattle.c_tree.specs.Locking.{numbers_below}
+use Rattle.log_layout.specs.declared.roles.TheConstants.{LOCALS}
+use Rattle.log_layout.specs.Roles.{pending_address, pending_value}
+use Rattle.lock_discipline.specs.Masks.{mask_of}
+use Rattle.lock_discipline.specs.Steps.{AreAllSetsOf}
+use Rattle.region_cutter.specs.Places.{AreAtWrites}
+use Rattle.flow_graph.specs.declared.graph.Part.{Part}
+use Rattle.flow_graph.specs.Nodes.{Graph}
+use Rattle.flow_graph.specs.Cutting.{Boundaries, IsStore, AreCuts}
+use Rattle.flow_graph.specs.LocalSets.{AreLive}
+use Rattle.flow_graph.specs.Lowering.{lowered}
+use Rattle.flow_graph.specs.Liveness.{Colouring, IsLive, AreRegisters, HasNoClash}
+use Rattle.expr_code.specs.Evaluating.{Homes}
+
+-- a flat form and its graph, where it can be resumed, and where locals stand
+pub record Plan : Type 0 where
+  pub flat : f.Flat
+  pub graph : Graph
+  pub boundaries : Boundaries
+  -- of each thread the mutexes that are held before each of its nodes
+  pub held : List (List (List Bool))
+  pub live : List (List ℕ)
+  pub colours : Colouring
+
+-- a thread of a plan
+pub record Thread : Type 0 where
+  pub number : ℕ
+  pub part : Part
+  pub kinds : List Kind
+  -- of each local
+  pub registers : List ℕ
+
+-- the thread of that number
+pub record IsThread (p : Plan) (t : Thread) : Type 0 where
+  pub nodes : slice_get p.graph.threads t.number ≡ Some t.part
+  pub text : f.Thread
+  pub of_text : slice_get p.flat.threads t.number ≡ Some text
+  pub kinds : t.kinds ≡ text.locals
+  pub colours : List ℕ
+  pub of_colours : slice_get p.colours t.number ≡ Some colours
+  pub registers : t.registers ≡ map (λ (colour : ℕ). slice_index LOCALS colour) colours
+
+-- the node is one of the thread's
+pub record IsNodeOf (t : Thread) (node : ℕ) : Type 0 where
+  pub from_first : t.part.first ≤ node
+  pub below_end : node < t.part.end
+
+-- where variables and the thread's locals are
+abbrev pub homes : Plan → Thread → Homes
+homes p t = record {
+  addresses = map (λ (v : ℕ). variable_at (map shape_of p.flat.variables) v 0) (numbers_below (length p.flat.variables));
+  registers = t.registers;
+}
+
+-- the locks held before a node of the thread, bit i for lock i
+abbrev pub mask_before : Plan → Thread → (node : ℕ) → ℕ
+mask_before p t node = mask_of (slice_index_or (slice_index_or p.held t.number []) (node - t.part.first) [])
+
+-- a register that is live at the node's entry: a live local's, or before a store those of what it stores
+pub data IsKept (p : Plan) (t : Thread) (node : ℕ) : (register : ℕ) → Type 0 where
+  of_local : (local : ℕ) (k : Kind) → slice_get t.kinds local ≡ Some k → IsLive p.graph local node → IsKept p t node (slice_index t.registers local)
+  of_address : IsStore p.graph node → IsKept p t node pending_address
+  of_value : IsStore p.graph node → IsKept p t node pending_value
+
+-- these are they
+abbrev pub AreKept : Plan → Thread → (node : ℕ) → List ℕ → Type 0
+AreKept p t node registers = (register : ℕ) → Contains registers register ↔ IsKept p t node register
+
+-- ---- What is known of a plan
+
+pub record IsPlan (p : Plan) : Type 0 where
+  pub formed : IsWellFormed p.flat
+  pub lowered : p.graph ≡ lowered p.flat
+  pub cuts : AreCuts p.graph p.boundaries
+  -- boundaries stand before unlocks and stores alone
+  pub at_writes : AreAtWrites p.graph p.boundaries
+  -- the form keeps the lock discipline, and these are the sets that are held
+  pub held : AreAllSetsOf p.flat p.held
+  pub live : AreLive p.graph p.live
+  pub registers : AreRegisters p.graph p.colours
+  pub apart : HasNoClash p.graph p.colours
+  -- no thread's price is too high
+  pub priced : price_fault p.flat ≡ None

@@ -1,0 +1,110 @@
+-- That a program is the code of a thread: all that is said of it above, where no instruction is looked at again.
+use Rattle.std.specs.Prelude.{◌≡◌, ◌≢◌, ◌↔◌, ℕ, ◌+◌, ◌-◌, ◌*◌, ◌^◌, ◌<◌, ◌≤◌, List, [], ◌∷◌, length, map, slice_get, Contains, Some, Bool, true, false, sum_by}
+use Rattle.std.specs.List.Sorted.{IsStrictlyIncreasing}
+use Rattle.c_tree.specs.Exprs as e
+use Rattle.c_tree.specs.Locking.{numbers_below}
+use Rattle.c_tree.specs.Prices.{node_price, nodes_of}
+use Rattle.c_tree.specs.WellFormed.{shape_of}
+use Rattle.c_tree.specs.Temporaries.{most_price}
+use Rattle.rv64_isa.specs.declared.instr.Instr.TheVariants.{Ecall}
+use Rattle.rv64_isa.specs.declared.object.CodeItem.{CodeItem}
+use Rattle.rv64_isa.specs.declared.object.Slot.{Slot}
+use Rattle.flow_graph.specs.Nodes.{Action, Eval, Store, Test, Lock, Unlock, End, Node}
+use Rattle.flow_graph.specs.Actions.{effect_of, Effect}
+use Rattle.flow_graph.specs.Cleaning.{IsCleanedLater}
+use Rattle.flow_graph.specs.Cutting.{IsChosen}
+use Rattle.flow_graph.specs.Liveness.{NodeAt}
+use Rattle.rv64_link.specs.LabelledCode.{most_words_of}
+use Rattle.rv64_link.specs.Linked.{IsLinked, Stands}
+use Rattle.code_runs.specs.Walks.{Program, Setting, Meets, marked}
+use Rattle.thread_code.specs.Plans.{Plan, Thread, IsThread, IsNodeOf, AreKept, mask_before}
+use Rattle.thread_code.specs.Entering.{Enters, IsAnswered, source_of}
+use Rattle.thread_code.specs.Performing.{Places, Entrance, EntersAt, Performs, Keeping, GoesOnBehind}
+
+-- expression nodes of a node, a target's index included
+abbrev pub target_nodes : e.Target → ℕ
+target_nodes (e.ToLocal local kind) = 0
+target_nodes (e.ToVariable place variable kind) = 0
+target_nodes (e.ToElement place variable kind index) = nodes_of index.expr
+
+abbrev pub action_nodes : Action → ℕ
+action_nodes (Eval target value next) = target_nodes target + nodes_of value.expr
+action_nodes (Store variable kind next) = 0
+action_nodes (Test condition holds fails) = nodes_of condition.expr
+action_nodes (Lock mutex next) = 0
+action_nodes (Unlock mutex next) = 0
+action_nodes End = 0
+
+-- the mark of a node: of a lock its ECALL, of any other where its code begins, without the boundary before it
+abbrev pub mark_of : Places → Action → (node : ℕ) → ℕ
+mark_of c (Eval target value next) node = c.core node
+mark_of c (Store variable kind next) node = c.core node
+mark_of c (Test condition holds fails) node = c.core node
+mark_of c (Lock mutex next) node = c.call node
+mark_of c (Unlock mutex next) node = c.core node
+mark_of c End node = c.core node
+
+module _ (p : Plan) (t : Thread) (c : Places) where
+  -- in a thread's code the thread stands at a node of its own, and its registers for what it sees
+  pub record IsAt (m : Entrance) : Type 0 where
+    pub meets : Meets c.program m.setting
+    pub own : IsNodeOf t m.node
+    pub enters : EntersAt p t c m m.node
+
+  -- the ECALL of the node is no mark
+  abbrev pub IsPlainCall : (node : ℕ) → Type 0
+  IsPlainCall node = marked c.program.nodes (c.call node) ≡ []
+
+  -- the node calls, and is gone on with behind the call
+  abbrev pub IsCalling : Action → (node : ℕ) → Type 0
+  IsCalling (Eval target value next) node = Unit {0}
+  IsCalling (Store variable kind next) node = Unit {0}
+  IsCalling (Test condition holds fails) node = Unit {0}
+  IsCalling (Lock mutex next) node = Stands c.program.start c.program.code (c.call node) Ecall × GoesOnBehind p t c node next ×
+      ((m : Entrance) → Meets c.program m.setting → m.node ≡ node → EntersAt p t c m next →
+      Keeping p t c m next (c.call node + 4) (c.behind node) (c.behind node))
+  IsCalling (Unlock mutex next) node =
+      Stands c.program.start c.program.code (c.call node) Ecall × GoesOnBehind p t c node next × (c.behind node ≡ c.call node + 4)
+      × IsPlainCall node
+  IsCalling End node = Stands c.program.start c.program.code (c.call node) Ecall × IsPlainCall node
+
+  -- a store's line is cleaned at once, exactly where no later store of the region does that
+  abbrev pub IsCleaning : Action → (node : ℕ) → Type 0
+  IsCleaning (Store variable kind next) node = (c.cleans node ≡ false) ↔ IsCleanedLater p.graph p.boundaries (map shape_of p.flat.variables) node
+  IsCleaning _ node = Unit {0}
+
+  -- the code of one node
+  pub record IsNodeCode (node : ℕ) (is : Node) : Type 0 where
+    -- before it stands a boundary or nothing
+    pub chosen : IsChosen p.graph p.boundaries node → (m : Entrance) → m.node ≡ node → IsAt m → Keeping p t c m node (c.entry node) (c.core node) (c.core node)
+    pub plain : ¬ (IsChosen p.graph p.boundaries node) → c.entry node ≡ c.core node
+    -- it does what the node does, where loads of what that reads are answered
+    pub performs : (m : Entrance) (effect : Effect) → m.node ≡ node → IsAt m → IsAnswered (source_of p t m.seen) m.setting.around.loads is.action →
+        effect_of is.action m.seen ≡ Some effect → Performs p t c m effect
+    pub calls : IsCalling is.action node
+    pub cleans : IsCleaning is.action node
+    -- within its price
+    pub price : c.words node ≤ node_price (action_nodes is.action)
+
+  -- recovery may resume the thread there: behind a chosen boundary, and behind locks and unlocks that leave it with one
+  pub data IsResumed : (address : ℕ) → Type 0 where
+    at_chosen : (node : ℕ) → IsNodeOf t node → IsChosen p.graph p.boundaries node → IsResumed (c.core node)
+    behind_lock : (node mutex next : ℕ) (is : Node) → IsNodeOf t node → NodeAt p.graph node is → is.action ≡ Lock mutex next → IsResumed (c.behind node)
+    behind_unlock : (node mutex next : ℕ) (is : Node) → IsNodeOf t node → NodeAt p.graph node is → is.action ≡ Unlock mutex next →
+        mask_before p t next ≢ 0 → IsResumed (c.behind node)
+
+-- the program does what the nodes of the thread do, one after another in their order
+pub record IsThreadCode (p : Plan) (t : Thread) (program : Program) : Type 0 where
+  pub places : Places
+  pub of_program : places.program ≡ program
+  pub begins : places.entry t.part.first ≡ program.start
+  pub ends : places.entry t.part.end ≡ program.start + 4 * length program.code
+  pub follows : (node : ℕ) → IsNodeOf t node → places.entry (node + 1) ≡ places.entry node + 4 * places.words node
+  pub code : (node : ℕ) (is : Node) → IsNodeOf t node → NodeAt p.graph node is → IsNodeCode p t places node is
+  pub kept : (node : ℕ) → IsNodeOf t node → AreKept p t node (places.live node)
+  -- each node has one mark
+  pub marks : (i : ℕ) (is : Node) → IsNodeOf t (t.part.first + i) → NodeAt p.graph (t.part.first + i) is →
+      slice_get program.nodes i ≡ Some (mark_of places is.action (t.part.first + i))
+  pub marks_count : length program.nodes ≡ t.part.end - t.part.first
+  pub resumes : (address : ℕ) → Contains program.resumes address ↔ IsResumed p t places address
+  pub ascending : IsStrictlyIncreasing program.resumes

@@ -1,0 +1,124 @@
+-- Worked rows: a thread that has its end alone.
+use Rattle.std.proofs.Common.{◌≡◌, ℕ, ◌+◌, ◌*◌, List, [], ◌∷◌, replicate, refl, arith, Bool, true, false, Option, Some, None}
+use Rattle.std.specs.Prelude.{slice_get, slice_set}
+use Rattle.ido_base.specs.declared.place.Place.{Place}
+use Rattle.ido_base.specs.declared.event.Event.TheVariants.{Step}
+use Rattle.rv64_isa.specs.declared.instr.Instr.TheVariants.{OpImmediate, Ecall}
+use Rattle.rv64_isa.specs.declared.instr.ImmediateOperation.TheVariants.{Addi}
+use Rattle.rv64_isa.specs.declared.object.Slot.{Slot}
+use Rattle.rv64_isa.specs.declared.object.Slot.TheVariants.{Row}
+use Rattle.rv64_isa.specs.declared.phase.Phase.{Phase}
+use Rattle.rv64_isa.specs.declared.phase.Phase.TheVariants.{Run, Ended}
+use Rattle.rv64_isa.specs.Arithmetic.{result_of}
+use Rattle.rv64_isa.specs.Rows.{row}
+use Rattle.rv64_isa.specs.Machine.{Hart, World, happens, after_event, after_events}
+use Rattle.rv64_isa.specs.Schedule.{passes_mark}
+use Rattle.flow_graph.specs.Nodes.{End, Node}
+use Rattle.flow_graph.specs.Actions as a
+use Rattle.code_runs.specs.Running.{moment}
+use Rattle.code_runs.specs.Walks.{Setting, Mark}
+use Rattle.hart_runs.specs.Standing.{setting_of}
+use Rattle.hart_runs.specs.Laws.{SettingsAgree, SettingsMeet, program_at}
+use Rattle.thread_code.specs.Plans.{Plan, Thread}
+use Rattle.thread_code.specs.Performing.{Places}
+use Rattle.thread_runs.specs.Ways.{IsAtMark, stage_behind}
+
+abbrev code : List Slot
+code = Row (OpImmediate Addi 17 0 3) ∷ Row Ecall ∷ []
+
+abbrev program : List (List Slot)
+program = code ∷ []
+
+-- the mark is the first instruction
+abbrev marks : List ℕ
+marks = 0x10000 ∷ []
+
+abbrev registers : (seventeen : ℕ) → List ℕ
+registers seventeen = slice_set (replicate 32 0) 17 seventeen
+
+abbrev w : World
+w = record { words = []; harts = record { registers = registers 0; pc = 0x10000; phase = Run; queue = [] } ∷ []; holders = []; recovering = false }
+
+abbrev no_loads : ℕ → ℕ → Bool
+no_loads address bytes = false
+
+abbrev s : Setting
+s = setting_of program marks no_loads w 0
+
+abbrev seen : a.Seen
+seen = record { locals = []; pending = None; variables = [] }
+
+abbrev t : Thread
+t = record { number = 0; part = record { first = 0; end = 1; locals = 0 }; kinds = []; registers = [] }
+
+abbrev c : Places
+c = record {
+  program = program_at program 0 marks [];
+  entry = λ node. 0x10000 + 8 * node;
+  core = λ node. 0x10000 + 8 * node;
+  words = λ node. 2;
+  call = λ node. 0x10000 + 8 * node + 4;
+  behind = λ node. 0;
+  live = λ node. [];
+  cleans = λ node. false;
+}
+
+module _ (place : Place) (agree : SettingsAgree) (meet : SettingsMeet) where
+  abbrev end : Node
+  end = record { place = place; action = End; uses = []; assigns = None; reads = []; writes = None }
+
+  abbrev p : Plan
+  p = record {
+    flat = record { mutexes = []; variables = []; threads = [] };
+    graph = record { nodes = end ∷ []; threads = record { first = 0; end = 1; locals = 0 } ∷ [] };
+    boundaries = record { before = false ∷ []; after_lock = false ∷ [] };
+    held = [];
+    live = [];
+    colours = [];
+  }
+
+  -- before its first step the thread is at the mark of its end
+  at_mark : IsAtMark p t c program w 0 s a.Ends (stage_behind p t c 0 seen 0 a.Ends) 0 []
+  unfolding row result_of
+  at_mark = record {
+    meets = meet program marks [] no_loads w 0;
+    agrees = agree program marks no_loads w 0;
+    apart = tt;
+    own = record { from_first = omega arith; below_end = omega arith };
+    of_graph = record { own = record { from_first = omega arith; below_end = omega arith }; is = end; at = refl; ends = refl };
+    registers = registers 3;
+    on = record {
+      hart = record { registers = registers 0; pc = 0x10000; phase = Run; queue = [] };
+      here = refl;
+      runs = refl;
+      walks = (
+        moment (registers 3) 0x10004,
+        Mark ∷ [],
+        [],
+        record { instr = OpImmediate Addi 17 0 3; stands = refl; does = refl; sees = refl },
+        (refl, refl),
+        refl,
+      );
+      may = tt;
+    };
+    has = refl;
+    mark = refl;
+    made = λ effect is. tt;
+  }
+
+-- its first step passes it, its second one no mark, and then it has ended
+first : passes_mark (marks ∷ []) program w 0 ≡ true
+unfolding happens row
+first = refl
+
+second : passes_mark (marks ∷ []) program (after_event program w (Step 0)) 0 ≡ false
+unfolding happens row result_of
+second = refl
+
+abbrev phase_of : Option Hart → Option Phase
+phase_of None = None
+phase_of (Some hart) = Some hart.phase
+
+ended : phase_of (slice_get (after_events program w (Step 0 ∷ Step 0 ∷ [])).harts 0) ≡ Some Ended
+unfolding happens row result_of
+ended = refl

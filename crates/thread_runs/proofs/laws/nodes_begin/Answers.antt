@@ -1,0 +1,5 @@
+use Rattle.thread_runs.proofs.Beginning.{nodes_begin}
+use Rattle.thread_runs.proofs.laws.nodes_begin.Goals as goal
+
+pub returns : goal.returns
+returns c = nodes_begin
