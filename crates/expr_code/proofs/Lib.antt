@@ -10,3 +10,4 @@ pub mod Loading
 pub mod Needs
 pub mod Words
 pub mod Selecting
+pub mod Fences

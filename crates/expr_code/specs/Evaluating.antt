@@ -14,6 +14,8 @@ use Rattle.c_tree.specs.TypeRules.{most_variable_bytes, most_elements}
 use Rattle.c_tree.specs.Ranges.{elements_of}
 use Rattle.c_tree.specs.WellFormed.{IsExpr, IsDeclared, IndexFits, Fits, shape_of}
 use Rattle.rv64_isa.specs.declared.instr.Instr.{Instr}
+use Rattle.rv64_isa.specs.declared.object.CodeItem.TheVariants.{Instruction}
+use Rattle.rv64_link.specs.LabelledCode.{fences_in}
 use Rattle.rv64_isa.specs.Rows.{read}
 use Rattle.log_layout.specs.Roles.{is_temporary, is_local}
 use Rattle.operator_code.specs.declared.branches.Test.{Test}
@@ -92,6 +94,10 @@ AreLoaded s loads (e.Binary operator left right) = AreLoaded s loads left × Are
 AreLoaded s loads (e.Conditional kind condition chosen otherwise) = AreLoaded s loads condition × AreLoaded s loads chosen × AreLoaded s loads otherwise
 
 -- ---- Code
+
+-- how many of the instructions are FENCEs
+abbrev pub fences_among : List Instr → ℕ
+fences_among code = fences_in (map Instruction code)
 
 -- an expression that may be evaluated, in these surroundings
 pub record IsLegal (h : Homes) (s : Source) (r : Surroundings) (x : e.Expr) : Type 0 where

@@ -4,7 +4,7 @@ ghost use Rattle.ido_base.specs.declared.place.Place.{Place};
 ghost use Rattle.ido_ints.specs.Kinds.{bytes_of};
 ghost use Rattle.c_tree.specs.Exprs as e;
 ghost use Rattle.rv64_isa.specs.declared.instr.Instr.{Instr};
-ghost use Rattle.expr_code.specs.Evaluating.{Homes, Gives, IsElementAddressCode, IsVariableAddressCode};
+ghost use Rattle.expr_code.specs.Evaluating.{Homes, Gives, IsElementAddressCode, IsVariableAddressCode, fences_among};
 ghost use Rattle.expr_code.specs.links.Giving.{IsEvaluation, IsOperand, is_free};
 ghost use Rattle.expr_code.specs.links.Loading.{loaded_by, places_of, HasUpper};
 
@@ -63,6 +63,7 @@ fn lower(address: u32) -> u16
 fn element_upper(index: Operand, address: u32, kind: Kind, held: u32) -> Result<Vec<Instr>, Memory>
     requires { held < 4 }
     ensures short { IfOk result (λ code. length code.items ≤ length index.code.items + 3) }
+    ensures fences { IfOk result (λ code. fences_among code.items ≡ fences_among index.code.items) }
     ensures code { IfOk result (λ code. (h : Homes) (x : e.Expr) → address + 2048 < 2 ^ 31 → IsOperand h x held index.register index.code.items →
         Gives h x code.items (is_free held) (λ v y. HasUpper address (bytes_of kind) v y)) }
 {
@@ -100,6 +101,7 @@ pub(crate) fn variable_code(
 ) -> Result<Vec<Instr>, Memory>
     requires { 0 < rd }
     ensures short { IfOk result (λ code. length code.items ≡ 2) }
+    ensures fences { IfOk result (λ code. fences_among code.items ≡ 0) }
     ensures code { IfOk result (λ code. (h : Homes) (place : Place) (variable held : ℕ) → slice_index h.addresses variable ≡ address →
         IsEvaluation h (e.Variable place variable kind) held rd code.items) }
 {
@@ -117,6 +119,7 @@ pub(crate) fn element_code(
     requires some { 0 < rd }
     requires held { held < 4 }
     ensures short { IfOk result (λ code. length code.items ≤ length index.code.items + 4) }
+    ensures fences { IfOk result (λ code. fences_among code.items ≡ fences_among index.code.items) }
     ensures code { IfOk result (λ code. (h : Homes) (place : Place) (variable : ℕ) (index_place : Place) (x : e.Expr) →
         slice_index h.addresses variable ≡ address →
         IsOperand h x held index.register index.code.items → IsEvaluation h (e.Element place variable kind index_place x) held rd code.items) }
@@ -134,6 +137,7 @@ pub(crate) fn variable_address(
 ) -> Result<Vec<Instr>, Memory>
     requires { 0 < rd }
     ensures short { IfOk result (λ code. length code.items ≡ 2) }
+    ensures fences { IfOk result (λ code. fences_among code.items ≡ 0) }
     ensures code { IfOk result (λ code. (h : Homes) (variable : ℕ) → slice_index h.addresses variable ≡ address →
         IsVariableAddressCode h variable rd code.items) }
 {
@@ -152,6 +156,7 @@ pub(crate) fn element_address(
 ) -> Result<Vec<Instr>, Memory>
     requires { 0 < rd }
     ensures short { IfOk result (λ code. length code.items ≤ length index.code.items + 4) }
+    ensures fences { IfOk result (λ code. fences_among code.items ≡ fences_among index.code.items) }
     ensures code { IfOk result (λ code. (h : Homes) (variable : ℕ) (x : e.Placed) → slice_index h.addresses variable ≡ address →
         IsOperand h x.expr 0 index.register index.code.items → IsElementAddressCode h variable kind x rd code.items) }
 {

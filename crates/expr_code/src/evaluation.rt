@@ -7,7 +7,7 @@ ghost use Rattle.c_tree.specs.Prices.{need_of, need_of_both, nodes_of, node_pric
 ghost use Rattle.c_tree.specs.Temporaries.{most_price};
 ghost use Rattle.c_tree.specs.Typing.{kind_of};
 ghost use Rattle.operator_code.specs.Computing.{is_comparison};
-ghost use Rattle.expr_code.specs.Evaluating.{AreAtHome, homes_of};
+ghost use Rattle.expr_code.specs.Evaluating.{AreAtHome, homes_of, fences_among};
 ghost use Rattle.expr_code.specs.links.Giving.{IsEvaluation, IsOperand, IsTest, IsMade, truth_of, conversion_words};
 
 use crate::conditions::{compared, conditional, conjunction, disjunction, negated, tested};
@@ -43,6 +43,7 @@ pub(crate) fn evaluate(
     requires price { node_price (nodes_of (expr_of expr.now)) ≤ most_price }
     requires some { 0 < rd }
     ensures short { IfOk result (λ code. length code.items + 8 ≤ 16 * nodes_of (expr_of expr.now) + conversion_words (expr_of expr.now)) }
+    ensures fences { IfOk result (λ code. fences_among code.items ≡ 0) }
     ensures code { IfOk result (λ code. IsEvaluation (homes_of frame.now) (expr_of expr.now) held rd code.items) }
 {
     match expr {
@@ -146,6 +147,7 @@ pub(crate) fn evaluate_converted(
     requires price { node_price (nodes_of (expr_of expr.now)) ≤ most_price }
     requires some { 0 < rd }
     ensures short { IfOk result (λ code. length code.items + 8 ≤ 16 * nodes_of (expr_of expr.now) + 2 * rank_of kind) }
+    ensures fences { IfOk result (λ code. fences_among code.items ≡ 0) }
     ensures code { IfOk result (λ code. IsEvaluation (homes_of frame.now) (e.Converted kind (expr_of expr.now)) held rd code.items) }
 {
     match expr {
@@ -183,6 +185,7 @@ fn evaluate_truth(
     requires price { node_price (nodes_of (expr_of expr.now)) ≤ most_price }
     requires some { 0 < rd }
     ensures short { IfOk result (λ code. length code.items ≤ 16 * nodes_of (expr_of expr.now) + 2) }
+    ensures fences { IfOk result (λ code. fences_among code.items ≡ 0) }
     ensures code { IfOk result (λ code. IsMade (homes_of frame.now) (expr_of expr.now) truth_of held rd code.items) }
 {
     match expr {
@@ -209,6 +212,7 @@ pub(crate) fn operand(
     requires need { need_of (expr_of expr.now) + held ≤ 4 }
     requires price { node_price (nodes_of (expr_of expr.now)) ≤ most_price }
     ensures short { IfOk result (λ x. length x.code.items + 8 ≤ 16 * nodes_of (expr_of expr.now) + conversion_words (expr_of expr.now)) }
+    ensures fences { IfOk result (λ x. fences_among x.code.items ≡ 0) }
     ensures operand { IfOk result (λ x. IsOperand (homes_of frame.now) (expr_of expr.now) held x.register x.code.items) }
 {
     match expr {
@@ -233,6 +237,7 @@ fn operand_in(
     requires need { need_of (expr_of expr.now) + held ≤ 4 }
     requires price { node_price (nodes_of (expr_of expr.now)) ≤ most_price }
     ensures short { IfOk result (λ x. length x.code.items ≤ 16 * nodes_of (expr_of expr.now) + 2) }
+    ensures fences { IfOk result (λ x. fences_among x.code.items ≡ 0) }
     ensures operand { IfOk result (λ x. IsOperand (homes_of frame.now) (e.Converted kind (expr_of expr.now)) held x.register x.code.items) }
 {
     let inner = operand(alloc, expr, frame, held)?;
@@ -258,6 +263,7 @@ pub(crate) fn test(alloc: Global, expr: &Expr, frame: &Frame, held: u32) -> Resu
     requires need { need_of (expr_of expr.now) + held ≤ 4 }
     requires price { node_price (nodes_of (expr_of expr.now)) ≤ most_price }
     ensures short { IfOk result (λ x. length x.code.items ≤ 16 * nodes_of (expr_of expr.now)) }
+    ensures fences { IfOk result (λ x. fences_among x.code.items ≡ 0) }
     ensures test { IfOk result (λ x. IsTest (homes_of frame.now) (expr_of expr.now) held x.test x.code.items) }
 {
     match expr {

@@ -3,7 +3,7 @@ ghost use Rattle.std.specs.Prelude.{◌≡◌, ◌↔◌, ◌<◌, ◌≤◌, �
 ghost use Rattle.c_tree.specs.Exprs.{expr_of, placed_of};
 ghost use Rattle.c_tree.specs.Prices.{need_of, nodes_of, node_price};
 ghost use Rattle.c_tree.specs.Temporaries.{most_temporaries, most_price};
-ghost use Rattle.expr_code.specs.Evaluating.{AreAtHome, IsValueCode, IsConvertedCode, IsTestCode, IsElementAddressCode, IsVariableAddressCode, homes_of};
+ghost use Rattle.expr_code.specs.Evaluating.{AreAtHome, IsValueCode, IsConvertedCode, IsTestCode, IsElementAddressCode, IsVariableAddressCode, homes_of, fences_among};
 ghost use Rattle.expr_code.specs.Refusing.{IsRefused};
 
 use crate::elements::{element_address, variable_address};
@@ -42,6 +42,7 @@ pub fn select(
     requires price { node_price (nodes_of (expr_of expr.now.expr)) ≤ most_price }
     requires destination { 0 < destination }
     ensures short { IfOk result (λ code. length code.items ≤ 16 * nodes_of (expr_of expr.now.expr)) }
+    ensures fences { IfOk result (λ code. fences_among code.items ≡ 0) }
     ensures code { MatchResult result
         (λ code. (need_of (expr_of expr.now.expr) ≤ most_temporaries) × IsValueCode (homes_of frame.now) (expr_of expr.now.expr) destination code.items)
         (λ error. IsRefused (placed_of expr.now) error) }
@@ -68,6 +69,7 @@ pub fn select_converted(
     requires price { node_price (nodes_of (expr_of expr.now.expr)) ≤ most_price }
     requires destination { 0 < destination }
     ensures short { IfOk result (λ code. length code.items ≤ 16 * nodes_of (expr_of expr.now.expr) + 8) }
+    ensures fences { IfOk result (λ code. fences_among code.items ≡ 0) }
     ensures code { MatchResult result
         (λ code. (need_of (expr_of expr.now.expr) ≤ most_temporaries) ×
         IsConvertedCode (homes_of frame.now) (expr_of expr.now.expr) kind destination code.items)
@@ -91,6 +93,7 @@ pub fn select_test(
     requires home { AreAtHome (homes_of frame.now) (expr_of condition.now.expr) }
     requires price { node_price (nodes_of (expr_of condition.now.expr)) ≤ most_price }
     ensures short { IfOk result (λ x. length x.code.items ≤ 16 * nodes_of (expr_of condition.now.expr) + 8) }
+    ensures fences { IfOk result (λ x. fences_among x.code.items ≡ 0) }
     ensures code { MatchResult result
         (λ x. (need_of (expr_of condition.now.expr) ≤ most_temporaries) × IsTestCode (homes_of frame.now) (expr_of condition.now.expr) x.test x.code.items)
         (λ error. IsRefused (placed_of condition.now) error) }
@@ -116,6 +119,7 @@ pub fn select_variable_address(
     requires home { variable < length frame.now.addresses.now }
     requires destination { 0 < destination }
     ensures short { IfOk result (λ code. length code.items ≤ 8) }
+    ensures fences { IfOk result (λ code. fences_among code.items ≡ 0) }
     ensures code { IfOk result (λ code. IsVariableAddressCode (homes_of frame.now) variable destination code.items) }
 {
     variable_address(alloc, frame.addresses[variable as usize], destination)
@@ -135,6 +139,7 @@ pub fn select_element_address(
     requires price { node_price (nodes_of (expr_of index.now.expr)) ≤ most_price }
     requires destination { 0 < destination }
     ensures short { IfOk result (λ code. length code.items ≤ 16 * nodes_of (expr_of index.now.expr) + 8) }
+    ensures fences { IfOk result (λ code. fences_among code.items ≡ 0) }
     ensures code { MatchResult result
         (λ code. (need_of (expr_of index.now.expr) ≤ most_temporaries) ×
         IsElementAddressCode (homes_of frame.now) variable kind (placed_of index.now) destination code.items)

@@ -25,15 +25,17 @@ use Rattle.code_runs.specs.Walks as walks
 use Rattle.code_runs.specs.Walks.{Mark, Sight, Goes}
 use Rattle.node_code.specs.Sites.{Site, Linking, IsPart, mark_waits, begin_of, end_of}
 use Rattle.node_code.specs.Pieces.{IsClosed, resumes_in, bank_behind, Asks, IsLeft, boundary_sights, IsLock, Locks, IsUnlock, Unlocks, IsEnd, Leads}
-use Rattle.node_code.specs.Pieces.{takes, gives}
+use Rattle.node_code.specs.Pieces.{takes, gives, words_in}
 use Rattle.node_code.specs.links.Kept.{IsCodeOf}
 use Rattle.node_code.specs.links.Listing.{plain, asking, boundary_items, lock_items, unlock_items, end_items}
+use Rattle.node_code.proofs.Fences.{lock_items_fences, unlock_items_fences}
 use Rattle.node_code.proofs.Lying.{part_left, part_right, waits_left, waits_right, waits_append, waits_plain, labels_append, labels_plain}
 use Rattle.node_code.proofs.Lying.{positions_append, no_marks_in, no_resumes_in}
+use Rattle.node_code.proofs.Words.{AreExact, exact_plain, exact_append, exact_words}
 use Rattle.node_code.proofs.Running.{unmarked_code, stays_at, has_room, code_end, stands_part}
 use Rattle.node_code.proofs.Legs.{way, weaker, more_room, two_legs, moved, straight_leg_on, marked_leg, mark_part, mark_waits_there, words_of_plain}
 use Rattle.node_code.proofs.Keeping.{some_code, boundary_leg, resumed_at, boundary_items_leg, resume_stays, boundary_marks, boundary_resumes}
-use Rattle.node_code.proofs.Keeping.{boundary_words, boundary_waits_on, boundary_labels}
+use Rattle.node_code.proofs.Keeping.{boundary_words, boundary_exact, boundary_waits_on, boundary_labels}
 
 -- ---- Registers that ask
 
@@ -108,6 +110,9 @@ module _ (b : Boundary) (mutex : ℕ) (code : List Instr) (small : mutex < 2048)
       omega (arith, e, f)
 
   module _ (site : Site piece) where
+    words : words_in piece site ≡ 3 + length code
+    words = exact_words piece site (refl, (refl, (refl, (refl, boundary_exact code)))) ∙ lock_words
+
     n : Linking site.items
     n = site.linking
 
@@ -143,7 +148,7 @@ module _ (b : Boundary) (mutex : ℕ) (code : List Instr) (small : mutex < 2048)
     locks = record {
       call = to (k + 2);
       asks = λ x are.
-          more_room site.linking.setting x (to k) (to (k + 2)) 2 (sum_by most_words_of piece) [] (Asks takes mutex x) (omega (arith, lock_words))
+          more_room site.linking.setting x (to k) (to (k + 2)) 2 (words_in piece site) [] (Asks takes mutex x) (omega (arith, words))
           (asking_leg site.items site.linking k mutex 1 (part_left site.items k (plain (asking mutex 1)) from_mark site.is_part) x
           (waits_left site.items k (plain (asking mutex 1)) from_mark site.is_part ∙ site.closed) small (lit< tt) are);
       stands = subst (λ (a : ℕ). Stands site.linking.program.start site.linking.program.code a Ecall) at_call
@@ -156,8 +161,8 @@ module _ (b : Boundary) (mutex : ℕ) (code : List Instr) (small : mutex < 2048)
           (IsLeft b bank x) =
           subst (λ (m : ℕ). Goes site.linking.setting (way x (to (k + 2 + 1 + 1)) m (length code)) (boundary_sights b bank m x) (IsLeft b bank x)) end_is leg in
           let from : to (k + 2 + 1 + 1) ≡ to (k + 2) + 4 = omega (arith, at_call, behind_is) in
-          more_room site.linking.setting x (to (k + 2) + 4) (end_of piece site) (length code) (sum_by most_words_of piece)
-          (boundary_sights b bank (end_of piece site) x) (IsLeft b bank x) (omega (arith, lock_words))
+          more_room site.linking.setting x (to (k + 2) + 4) (end_of piece site) (length code) (words_in piece site)
+          (boundary_sights b bank (end_of piece site) x) (IsLeft b bank x) (omega (arith, words))
           (subst (λ (m : ℕ). Goes site.linking.setting (way x m (end_of piece site) (length code)) (boundary_sights b bank (end_of piece site) x)
           (IsLeft b bank x)) from leg');
       marks =
@@ -176,6 +181,7 @@ module _ (b : Boundary) (mutex : ℕ) (code : List Instr) (small : mutex < 2048)
   is_lock = record {
     closed = record { waits = boundary_waits_on code; labels = λ label. boundary_labels label code };
     few = let l : length code ≤ length b.live + 35 = h.short in omega (arith, lock_words);
+    fences = lock_items_fences b mutex code h.effects_are;
     at = locks;
   }
 
@@ -215,7 +221,18 @@ module _ (b : Boundary) (mutex : ℕ) (code : List Instr) (small : mutex < 2048)
       (plain (asking mutex 2) ++ (Instruction Ecall ∷ [])) last in
       omega (arith, e, f, g, i, last_words)
 
+  last_exact : AreExact last
+  last_exact = by (b.mask == 0)
+    where
+      by : (m : Bool) → AreExact (if m then [] else ResumeNext ∷ [])
+      by true = tt
+      by false = (refl, tt)
+
   module _ (site : Site given) where
+    given_words : words_in given site ≡ length code + 3
+    given_words = exact_words given site (exact_append (MarkNext ∷ plain code) from_asking (refl, exact_plain code) (refl, (refl, (refl, last_exact)))) ∙
+        unlock_words
+
     abbrev k' : ℕ
     k' = site.position
 
@@ -307,8 +324,8 @@ module _ (b : Boundary) (mutex : ℕ) (code : List Instr) (small : mutex < 2048)
         (asking_leg site.items site.linking k₂ mutex 2 (part_left site.items k₂ (plain (asking mutex 2)) from_call asking_part) z
         (waits_left site.items k₂ (plain (asking mutex 2)) from_call asking_part ∙ asking_closed x bank a) small (lit< tt)
         (registers_at (bank_behind b bank) z left.at_bank))) in
-        more_room site.linking.setting x (too k') (too (k₂ + 2)) (length code + 2) (sum_by most_words_of given)
-        (Mark ∷ boundary_sights b bank (end_of given site) x) P (omega (arith, unlock_words))
+        more_room site.linking.setting x (too k') (too (k₂ + 2)) (length code + 2) (words_in given site)
+        (Mark ∷ boundary_sights b bank (end_of given site) x) P (omega (arith, given_words))
         (subst (λ (ss : List Sight). Goes site.linking.setting (way x (too k') (too (k₂ + 2)) (length code + 2)) ss P)
         (append_none (Mark ∷ boundary_sights b bank (end_of given site) x)) both)
 
@@ -372,7 +389,12 @@ module _ (b : Boundary) (mutex : ℕ) (code : List Instr) (small : mutex < 2048)
       labels_by label false = refl
 
   pub is_unlock : IsUnlock b mutex given
-  is_unlock = record { closed = unlock_closed; few = let l : length code ≤ length b.live + 35 = h.short in omega (arith, unlock_words); at = unlocks }
+  is_unlock = record {
+    closed = unlock_closed;
+    few = let l : length code ≤ length b.live + 35 = h.short in omega (arith, unlock_words);
+    fences = unlock_items_fences b mutex b.mask code h.effects_are;
+    at = unlocks;
+  }
 
 -- ---- A thread ends
 
@@ -394,6 +416,7 @@ pub is_end : IsEnd end_items
 is_end = record {
   closed = record { waits = refl; labels = λ label. refl };
   few = omega arith;
+  fences = refl;
   at = λ site.
       let code : List Instr = OpImmediate Addi 17 0 3 ∷ [] in
       let k : ℕ = site.position in
@@ -402,13 +425,18 @@ is_end = record {
       record {
         call = to (k + 2);
         asks = λ x are.
-            more_room site.linking.setting x (to k) (to (k + 2)) 1 2 (Mark ∷ []) (λ y. read y 17 ≡ 3) (omega arith)
+            more_room site.linking.setting x (to k) (to (k + 2)) 1 (words_in end_items site) (Mark ∷ []) (λ y. read y 17 ≡ 3)
+            (let w : words_in end_items site ≡ 2 = exact_words end_items site (refl, (refl, (refl, tt))) in omega (arith, w))
             (weaker site.linking.setting (way x (to k) (to (k + 2)) 1) (Mark ∷ []) (λ z. z ≡ slice_set x 17 3) (λ y. read y 17 ≡ 3)
             (λ z e. ap (λ (v : List ℕ). read v 17) e ∙ read_same x 17 3 are.count (lit< tt))
             (marked_leg site.items site.linking k (OpImmediate Addi 17 0 3) [] (part_left site.items k (MarkNext ∷ plain code) (Instruction Ecall ∷ [])
             site.is_part) x (slice_set x 17 3) []
             (s.constant_runs 17 3 code x (to k) (small_constant 17 3 (lit< tt) (lit< tt)) are.count are.zero_is) tt));
         stands = stands_part site.items site.linking (k + 2) Ecall q;
+        behind =
+            let e : to (k + 2 + 1) ≡ to (k + 2) + 4 = call_ends site.items site.linking (k + 2) q in
+            let same : k + length end_items ≡ k + 2 + 1 = omega arith in
+            ap to same ∙ e;
         plain = end_plain site;
         marks = refl;
         resumes = refl;

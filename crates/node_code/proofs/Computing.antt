@@ -1,5 +1,6 @@
 -- Code that only computes.
-use Rattle.std.proofs.Common.{◌≡◌, ℕ, zero, suc, ◌+◌, ◌*◌, ◌^◌, ◌<◌, ◌≤◌, List, [], ◌∷◌, ◌++◌, length, map, refl, ap, sym, ◌∙◌, arith, subst, Bool, true, false}
+use Rattle.std.proofs.Common.{◌≡◌, ℕ, zero, suc, ◌+◌, ◌-◌, ◌*◌, ◌/◌, ◌^◌, ◌<◌, ◌≤◌, List, [], ◌∷◌, ◌++◌, length, map}
+use Rattle.std.proofs.Common.{refl, ap, sym, ◌∙◌, arith, subst, Bool, true, false}
 use Rattle.std.specs.Prelude.{sum_by, if◌then◌else◌}
 use Rattle.std.proofs.lemmas.List.{length-append}
 use Rattle.std.proofs.lemmas.List.Sums.{sum_by-append}
@@ -15,10 +16,12 @@ use Rattle.operator_code.proofs.Runs as s
 use Rattle.code_runs.specs.Running as r
 use Rattle.code_runs.specs.Walks.{Mark, Goes}
 use Rattle.node_code.specs.Sites.{Site, Linking, IsPart, mark_waits, begin_of, end_of, label_of}
-use Rattle.node_code.specs.Pieces.{IsClosed, marks_in, resumes_in, Computed, IsComputing, IsChoice, Leads}
+use Rattle.node_code.specs.Pieces.{IsClosed, marks_in, resumes_in, Computed, IsComputing, IsChoice, Leads, words_in}
 use Rattle.node_code.specs.links.Listing.{plain, nothing, some_code, computing_items, choice_items}
+use Rattle.node_code.proofs.Fences.{computing_fences, choice_fences}
 use Rattle.node_code.proofs.Lying.{length_map, part_left, part_right, waits_right, waits_append, waits_plain, labels_append, labels_plain}
 use Rattle.node_code.proofs.Lying.{positions_append, no_marks_in, no_resumes_in, stand}
+use Rattle.node_code.proofs.Words.{exact_plain, exact_end, exact_words}
 use Rattle.node_code.proofs.Running.{stays_at, up_to, has_room, code_end, computing_part, branch_part}
 use Rattle.node_code.proofs.Legs.{way, end_is, weaker, more_room, two_legs, moved, marked_leg, mark_part, mark_waits_there, words_of_plain}
 
@@ -83,16 +86,20 @@ computes : (code : List Instr) (site : Site (computing_items code)) (x y : List 
     Leads (computing_items code) site x (begin_of (computing_items code) site) (end_of (computing_items code) site) (Mark ∷ []) (λ z. z ≡ y)
 computes [] site x y c =
     let same : x ≡ y = no_run site.linking.setting.around (begin_of (computing_items []) site) c.run.steps x y c.run.leads in
-    weaker site.linking.setting (way x (begin_of (computing_items []) site) (end_of (computing_items []) site) 1) (Mark ∷ []) (λ z. z ≡ x) (λ z. z ≡ y)
+    more_room site.linking.setting x (begin_of (computing_items []) site) (end_of (computing_items []) site) 1 (words_in (computing_items []) site) (Mark ∷ [])
+    (λ z. z ≡ y) (let w : words_in (computing_items []) site ≡ 1 = exact_words (computing_items []) site (refl, (refl, tt)) in omega (arith, w))
+    (weaker site.linking.setting (way x (begin_of (computing_items []) site) (end_of (computing_items []) site) 1) (Mark ∷ []) (λ z. z ≡ x) (λ z. z ≡ y)
     (λ z e. e ∙ same)
-    (marked_leg site.items site.linking site.position nothing [] site.is_part x x [] (nothing_runs x (begin_of (computing_items []) site)) tt)
+    (marked_leg site.items site.linking site.position nothing [] site.is_part x x [] (nothing_runs x (begin_of (computing_items []) site)) tt))
 computes (i ∷ is) site x y c =
-    let few : length (i ∷ is) ≤ sum_by most_words_of (computing_items (i ∷ is)) =
+    let few : length (i ∷ is) ≤ words_in (computing_items (i ∷ is)) site =
     let e : sum_by most_words_of (plain (i ∷ is)) ≡ length (i ∷ is) = words_of_plain (i ∷ is) in
     let f : sum_by most_words_of (computing_items (i ∷ is)) ≡ 0 + sum_by most_words_of (plain (i ∷ is)) = sum_by-append most_words_of (MarkNext ∷ [])
-    (plain (i ∷ is)) in omega (arith, e, f) in
+    (plain (i ∷ is)) in
+    let w : words_in (computing_items (i ∷ is)) site ≡ sum_by most_words_of (computing_items (i ∷ is)) =
+    exact_words (computing_items (i ∷ is)) site (refl, exact_plain (i ∷ is)) in omega (arith, e, f, w) in
     more_room site.linking.setting x (begin_of (computing_items (i ∷ is)) site) (end_of (computing_items (i ∷ is)) site) (length (i ∷ is))
-    (sum_by most_words_of (computing_items (i ∷ is))) (Mark ∷ []) (λ z. z ≡ y) few
+    (words_in (computing_items (i ∷ is)) site) (Mark ∷ []) (λ z. z ≡ y) few
     (computing_leg site.items site.linking site.position i is site.is_part x y c)
 
 -- the code stands, behind its mark, and there is room for it
@@ -126,6 +133,7 @@ pub is_computing : (code : List Instr) → IsComputing code (computing_items cod
 is_computing [] = record {
   closed = record { waits = refl; labels = λ label. refl };
   few = omega arith;
+  fences = refl;
   at = λ site. record {
     stands = tt;
     room = no_room (computing_items []) site;
@@ -140,6 +148,7 @@ is_computing (i ∷ is) = record {
       let e : sum_by most_words_of (plain (i ∷ is)) ≡ length (i ∷ is) = words_of_plain (i ∷ is) in
       let f : sum_by most_words_of (computing_items (i ∷ is)) ≡ 0 + sum_by most_words_of (plain (i ∷ is)) = sum_by-append most_words_of (MarkNext ∷ [])
       (plain (i ∷ is)) in omega (arith, e, f);
+  fences = computing_fences i is;
   at = λ site. record {
     stands = stands_marked site.items site.linking site.position (i ∷ is) site.is_part;
     room = room_marked site.items site.linking site.position (i ∷ is) site.is_part;
@@ -167,13 +176,16 @@ module _ (test : Test) (to : Label) where
       let q : IsPart site.items (k + 1) (branch ∷ []) = mark_part site.items site.linking k (branch ∷ []) site.is_part in
       let here : at (k + 1) ≡ at k = stays_at site.items site.linking k MarkNext (branch ∷ []) site.is_part refl in
       let e : k + 1 + 1 ≡ k + 2 = omega arith in
-      let leg : Goes site.linking.setting (way x (at (k + 1)) (if passes test x then label_of part site to.0 else at (k + 1 + 1)) 2) (Mark ∷ []) (λ z. z ≡ x) =
+      let leg : Goes site.linking.setting (way x (at (k + 1)) (if passes test x then label_of part site to.0 else at (k + 1 + 1))
+      ((at (k + 1 + 1) - at (k + 1)) / 4)) (Mark ∷ []) (λ z. z ≡ x) =
       branch_part site.items site.linking (k + 1) test.condition test.rs1 test.rs2 to q x true
       (mark_waits_there site.items site.linking k (branch ∷ []) site.is_part) in
-      subst (λ (v : List ℕ). Goes site.linking.setting (way x (at k) (where_to part site v) 2) (Mark ∷ []) (λ z. z ≡ v)) same
-      (moved site.linking.setting x (at (k + 1)) (at k) (if passes test x then label_of part site to.0 else at (k + 1 + 1)) (where_to part site x) 2
-      (Mark ∷ []) (λ z. z ≡ x) here
-      (ap (λ (m : ℕ). if passes test x then label_of part site to.0 else at m) e) leg)
+      let few : (at (k + 1 + 1) - at (k + 1)) / 4 ≤ words_in part site = let f : at (k + 1 + 1) ≡ end_of part site = ap at e in omega (arith, f, here) in
+      subst (λ (v : List ℕ). Goes site.linking.setting (way x (at k) (where_to part site v) (words_in part site)) (Mark ∷ []) (λ z. z ≡ v)) same
+      (more_room site.linking.setting x (at k) (where_to part site x) ((at (k + 1 + 1) - at (k + 1)) / 4) (words_in part site) (Mark ∷ []) (λ z. z ≡ x) few
+      (moved site.linking.setting x (at (k + 1)) (at k) (if passes test x then label_of part site to.0 else at (k + 1 + 1)) (where_to part site x)
+      ((at (k + 1 + 1) - at (k + 1)) / 4) (Mark ∷ []) (λ z. z ≡ x) here
+      (ap (λ (m : ℕ). if passes test x then label_of part site to.0 else at m) e) leg))
 
   choice_words : (code : List Instr) → sum_by most_words_of (choice_items code test to) ≡ length code + 2
   choice_words code =
@@ -200,21 +212,31 @@ module _ (test : Test) (to : Label) where
       ap (λ (w : Bool). mark_waits w (MarkNext ∷ plain (i ∷ is))) site.closed ∙ waits_plain true i is in
       let e : k + length (MarkNext ∷ plain (i ∷ is)) + 1 ≡ k + length (choice_items (i ∷ is) test to) = omega
       (arith, length-append (MarkNext ∷ plain (i ∷ is)) (branch ∷ [])) in
+      let last : ℕ = (at (k + length (MarkNext ∷ plain (i ∷ is)) + 1) - at (k + length (MarkNext ∷ plain (i ∷ is)))) / 4 in
       let behind : (z : List ℕ) → z ≡ y → Goes site.linking.setting (way z (at (k + length (MarkNext ∷ plain (i ∷ is))))
-      (where_to (choice_items (i ∷ is) test to) site y) 2) [] (λ v. v ≡ y) =
+      (where_to (choice_items (i ∷ is) test to) site y) last) [] (λ v. v ≡ y) =
       λ z f. subst (λ (v : List ℕ). Goes site.linking.setting (way v (at (k + length (MarkNext ∷ plain (i ∷ is))))
-      (where_to (choice_items (i ∷ is) test to) site y) 2) [] (λ v. v ≡ y)) (sym f)
+      (where_to (choice_items (i ∷ is) test to) site y) last) [] (λ v. v ≡ y)) (sym f)
       (moved site.linking.setting y (at (k + length (MarkNext ∷ plain (i ∷ is)))) (at (k + length (MarkNext ∷ plain (i ∷ is))))
       (if passes test y then label_of (choice_items (i ∷ is) test to) site to.0 else at (k + length (MarkNext ∷ plain (i ∷ is)) + 1))
-      (where_to (choice_items (i ∷ is) test to) site y) 2 [] (λ v. v ≡ y) refl
+      (where_to (choice_items (i ∷ is) test to) site y) last [] (λ v. v ≡ y) refl
       (ap (λ (m : ℕ). if passes test y then label_of (choice_items (i ∷ is) test to) site to.0 else at m) e)
       (branch_part site.items site.linking (k + length (MarkNext ∷ plain (i ∷ is))) test.condition test.rs1 test.rs2 to
       (part_right site.items k (MarkNext ∷ plain (i ∷ is)) (branch ∷ []) site.is_part) y false closed)) in
-      more_room site.linking.setting x (at k) (where_to (choice_items (i ∷ is) test to) site y) (length (i ∷ is) + 2)
-      (sum_by most_words_of (choice_items (i ∷ is) test to)) (Mark ∷ []) (λ z. z ≡ y)
-      (let g : sum_by most_words_of (choice_items (i ∷ is) test to) ≡ length (i ∷ is) + 2 = choice_words (i ∷ is) in omega arith)
+      let few : length (i ∷ is) + last ≤ words_in (choice_items (i ∷ is) test to) site =
+      let g : sum_by most_words_of (plain (i ∷ is)) ≡ length (i ∷ is) = words_of_plain (i ∷ is) in
+      let m : sum_by most_words_of (MarkNext ∷ plain (i ∷ is)) ≡ 0 + sum_by most_words_of (plain (i ∷ is)) = sum_by-append most_words_of (MarkNext ∷ [])
+      (plain (i ∷ is)) in
+      let first_end : at (k + length (MarkNext ∷ plain (i ∷ is))) ≡ at k + 4 * sum_by most_words_of (MarkNext ∷ plain (i ∷ is)) =
+      exact_end site.items site.linking k (MarkNext ∷ plain (i ∷ is)) p (refl, exact_plain (i ∷ is)) in
+      let up : at (k + length (MarkNext ∷ plain (i ∷ is))) ≤ at (k + length (MarkNext ∷ plain (i ∷ is)) + 1) =
+      up_to site.items site.linking (k + length (MarkNext ∷ plain (i ∷ is))) (branch ∷ []) q in
+      let whole : at (k + length (MarkNext ∷ plain (i ∷ is)) + 1) ≡ end_of (choice_items (i ∷ is) test to) site = ap at e in
+      omega (arith, g, m, first_end, up, whole) in
+      more_room site.linking.setting x (at k) (where_to (choice_items (i ∷ is) test to) site y) (length (i ∷ is) + last)
+      (words_in (choice_items (i ∷ is) test to) site) (Mark ∷ []) (λ z. z ≡ y) few
       (two_legs site.linking.setting x (at k) (at (k + length (MarkNext ∷ plain (i ∷ is)))) (where_to (choice_items (i ∷ is) test to) site y)
-      (length (i ∷ is)) 2 (Mark ∷ []) [] (λ z. z ≡ y) (λ z. z ≡ y)
+      (length (i ∷ is)) last (Mark ∷ []) [] (λ z. z ≡ y) (λ z. z ≡ y)
       (computing_leg site.items site.linking k i is p x y c) behind)
 
   choice_closed : (code : List Instr) → IsClosed (choice_items code test to)
@@ -244,6 +266,7 @@ module _ (test : Test) (to : Label) where
   is_choice code = record {
     closed = choice_closed code;
     few = let e : sum_by most_words_of (choice_items code test to) ≡ length code + 2 = choice_words code in omega arith;
+    fences = choice_fences code test to;
     at = λ site. record {
       stands = stands_marked site.items site.linking site.position code (part_left site.items site.position (MarkNext ∷ plain code) (branch ∷ []) site.is_part);
       room = room_marked site.items site.linking site.position code (part_left site.items site.position (MarkNext ∷ plain code) (branch ∷ []) site.is_part);

@@ -10,6 +10,7 @@ pub is_jump : (to : Label) → IsJump to.0 (JumpTo 0 to ∷ [])
 is_jump to = record {
   closed = record { waits = refl; labels = λ label. refl };
   few = omega arith;
+  fences = refl;
   at = λ site. record {
     jumps = λ x. jump_part site.items site.linking site.position to site.is_part x site.closed;
     marks = refl;
@@ -21,6 +22,7 @@ pub is_branch : (test : Test) (to : Label) → IsBranch test to.0 (BranchTo test
 is_branch test to = record {
   closed = record { waits = refl; labels = λ label. refl };
   few = omega arith;
+  fences = refl;
   at = λ site. record {
     branches = λ x. branch_part site.items site.linking site.position test.condition test.rs1 test.rs2 to site.is_part x false site.closed;
     marks = refl;

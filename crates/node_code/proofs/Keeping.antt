@@ -20,11 +20,13 @@ use Rattle.operator_code.specs.Straight.{registers_after, left_by}
 use Rattle.operator_code.proofs.Runs as s
 use Rattle.code_runs.specs.Walks.{Goes, AreMemory}
 use Rattle.node_code.specs.Sites.{Linking, IsPart, mark_waits, begin_of, end_of}
-use Rattle.node_code.specs.Pieces.{IsLeft, boundary_sights, IsBoundary}
+use Rattle.node_code.specs.Pieces.{IsLeft, boundary_sights, IsBoundary, words_in}
 use Rattle.node_code.specs.links.Kept.{IsCodeOf}
 use Rattle.node_code.specs.links.Listing.{plain, boundary_items}
+use Rattle.node_code.proofs.Fences.{boundary_items_fences}
 use Rattle.node_code.proofs.Lying.{part_left, part_right, waits_left, waits_append, waits_plain, waits_plain_on, labels_append, labels_plain}
 use Rattle.node_code.proofs.Lying.{positions_append, no_marks_in, no_resumes_in}
+use Rattle.node_code.proofs.Words.{AreExact, exact_plain, exact_append, exact_words}
 use Rattle.node_code.proofs.Running.{waiting, stays_at, has_room, code_end}
 use Rattle.node_code.proofs.Legs.{way, end_is, weaker, more_room, straight_leg, words_of_plain}
 
@@ -180,6 +182,9 @@ pub boundary_words : (code : List Instr) → sum_by most_words_of (boundary_item
 boundary_words code = sum_by-append most_words_of (plain code) (ResumeNext ∷ []) ∙
     (let e : sum_by most_words_of (plain code) ≡ length code = words_of_plain code in omega (arith, e))
 
+pub boundary_exact : (code : List Instr) → AreExact (boundary_items code)
+boundary_exact code = exact_append (plain code) (ResumeNext ∷ []) (exact_plain code) (refl, tt)
+
 pub boundary_waits : (w : Bool) (i : Instr) (is : List Instr) → mark_waits w (boundary_items (i ∷ is)) ≡ false
 boundary_waits w i is = waits_append w (plain (i ∷ is)) (ResumeNext ∷ []) ∙ waits_plain w i is
 
@@ -194,12 +199,14 @@ is_boundary b code e h = record {
   closed = record { waits = boundary_waits_on code; labels = λ label. boundary_labels label code };
   few = let z : sum_by most_words_of (boundary_items code) ≡ length code = boundary_words code in let l : length code ≤ length b.live + 35 = h.short in
       omega arith;
+  fences = boundary_items_fences b code h.effects_are;
   at = λ at. record {
     keeps = λ x bank a.
         more_room at.linking.setting x (begin_of (boundary_items code) at) (end_of (boundary_items code) at) (length code)
-        (sum_by most_words_of (boundary_items code))
+        (words_in (boundary_items code) at)
         (boundary_sights b bank (end_of (boundary_items code) at) x) (IsLeft b bank x)
-        (let z : sum_by most_words_of (boundary_items code) ≡ length code = boundary_words code in omega arith)
+        (let z : words_in (boundary_items code) at ≡ length code = exact_words (boundary_items code) at (boundary_exact code) ∙ boundary_words code in
+        omega (arith, z))
         (boundary_items_leg at.items at.linking at.position b code at.is_part x bank at.closed h e a);
     marks = ap (λ (ns : List ℕ). map at.linking.linked.address_of ns) (boundary_marks at.items at.linking at.position code);
     resumes =

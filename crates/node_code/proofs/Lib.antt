@@ -1,4 +1,5 @@
 pub mod Lying
+pub mod Words
 pub mod Running
 pub mod Legs
 pub mod Making
@@ -8,3 +9,4 @@ pub mod Jumping
 pub mod Computing
 pub mod Places
 pub mod Halves
+pub mod Fences

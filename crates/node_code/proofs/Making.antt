@@ -1,22 +1,22 @@
 -- Stores.
 use Rattle.std.proofs.Common.{◌≡◌, ℕ, ◌+◌, ◌^◌, ◌<◌, ◌≤◌, List, [], ◌∷◌, length, refl, ap, ◌∙◌, arith, subst, Bool, true, false, lit<}
-use Rattle.std.specs.Prelude.{sum_by, if◌then◌else◌}
+use Rattle.std.specs.Prelude.{if◌then◌else◌}
 use Rattle.ido_ints.specs.declared.kinds.Kind.{Kind}
 use Rattle.ido_ints.specs.Kinds.{bytes_of}
 use Rattle.rv64_isa.specs.declared.instr.Instr.TheVariants.{Store, CboClean}
 use Rattle.rv64_isa.specs.declared.instr.StoreKind.{StoreKind}
 use Rattle.rv64_isa.specs.Rows.{Effect, Stores, Cleans, row, read, store_bytes, displaced}
 use Rattle.rv64_isa.specs.declared.object.CodeItem.TheVariants.{Instruction, MarkNext}
-use Rattle.rv64_link.specs.LabelledCode.{most_words_of}
 use Rattle.rv64_link.specs.Linked.{Stands}
 use Rattle.operator_code.specs.Computing.{AreRegisters}
 use Rattle.operator_code.proofs.Runs as s
 use Rattle.operator_code.proofs.Registers.{displaced_small}
 use Rattle.code_runs.specs.Walks.{Mark, Goes, AreMemory, seen_effects}
 use Rattle.node_code.specs.Sites.{Site, IsPart, begin_of, end_of}
-use Rattle.node_code.specs.Pieces.{IsStore, Leads}
+use Rattle.node_code.specs.Pieces.{IsStore, Leads, words_in}
 use Rattle.node_code.specs.links.Listing.{plain, store_code, store_items}
 use Rattle.node_code.proofs.Lying.{part_left}
+use Rattle.node_code.proofs.Words.{exact_words}
 use Rattle.node_code.proofs.Running.{stays_at, stands_part}
 use Rattle.node_code.proofs.Legs.{way, more_room, marked_leg, mark_part}
 
@@ -43,7 +43,7 @@ store_runs kind true x pc h = s.store (Store kind 29 28 0) (CboClean 28 ∷ []) 
 store_runs kind false x pc h = s.store (Store kind 29 28 0) [] x pc (read x 28) (store_bytes kind) (read x 29) [] x (store_row kind x pc h) (s.stop x (pc + 4))
 
 makes : (kind : StoreKind) (k : Kind) (cleans : Bool) → store_bytes kind ≡ bytes_of k → AreMemoryOf cleans → (at : Site (store_items kind cleans)) →
-    length (store_code kind cleans) ≤ sum_by most_words_of (store_items kind cleans) →
+    length (store_code kind cleans) ≤ words_in (store_items kind cleans) at →
     (x : List ℕ) → AreRegisters x → read x 28 < 2 ^ 64 →
     Leads (store_items kind cleans) at x (begin_of (store_items kind cleans) at) (end_of (store_items kind cleans) at)
     (Mark ∷ seen_effects (store_effects (read x 28) (bytes_of k) (read x 29) cleans)) (λ y. y ≡ x)
@@ -54,7 +54,7 @@ makes kind k cleans e memory at few x are small =
     (store_effects (read x 28) (store_bytes kind) (read x 29) cleans)
     (store_runs kind cleans x (begin_of (store_items kind cleans) at) small) (memory (read x 28) (store_bytes kind) (read x 29)) in
     more_room at.linking.setting x (begin_of (store_items kind cleans) at) (end_of (store_items kind cleans) at) (length (store_code kind cleans))
-    (sum_by most_words_of (store_items kind cleans))
+    (words_in (store_items kind cleans) at)
     (Mark ∷ seen_effects (store_effects (read x 28) (bytes_of k) (read x 29) cleans)) (λ y. y ≡ x) few
     (subst (λ (b : ℕ). Goes at.linking.setting (way x (begin_of (store_items kind cleans) at) (end_of (store_items kind cleans) at)
     (length (store_code kind cleans)))
@@ -75,8 +75,10 @@ pub is_store : (kind : StoreKind) (k : Kind) (cleans : Bool) → store_bytes kin
 is_store kind k true e = record {
   closed = record { waits = refl; labels = λ label. refl };
   few = omega arith;
+  fences = refl;
   at = λ at. record {
-    makes = makes kind k true e (λ a b v. (refl, (refl, tt))) at (omega arith);
+    makes = makes kind k true e (λ a b v. (refl, (refl, tt))) at
+        (let w : words_in (store_items kind true) at ≡ 2 = exact_words (store_items kind true) at (refl, (refl, (refl, tt))) in omega (arith, w));
     instr = Store kind 29 28 0;
     stands = store_stands kind true at;
     first = λ x small. store_row kind x (begin_of (store_items kind true) at) small ∙ ap (λ (b : ℕ). Stores (read x 28) b (read x 29)) e;
@@ -87,8 +89,10 @@ is_store kind k true e = record {
 is_store kind k false e = record {
   closed = record { waits = refl; labels = λ label. refl };
   few = omega arith;
+  fences = refl;
   at = λ at. record {
-    makes = makes kind k false e (λ a b v. (refl, tt)) at (omega arith);
+    makes = makes kind k false e (λ a b v. (refl, tt)) at
+        (let w : words_in (store_items kind false) at ≡ 1 = exact_words (store_items kind false) at (refl, (refl, tt)) in omega (arith, w));
     instr = Store kind 29 28 0;
     stands = store_stands kind false at;
     first = λ x small. store_row kind x (begin_of (store_items kind false) at) small ∙ ap (λ (b : ℕ). Stores (read x 28) b (read x 29)) e;

@@ -13,11 +13,11 @@ use Rattle.node_code.specs.Joined.{joined, AreClosed, AreJoined, Places, Stands}
 use Rattle.node_code.proofs.Lying.{part_left, part_right, waits_left, waits_right, positions_append, map_append}
 use Rattle.node_code.proofs.Running.{stays_at}
 
-abbrev here : ℕ → CodeItem
+abbrev pub here : ℕ → CodeItem
 here n = Here (record { 0 = n })
 
 -- the position of the label of each piece, and of the end
-place : (k : ℕ) → List (List CodeItem) → (i : ℕ) → ℕ
+pub place : (k : ℕ) → List (List CodeItem) → (i : ℕ) → ℕ
 place k [] i = k
 place k (piece ∷ pieces) zero = k
 place k (piece ∷ pieces) (suc i) = place (k + suc (length piece)) pieces i
@@ -29,7 +29,7 @@ some_none (suc i) x e = cc e
 some_is : {A : Type 0} (x y : A) → Some x ≡ Some y → x ≡ y
 some_is x y e = cc e
 
-place_next : (k : ℕ) (pieces : List (List CodeItem)) (i : ℕ) (piece : List CodeItem) → slice_get pieces i ≡ Some piece →
+pub place_next : (k : ℕ) (pieces : List (List CodeItem)) (i : ℕ) (piece : List CodeItem) → slice_get pieces i ≡ Some piece →
     place k pieces (suc i) ≡ place k pieces i + suc (length piece)
 unfolding place
 place_next k [] i piece e = absurd (some_none i piece e)
@@ -45,12 +45,12 @@ place_moves k m (p ∷ ps) (suc i) =
     let e : k + m + suc (length p) ≡ k + (m + suc (length p)) = omega arith in
     ap (λ (n : ℕ). place n ps i) e ∙ place_moves k (m + suc (length p)) ps i
 
-place_first : (k : ℕ) (pieces : List (List CodeItem)) → place k pieces 0 ≡ k
+pub place_first : (k : ℕ) (pieces : List (List CodeItem)) → place k pieces 0 ≡ k
 unfolding place
 place_first k [] = refl
 place_first k (p ∷ ps) = refl
 
-place_end : (k first : ℕ) (pieces : List (List CodeItem)) → place k pieces (length pieces) ≡ k + length (joined first pieces)
+pub place_end : (k first : ℕ) (pieces : List (List CodeItem)) → place k pieces (length pieces) ≡ k + length (joined first pieces)
 unfolding place
 place_end k first [] = omega arith
 place_end k first (p ∷ ps) =
@@ -59,7 +59,7 @@ place_end k first (p ∷ ps) =
     omega (arith, e, f)
 
 -- a piece with its label
-record Found (all : List CodeItem) (position label : ℕ) (piece : List CodeItem) : Type 0 where
+pub record Found (all : List CodeItem) (position label : ℕ) (piece : List CodeItem) : Type 0 where
   pub part : IsPart all position (here label ∷ piece)
   pub closed : mark_waits false part.before ≡ false
 
@@ -69,7 +69,7 @@ found_by all position position' label label' piece piece' e f g h =
     subst (λ (n : ℕ). Found all n label' piece') e (subst (λ (n : ℕ). Found all position n piece') f
     (subst (λ (xs : List CodeItem). Found all position label xs) g h))
 
-find : (all : List CodeItem) (k first : ℕ) (pieces : List (List CodeItem)) → AreClosed pieces → (p : IsPart all k (joined first pieces)) →
+pub find : (all : List CodeItem) (k first : ℕ) (pieces : List (List CodeItem)) → AreClosed pieces → (p : IsPart all k (joined first pieces)) →
     mark_waits false p.before ≡ false →
     (i : ℕ) (piece : List CodeItem) → slice_get pieces i ≡ Some piece → Found all (place k pieces i) (first + i) piece
 unfolding place
@@ -102,7 +102,7 @@ same_test a b e = grind (arith, nat_tests)
 other_test : (a b : ℕ) → b < a → (a == b) ≡ false
 other_test a b h = grind (arith, nat_tests)
 
-label_at : (first : ℕ) (pieces : List (List CodeItem)) → AreClosed pieces → (i : ℕ) → i < length pieces →
+pub label_at : (first : ℕ) (pieces : List (List CodeItem)) → AreClosed pieces → (i : ℕ) → i < length pieces →
     label_position (first + i) (joined first pieces) ≡ place 0 pieces i
 unfolding place
 label_at first [] closed i h = absurd (omega (arith, h))
@@ -123,23 +123,23 @@ label_at first (q ∷ qs) closed (suc i) h =
 -- ---- Marks
 
 -- of each piece the addresses of its items that pass a test
-lists : (at : ℕ → ℕ) → (CodeItem → Bool) → (k : ℕ) → List (List CodeItem) → List (List ℕ)
+pub lists : (at : ℕ → ℕ) → (CodeItem → Bool) → (k : ℕ) → List (List CodeItem) → List (List ℕ)
 lists at test k [] = []
 lists at test k (piece ∷ pieces) = map at (positions_from (k + 1) test piece) ∷ lists at test (k + suc (length piece)) pieces
 
-lists_count : (at : ℕ → ℕ) (test : CodeItem → Bool) (k : ℕ) (pieces : List (List CodeItem)) → length (lists at test k pieces) ≡ length pieces
+pub lists_count : (at : ℕ → ℕ) (test : CodeItem → Bool) (k : ℕ) (pieces : List (List CodeItem)) → length (lists at test k pieces) ≡ length pieces
 unfolding lists
 lists_count at test k [] = refl
 lists_count at test k (p ∷ ps) = ap suc (lists_count at test (k + suc (length p)) ps)
 
-lists_at : (at : ℕ → ℕ) (test : CodeItem → Bool) (k : ℕ) (pieces : List (List CodeItem)) (i : ℕ) (piece : List CodeItem) → slice_get pieces i ≡ Some piece →
+pub lists_at : (at : ℕ → ℕ) (test : CodeItem → Bool) (k : ℕ) (pieces : List (List CodeItem)) (i : ℕ) (piece : List CodeItem) → slice_get pieces i ≡ Some piece →
     slice_get (lists at test k pieces) i ≡ Some (map at (positions_from (place k pieces i + 1) test piece))
 unfolding place lists
 lists_at at test k [] i piece e = absurd (some_none i piece e)
 lists_at at test k (p ∷ ps) zero piece e = ap (λ (xs : List CodeItem). Some (map at (positions_from (k + 1) test xs))) (some_is p piece e)
 lists_at at test k (p ∷ ps) (suc i) piece e = lists_at at test (k + suc (length p)) ps i piece e
 
-lists_are : (at : ℕ → ℕ) (test : CodeItem → Bool) → ((label : ℕ) → test (here label) ≡ false) → (k first : ℕ) (pieces : List (List CodeItem)) →
+pub lists_are : (at : ℕ → ℕ) (test : CodeItem → Bool) → ((label : ℕ) → test (here label) ≡ false) → (k first : ℕ) (pieces : List (List CodeItem)) →
     map at (positions_from k test (joined first pieces)) ≡ concat (lists at test k pieces)
 unfolding lists
 lists_are at test none k first [] = refl

@@ -1,5 +1,5 @@
 -- Runs of parts of linked code.
-use Rattle.std.proofs.Common.{◌≡◌, ℕ, zero, suc, ◌+◌, ◌*◌, ◌^◌, ◌<◌, ◌≤◌, List, [], ◌∷◌, ◌++◌, length, map, refl, ap, sym, ◌∙◌, arith, subst, Bool}
+use Rattle.std.proofs.Common.{◌≡◌, ℕ, zero, suc, ◌+◌, ◌-◌, ◌*◌, ◌/◌, ◌^◌, ◌<◌, ◌≤◌, List, [], ◌∷◌, ◌++◌, length, map, refl, ap, sym, ◌∙◌, arith, subst, Bool}
 use Rattle.std.proofs.Common.{true, false, Some, ◌==◌, lit≤}
 use Rattle.std.specs.List.{list_any}
 use Rattle.std.specs.Prelude.{slice_get, if◌then◌else◌}
@@ -151,11 +151,15 @@ module _ (all : List CodeItem) (n : Linking all) where
     sees = sym (ap (λ (ss : List Sight). ss ++ outside (row instr x pc)) first ∙ ap (λ (f : Effect). waiting w ++ outside f) e ∙ none_behind w);
   })
 
+  -- how many words the item at the position has
+  abbrev pub words_at : (k : ℕ) → ℕ
+  words_at k = (at (k + 1) - at k) / 4
+
   -- what an item's words do is a run to where they lead, behind the mark that waits for the item
   pub jumping : (k : ℕ) (item : CodeItem) (p : IsPart all k (item ∷ [])) (x : List ℕ) (to : ℕ) (w : Bool) → mark_waits false p.before ≡ w →
       is_mark item ≡ false → 1 ≤ least_words_of item →
       Does n.program.start n.program.code x (at k) (at (k + 1)) (GoesOn x to) →
-      Goes n.setting (record { registers = x; from = at k; to = to; most = most_words_of item }) (waiting w) (λ y. y ≡ x)
+      Goes n.setting (record { registers = x; from = at k; to = to; most = words_at k }) (waiting w) (λ y. y ≡ x)
   jumping k item p x to w waits none some d = by d
     where
       own : Lies at k (item ∷ [])
@@ -167,19 +171,16 @@ module _ (all : List CodeItem) (n : Linking all) where
       least : 1 ≤ own.0.words
       least = let e : least_words_of item ≤ own.0.words = own.0.least in omega (arith, some)
 
-      most : own.0.words ≤ most_words_of item
-      most = own.0.most
-
       first : marked n.setting.marks (at k) ≡ waiting w
       first = marked_first all n k (item ∷ []) p (has_none_one item none) (omega (arith, here, least)) ∙ ap (λ (b : Bool). waiting b) waits
 
       by : Does n.program.start n.program.code x (at k) (at (k + 1)) (GoesOn x to) →
-          Goes n.setting (record { registers = x; from = at k; to = to; most = most_words_of item }) (waiting w) (λ y. y ≡ x)
+          Goes n.setting (record { registers = x; from = at k; to = to; most = words_at k }) (waiting w) (λ y. y ≡ x)
       by (in_one instr stands e) = record {
         registers = x;
         steps = 1;
         walks = goes_in_one x (at k) to instr w stands e first;
-        short = omega (arith, least, most);
+        short = omega (arith, here, least);
         are = refl;
       }
       by (in_two instr next two stands e stands_next f) =
@@ -191,7 +192,7 @@ module _ (all : List CodeItem) (n : Linking all) where
             walks = subst (λ (ss : List Sight). Walk n.setting 2 (r.moment x (at k)) ss (r.moment x to)) (none_behind w)
                 (along n.setting 1 1 (r.moment x (at k)) (r.moment x (at k + 4)) (r.moment x to) (waiting w) []
                 (goes_in_one x (at k) (at k + 4) instr w stands e first) (goes_in_one x (at k + 4) to next false stands_next f second));
-            short = omega (arith, here, most, two);
+            short = omega (arith, two);
             are = refl;
           }
 
@@ -199,7 +200,7 @@ module _ (all : List CodeItem) (n : Linking all) where
   item_here k item p = let z : k + 0 ≡ k = omega arith in ap (λ (m : ℕ). slice_get all m) (sym z) ∙ item_at all k (item ∷ []) p 0 item refl
 
   pub jump_part : (k : ℕ) (to : Label) (p : IsPart all k (JumpTo 0 to ∷ [])) (x : List ℕ) → mark_waits false p.before ≡ false →
-      Goes n.setting (record { registers = x; from = at k; to = at (label_position to.0 all); most = 1 }) [] (λ y. y ≡ x)
+      Goes n.setting (record { registers = x; from = at k; to = at (label_position to.0 all); most = words_at k }) [] (λ y. y ≡ x)
   jump_part k to p x closed =
       jumping k (JumpTo 0 to) p x (at (label_position to.0 all)) false closed refl (lit≤ tt)
       (n.linked.lockstep k (JumpTo 0 to) x (GoesOn x (at (label_position to.0 all))) (item_here k (JumpTo 0 to) p) refl)
@@ -210,7 +211,7 @@ module _ (all : List CodeItem) (n : Linking all) where
         registers = x;
         from = at k;
         to = (if is_taken c (read x rs1) (read x rs2) then at (label_position to.0 all) else at (k + 1));
-        most = 2;
+        most = words_at k;
       }) (waiting w) (λ y. y ≡ x)
   branch_part k c rs1 rs2 to p x w waits =
       let item : CodeItem = BranchTo c rs1 rs2 to in

@@ -1,13 +1,14 @@
 -- What pieces of a thread's code do, wherever they stand in its linked code.
-use Rattle.std.specs.Prelude.{◌≡◌, ◌≢◌, ℕ, ◌+◌, ◌-◌, ◌*◌, ◌^◌, ◌<◌, ◌≤◌, List, [], ◌∷◌, ◌++◌, length, map, sum_by, Bool, false, ◌==◌, if◌then◌else◌, pos}
+use Rattle.std.specs.Prelude.{◌≡◌, ◌≢◌, ℕ, ◌+◌, ◌-◌, ◌*◌, ◌/◌, ◌^◌, ◌<◌, ◌≤◌, List, [], ◌∷◌, ◌++◌, length, map, sum_by, Bool, false, ◌==◌, if◌then◌else◌, pos}
 use Rattle.std.specs.List.{list_any}
 use Rattle.ido_ints.specs.declared.kinds.Kind.{Kind}
 use Rattle.ido_ints.specs.Kinds.{bytes_of}
 use Rattle.rv64_isa.specs.declared.instr.Instr.{Instr}
 use Rattle.rv64_isa.specs.declared.instr.Instr.TheVariants.{Ecall}
 use Rattle.rv64_isa.specs.declared.object.CodeItem.{CodeItem}
+use Rattle.rv64_isa.specs.declared.object.CodeItem.TheVariants.{Instruction}
 use Rattle.rv64_isa.specs.Rows.{Stores, Cleans, row, read}
-use Rattle.rv64_link.specs.LabelledCode.{most_words_of, stands_here, is_mark, is_resume, positions_from}
+use Rattle.rv64_link.specs.LabelledCode.{most_words_of, stands_here, is_mark, is_resume, positions_from, fences_in}
 use Rattle.rv64_link.specs.Linked.{Stands}
 use Rattle.log_layout.specs.Roles as roles
 use Rattle.log_layout.specs.Roles.{is_temporary}
@@ -38,9 +39,13 @@ marks_in piece at = map at.linking.linked.address_of (positions_from at.position
 abbrev pub resumes_in : (piece : List CodeItem) → Site piece → List ℕ
 resumes_in piece at = map at.linking.linked.address_of (positions_from at.position is_resume piece)
 
--- from registers at an address the piece's code leads to an address, in no more steps than its items may take words
+-- how many words its code has
+abbrev pub words_in : (piece : List CodeItem) → Site piece → ℕ
+words_in piece at = (end_of piece at - begin_of piece at) / 4
+
+-- from registers at an address the piece's code leads to an address, in no more steps than it has words
 abbrev pub Leads : (piece : List CodeItem) → Site piece → (x : List ℕ) → (from to : ℕ) → List Sight → (has : List ℕ → Type 0) → Type 0
-Leads piece at x from to sights has = Goes at.linking.setting (record { registers = x; from = from; to = to; most = sum_by most_words_of piece }) sights has
+Leads piece at x from to sights has = Goes at.linking.setting (record { registers = x; from = from; to = to; most = words_in piece at }) sights has
 
 -- ---- Stores
 
@@ -63,6 +68,7 @@ pub record Makes (kind : Kind) (cleans : Bool) (piece : List CodeItem) (at : Sit
 pub record IsStore (kind : Kind) (cleans : Bool) (piece : List CodeItem) : Type 0 where
   pub closed : IsClosed piece
   pub few : sum_by most_words_of piece ≤ 2
+  pub fences : fences_in piece ≡ 0
   pub at : (at : Site piece) → Makes kind cleans piece at
 
 -- ---- Boundaries
@@ -93,6 +99,7 @@ pub record Keeps (b : Boundary) (piece : List CodeItem) (at : Site piece) : Type
 pub record IsBoundary (b : Boundary) (piece : List CodeItem) : Type 0 where
   pub closed : IsClosed piece
   pub few : sum_by most_words_of piece ≤ length b.live + 35
+  pub fences : fences_in piece ≡ 2
   pub at : (at : Site piece) → Keeps b piece at
 
 -- ---- Calls
@@ -127,6 +134,7 @@ pub record Locks (b : Boundary) (mutex : ℕ) (piece : List CodeItem) (at : Site
 pub record IsLock (b : Boundary) (mutex : ℕ) (piece : List CodeItem) : Type 0 where
   pub closed : IsClosed piece
   pub few : sum_by most_words_of piece ≤ length b.live + 38
+  pub fences : fences_in piece ≡ 2
   pub at : (at : Site piece) → Locks b mutex piece at
 
 -- first the mark and a boundary, then the call, which is no mark; the point gets the address behind the call, where the thread may be resumed if it still
@@ -145,12 +153,14 @@ pub record Unlocks (b : Boundary) (mutex : ℕ) (piece : List CodeItem) (at : Si
 pub record IsUnlock (b : Boundary) (mutex : ℕ) (piece : List CodeItem) : Type 0 where
   pub closed : IsClosed piece
   pub few : sum_by most_words_of piece ≤ length b.live + 38
+  pub fences : fences_in piece ≡ 2
   pub at : (at : Site piece) → Unlocks b mutex piece at
 
 pub record Ends (piece : List CodeItem) (at : Site piece) : Type 0 where
   pub call : ℕ
   pub asks : (x : List ℕ) → AreRegisters x → Leads piece at x (begin_of piece at) call (Mark ∷ []) (λ y. read y roles.call ≡ ends)
   pub stands : Stands at.linking.program.start at.linking.program.code call Ecall
+  pub behind : end_of piece at ≡ call + 4
   pub plain : marked at.linking.program.nodes call ≡ []
   pub marks : marks_in piece at ≡ begin_of piece at ∷ []
   pub resumes : resumes_in piece at ≡ []
@@ -158,6 +168,7 @@ pub record Ends (piece : List CodeItem) (at : Site piece) : Type 0 where
 pub record IsEnd (piece : List CodeItem) : Type 0 where
   pub closed : IsClosed piece
   pub few : sum_by most_words_of piece ≤ 2
+  pub fences : fences_in piece ≡ 0
   pub at : (at : Site piece) → Ends piece at
 
 -- ---- Evaluation
@@ -179,6 +190,7 @@ pub record Computes (code : List Instr) (piece : List CodeItem) (at : Site piece
 pub record IsComputing (code : List Instr) (piece : List CodeItem) : Type 0 where
   pub closed : IsClosed piece
   pub few : sum_by most_words_of piece ≤ length code + 1
+  pub fences : fences_in piece ≡ fences_in (map Instruction code)
   pub at : (at : Site piece) → Computes code piece at
 
 -- the mark, code that only computes, and a branch to the label, which is taken where the test is passed behind the code
@@ -193,6 +205,7 @@ pub record Chooses (code : List Instr) (test : Test) (label : ℕ) (piece : List
 pub record IsChoice (code : List Instr) (test : Test) (label : ℕ) (piece : List CodeItem) : Type 0 where
   pub closed : IsClosed piece
   pub few : sum_by most_words_of piece ≤ length code + 2
+  pub fences : fences_in piece ≡ fences_in (map Instruction code)
   pub at : (at : Site piece) → Chooses code test label piece at
 
 -- ---- Jumps
@@ -206,6 +219,7 @@ pub record Jumps (label : ℕ) (piece : List CodeItem) (at : Site piece) : Type 
 pub record IsJump (label : ℕ) (piece : List CodeItem) : Type 0 where
   pub closed : IsClosed piece
   pub few : sum_by most_words_of piece ≤ 1
+  pub fences : fences_in piece ≡ 0
   pub at : (at : Site piece) → Jumps label piece at
 
 -- to the label where the test is passed, else to the piece's end
@@ -217,4 +231,5 @@ pub record Branches (test : Test) (label : ℕ) (piece : List CodeItem) (at : Si
 pub record IsBranch (test : Test) (label : ℕ) (piece : List CodeItem) : Type 0 where
   pub closed : IsClosed piece
   pub few : sum_by most_words_of piece ≤ 2
+  pub fences : fences_in piece ≡ 0
   pub at : (at : Site piece) → Branches test label piece at

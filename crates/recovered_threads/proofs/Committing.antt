@@ -71,6 +71,7 @@ enters_on : (p : Plan) (code : Code p) (kept after : FlowState) (walker : Walker
     Enters p code.thread node (seen_by kept walker) bank x → Enters p code.thread node (seen_by after walker) bank x
 enters_on p code kept after walker node bank x e = record {
   at_bank = e.at_bank;
+  count = e.count;
   locals = e.locals;
   pending = λ is at. pending_on p kept after walker x is.action (e.pending is at);
 }

@@ -133,6 +133,7 @@ module _ (p : Plan) (code : Code p) (s : FlowState) (walker : Walker) (from mute
   enters_behind : (bank : ℕ) (x : List ℕ) → Enters p code.thread from (seen_by s walker) bank x → Enters p code.thread walker.at (seen_by s walker) bank x
   enters_behind bank x enters = record {
     at_bank = enters.at_bank;
+    count = enters.count;
     locals = λ local k kind live. enters.locals local k kind (live_before local live);
     pending = λ node here. no_pending_in p node.action s walker x none_pending;
   }

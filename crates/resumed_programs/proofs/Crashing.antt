@@ -1,7 +1,7 @@
 -- After a crash the machine stands beside what is kept.
-use Rattle.std.proofs.Common.{◌≡◌, refl, ℕ, zero, suc, ◌<◌, List, [], ◌∷◌, ◌++◌, length, map, sym, ◌∙◌, ap, subst, arith, Some, None}
+use Rattle.std.proofs.Common.{◌≡◌, refl, ℕ, zero, suc, ◌<◌, List, [], ◌∷◌, ◌++◌, length, map, sym, ◌∙◌, ap, subst, arith, Some, None, true}
 use Rattle.std.specs.Prelude.{slice_get}
-use Rattle.std.proofs.lemmas.Bool.{true≢false, cond-true}
+use Rattle.std.proofs.lemmas.Bool.{true≢false}
 use Rattle.std.proofs.lemmas.List.{append-nil}
 use Rattle.ido_base.specs.declared.event.Event.TheVariants.{Crash}
 use Rattle.rv64_isa.specs.declared.phase.Phase.{Phase}
@@ -18,8 +18,8 @@ use Rattle.resumption.specs.Events.{IsAgain, crashes}
 use Rattle.resumption.specs.Lives.{then}
 use Rattle.region_attempts.specs.Standing.{flow_kept}
 use Rattle.variable_words.proofs.Beginning.{crashes_hold}
-use Rattle.log_states.specs.Logs.{Record, nothing_recorded}
-use Rattle.log_states.specs.Stages.{LogIs, is_committed}
+use Rattle.log_states.specs.Logs.{nothing_recorded}
+use Rattle.log_states.specs.Stages.{LogIs}
 use Rattle.log_states.specs.Machines.{moment_of}
 use Rattle.log_states.specs.Standing.{LogStands}
 use Rattle.log_states.proofs.Committing.{ends_committed}
@@ -34,12 +34,12 @@ use Rattle.resumed_programs.specs.Histories.{Beside, kept_of}
 use Rattle.resumed_programs.specs.Courses.{Course, Rests, InPhase, ThreadStands}
 use Rattle.resumed_programs.specs.Standing.{Stands, gathering}
 use Rattle.resumed_programs.specs.Laws.{CrashStands}
-use Rattle.resumed_programs.proofs.Orderly.{kept_threads}
-use Rattle.resumed_programs.proofs.Telling.{left, log_of, left_tells}
+use Rattle.resumed_programs.proofs.Orderly.{orderly}
+use Rattle.resumed_programs.proofs.Telling.{left, log_of, left_tells, over_is_caught}
 
 -- ---- Attempts
 
-again : Attempt → Attempt
+pub again : Attempt → Attempt
 again a = record { done = 0; longest = a.longest }
 
 done_again : (attempts : List Attempt) (t : ℕ) → (attempt_at (map again attempts) t).done ≡ 0
@@ -58,7 +58,7 @@ longest_again (a ∷ rest) (suc t) = longest_again rest t
 
 module _ (y : System) (s : IsSystem y) (w : World) (stands : Stands y s w) where
   abbrev b : Beside y
-  b = stands.beside
+  b = stands.trails.beside
 
   abbrev after : World
   after = after_event y.program w Crash
@@ -66,7 +66,7 @@ module _ (y : System) (s : IsSystem y) (w : World) (stands : Stands y s w) where
   abbrev behind : Moment
   behind = record { kept = b.moment.kept; pending = []; memory = crashed b.moment.memory; attempts = map again b.moment.attempts }
 
-  is_again : IsAgain b.moment.attempts (map again b.moment.attempts)
+  pub is_again : IsAgain b.moment.attempts (map again b.moment.attempts)
   is_again = record { done = done_again b.moment.attempts; longest = longest_again b.moment.attempts }
 
   abbrev beside : Beside y
@@ -83,15 +83,16 @@ module _ (y : System) (s : IsSystem y) (w : World) (stands : Stands y s w) where
   -- ---- Each thread
 
   abbrev courses : ℕ → Course
-  courses n = record { old = nothing_recorded; new = left y s w stands n; rest = []; cleans = []; giving = None }
+  courses n = record { old = nothing_recorded; new = left y s w stands n; rest = []; committed = true; cleans = []; giving = None }
 
   abbrev same_count : length y.program ≡ length w.harts
-  same_count = s.count ∙ sym stands.count
+  same_count = s.count ∙ sym stands.trails.count
 
-  gathers : AreGathering after (left y s w stands)
+  pub gathers : AreGathering after (left y s w stands)
   gathers =
-      crashes_gather y.program w (λ n. (stands.courses n).old) (λ n. (stands.courses n).new) (left y s w stands) (λ n. (stands.courses n).rest) same_count
-      (λ n below. log_of y s w stands n (let c = stands.count in omega (arith, below, c))) (λ n below. refl)
+      crashes_gather y.program w (λ n. (stands.trails.courses n).old) (λ n. (stands.trails.courses n).new) (left y s w stands)
+      (λ n. (stands.trails.courses n).rest) same_count
+      (λ n below. log_of y s w stands n (let c = stands.trails.count in omega (arith, below, c))) (λ n below. refl)
 
   in_phase : (code : Code y.plan) (n : ℕ) (hart : Hart) (walker : Walker) (phase : Phase) → Gathers after n (left y s w stands n) phase →
       Rests y beside code (courses n) → InPhase y after beside code (courses n) hart walker phase
@@ -102,8 +103,8 @@ module _ (y : System) (s : IsSystem y) (w : World) (stands : Stands y s w) where
   in_phase code n hart walker Done g rests = (rests, g)
   in_phase code n hart walker Ended g rests = absurd g
 
-  count_after : length after.harts ≡ thread_count y
-  count_after = (queues_stand y.program w Crash same_count stands.sound).1 ∙ stands.count
+  pub count_after : length after.harts ≡ thread_count y
+  count_after = (queues_stand y.program w Crash same_count stands.trails.sound).1 ∙ stands.trails.count
 
   thread_by : (n : ℕ) (below : n < thread_count y) → (log : LogStands (s.codes.each n below).thread.number nothing_recorded (left y s w stands n) after []) →
       slice_get after.harts n ≡ Some log.hart →
@@ -111,18 +112,15 @@ module _ (y : System) (s : IsSystem y) (w : World) (stands : Stands y s w) where
   thread_by n below log here =
       let code = s.codes.each n below in
       let same : code.thread.number ≡ n = s.codes.number n below in
-      let committed = ends_committed code.thread.number nothing_recorded (left y s w stands n) (moment_of after log.hart []) log.log refl in
-      let threads = kept_threads y s beside in
-      let found = found_in (kept_of y beside).walkers code.thread.number (let k = threads.walkers in omega (arith, below, same, k)) in
+      let kept = orderly y s beside in
+      let found = found_in (kept_of y beside).walkers code.thread.number (let k = kept.count in omega (arith, below, same, k)) in
       let rests : Rests y beside code (courses n) =
-      record { begun = refl; done = done_again b.moment.attempts code.thread.number; rest = refl; cleans = refl; giving = refl } in
+      record { begun = refl; done = done_again b.moment.attempts code.thread.number; rest = refl; cleans = refl; giving = refl; committed = refl } in
       record {
         log = log;
-        tells =
-            subst (λ (r : Record). Tells y.plan code (kept_of y beside) r)
-            (sym (cond-true (is_committed code.thread.number (moment_of after log.hart [])) (left y s w stands n) nothing_recorded committed))
-            (subst (λ (k : FlowState). Tells y.plan code k (left y s w stands n)) (sym kept_same) (left_tells y s w stands n below));
-        will_tell = λ un. absurd (true≢false (sym committed ∙ un));
+        no_sooner = λ e. ends_committed code.thread.number nothing_recorded (left y s w stands n) (moment_of after log.hart []) log.log refl;
+        tells = subst (λ (k : FlowState). Tells y.plan code k (left y s w stands n)) (sym kept_same) (left_tells y s w stands n below);
+        will_tell = λ un. absurd (true≢false un);
         cleans = λ effect c. absurd (contains_none effect c);
         walker = found.0;
         walks = found.1;
@@ -131,7 +129,7 @@ module _ (y : System) (s : IsSystem y) (w : World) (stands : Stands y s w) where
             let within = writes.within in let none = done_again b.moment.attempts code.thread.number in absurd (omega (arith, within, none));
       }
 
-  thread : (n : ℕ) (below : n < thread_count y) → ThreadStands y after beside (s.codes.each n below) (courses n)
+  pub thread : (n : ℕ) (below : n < thread_count y) → ThreadStands y after beside (s.codes.each n below) (courses n)
   thread n below =
       let log = gathers.logs n (let c = count_after in omega (arith, below, c)) in
       let same : (s.codes.each n below).thread.number ≡ n = s.codes.number n below in
@@ -141,20 +139,23 @@ module _ (y : System) (s : IsSystem y) (w : World) (stands : Stands y s w) where
         log = subst (λ (k : ℕ). LogIs k nothing_recorded (left y s w stands n) (moment_of after log.hart [])) (sym same) log.log;
       }) log.here
 
-  crashed_is : IsCrashed y.program w after
+  pub crashed_is : IsCrashed y.program w after
   crashed_is = crashes_step y.program w
 
-  stands_after : Stands y s after
+  abbrev pub stands_after : Stands y s after
   stands_after = record {
-    beside = beside;
-    memory = crashes_hold (places_of y) y.program w ∙ ap crashed stands.memory;
-    count = count_after;
-    mutexes = crashed_is.locks ∙ stands.mutexes;
-    sound = (queues_stand y.program w Crash same_count stands.sound).0;
-    short = queues_stay_short y.program w Crash stands.short;
-    courses = courses;
-    each = thread;
-    locks = gathering refl gathers;
+    trails = record {
+      beside = beside;
+      memory = crashes_hold (places_of y) y.program w ∙ ap crashed stands.trails.memory;
+      count = count_after;
+      mutexes = crashed_is.locks ∙ stands.trails.mutexes;
+      sound = (queues_stand y.program w Crash same_count stands.trails.sound).0;
+      short = queues_stay_short y.program w Crash stands.trails.short;
+      courses = courses;
+      each = thread;
+      locks = gathering refl gathers;
+    };
+    caught_up = λ n below. over_is_caught y after beside (s.codes.each n below) (courses n) (thread n below) refl refl;
   }
 
 pub crash_stands : CrashStands

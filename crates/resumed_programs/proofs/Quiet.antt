@@ -1,5 +1,5 @@
 -- Threads where memory is as it was.
-use Rattle.std.proofs.Common.{◌≡◌, ◌≢◌, refl, ℕ, ◌/◌, List, length, ap, sym, ◌∙◌, subst, Some, Bool, true}
+use Rattle.std.proofs.Common.{◌≡◌, ◌≢◌, refl, ℕ, ◌/◌, List, length, ap, sym, ◌∙◌, subst, Some, true}
 use Rattle.std.specs.Prelude.{slice_get}
 use Rattle.ido_base.specs.declared.event.Event.TheVariants.{Step}
 use Rattle.ido_base.specs.Words.{Word, Entry, loaded}
@@ -10,16 +10,16 @@ use Rattle.rv64_isa.specs.declared.phase.Phase.TheVariants.{Take, Wait, Resume, 
 use Rattle.rv64_isa.specs.Machine.{Hart, World, after_event}
 use Rattle.rv64_isa.specs.Frames.{IsSound}
 use Rattle.flow_graph.specs.Actions.{Walker}
-use Rattle.log_states.specs.Stages.{LogIs, is_committed, left_by_crash}
+use Rattle.log_states.specs.Stages.{LogIs, is_committed}
 use Rattle.code_runs.specs.Walks.{Setting}
 use Rattle.hart_runs.specs.Standing.{is_access, Agrees}
 use Rattle.hart_runs.proofs.Others.{others_leave}
 use Rattle.thread_runs.proofs.Others.{others_keep_ways}
 use Rattle.thread_runs.proofs.Cores.{others_keep_cores}
-use Rattle.recovered_threads.specs.Telling.{Code, Tells}
+use Rattle.recovered_threads.specs.Telling.{Code}
 use Rattle.resumed_programs.specs.Systems.{System, shapes_of}
-use Rattle.resumed_programs.specs.Histories.{Beside, kept_of}
-use Rattle.resumed_programs.specs.Courses.{Course, Fits, InPhase, Runs, on_way, at_core, IsComing, is_reached, is_ahead, ThreadStands, committed}
+use Rattle.resumed_programs.specs.Histories.{Beside}
+use Rattle.resumed_programs.specs.Courses.{Course, InPhase, Runs, on_way, at_core, IsComing, is_reached, is_ahead, ThreadStands, committed}
 
 -- memory agrees where it is as it was
 pub agrees_on : (y : System) (w v : World) (h : ℕ) (s : Setting) → v.words ≡ w.words → length v.harts ≡ length w.harts → Agrees y.program w h s →
@@ -56,10 +56,9 @@ module _ (y : System) (w v : World) (b : Beside y) (code : Code y.plan) (c : Cou
           (subst (λ (ws : List Word). LogIs code.thread.number c.old c.new (record { words = ws; queue = t.log.hart.queue; rest = c.rest })) (sym words)
           t.log.log);
     };
-    tells =
-        subst (λ (ws : List Word). Tells y.plan code (kept_of y b)
-        (left_by_crash code.thread.number c.old c.new (record { words = ws; queue = hart.queue; rest = c.rest }))) (sym words) t.tells;
-    will_tell = λ un. t.will_tell (sym (same_committed t.log.hart hart) ∙ un);
+    no_sooner = λ e. same_committed t.log.hart hart ∙ t.no_sooner e;
+    tells = t.tells;
+    will_tell = t.will_tell;
     cleans = t.cleans;
     walker = t.walker;
     walks = t.walks;
@@ -73,7 +72,7 @@ module _ (y : System) (w v : World) (b : Beside y) (code : Code y.plan) (c : Cou
           position = f.position;
           since = f.since;
           comes = λ since. coming t.log.hart hart queue u e f.position (f.comes since);
-          fenced = λ un. f.fenced (sym (same_committed t.log.hart hart) ∙ un);
+          fenced = f.fenced;
         };
   }
 
@@ -93,7 +92,7 @@ module _ (y : System) (w : World) (g : ℕ) (b : Beside y) (code : Code y.plan) 
     steps = o.steps;
     way = others_keep_ways y.plan code.thread code.is.places y.program w code.thread.number o.setting _ o.steps _ (Step g) sound other o.way
         (agrees_on y w after code.thread.number o.setting words (others_leave y.program w code.thread.number (Step g) sound other).1 o.way.agrees);
-    fits = subst (λ (x : Bool). Fits y b code c x walker o.aim) (sym (same_committed y w after b code c words hart hart)) o.fits;
+    fits = o.fits;
   })
   runs_on hart walker (at_core o) = at_core (record {
     bank = o.bank;
@@ -101,6 +100,7 @@ module _ (y : System) (w : World) (g : ℕ) (b : Beside y) (code : Code y.plan) 
     registers = o.registers;
     core = others_keep_cores y.plan code.thread code.is.places y.program w code.thread.number walker.at _ o.bank o.registers (Step g) sound other o.core;
     goes = o.goes;
+    fresh = o.fresh;
   })
 
   in_phase_on : (hart : Hart) (walker : Walker) (phase : Phase) → InPhase y w b code c hart walker phase → InPhase y after b code c hart walker phase

@@ -1,8 +1,6 @@
 -- A hart that recovery resumes goes on beside its walker.
-use Rattle.std.proofs.Common.{◌≡◌, inr, refl, ℕ, ◌+◌, ◌*◌, ◌^◌, ◌<◌, List, [], ◌++◌, length, ap, ap₂, arith, sym, ◌∙◌, subst, Some, false}
-use Rattle.std.specs.Prelude.{slice_get, slice_index_or}
-use Rattle.std.proofs.lemmas.Bool.{cond-true}
-use Rattle.std.proofs.lemmas.Option.{none-some, slice_get_within}
+use Rattle.std.proofs.Common.{◌≡◌, inr, refl, ℕ, ◌<◌, List, [], ◌++◌, length, ap, ap₂, sym, ◌∙◌, subst, Some, Bool}
+use Rattle.std.specs.Prelude.{slice_get, if◌then◌else◌}
 use Rattle.ido_base.specs.declared.event.Event.TheVariants.{Step}
 use Rattle.rv64_isa.specs.declared.phase.Phase.{Phase}
 use Rattle.rv64_isa.specs.declared.phase.Phase.TheVariants.{Resume}
@@ -10,25 +8,19 @@ use Rattle.rv64_isa.specs.Rows.{Effect}
 use Rattle.rv64_isa.specs.Machine.{Hart, World, Outcome, happens, moved, after_event, resume_of, bank_of}
 use Rattle.flow_graph.specs.Actions.{Walker, seen_by}
 use Rattle.code_runs.specs.Running.{moment}
-use Rattle.code_runs.specs.Walks.{Program, Setting, Meets}
-use Rattle.hart_runs.specs.Standing.{setting_of, Agrees}
-use Rattle.hart_runs.specs.Laws.{program_at}
+use Rattle.code_runs.specs.Walks.{Setting}
+use Rattle.rv64_isa.proofs.Frames.{queues_stand}
 use Rattle.hart_runs.specs.Calls.{IsIn}
 use Rattle.hart_runs.proofs.Recovering.{resumes_step}
 use Rattle.region_attempts.specs.Standing.{flow_solo}
 use Rattle.region_attempts.proofs.Following.{graph_stands}
-use Rattle.log_states.specs.Logs.{Record}
-use Rattle.log_states.specs.Stages.{is_committed}
-use Rattle.log_states.specs.Machines.{moment_of}
-use Rattle.log_states.proofs.Committing.{ends_committed}
 use Rattle.thread_code.specs.Plans.{IsNodeOf}
 use Rattle.thread_code.specs.Entering.{Enters}
 use Rattle.thread_code.specs.Programs as code
 use Rattle.thread_code.specs.Programs.{IsResumed}
-use Rattle.thread_runs.specs.Ways.{Arrives, IsOnWay, IsPlaced}
+use Rattle.thread_runs.specs.Ways.{Arrives, IsOnWay}
 use Rattle.thread_runs.specs.Laws.{node_resumed, IsUnderWay, at_core, arrives}
 use Rattle.thread_runs.proofs.Cores.{ways_see_all, cores_see_all}
-use Rattle.thread_runs.proofs.Placed.{plans_are_placed}
 use Rattle.thread_runs.proofs.Resuming.{resumed_go_on}
 use Rattle.recovered_threads.specs.Telling as telling
 use Rattle.recovered_threads.specs.Telling.{Code, ResumesAt, Tells}
@@ -42,9 +34,9 @@ use Rattle.resumed_programs.specs.Courses as courses
 use Rattle.resumed_programs.specs.Courses.{Course, Rests, InPhase, Runs, OnWay, AtCore}
 use Rattle.resumed_programs.specs.Standing.{AreHeld, AreLocked, gathering, gathered, records_of, Stands}
 use Rattle.resumed_programs.specs.Laws.{ResumesStand}
+use Rattle.resumed_programs.proofs.Bare.{bare, bare_agrees, bare_meets, bare_answers, placed}
 use Rattle.resumed_programs.proofs.Orderly.{resumed}
-use Rattle.resumed_programs.proofs.Starting.{settings_meet}
-use Rattle.resumed_programs.proofs.Recovering.{moved_is, quiet_stands, phase_of, held_on}
+use Rattle.resumed_programs.proofs.Recovering.{StandsStill, moved_is, quiet_stands, phase_of, held_on}
 
 -- where the record says, the thread may be resumed
 resumed_there : (y : System) (c : Code y.plan) (node address : ℕ) → IsNodeOf c.thread node → ResumesAt y.plan c node address →
@@ -54,10 +46,10 @@ resumed_there y c node address own (telling.behind_lock from mutex is of at acti
 resumed_there y c node address own (telling.behind_unlock from mutex is of at action holds) =
     (code.behind_unlock from mutex node is of at action holds, refl)
 
-module _ (y : System) (s : IsSystem y) (w : World) (h : ℕ) (stands : Stands y s w) (i : IsIn w h Resume) (ag : AreGathered w (records_of stands.courses))
-    (held : AreHeld w stands.courses (now_of y stands.beside)) where
+module _ (y : System) (s : IsSystem y) (w : World) (h : ℕ) (stands : Stands y s w) (i : IsIn w h Resume) (ag : AreGathered w (records_of stands.trails.courses))
+    (held : AreHeld w stands.trails.courses (now_of y stands.trails.beside)) where
   abbrev b : Beside y
-  b = stands.beside
+  b = stands.trails.beside
 
   abbrev after : World
   after = after_event y.program w (Step h)
@@ -73,7 +65,7 @@ module _ (y : System) (s : IsSystem y) (w : World) (h : ℕ) (stands : Stands y 
     c = s.codes.each h below
 
     abbrev course : Course
-    course = stands.courses h
+    course = stands.trails.courses h
 
     same : c.thread.number ≡ h
     same = s.codes.number h below
@@ -83,10 +75,7 @@ module _ (y : System) (s : IsSystem y) (w : World) (h : ℕ) (stands : Stands y 
 
     tells : Tells y.plan c (kept_of y b) course.new
     tells =
-        let t = stands.each h below in
-        let committed = ends_committed c.thread.number course.old course.new (moment_of w t.log.hart course.rest) t.log.log rests.rest in
-        subst (λ (x : Record). Tells y.plan c (kept_of y b) x)
-        (cond-true (is_committed c.thread.number (moment_of w t.log.hart course.rest)) course.new course.old committed) t.tells
+        subst (λ (done : Bool). Tells y.plan c (kept_of y b) (if done then course.new else course.old)) rests.committed (stands.trails.each h below).tells
 
     go : GoesOn y.program y.plan c (kept_of y b) w i.hart course.new
     go =
@@ -99,34 +88,20 @@ module _ (y : System) (s : IsSystem y) (w : World) (h : ℕ) (stands : Stands y 
         (subst (λ (k : ℕ). happens y.program w (Step k) ≡ moved w k go.after) same go.does) refl refl refl go.queue).here
 
     -- its walker is that of the kept state
-    same_walker : go.told.walker ≡ (stands.each h below).walker
+    same_walker : go.told.walker ≡ (stands.trails.each h below).walker
     same_walker =
         let r = resumed y s b in
         let alone = (graph_stands (flat_of y) b.moment b.schedule s.plan.formed r.resumed.invariant r.resumed.kept).alone c.thread.number in
         let kept : slice_get (now_of y b).walkers c.thread.number ≡ slice_get (kept_of y b).walkers c.thread.number =
         alone ∙ ap (λ (n : ℕ). slice_get (flow_solo (flat_of y) (kept_of y b) c.thread.number n).walkers c.thread.number) rests.begun in
-        same_there (slice_get (kept_of y b).walkers c.thread.number) go.told.walker (stands.each h below).walker go.told.there
-        (sym kept ∙ (stands.each h below).walks)
+        same_there (slice_get (kept_of y b).walkers c.thread.number) go.told.walker (stands.trails.each h below).walker go.told.there
+        (sym kept ∙ (stands.trails.each h below).walks)
 
     abbrev setting : Setting
-    setting = setting_of y.program (slice_index_or y.marks c.thread.number []) (λ address bytes. false) after c.thread.number
+    setting = bare y s after h below
 
-    agrees : Agrees y.program after c.thread.number setting
-    agrees = record { fetches = λ address instr e. e; loads = λ address bytes value e. absurd (none-some value e) }
-
-    meets : Meets c.is.places.program setting
-    meets =
-        let is : program_at y.program c.thread.number (slice_index_or y.marks c.thread.number []) (slice_index_or y.resumes c.thread.number []) ≡
-        c.is.places.program = sym (c.is.of_program ∙ (s.own h below).program) in
-        subst (λ (p : Program). Meets p setting) is
-        (settings_meet y.program (slice_index_or y.marks c.thread.number []) (slice_index_or y.resumes c.thread.number []) (λ address bytes. false) after
-        c.thread.number)
-
-    placed : IsPlaced y.plan c.thread c.is.places (length after.harts)
-    placed =
-        let inside = slice_get_within after.harts h go.after there in
-        plans_are_placed y.plan c.thread c.is.places (length after.harts) s.plan c.of c.is.kept (let e = same in omega (arith, inside, e))
-        (subst (λ (p : Program). p.start + 4 * length p.code < 2 ^ 64) (sym c.is.of_program) (s.own h below).room)
+    count : length after.harts ≡ thread_count y
+    count = (queues_stand y.program w (Step h) (s.count ∙ sym stands.trails.count) stands.trails.sound).1 ∙ stands.trails.count
 
     abbrev bank : ℕ
     bank = bank_of course.new.point
@@ -138,7 +113,8 @@ module _ (y : System) (s : IsSystem y) (w : World) (h : ℕ) (stands : Stands y 
         subst (λ (node : ℕ). IsUnderWay y.plan c.thread c.is.places y.program after c.thread.number setting node (seen_by (kept_of y b) go.told.walker) bank
         go.after.registers) r.1
         (resumed_go_on y.plan c.thread y.program c.program c.is after c.thread.number setting (resume_of course.new.point) r.0
-        (seen_by (kept_of y b) go.told.walker) bank go.after.registers placed meets agrees
+        (seen_by (kept_of y b) go.told.walker) bank go.after.registers (placed y s after h below count)
+        (bare_meets y s after h below) (bare_agrees y s after h below)
         (record {
           hart = go.after;
           here = ap (slice_get after.harts) same ∙ there;
@@ -154,7 +130,7 @@ module _ (y : System) (s : IsSystem y) (w : World) (h : ℕ) (stands : Stands y 
         }))
 
     goes : courses.GoesOn y b c course
-    goes = record { going = rests.begun ∙ sym rests.done; rest = rests.rest; giving = rests.giving }
+    goes = record { going = rests.begun ∙ sym rests.done; rest = rests.rest; giving = rests.giving; committed = rests.committed }
 
     none_ahead : course.cleans ++ course.rest ≡ []
     none_ahead = ap₂ ◌++◌ rests.cleans rests.rest
@@ -168,10 +144,11 @@ module _ (y : System) (s : IsSystem y) (w : World) (h : ℕ) (stands : Stands y 
       core = cores_see_all y.plan c.thread c.is.places after c.thread.number go.told.walker.at (seen_by (kept_of y b) go.told.walker) bank go.after.registers
           (now_of y b).variables core;
       goes = record { goes = goes; cleans = rests.cleans; lives = go.told.goes_on };
+      fresh = λ chosen. rests.done;
     })
     runs_by (arrives from own way) = courses.on_way (record {
       setting = setting;
-      answers = λ address bytes value e. absurd (none-some value e);
+      answers = bare_answers y s after h below b course;
       aim = Arrives;
       bank = bank;
       at_bank = λ some. refl;
@@ -184,28 +161,32 @@ module _ (y : System) (s : IsSystem y) (w : World) (h : ℕ) (stands : Stands y 
       fits = (goes, go.told.goes_on);
     })
 
-    own : InPhase y after b c course new (stands.each h below).walker new.phase
+    own : InPhase y after b c course new (stands.trails.each h below).walker new.phase
     own =
         let here : slice_get after.harts h ≡ Some new =
         (moved_is y s w h stands w i.hart new i.here does refl refl refl (resumes_step y.program w h i).queue).here in
         let is : go.after ≡ new = same_there (slice_get after.harts h) go.after new there here in
-        let runs : Runs y after b c course go.after (stands.each h below).walker =
+        let runs : Runs y after b c course go.after (stands.trails.each h below).walker =
         subst (λ (x : Walker). Runs y after b c course go.after x) same_walker (runs_by under_way) in
-        subst (λ (x : Hart). InPhase y after b c course x (stands.each h below).walker x.phase) is
-        (subst (λ (p : Phase). InPhase y after b c course go.after (stands.each h below).walker p) (sym go.runs) runs)
+        subst (λ (x : Hart). InPhase y after b c course x (stands.trails.each h below).walker x.phase) is
+        (subst (λ (p : Phase). InPhase y after b c course go.after (stands.trails.each h below).walker p) (sym go.runs) runs)
 
-  pub resumes : Stands y s after
+  pub resumes : StandsStill y s w after stands
   resumes =
       quiet_stands y s w h stands i.hart new i.here
       (moved_is y s w h stands w i.hart new i.here does refl refl refl (resumes_step y.program w h i).queue) own
-      (gathered (gathered_go_on y.program w (records_of stands.courses) h Resume ag (inr refl) i).1
+      (gathered (gathered_go_on y.program w (records_of stands.trails.courses) h Resume ag (inr refl) i).1
       (held_on y s w h stands after (ap (λ (o : Outcome). o.0.holders) does) held))
 
-resumes_by : (y : System) (s : IsSystem y) (w : World) (h : ℕ) (stands : Stands y s w) → IsIn w h Resume → AreLocked y w stands.beside stands.courses →
-    Stands y s (after_event y.program w (Step h))
+resumes_by : (y : System) (s : IsSystem y) (w : World) (h : ℕ) (stands : Stands y s w) → IsIn w h Resume →
+    AreLocked y w stands.trails.beside stands.trails.courses → StandsStill y s w (after_event y.program w (Step h)) stands
 resumes_by y s w h stands i (gathering none gathers) =
-    absurd (subst (λ (p : Phase). Gathers w h (records_of stands.courses h) p) i.phase_is (gathers.each h i.hart i.here))
+    absurd (subst (λ (p : Phase). Gathers w h (records_of stands.trails.courses h) p) i.phase_is (gathers.each h i.hart i.here))
 resumes_by y s w h stands i (gathered ag held) = resumes y s w h stands i ag held
 
+pub resumes_still : (y : System) (s : IsSystem y) (w : World) (h : ℕ) (stands : Stands y s w) → IsIn w h Resume →
+    StandsStill y s w (after_event y.program w (Step h)) stands
+resumes_still y s w h stands i = resumes_by y s w h stands i stands.trails.locks
+
 pub resumes_stand : ResumesStand
-resumes_stand y s w h stands i = resumes_by y s w h stands i stands.locks
+resumes_stand y s w h stands i = (resumes_still y s w h stands i).stands

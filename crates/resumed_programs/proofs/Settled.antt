@@ -13,7 +13,7 @@ use Rattle.resumed_programs.proofs.Telling.{left, left_tells, left_point}
 
 pub settled_is_kept : SettledIsKept
 settled_is_kept y s w stands zeros =
-    let b = stands.beside in
+    let b = stands.trails.beside in
     let r = resumed y s b in
     let kept = orderly y s b in
     let free = (points_settle y.plan s.codes (kept_of y b) (left y s w stands) w.words kept (left_tells y s w stands) (left_point y s w stands)).0 zeros in
@@ -23,5 +23,5 @@ settled_is_kept y s w stands zeros =
     let durable = between_is_kept (flat_of y) b.moment r.resumed.invariant none in
     record {
       runs = r.resumed.kept.runs;
-      durable = ap (λ (m : Memory). map (map durable_number) m) stands.memory ∙ durable ∙ ap (λ (z : State). z.variables) (sym r.resumed.kept.is);
+      durable = ap (λ (m : Memory). map (map durable_number) m) stands.trails.memory ∙ durable ∙ ap (λ (z : State). z.variables) (sym r.resumed.kept.is);
     }

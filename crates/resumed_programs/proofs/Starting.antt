@@ -32,16 +32,16 @@ use Rattle.flow_graph.proofs.Lying.{contains_none}
 use Rattle.resumption.specs.Attempts.{no_attempt, attempt_at}
 use Rattle.resumption.specs.Lives.{first_moment, begins}
 use Rattle.variable_words.proofs.Beginning.{starts_hold}
-use Rattle.log_states.specs.Logs.{Record, nothing_recorded}
-use Rattle.log_states.specs.Stages.{is_committed}
+use Rattle.log_states.specs.Logs.{nothing_recorded}
 use Rattle.log_states.specs.Machines.{moment_of}
 use Rattle.log_states.proofs.Committing.{ends_committed}
 use Rattle.log_states.proofs.Standing.{starts_standing}
 use Rattle.thread_code.specs.Plans.{IsNodeOf}
 use Rattle.thread_code.specs.Entering.{IsPendingIn, Enters}
+use Rattle.thread_code.proofs.Locals.{locals_are}
 use Rattle.thread_runs.specs.Ways.{Arrives}
 use Rattle.thread_runs.proofs.Cores.{threads_start}
-use Rattle.recovered_threads.specs.Telling.{Code, Tells, between}
+use Rattle.recovered_threads.specs.Telling.{Code, between}
 use Rattle.recovered_threads.specs.Recovering.{HasGathered}
 use Rattle.resumed_programs.specs.Systems as systems
 use Rattle.resumed_programs.specs.Systems.{System, IsSystem, flat_of, start_world}
@@ -50,6 +50,7 @@ use Rattle.resumed_programs.specs.Courses.{Course, OnWay, on_way, InPhase, Threa
 use Rattle.resumed_programs.specs.Standing.{Stands, gathered}
 use Rattle.resumed_programs.specs.Laws.{StartStands}
 use Rattle.resumed_programs.proofs.Orderly.{free_holds_none, none_holds}
+use Rattle.resumed_programs.proofs.Telling.{over_is_caught}
 
 -- ---- Lists
 
@@ -113,16 +114,16 @@ module _ (y : System) (s : IsSystem y) where
   beside = record { moment = first_moment (flat_of y); schedule = []; lives = begins; minds = tt }
 
   abbrev courses : ℕ → Course
-  courses n = record { old = nothing_recorded; new = nothing_recorded; rest = []; cleans = []; giving = None }
+  courses n = record { old = nothing_recorded; new = nothing_recorded; rest = []; committed = true; cleans = []; giving = None }
 
   fresh : (n : ℕ) → n < length y.program → slice_get w.harts n ≡ Some (fresh_hart y.program Run n)
   unfolding start_of
   fresh n below = row_of (fresh_hart y.program Run) 0 (length y.program) n below ∙ ap (λ (k : ℕ). Some (fresh_hart y.program Run k)) (omega arith)
 
-  count : length w.harts ≡ length y.program
+  pub count : length w.harts ≡ length y.program
   count = (starts_stand y.program (length (flat_of y).mutexes) y.initial).1
 
-  holders_are : w.holders ≡ replicate (length (flat_of y).mutexes) None
+  pub holders_are : w.holders ≡ replicate (length (flat_of y).mutexes) None
   unfolding start_of
   holders_are = refl
 
@@ -162,6 +163,7 @@ module _ (y : System) (s : IsSystem y) where
   enters : (code : Code y.plan) → Enters y.plan code.thread code.thread.part.first (seen_by (now_of y beside) (walker code)) 0 (replicate 32 0)
   enters code = record {
     at_bank = record { count = refl; zero_is = refl; offset = refl; exists = omega arith };
+    count = length-replicate code.thread.part.locals (pos 0) ∙ locals_are y.plan code.thread s.plan code.of;
     locals = λ local k there live.
         let value = zero_local code.thread.part.locals local in
         subst (λ (z : ℤ). Carries (replicate 32 0) (slice_index code.thread.registers local) (typed k z)) (sym value)
@@ -195,10 +197,10 @@ module _ (y : System) (s : IsSystem y) where
             (replicate 32 0) meets (agrees number) (first_node code)
             (record { hart = fresh_hart y.program Run number; here = fresh number inside; runs = refl; is = ap (moment (replicate 32 0)) start })
             (enters code);
-        fits = (record { going = nothing_done (flat_of y).threads number; rest = refl; giving = refl }, refl);
+        fits = (record { going = nothing_done (flat_of y).threads number; rest = refl; giving = refl; committed = refl }, refl);
       }
 
-  thread : (n : ℕ) (below : n < systems.thread_count y) → ThreadStands y w beside (s.codes.each n below) (courses n)
+  pub thread : (n : ℕ) (below : n < systems.thread_count y) → ThreadStands y w beside (s.codes.each n below) (courses n)
   thread n below =
       let code = s.codes.each n below in
       let number = code.thread.number in
@@ -206,16 +208,14 @@ module _ (y : System) (s : IsSystem y) where
       let same = s.codes.number n below in
       let inside : number < length y.program = omega (arith, below, c, same) in
       let log = starts_standing y.program (length (flat_of y).mutexes) number y.initial inside in
-      let committed = ends_committed number nothing_recorded nothing_recorded (moment_of w log.hart []) log.log refl in
       let is : fresh_hart y.program Run number ≡ log.hart = same_Some _ _ (sym (fresh number inside) ∙ log.here) in
       let runs : Run ≡ log.hart.phase = ap (λ (h : Hart). h.phase) is in
       let none = free_holds_none number 0 (kept_of y beside).holders (nothing_free (length (flat_of y).mutexes)) in
       record {
         log = log;
-        tells =
-            subst (λ (r : Record). Tells y.plan code (kept_of y beside) r)
-            (sym (cond-true (is_committed number (moment_of w log.hart [])) nothing_recorded nothing_recorded committed)) (between none refl);
-        will_tell = λ un. absurd (true≢false (sym committed ∙ un));
+        no_sooner = λ e. ends_committed number nothing_recorded nothing_recorded (moment_of w log.hart []) log.log refl;
+        tells = between none refl;
+        will_tell = λ un. absurd (true≢false un);
         cleans = λ effect e. absurd (contains_none effect e);
         walker = walker code;
         walks = walks code;
@@ -224,31 +224,34 @@ module _ (y : System) (s : IsSystem y) where
             absurd (omega (arith, within, zero_done));
       }
 
-  stands : Stands y s w
+  pub all_run : (h : ℕ) (hart : Hart) → slice_get w.harts h ≡ Some hart → HasGathered w h nothing_recorded hart.phase
+  all_run h hart there =
+      let inside = slice_get_within w.harts h hart there in
+      let c = count in
+      let below : h < length y.program = omega (arith, inside, c) in
+      subst (λ (x : Hart). HasGathered w h nothing_recorded x.phase) (same_Some _ hart (sym (fresh h below) ∙ there)) tt
+
+  abbrev pub stands : Stands y s w
   stands = record {
-    beside = beside;
-    memory = starts_hold (flat_of y) y.program (length (flat_of y).mutexes) y.initial s.plan.formed s.initial;
-    count = count ∙ s.count;
-    mutexes = ap length holders_are ∙ length-replicate (length (flat_of y).mutexes) None;
-    sound = (starts_stand y.program (length (flat_of y).mutexes) y.initial).0;
-    short = starts_are_short y.program (length (flat_of y).mutexes) y.initial;
-    courses = courses;
-    each = thread;
-    locks = gathered (record { each = all_run })
-        (record {
-          held = λ lock n there. absurd (none_holds (length (flat_of y).mutexes) lock n
-              (ap (λ (hs : List (Option ℕ)). slice_get hs lock) (sym holders_are) ∙ there));
-          holds = λ lock n there. absurd (none_holds (length (flat_of y).mutexes) lock n there);
-          giving = λ lock n giving. absurd (none-some lock giving.gives);
-        });
+    trails = record {
+      beside = beside;
+      memory = starts_hold (flat_of y) y.program (length (flat_of y).mutexes) y.initial s.plan.formed s.initial;
+      count = count ∙ s.count;
+      mutexes = ap length holders_are ∙ length-replicate (length (flat_of y).mutexes) None;
+      sound = (starts_stand y.program (length (flat_of y).mutexes) y.initial).0;
+      short = starts_are_short y.program (length (flat_of y).mutexes) y.initial;
+      courses = courses;
+      each = thread;
+      locks = gathered (record { each = all_run })
+          (record {
+            held = λ lock n there. absurd (none_holds (length (flat_of y).mutexes) lock n
+                (ap (λ (hs : List (Option ℕ)). slice_get hs lock) (sym holders_are) ∙ there));
+            holds = λ lock n there. absurd (none_holds (length (flat_of y).mutexes) lock n there);
+            giving = λ lock n inside gives. absurd (none-some lock gives);
+          });
+    };
+    caught_up = λ n below. over_is_caught y w beside (s.codes.each n below) (courses n) (thread n below) refl refl;
   }
-    where
-      all_run : (h : ℕ) (hart : Hart) → slice_get w.harts h ≡ Some hart → HasGathered w h nothing_recorded hart.phase
-      all_run h hart there =
-          let inside = slice_get_within w.harts h hart there in
-          let c = count in
-          let below : h < length y.program = omega (arith, inside, c) in
-          subst (λ (x : Hart). HasGathered w h nothing_recorded x.phase) (same_Some _ hart (sym (fresh h below) ∙ there)) tt
 
 pub start_stands : StartStands
 start_stands y s = stands y s

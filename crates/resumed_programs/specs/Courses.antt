@@ -1,5 +1,5 @@
 -- Where a thread of a compiled program is, beside its walker in the graph.
-use Rattle.std.specs.Prelude.{◌≡◌, ◌≢◌, ℕ, ◌/◌, ◌<◌, ◌≤◌, List, [], ◌++◌, slice_get, Contains, Option, Some, None, Bool, true, false}
+use Rattle.std.specs.Prelude.{◌≡◌, ◌≢◌, ℕ, ◌/◌, ◌<◌, ◌≤◌, List, [], ◌++◌, slice_get, Contains, Option, Some, None, Bool, true, false, if◌then◌else◌}
 use Rattle.ido_base.specs.Layout.{variable_at, byte_number}
 use Rattle.ido_base.specs.Growth.{Reaches}
 use Rattle.ido_ints.specs.Kinds.{bytes_of}
@@ -20,7 +20,7 @@ use Rattle.resumption.specs.Events.{IsGoing, steps_begun}
 use Rattle.resumption.specs.Laws.{HasLocked, HasUnlocked}
 use Rattle.region_attempts.specs.Flushing.{line_of, CleansSince}
 use Rattle.log_states.specs.Logs.{Record}
-use Rattle.log_states.specs.Stages.{fences_ahead, is_committed, left_by_crash}
+use Rattle.log_states.specs.Stages.{fences_ahead, is_committed}
 use Rattle.log_states.specs.Machines.{moment_of}
 use Rattle.log_states.specs.Standing.{LogStands}
 use Rattle.hart_runs.specs.Steps.{is_clean}
@@ -35,10 +35,16 @@ pub record Course : Type 0 where
   pub old : Record
   pub new : Record
   pub rest : List Effect
+  -- the boundary under way, or the last one where none is, is taken as committed: the thread's steps before it are kept
+  pub committed : Bool
   -- the cleans that the code of a store has still to make
   pub cleans : List Effect
   -- the mutex that it has unlocked by a step that is begun, but not yet given back
   pub giving : Option ℕ
+
+-- what the kept state has of the thread's log
+abbrev pub record_kept : Course → Record
+record_kept c = if c.committed then c.new else c.old
 
 module _ (y : System) (b : Beside y) (code : Code y.plan) (c : Course) where
   -- the thread
@@ -69,6 +75,8 @@ module _ (y : System) (b : Beside y) (code : Code y.plan) (c : Course) where
     pub going : IsGoing b.moment number
     pub rest : c.rest ≡ []
     pub giving : c.giving ≡ None
+    -- and the last one is taken as committed
+    pub committed : c.committed ≡ true
 
   -- and no clean is ahead
   pub record GoesClean (ended : Bool) (walker : Walker) : Type 0 where
@@ -77,21 +85,21 @@ module _ (y : System) (b : Beside y) (code : Code y.plan) (c : Course) where
     pub lives : walker.ended ≡ ended
 
   -- the attempt stands before the boundary under way, until that is committed: then none of its steps is left that isn't kept
-  pub record IsBounded (committed : Bool) (walker : Walker) (giving : Option ℕ) (Before : Type 0) : Type 0 where
+  pub record IsBounded (walker : Walker) (giving : Option ℕ) (Before : Type 0) : Type 0 where
     pub lives : walker.ended ≡ false
     pub cleans : c.cleans ≡ []
     pub gives : c.giving ≡ giving
-    pub before : committed ≡ false → Before
-    pub behind : committed ≡ true → steps_begun b.moment number ≡ 0
+    pub before : c.committed ≡ false → Before
+    pub behind : c.committed ≡ true → steps_begun b.moment number ≡ 0
 
   -- by the aim
-  abbrev pub Fits : (committed : Bool) → Walker → Aim → Type 0
-  Fits committed walker Arrives = GoesOn × (walker.ended ≡ false)
-  Fits committed walker Keeps = IsChosen y.plan.graph y.plan.boundaries walker.at × IsGoing b.moment number × IsBounded committed walker None (Unit {0})
-  Fits committed walker (Asks mutex next) = GoesClean false walker
-  Fits committed walker (Took from) = IsBounded committed walker None ((mutex : ℕ) × HasLocked b.moment number mutex)
-  Fits committed walker (Gives from mutex) = IsBounded committed walker (Some mutex) (HasUnlocked b.moment number mutex)
-  Fits committed walker Ends = GoesClean true walker
+  abbrev pub Fits : Walker → Aim → Type 0
+  Fits walker Arrives = GoesOn × (walker.ended ≡ false)
+  Fits walker Keeps = IsChosen y.plan.graph y.plan.boundaries walker.at × IsGoing b.moment number × IsBounded walker None (Unit {0})
+  Fits walker (Asks mutex next) = GoesClean false walker
+  Fits walker (Took from) = IsBounded walker None ((mutex : ℕ) × HasLocked b.moment number mutex)
+  Fits walker (Gives from mutex) = IsBounded walker (Some mutex) (HasUnlocked b.moment number mutex)
+  Fits walker Ends = GoesClean true walker
 
   -- no step is begun that isn't kept, and no boundary is under way
   pub record Rests : Type 0 where
@@ -100,9 +108,10 @@ module _ (y : System) (b : Beside y) (code : Code y.plan) (c : Course) where
     pub rest : c.rest ≡ []
     pub cleans : c.cleans ≡ []
     pub giving : c.giving ≡ None
+    pub committed : c.committed ≡ true
 
 module _ (y : System) (w : World) (b : Beside y) (code : Code y.plan) (c : Course) where
-  -- the boundary under way is committed once its point is durable; where none is under way, the last one is
+  -- a boundary is committed once its point is durable
   abbrev pub committed : Hart → Bool
   committed hart = is_committed code.thread.number (moment_of w hart c.rest)
 
@@ -118,7 +127,7 @@ module _ (y : System) (w : World) (b : Beside y) (code : Code y.plan) (c : Cours
     pub steps : ℕ
     pub way : IsOnWay y.plan code.thread code.is.places y.program w code.thread.number setting
         (record { aim = aim; node = walker.at; seen = seen_by (now_of y b) walker; bank = bank }) steps (c.cleans ++ c.rest)
-    pub fits : Fits y b code c (committed hart) walker aim
+    pub fits : Fits y b code c walker aim
 
   pub record AtCore (walker : Walker) : Type 0 where
     pub bank : ℕ
@@ -126,6 +135,8 @@ module _ (y : System) (w : World) (b : Beside y) (code : Code y.plan) (c : Cours
     pub registers : List ℕ
     pub core : IsAtCore y.plan code.thread code.is.places w code.thread.number walker.at (seen_by (now_of y b) walker) bank registers
     pub goes : GoesClean y b code c false walker
+    -- at the code of a node with a chosen boundary before it the attempt begins
+    pub fresh : IsChosen y.plan.graph y.plan.boundaries walker.at → (attempt_of b.moment code.thread.number).done ≡ 0
 
   pub data Runs (hart : Hart) (walker : Walker) : Type 0 where
     on_way : OnWay hart walker → Runs hart walker
@@ -157,17 +168,23 @@ module _ (y : System) (w : World) (b : Beside y) (code : Code y.plan) (c : Cours
     pub since : IsSince (history_at b.moment.memory v e) position
     pub comes : CleansSince (flat_of y) (kept_of y b) b.moment (shapes_of y) y.left_out code.thread.number before
         (attempt_of b.moment code.thread.number).done (line_of (shapes_of y) v e) → IsComing hart v e position
-    pub fenced : committed hart ≡ false → fences_ahead c.rest < 2 → position ≤ (history_at b.moment.memory v e).durable
+    pub fenced : c.committed ≡ false → fences_ahead c.rest < 2 → position ≤ (history_at b.moment.memory v e).durable
 
   -- ---- All of it
 
   pub record ThreadStands : Type 0 where
     pub log : LogStands code.thread.number c.old c.new w c.rest
-    -- what a crash would leave tells of the kept state, and what it would leave once the boundary under way is committed, of the state now
-    pub tells : Tells y.plan code (kept_of y b) (left_by_crash code.thread.number c.old c.new (moment_of w log.hart c.rest))
-    pub will_tell : committed log.hart ≡ false → Tells y.plan code (now_of y b) c.new
+    -- what is taken as committed is so; more may be
+    pub no_sooner : c.committed ≡ true → committed log.hart ≡ true
+    -- the record that is kept tells of the kept state, and that of the boundary under way, until it is committed, of the state now
+    pub tells : Tells y.plan code (kept_of y b) (record_kept c)
+    pub will_tell : c.committed ≡ false → Tells y.plan code (now_of y b) c.new
     pub cleans : (effect : Effect) → Contains c.cleans effect → is_clean effect ≡ true
     pub walker : Walker
     pub walks : slice_get (now_of y b).walkers code.thread.number ≡ Some walker
     pub phase : InPhase log.hart walker log.hart.phase
     pub flushed : (v e : ℕ) → Writes b.moment.kept code.thread.number (attempt_of b.moment code.thread.number).done v e → IsFlushed log.hart v e
+
+  -- all that is committed is taken so
+  abbrev pub HasCaughtUp : ThreadStands → Type 0
+  HasCaughtUp t = committed t.log.hart ≡ c.committed

@@ -9,7 +9,7 @@ use Rattle.hart_runs.specs.Laws.{AreShort}
 use Rattle.recovered_threads.specs.Recovering.{AreGathering, AreGathered}
 use Rattle.resumed_programs.specs.Systems.{System, IsSystem, flat_of, places_of, thread_count}
 use Rattle.resumed_programs.specs.Histories.{Beside, now_of}
-use Rattle.resumed_programs.specs.Courses.{Course, ThreadStands}
+use Rattle.resumed_programs.specs.Courses.{Course, ThreadStands, HasCaughtUp}
 
 -- ---- Locks
 
@@ -24,7 +24,8 @@ pub record AreHeld (w : World) (courses : ℕ → Course) (now : FlowState) : Ty
   pub held : (lock thread : ℕ) → slice_get w.holders lock ≡ Some (Some thread) →
       (slice_get now.holders lock ≡ Some (Some thread)) ⊎ IsGiving courses now lock thread
   pub holds : (lock thread : ℕ) → slice_get now.holders lock ≡ Some (Some thread) → slice_get w.holders lock ≡ Some (Some thread)
-  pub giving : (lock thread : ℕ) → IsGiving courses now lock thread → slice_get w.holders lock ≡ Some (Some thread)
+  -- and a mutex that is being given back is the thread's until then
+  pub giving : (lock thread : ℕ) → thread < length now.walkers → (courses thread).giving ≡ Some lock → slice_get w.holders lock ≡ Some (Some thread)
 
 -- the records of all threads
 abbrev pub records_of : (ℕ → Course) → ℕ → Record
@@ -37,8 +38,8 @@ pub data AreLocked (y : System) (w : World) (b : Beside y) (courses : ℕ → Co
 
 -- ---- The machine
 
--- memory is that of the moment beside it, and each thread is where its walker is
-pub record Stands (y : System) (s : IsSystem y) (w : World) : Type 0 where
+-- memory is that of the moment beside it, and each thread is where its walker is; boundaries that are committed may not be taken so yet
+pub record Trails (y : System) (s : IsSystem y) (w : World) : Type 0 where
   pub beside : Beside y
   pub memory : memory_in (places_of y) w.words ≡ beside.moment.memory
   pub count : length w.harts ≡ thread_count y
@@ -48,3 +49,9 @@ pub record Stands (y : System) (s : IsSystem y) (w : World) : Type 0 where
   pub courses : ℕ → Course
   pub each : (n : ℕ) (below : n < thread_count y) → ThreadStands y w beside (s.codes.each n below) (courses n)
   pub locks : AreLocked y w beside courses
+
+-- and all are
+pub record Stands (y : System) (s : IsSystem y) (w : World) : Type 0 where
+  pub trails : Trails y s w
+  pub caught_up : (n : ℕ) (below : n < thread_count y) →
+      HasCaughtUp y w trails.beside (s.codes.each n below) (trails.courses n) (trails.each n below)

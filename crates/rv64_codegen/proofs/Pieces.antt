@@ -13,9 +13,9 @@ use Rattle.operator_code.specs.declared.branches.Test.{Test}
 use Rattle.operator_code.specs.Computing.{AreRegisters, passes}
 use Rattle.code_runs.specs.Running.{moment}
 use Rattle.code_runs.specs.Walks.{Mark}
-use Rattle.expr_code.specs.Evaluating.{Homes, Source, Ends, IsTestCode}
+use Rattle.expr_code.specs.Evaluating.{Homes, Source, Ends, IsTestCode, fences_among}
 use Rattle.node_code.specs.Sites.{Site, begin_of, end_of, label_of}
-use Rattle.node_code.specs.Pieces.{IsComputing, Computes, IsChoice, Chooses, Leads}
+use Rattle.node_code.specs.Pieces.{IsComputing, Computes, IsChoice, Chooses, Leads, words_in}
 use Rattle.node_code.proofs.Legs.{way, weaker}
 use Rattle.rv64_codegen.specs.Evaluations.{MayReach, MayEvaluate, may_write, Has, IsAssigned, IsEvaluation, IsTest, IsTested, is_taken, target_nodes}
 use Rattle.rv64_codegen.specs.links.Targets.{IsSelected, IsTurned}
@@ -26,6 +26,7 @@ is_evaluation h target t code piece sel comp = record {
   closed = comp.closed;
   few = let a : length code ≤ 16 * (target_nodes target + nodes_of t.expr) + 16 = sel.short in
       let b : sum_by most_words_of piece ≤ length code + 1 = comp.few in omega (arith, a, b);
+  fences = comp.fences ∙ sel.fences;
   at = λ at. record {
     evaluates = evaluates at (comp.at at);
     marks = (comp.at at).marks;
@@ -40,7 +41,7 @@ is_evaluation h target t code piece sel comp = record {
         let b : ℕ = begin_of piece at in
         let end : Ends at.linking.setting.around code (may_write h target) (λ y. Has h s y target (value s.locals s.numbers t.expr)) (moment x b) =
         sel.does.ends s at.linking.setting.around (moment x b) (record { registers = are; stands = c.stands; room = c.room }) reach may in
-        weaker at.linking.setting (way x b (end_of piece at) (sum_by most_words_of piece)) (Mark ∷ []) (λ z. z ≡ end.registers) (IsAssigned h s target t.expr x)
+        weaker at.linking.setting (way x b (end_of piece at) (words_in piece at)) (Mark ∷ []) (λ z. z ≡ end.registers) (IsAssigned h s target t.expr x)
         (λ z f. subst (λ (v : List ℕ). IsAssigned h s target t.expr x v) (sym f) (record { are = end.are; unchanged = end.unchanged; has = end.has }))
         (c.computes x end.registers (record { run = end.leads; short = end.short }))
 
@@ -50,11 +51,12 @@ turn true false = refl
 turn false z = refl
 
 pub is_test : (h : Homes) (t : e.Expr) (turned : Bool) (label : ℕ) (code : List Instr) (other test : Test) (piece : List CodeItem) →
-    length code ≤ 16 * nodes_of t + 8 →
+    length code ≤ 16 * nodes_of t + 8 → fences_among code ≡ 0 →
     IsTestCode h t other code → IsTurned other test turned → IsChoice code test label piece → IsTest h t turned label piece
-is_test h t turned label code other test piece short sel turns choice = record {
+is_test h t turned label code other test piece short none sel turns choice = record {
   closed = choice.closed;
   few = let b : sum_by most_words_of piece ≤ length code + 2 = choice.few in omega (arith, short, b);
+  fences = choice.fences ∙ none;
   at = λ at. record {
     tests = tests at (choice.at at);
     marks = (choice.at at).marks;
@@ -75,7 +77,7 @@ is_test h t turned label code other test piece short sel turns choice = record {
         let taken : passes test end.registers ≡ is_taken turned (value s.locals s.numbers t) =
         turns.passed end.registers ∙ ap (λ (p : Bool). if turned then not p else p) end.has ∙ turn turned (is_zero (value s.locals s.numbers t).number) in
         let to : Bool → ℕ = λ p. if p then label_of piece at label else end_of piece at in
-        weaker at.linking.setting (way x b (to (is_taken turned (value s.locals s.numbers t))) (sum_by most_words_of piece)) (Mark ∷ [])
+        weaker at.linking.setting (way x b (to (is_taken turned (value s.locals s.numbers t))) (words_in piece at)) (Mark ∷ [])
         (λ z. z ≡ end.registers) (IsTested x)
         (λ z f. subst (λ (v : List ℕ). IsTested x v) (sym f) (record { are = end.are; unchanged = end.unchanged }))
         (subst (λ (p : Bool). Leads piece at x b (to p) (Mark ∷ []) (λ z. z ≡ end.registers)) taken

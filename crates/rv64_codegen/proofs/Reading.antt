@@ -17,10 +17,10 @@ use Rattle.rv64_codegen.specs.Locals.{HoldsEach, HoldsLive, HasHomes}
 only : (local : ℕ) → Contains (local ∷ []) local
 only local = (0, omega arith, refl)
 
-left_held : (h : Homes) (s : Source) (x : List ℕ) (a b : List ℕ) → HoldsEach h s x (a ++ b) → HoldsEach h s x a
+pub left_held : (h : Homes) (s : Source) (x : List ℕ) (a b : List ℕ) → HoldsEach h s x (a ++ b) → HoldsEach h s x a
 left_held h s x a b held local k c f = held local k (Contains-append_left a b local c) f
 
-right_held : (h : Homes) (s : Source) (x : List ℕ) (a b : List ℕ) → HoldsEach h s x (a ++ b) → HoldsEach h s x b
+pub right_held : (h : Homes) (s : Source) (x : List ℕ) (a b : List ℕ) → HoldsEach h s x (a ++ b) → HoldsEach h s x b
 right_held h s x a b held local k c f = held local k (Contains-append_right a b local c) f
 
 pub reads_are_held : (h : Homes) (s : Source) (x : List ℕ) (t : e.Expr) → IsExpr s.variables s.kinds t → HoldsEach h s x (expr_locals t) → HoldsLocals h s x t

@@ -26,7 +26,7 @@ use Rattle.rv64_codegen.specs.links.Targets.{IsTargetCode}
 abbrev pub spare : ℕ → Bool
 spare n = n == 29 || (n == 28 || is_temporary n)
 
-local_spare : (n : ℕ) → is_local n ≡ true → spare n ≡ false
+pub local_spare : (n : ℕ) → is_local n ≡ true → spare n ≡ false
 local_spare n h =
     let e : (n == 29) ≡ false = other n 29 refl h in
     let f : (n == 28) ≡ false = other n 28 refl h in

@@ -1,5 +1,6 @@
 -- What the code of nodes that evaluate and test does, wherever it stands in a thread's linked code.
-use Rattle.std.specs.Prelude.{◌≡◌, ℕ, ◌+◌, ◌*◌, ◌<◌, ◌≤◌, List, [], ◌∷◌, length, slice_index, sum_by, Contains, Bool, true, false, not, ◌==◌, ◌||◌}
+use Rattle.std.specs.Prelude.{◌≡◌, ℕ, ◌+◌, ◌*◌, ◌<◌, ◌≤◌, List, [], ◌∷◌, length, slice_index, sum_by, Contains, find, Some, nat_lt, Bool, true, false, not}
+use Rattle.std.specs.Prelude.{◌==◌, ◌||◌}
 use Rattle.std.specs.Prelude.{if◌then◌else◌}
 use Rattle.std.specs.List.{AllByRecursion}
 use Rattle.ido_ints.specs.Operators.{is_zero}
@@ -11,7 +12,7 @@ use Rattle.c_tree.specs.Values.{value, element_at}
 use Rattle.c_tree.specs.WellFormed.{IsDeclared, IndexFits}
 use Rattle.rv64_isa.specs.declared.object.CodeItem.{CodeItem}
 use Rattle.rv64_isa.specs.Rows.{read}
-use Rattle.rv64_link.specs.LabelledCode.{most_words_of}
+use Rattle.rv64_link.specs.LabelledCode.{most_words_of, fences_in}
 use Rattle.log_layout.specs.Roles as roles
 use Rattle.log_layout.specs.Roles.{is_temporary, is_local}
 use Rattle.operator_code.specs.Computing.{AreRegisters, Carries}
@@ -30,11 +31,16 @@ use Rattle.node_code.specs.Pieces.{IsClosed, Leads, marks_in, resumes_in}
 abbrev pub NeedFew : List e.Placed → Type 0
 NeedFew xs = AllByRecursion (λ (y : e.Placed). need_of y.expr ≤ most_temporaries) xs
 
--- where it is said so one of them needs too many; want of memory may come at any time
+-- it needs more than there are
+abbrev pub is_needy : e.Placed → Bool
+is_needy x = nat_lt most_temporaries (need_of x.expr)
+
+-- where it is said so one of them needs too many, and the first one is named; want of memory may come at any time
 pub record NeedsTooMany (xs : List e.Placed) : Type 0 where
   pub one : e.Placed
   pub among : Contains xs one
   pub needs : most_temporaries < need_of one.expr
+  pub first : find is_needy xs ≡ Some one
 
 abbrev pub IsRefused : List e.Placed → SelectError → Type 0
 IsRefused xs (Temporaries place) = (n : NeedsTooMany xs) × (place ≡ n.one.place)
@@ -97,6 +103,7 @@ pub record Evaluates (h : Homes) (target : e.Target) (t : e.Expr) (piece : List 
 pub record IsEvaluation (h : Homes) (target : e.Target) (t : e.Expr) (piece : List CodeItem) : Type 0 where
   pub closed : IsClosed piece
   pub few : sum_by most_words_of piece ≤ 16 * (target_nodes target + nodes_of t) + 17
+  pub fences : fences_in piece ≡ 0
   pub at : (at : Site piece) → Evaluates h target t piece at
 
 -- ---- Tests
@@ -121,4 +128,5 @@ pub record Tests (h : Homes) (t : e.Expr) (turned : Bool) (label : ℕ) (piece :
 pub record IsTest (h : Homes) (t : e.Expr) (turned : Bool) (label : ℕ) (piece : List CodeItem) : Type 0 where
   pub closed : IsClosed piece
   pub few : sum_by most_words_of piece ≤ 16 * nodes_of t + 10
+  pub fences : fences_in piece ≡ 0
   pub at : (at : Site piece) → Tests h t turned label piece at

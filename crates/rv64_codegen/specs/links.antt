@@ -1,1 +1,5 @@
 pub mod Targets
+pub mod Errors
+pub mod Live
+pub mod Threads
+pub mod Emission

@@ -1,4 +1,5 @@
-//! What is true of the expressions of nodes.
+//! What is true of the expressions of nodes, and of what is emitted for threads.
+ghost use Rattle.rv64_codegen.specs.Emitting.{EmittedIsCode};
 ghost use Rattle.rv64_codegen.specs.Locals.{ReadsAreHeld, LiveIsEnough, FormedIsAtHome, FormedTargetIsAtHome};
 
 /// Registers that hold the locals that an expression reads are those with which its code may begin.
@@ -19,4 +20,9 @@ pub fn formed_is_at_home()
 /// So has what is assigned.
 pub fn target_is_at_home()
     ensures { FormedTargetIsAtHome }
+{}
+
+/// What is emitted for a thread is its code.
+pub fn emitted_is_code()
+    ensures { EmittedIsCode }
 {}

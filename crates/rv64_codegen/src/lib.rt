@@ -1,10 +1,21 @@
-//! The code of threads: evaluations and tests of the nodes of a flow graph.
+//! The code of threads: what the nodes of a flow graph do, in the instructions of a machine.
 #![tactic(auto)]
 
+mod actions;
+mod emission;
+mod error;
 mod evaluations;
+mod guards;
 pub mod laws;
+mod plan;
+mod registers;
+mod shapes;
 mod targets;
 mod tests_of_conditions;
+mod thread;
 
+pub use emission::emit;
+pub use error::EmitError;
 pub use evaluations::push_evaluation;
+pub use plan::Plan;
 pub use tests_of_conditions::push_test;

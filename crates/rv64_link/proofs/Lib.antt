@@ -1,4 +1,5 @@
 pub mod Places
+pub mod Instructions
 pub mod Lockstep
 pub mod Words
 pub mod Threads

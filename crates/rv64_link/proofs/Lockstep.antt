@@ -1,6 +1,7 @@
 -- The words of a thread's items do what the items do.
 use Rattle.std.proofs.Common.{◌≡◌, ℕ, ◌+◌, ◌-◌, ◌*◌, ◌^◌, ◌<◌, ◌≤◌, List, length, map, Some, None, Bool, true, false, refl, sym, ap, ap₂, subst, ◌∙◌, arith, lit≤}
-use Rattle.std.specs.Prelude.{slice_get, sum_by, nat_le, not, ◌&&◌, if◌then◌else◌}
+use Rattle.std.specs.Prelude.{slice_get, sum_by, count_by, nat_le, not, ◌&&◌, if◌then◌else◌}
+use Rattle.std.specs.List.{AllByRecursion}
 use Rattle.rv64_isa.specs.Arithmetic.{is_taken}
 use Rattle.rv64_isa.specs.Programs.{code_base}
 use Rattle.rv64_isa.specs.Rows.{Effect, GoesOn, row, read, written, next, displaced}
@@ -13,10 +14,11 @@ use Rattle.rv64_isa.specs.declared.object.CodeItem.TheVariants.{Instruction, Bra
 use Rattle.rv64_isa.specs.declared.object.Label.{Label}
 use Rattle.rv64_isa.specs.declared.object.Slot.{Slot}
 use Rattle.rv64_isa.specs.declared.object.Slot.TheVariants.{Row}
-use Rattle.rv64_link.specs.LabelledCode.{does, label_position, least_words_of, most_words_of, positions_from, is_mark, is_resume}
-use Rattle.rv64_link.specs.Linked.{Stands, Does, in_one, in_two, IsRoom, IsLinked}
+use Rattle.rv64_link.specs.LabelledCode.{does, label_position, least_words_of, most_words_of, positions_from, is_mark, is_resume, is_fence, fences_of}
+use Rattle.rv64_link.specs.Linked.{Stands, Does, in_one, in_two, IsRoom, IsLinked, IsInstruction, AreInstructions}
 use Rattle.rv64_link.specs.links.Layout.{is_near, inverse, offset, size, numbers, number_at, slots_of, slots}
-use Rattle.rv64_link.proofs.Places.{within, size_small, number_first, number_next, number_last, number_steps, number_bounded, stands_at, label_within}
+use Rattle.rv64_link.proofs.Instructions.{Within, slots_within, rows_of, fences_are_of}
+use Rattle.rv64_link.proofs.Places.{within, size_small, size_is, number_first, number_next, number_last, number_steps, number_bounded, stands_at, label_within}
 
 -- ---- Offsets
 
@@ -248,6 +250,23 @@ module _ (all : List CodeItem) (first : ℕ) (few : sum_by most_words_of all ≤
     most = size_small all p item;
   }
 
+  words_at : (p : ℕ) (item : CodeItem) → slice_get all p ≡ Some item → AreInstructions start code (address p) (address (p + 1)) (fences_of item)
+  words_at p item e =
+      let there : Within all ns first 0 all p item = slots_within all ns first 0 all p item e in
+      let same : 0 + p ≡ p = omega arith in
+      let number : at p ≡ first + there.first = there.number in
+      let size_there : length (slots_of all ns (0 + p) item) ≡ size all p item = size_is all ns (0 + p) item ∙ ap (λ q. size all q item) same in
+      let more : at (p + 1) ≡ at p + size all p item = next_at p item e in
+      record {
+        first = there.first;
+        count = length (slots_of all ns (0 + p) item);
+        from_is = omega (arith, number);
+        to_is = omega (arith, more, size_there);
+        inside = there.inside;
+        rows = subst (λ (xs : List Slot). AllByRecursion IsInstruction xs) (sym there.slots_are) (rows_of all ns (0 + p) item);
+        fences_are = ap (λ (xs : List Slot). count_by is_fence xs) there.slots_are ∙ fences_are_of all ns (0 + p) item;
+      }
+
   pub linked : (nodes resumes : List ℕ) → nodes ≡ map address (positions_from 0 is_mark all) → resumes ≡ map address (positions_from 0 is_resume all) → IsLinked start all code nodes resumes
   linked nodes resumes n r = record {
     address_of = address;
@@ -258,4 +277,5 @@ module _ (all : List CodeItem) (first : ℕ) (few : sum_by most_words_of all ≤
     lockstep = steps;
     nodes_are = n;
     resumes_are = r;
+    words = words_at;
   }

@@ -15,7 +15,7 @@ use Rattle.rv64_link.specs.links.Layout.{is_near, size, numbers, number_at, bran
 abbrev got : {A : Type 0} → A → Option A
 got x = Some x
 
-none_past : {A : Type 0} (k : ℕ) (x : A) → slice_get {X = A} [] k ≡ Some x → ⊥
+pub none_past : {A : Type 0} (k : ℕ) (x : A) → slice_get {X = A} [] k ≡ Some x → ⊥
 none_past zero x e = cc e
 none_past (suc k) x e = cc e
 

@@ -1,7 +1,10 @@
 -- What code with labels does. A position is a number of an item in the list; that of the end is its length.
-use Rattle.std.specs.Prelude.{ℕ, ◌+◌, List, [], ◌∷◌, Option, Some, None, Bool, true, false, ◌==◌, if◌then◌else◌}
+use Rattle.std.specs.Prelude.{ℕ, ◌+◌, List, [], ◌∷◌, Option, Some, None, Bool, true, false, ◌==◌, if◌then◌else◌, sum_by}
 use Rattle.rv64_isa.specs.declared.object.CodeItem.{CodeItem}
 use Rattle.rv64_isa.specs.declared.object.CodeItem.TheVariants.{Instruction, BranchTo, JumpTo, Here, MarkNext, ResumeNext}
+use Rattle.rv64_isa.specs.declared.object.Slot.{Slot}
+use Rattle.rv64_isa.specs.declared.object.Slot.TheVariants.{Row}
+use Rattle.rv64_isa.specs.declared.instr.Instr.TheVariants.{Fence}
 use Rattle.rv64_isa.specs.Arithmetic.{is_taken}
 use Rattle.rv64_isa.specs.Rows.{Effect, GoesOn, row, read, written}
 
@@ -66,3 +69,24 @@ least_words_of (JumpTo rd to) = 1
 least_words_of (Here here) = 0
 least_words_of MarkNext = 0
 least_words_of ResumeNext = 0
+
+-- ---- FENCEs
+
+abbrev pub is_fence : Slot → Bool
+is_fence (Row Fence) = true
+is_fence _ = false
+
+abbrev pub one_if : Bool → ℕ
+one_if b = if b then 1 else 0
+
+-- how many of its words are FENCEs
+abbrev pub fences_of : CodeItem → ℕ
+fences_of (Instruction instr) = one_if (is_fence (Row instr))
+fences_of (BranchTo condition rs1 rs2 to) = 0
+fences_of (JumpTo rd to) = 0
+fences_of (Here here) = 0
+fences_of MarkNext = 0
+fences_of ResumeNext = 0
+
+abbrev pub fences_in : List CodeItem → ℕ
+fences_in items = sum_by fences_of items

@@ -32,6 +32,7 @@ module _ (p : Plan) (t : Thread) (node : ℕ) (seen : Seen) (x y : List ℕ) (li
       record {
         variable_is = old.variable_is;
         address = same_kept pending_address (of_address here) ∙ old.address;
+        below = old.below;
         value = carries_on x y pending_value _ (same_kept pending_value (of_value here)) old.value;
       }
   pending_again is at (Test condition holds fails) e h = tt
@@ -42,6 +43,7 @@ module _ (p : Plan) (t : Thread) (node : ℕ) (seen : Seen) (x y : List ℕ) (li
 pub enters_again : EntersAgain
 enters_again p t node seen bank other x y live kept h at same = record {
   at_bank = at;
+  count = h.count;
   locals = λ local k g l. carries_on x y (slice_index t.registers local) _ (same_kept p t node seen x y live kept same (slice_index t.registers local)
       (of_local local k g l)) (h.locals local k g l);
   pending = λ is a. pending_again p t node seen x y live kept same is a is.action refl (h.pending is a);

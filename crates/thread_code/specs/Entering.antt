@@ -20,6 +20,7 @@ use Rattle.thread_code.specs.Plans.{Plan, Thread}
 pub record HasPending (p : Plan) (store : Pending) (variable : ℕ) (k : Kind) (registers : List ℕ) : Type 0 where
   pub variable_is : store.variable ≡ variable
   pub address : read registers pending_address ≡ variable_at (map shape_of p.flat.variables) store.variable store.element
+  pub below : variable_at (map shape_of p.flat.variables) store.variable store.element < 2 ^ 64
   pub value : Carries registers pending_value (typed k store.number)
 
 -- before a store they have those of the pending one
@@ -31,10 +32,11 @@ IsPendingIn p (Lock mutex next) seen registers = Unit {0}
 IsPendingIn p (Unlock mutex next) seen registers = Unit {0}
 IsPendingIn p End seen registers = Unit {0}
 
--- a thread whose locals and pending store are these may enter a node's code with these registers, where its point is in this bank: each
--- local that is live there is in its register
+-- a thread whose locals and pending store are these may enter a node's code with these registers, where its point is in this bank: it has
+-- a number for each of its locals, and each that is live there is in its register
 pub record Enters (p : Plan) (t : Thread) (node : ℕ) (seen : Seen) (bank : ℕ) (registers : List ℕ) : Type 0 where
   pub at_bank : AtBank bank registers
+  pub count : length seen.locals ≡ length t.kinds
   pub locals : (local : ℕ) (k : Kind) → slice_get t.kinds local ≡ Some k → IsLive p.graph local node →
       Carries registers (slice_index t.registers local) (typed k (slice_index_or seen.locals local (pos 0)))
   pub pending : (is : Node) → NodeAt p.graph node is → IsPendingIn p is.action seen registers

@@ -1,5 +1,5 @@
 -- That a program is the code of a thread: all that is said of it above, where no instruction is looked at again.
-use Rattle.std.specs.Prelude.{◌≡◌, ◌≢◌, ◌↔◌, ℕ, ◌+◌, ◌-◌, ◌*◌, ◌^◌, ◌<◌, ◌≤◌, List, [], ◌∷◌, length, map, slice_get, Contains, Some, Bool, true, false, sum_by}
+use Rattle.std.specs.Prelude.{◌≡◌, ◌≢◌, ◌↔◌, ℕ, ◌+◌, ◌-◌, ◌*◌, ◌^◌, ◌<◌, ◌≤◌, List, [], ◌∷◌, length, map, slice_get, slice_index_or, Contains, Some, Bool, true, false, sum_by}
 use Rattle.std.specs.List.Sorted.{IsStrictlyIncreasing}
 use Rattle.c_tree.specs.Exprs as e
 use Rattle.c_tree.specs.Locking.{numbers_below}
@@ -12,10 +12,10 @@ use Rattle.rv64_isa.specs.declared.object.Slot.{Slot}
 use Rattle.flow_graph.specs.Nodes.{Action, Eval, Store, Test, Lock, Unlock, End, Node}
 use Rattle.flow_graph.specs.Actions.{effect_of, Effect}
 use Rattle.flow_graph.specs.Cleaning.{IsCleanedLater}
-use Rattle.flow_graph.specs.Cutting.{IsChosen}
+use Rattle.flow_graph.specs.Cutting.{Boundaries, IsChosen}
 use Rattle.flow_graph.specs.Liveness.{NodeAt}
-use Rattle.rv64_link.specs.LabelledCode.{most_words_of}
-use Rattle.rv64_link.specs.Linked.{IsLinked, Stands}
+use Rattle.rv64_link.specs.LabelledCode.{most_words_of, one_if}
+use Rattle.rv64_link.specs.Linked.{IsLinked, Stands, AreInstructions}
 use Rattle.code_runs.specs.Walks.{Program, Setting, Meets, marked}
 use Rattle.thread_code.specs.Plans.{Plan, Thread, IsThread, IsNodeOf, AreKept, mask_before}
 use Rattle.thread_code.specs.Entering.{Enters, IsAnswered, source_of}
@@ -35,6 +35,10 @@ action_nodes (Lock mutex next) = 0
 action_nodes (Unlock mutex next) = 0
 action_nodes End = 0
 
+-- how many boundaries a node has: one before it, one behind it
+abbrev pub boundary_count : Boundaries → (node : ℕ) → ℕ
+boundary_count b node = one_if (slice_index_or b.before node false) + one_if (slice_index_or b.after_lock node false)
+
 -- the mark of a node: of a lock its ECALL, of any other where its code begins, without the boundary before it
 abbrev pub mark_of : Places → Action → (node : ℕ) → ℕ
 mark_of c (Eval target value next) node = c.core node
@@ -43,6 +47,26 @@ mark_of c (Test condition holds fails) node = c.core node
 mark_of c (Lock mutex next) node = c.call node
 mark_of c (Unlock mutex next) node = c.core node
 mark_of c End node = c.core node
+
+-- from the one address on to the other, by whole words
+pub record IsOn (from to : ℕ) : Type 0 where
+  pub words : ℕ
+  pub is : to ≡ from + 4 * words
+
+-- the ECALL of a node, and where it is gone on with, lie behind the core and before the next node
+abbrev pub IsCallWithin : Places → Action → (node : ℕ) → Type 0
+IsCallWithin c (Eval target value next) node = Unit {0}
+IsCallWithin c (Store variable kind next) node = Unit {0}
+IsCallWithin c (Test condition holds fails) node = Unit {0}
+IsCallWithin c (Lock mutex next) node = IsOn (c.core node) (c.call node) × IsOn (c.call node + 4) (c.behind node) × IsOn (c.behind node) (c.entry (node + 1))
+IsCallWithin c (Unlock mutex next) node = IsOn (c.core node) (c.call node) × IsOn (c.call node + 4) (c.behind node) × IsOn (c.behind node) (c.entry (node + 1))
+IsCallWithin c End node = IsOn (c.core node) (c.call node) × IsOn (c.call node + 4) (c.entry (node + 1))
+
+-- the places of a node lie in its code, in their order and whole words apart
+pub record IsWithin (c : Places) (action : Action) (node : ℕ) : Type 0 where
+  pub core : IsOn (c.entry node) (c.core node)
+  pub behind_core : IsOn (c.core node + 4) (c.entry (node + 1))
+  pub call : IsCallWithin c action node
 
 module _ (p : Plan) (t : Thread) (c : Places) where
   -- in a thread's code the thread stands at a node of its own, and its registers for what it sees
@@ -85,6 +109,9 @@ module _ (p : Plan) (t : Thread) (c : Places) where
     pub cleans : IsCleaning is.action node
     -- within its price
     pub price : c.words node ≤ node_price (action_nodes is.action)
+    pub within : IsWithin c is.action node
+    -- all its words are instructions; each boundary has two FENCEs, and no other FENCE is there
+    pub words : AreInstructions c.program.start c.program.code (c.entry node) (c.entry (node + 1)) (2 * boundary_count p.boundaries node)
 
   -- recovery may resume the thread there: behind a chosen boundary, and behind locks and unlocks that leave it with one
   pub data IsResumed : (address : ℕ) → Type 0 where

@@ -69,6 +69,7 @@ enters_seen : (p : Plan) (t : Thread) (node : ℕ) (seen : Seen) (bank : ℕ) (x
     Enters p t node (sees variables seen) bank x
 enters_seen p t node seen bank x variables h = record {
   at_bank = h.at_bank;
+  count = h.count;
   locals = h.locals;
   pending = λ is found. pending_seen p is.action seen variables x (h.pending is found);
 }

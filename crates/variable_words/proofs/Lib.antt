@@ -5,3 +5,4 @@ pub mod Lasting
 pub mod Digits
 pub mod Beginning
 mod Worked
+pub mod Variables

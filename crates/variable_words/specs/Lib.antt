@@ -1,3 +1,4 @@
 pub mod Placed
 pub mod Logs
 pub mod Working
+pub mod Variables

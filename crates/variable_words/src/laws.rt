@@ -1,6 +1,7 @@
 //! Laws of words: nothing is computed here.
 ghost use Rattle.variable_words.specs.Logs.{LinesApart, LogsApart, LogsHoldNone, LogsReach};
 ghost use Rattle.variable_words.specs.Placed.{AddressesReach, CrashesHold, ImagesHold, StartsHold, VariablesApart, WellFormedArePlaced};
+ghost use Rattle.variable_words.specs.Variables.{DurableAreMemory, LiveAreMemory};
 ghost use Rattle.variable_words.specs.Working.{CleansReach, EmptyIsDurable, EventsRaise, FencesSettle, PositionsGrow, PositionsMeet, ReachLasts, StepsWork};
 ghost use Rattle.variable_words.specs.Working.{StoresStore};
 
@@ -45,4 +46,10 @@ pub fn fences_settle()
     ensures reach { ReachLasts }
     ensures empty { EmptyIsDurable }
     ensures settle { FencesSettle }
+{}
+
+/// The variables that loads give, and those that a crash leaves, are memory's.
+pub fn variables_are_memory()
+    ensures live { LiveAreMemory }
+    ensures durable { DurableAreMemory }
 {}

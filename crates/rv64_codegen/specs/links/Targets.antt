@@ -8,7 +8,7 @@ use Rattle.rv64_isa.specs.declared.instr.Instr.{Instr}
 use Rattle.operator_code.specs.declared.branches.Test.{Test}
 use Rattle.operator_code.specs.Computing.{passes}
 use Rattle.code_runs.specs.Running.{Surroundings, Moment}
-use Rattle.expr_code.specs.Evaluating.{Homes, Source, IsAt, Ends}
+use Rattle.expr_code.specs.Evaluating.{Homes, Source, IsAt, Ends, fences_among}
 use Rattle.rv64_codegen.specs.Evaluations.{NeedFew, MayReach, MayEvaluate, may_write, Has, target_nodes}
 
 -- the code does what is assigned
@@ -20,6 +20,7 @@ pub record IsSelected (h : Homes) (target : e.Target) (t : e.Placed) (code : Lis
   pub few : NeedFew (assign_exprs target t)
   pub does : IsTargetCode h target t.expr code
   pub short : length code ≤ 16 * (target_nodes target + nodes_of t.expr) + 16
+  pub fences : fences_among code ≡ 0
 
 -- the one test is passed where the other is, or where it isn't
 pub record IsTurned (other test : Test) (turned : Bool) : Type 0 where

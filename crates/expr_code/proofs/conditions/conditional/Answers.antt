@@ -1,4 +1,5 @@
-use Rattle.std.proofs.Common.{sym, subst, List}
+use Rattle.expr_code.specs.Evaluating.{fences_among}
+use Rattle.std.proofs.Common.{sym, subst, List, ap, arith}
 use Rattle.rv64_isa.specs.declared.instr.Instr.{Instr}
 use Rattle.c_tree.specs.Exprs as e
 use Rattle.expr_code.specs.links.Giving.{IsEvaluation}
@@ -12,3 +13,10 @@ returns-clause-code c = λ h k x y z held rd tests chosen otherwise.
     (as_made h k y held rd c.deref.result.now (subst (λ (code : List Instr). IsEvaluation h (e.Converted k y) held rd code) (sym c.deref.ensures.value) chosen))
     (as_made h k z held rd c.deref-2.result.now
     (subst (λ (code : List Instr). IsEvaluation h (e.Converted k z) held rd code) (sym c.deref-2.ensures.value) otherwise)))
+
+pub returns-clause-fences : goal.returns-clause-fences
+returns-clause-fences c =
+    let whole = c.in_ok-code.ensures.fences in
+    let first = ap fences_among c.deref.ensures.value in
+    let second = ap fences_among c.deref-2.ensures.value in
+    omega (arith, whole, first, second)

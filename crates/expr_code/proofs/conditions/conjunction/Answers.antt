@@ -1,4 +1,5 @@
-use Rattle.std.proofs.Common.{◌≡◌, ◌^◌, ◌<◌, length, sym, subst, List, arith, lit<}
+use Rattle.expr_code.specs.Evaluating.{fences_among}
+use Rattle.std.proofs.Common.{◌≡◌, ◌^◌, ◌<◌, length, sym, subst, List, arith, lit<, ap}
 use Rattle.rv64_isa.specs.declared.instr.Instr.{Instr}
 use Rattle.c_tree.specs.Exprs as e
 use Rattle.expr_code.specs.links.Giving.{IsEvaluation, IsMade, truth_of}
@@ -21,3 +22,11 @@ returns-clause-short c =
     let first = c.deref.ensures.len in
     let second = c.deref-2.ensures.len in
     omega arith
+
+pub returns-clause-fences : goal.returns-clause-fences
+returns-clause-fences c =
+    let whole = c.in_ok-code.ensures.fences in
+    let none = c.in_ok-zero.ensures.fences in
+    let right = ap fences_among c.deref.ensures.value in
+    let last = ap fences_among c.deref-2.ensures.value in
+    omega (arith, whole, none, right, last)

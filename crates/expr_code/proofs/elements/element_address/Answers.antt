@@ -1,9 +1,10 @@
-use Rattle.std.proofs.Common.{◌≡◌, ◌<◌, ◌%◌, ◌++◌, ◌∷◌, [], sym, subst, List, rules}
+use Rattle.std.proofs.Common.{◌≡◌, ◌<◌, ◌%◌, ◌++◌, ◌∷◌, [], sym, subst, List, rules, refl, ◌∙◌}
 use Rattle.rv64_isa.specs.declared.instr.Instr.{Instr}
 use Rattle.rv64_isa.specs.declared.instr.Instr.TheVariants.{OpImmediate}
 use Rattle.rv64_isa.specs.declared.instr.ImmediateOperation.TheVariants.{Addi}
 use Rattle.expr_code.specs.Evaluating.{IsElementAddressCode}
 use Rattle.expr_code.proofs.Loading.{element_address_code}
+use Rattle.expr_code.proofs.Fences.{none_more}
 use Rattle.expr_code.proofs.elements.element_address.Goals as goal
 
 pub returns-clause-code : goal.returns-clause-code
@@ -15,3 +16,9 @@ returns-clause-code c =
     subst (λ (code : List Instr). IsElementAddressCode h variable c.args.kind x c.args.rd code) (sym seen)
     (element_address_code c.args.kind c.args.rd c.args.address c.in_ok-code.code.items c.requires small h variable x is
     (λ low. c.in_ok-code.ensures.code h x.expr low operand))
+
+pub returns-clause-fences : goal.returns-clause-fences
+returns-clause-fences c =
+    let seen : c.push.new.self.items ≡ c.in_ok-code.code.items ++ OpImmediate Addi c.args.rd 31 (c.args.address % 4096) ∷ [] =
+    cc (c.in_ok-push.ensures.items, c.immediate.ensures, c.lower.ensures.value) in
+    none_more c.in_ok-code.code.items (OpImmediate Addi c.args.rd 31 (c.args.address % 4096) ∷ []) _ seen refl ∙ c.in_ok-code.ensures.fences

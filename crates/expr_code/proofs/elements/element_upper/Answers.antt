@@ -1,4 +1,4 @@
-use Rattle.std.proofs.Common.{◌≡◌, ◌+◌, ◌/◌, ◌%◌, ◌^◌, ◌++◌, ◌∷◌, [], ◌∙◌, sym, subst, List}
+use Rattle.std.proofs.Common.{◌≡◌, ◌+◌, ◌/◌, ◌%◌, ◌^◌, ◌++◌, ◌∷◌, [], ◌∙◌, sym, subst, List, refl}
 use Rattle.rv64_isa.specs.declared.instr.Instr.{Instr}
 use Rattle.ido_ints.specs.Kinds.{bytes_of}
 use Rattle.rv64_isa.specs.declared.instr.Instr.TheVariants.{Lui, ShiftImmediate, Op}
@@ -8,6 +8,7 @@ use Rattle.expr_code.specs.Evaluating.{Gives}
 use Rattle.expr_code.specs.links.Giving.{temporary, is_free}
 use Rattle.expr_code.specs.links.Loading.{places_of, HasUpper}
 use Rattle.expr_code.proofs.Loading.{scaled_upper, plain_upper}
+use Rattle.expr_code.proofs.Fences.{none_more}
 use Rattle.expr_code.proofs.elements.element_upper.Goals as goal
 
 pub returns-then-count-eq0-clause-code : goal.returns-then-count-eq0-clause-code
@@ -36,3 +37,34 @@ returns-clause-code c = λ h x low operand.
     ) in
     subst (λ (code : List Instr). Gives h x code (is_free c.args.held) (HasUpper c.args.address (bytes_of c.args.kind))) (sym seen)
     (scaled_upper c.args.kind c.args.held c.args.index.register c.args.address c.args.index.code.items c.requires h x low operand)
+
+pub returns-then-count-eq0-clause-fences : goal.returns-then-count-eq0-clause-fences
+returns-then-count-eq0-clause-fences c =
+    let seen : c.push-then-count-eq0.new.self.items ≡
+    (c.args.index.code.items ++ Lui 31 ((c.args.address + 2048) % 2 ^ 32 / 4096) ∷ []) ++ Op Add 31 31 c.args.index.register ∷ [] =
+    cc (c.in_ok-push.ensures.items, c.in_ok-push-2.ensures.items, c.upper.ensures, c.add.ensures) in
+    none_more (c.args.index.code.items ++ Lui 31 ((c.args.address + 2048) % 2 ^ 32 / 4096) ∷ []) (Op Add 31 31 c.args.index.register ∷ []) _ seen refl ∙
+    none_more c.args.index.code.items (Lui 31 ((c.args.address + 2048) % 2 ^ 32 / 4096) ∷ []) _ refl refl
+
+pub returns-clause-fences : goal.returns-clause-fences
+returns-clause-fences c =
+    let seen : c.push-3.new.self.items ≡
+    ((c.args.index.code.items ++ Lui 31 ((c.args.address + 2048) % 2 ^ 32 / 4096) ∷ []) ++
+    ShiftImmediate Slli (temporary c.args.held) c.args.index.register (places_of c.args.kind) ∷ []) ++ Op Add 31 31 (temporary c.args.held) ∷ [] =
+    cc (
+      c.in_ok-push.ensures.items,
+      c.in_ok-push-3.ensures.items,
+      c.in_ok-push-4.ensures.items,
+      c.upper.ensures,
+      c.shift.ensures,
+      c.add-2.ensures,
+      c.temporary-bytes.ensures.value,
+      c.scale-count.ensures.value,
+    ) in
+    let first : List Instr = Lui 31 ((c.args.address + 2048) % 2 ^ 32 / 4096) ∷ [] in
+    let second : List Instr = ShiftImmediate Slli (temporary c.args.held) c.args.index.register (places_of c.args.kind) ∷ [] in
+    let third : List Instr = Op Add 31 31 (temporary c.args.held) ∷ [] in
+    let old : List Instr = c.args.index.code.items in
+    none_more ((old ++ first) ++ second) third c.push-3.new.self.items seen refl ∙
+    none_more (old ++ first) second ((old ++ first) ++ second) refl refl ∙
+    none_more old first (old ++ first) refl refl

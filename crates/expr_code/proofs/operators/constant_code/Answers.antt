@@ -2,6 +2,7 @@ use Rattle.std.proofs.Common.{◌<◌, subst, ℕ, rules}
 use Rattle.ido_ints.specs.Kinds.{Holds}
 use Rattle.operator_code.specs.Straight.{IsConstant}
 use Rattle.expr_code.proofs.Operating.{constant_value}
+use Rattle.expr_code.proofs.Fences.{constant_none}
 use Rattle.expr_code.proofs.operators.constant_code.Goals as goal
 
 pub returns-clause-code : goal.returns-clause-code
@@ -10,3 +11,6 @@ returns-clause-code c =
     let holds : Holds c.args.value.kind c.args.value.number = search rules in
     λ h held. constant_value c.args.value c.args.rd c.in_ok-code.code.items c.requires small holds
     (subst (λ (n : ℕ). IsConstant c.args.rd n c.in_ok-code.code.items) c.register_form.ensures c.in_ok-code.ensures.code) h held
+
+pub returns-clause-fences : goal.returns-clause-fences
+returns-clause-fences c = constant_none c.args.rd _ c.in_ok-code.code.items c.in_ok-code.ensures.code

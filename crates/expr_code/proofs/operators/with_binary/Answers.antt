@@ -4,6 +4,7 @@ use Rattle.operator_code.specs.Sequences.{listed}
 use Rattle.c_tree.specs.Exprs as e
 use Rattle.expr_code.specs.links.Giving.{IsEvaluation}
 use Rattle.expr_code.proofs.Operating.{binary_code}
+use Rattle.expr_code.proofs.Fences.{none_more, binary_none}
 use Rattle.expr_code.proofs.operators.with_binary.Goals as goal
 
 pub returns-clause-code : goal.returns-clause-code
@@ -13,3 +14,9 @@ returns-clause-code c =
     subst (λ (code : List Instr). IsEvaluation h (e.Binary c.args.operation.operator x y) held c.args.rd code) (sym c.in_ok-push_to.ensures.code)
     (binary_code c.args.operation c.args.rd c.args.pair (listed c.unwrap-last.result) c.requires.some small
     (rw c.unwrap-last.ensures at c.binary.ensures.code) h x y held kx ky both)
+
+pub returns-clause-fences : goal.returns-clause-fences
+returns-clause-fences c =
+    none_more c.args.pair.code.items (listed c.unwrap-last.result) _ c.in_ok-push_to.ensures.code
+    (binary_none c.args.operation c.args.rd c.args.pair.left c.args.pair.right (listed c.unwrap-last.result)
+    (rw c.unwrap-last.ensures at c.binary.ensures.code))

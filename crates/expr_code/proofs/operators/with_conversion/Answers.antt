@@ -4,6 +4,7 @@ use Rattle.operator_code.specs.Sequences.{listed}
 use Rattle.c_tree.specs.Exprs as e
 use Rattle.expr_code.specs.links.Giving.{IsEvaluation}
 use Rattle.expr_code.proofs.Operating.{conversion_code}
+use Rattle.expr_code.proofs.Fences.{none_more, conversion_none}
 use Rattle.expr_code.proofs.operators.with_conversion.Goals as goal
 
 pub returns-clause-code : goal.returns-clause-code
@@ -13,3 +14,8 @@ returns-clause-code c =
     subst (λ (code : List Instr). IsEvaluation h (e.Converted c.args.to x) held c.args.rd code) (sym c.in_ok-push_to.ensures.code)
     (conversion_code c.args.from c.args.to c.args.rd c.args.operand.register c.args.operand.code.items
     (listed c.convert.result) c.requires small c.convert.ensures h x held kind operand)
+
+pub returns-clause-fences : goal.returns-clause-fences
+returns-clause-fences c =
+    none_more c.args.operand.code.items (listed c.convert.result) _ c.in_ok-push_to.ensures.code
+    (conversion_none c.args.from c.args.to c.args.rd c.args.operand.register (listed c.convert.result) c.convert.ensures)

@@ -1,9 +1,11 @@
+use Rattle.ido_ints.specs.declared.kinds.Kind.TheVariants.{Int}
 use Rattle.std.proofs.Common.{◌<◌, sym, subst, refl, List, rules}
 use Rattle.rv64_isa.specs.declared.instr.Instr.{Instr}
 use Rattle.operator_code.specs.Sequences.{listed}
 use Rattle.expr_code.specs.links.Giving.{IsMade, truth_of}
 use Rattle.c_tree.specs.Typing.{kind_of}
 use Rattle.expr_code.proofs.Operating.{truth_code}
+use Rattle.expr_code.proofs.Fences.{none_more, truth_none}
 use Rattle.expr_code.proofs.operators.with_truth.Goals as goal
 
 pub returns-clause-code : goal.returns-clause-code
@@ -13,3 +15,8 @@ returns-clause-code c =
     subst (λ (code : List Instr). IsMade h x truth_of held c.args.rd code) (sym c.in_ok-push_to.ensures.code)
     (truth_code (kind_of x) c.args.rd c.args.operand.register c.args.operand.code.items (listed c.truth.result) c.requires small
     (c.truth.ensures (kind_of x)) h x held refl operand)
+
+pub returns-clause-fences : goal.returns-clause-fences
+returns-clause-fences c =
+    none_more c.args.operand.code.items (listed c.truth.result) _ c.in_ok-push_to.ensures.code
+    (truth_none Int c.args.rd c.args.operand.register (listed c.truth.result) (c.truth.ensures Int))

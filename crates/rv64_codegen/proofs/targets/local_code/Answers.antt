@@ -10,4 +10,4 @@ returns c =
     local_result (homes_of c.args.frame.now) c.args.local (get_or c.args.frame.now.registers.now c.args.local c.index-frame-local.result) c.args.kind
     (placed_of c.args.value.now)
     c.select_converted.result (get_or_default_zero c.args.frame.now.registers.now c.args.local c.index-frame-local.result c.requires.local)
-    c.select_converted.ensures.short c.select_converted.ensures.code
+    c.select_converted.ensures.short c.select_converted.ensures.fences c.select_converted.ensures.code

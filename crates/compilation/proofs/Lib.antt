@@ -1,0 +1,11 @@
+pub mod Settled
+pub mod Growing
+pub mod Sections
+pub mod Beside
+pub mod Points
+pub mod Where
+pub mod Taking
+pub mod Records
+pub mod Whole
+pub mod Unstuck
+pub mod InStep

@@ -1,0 +1,41 @@
+-- Laws of compiled programs, in the words of their readers.
+use Rattle.std.specs.Prelude.{List, length}
+use Rattle.ido_base.specs.declared.event.Event.{Event}
+use Rattle.resumed_programs.specs.Systems.{System, IsSystem, flat_of}
+use Rattle.compilation.specs.Translations.{Translation, HaveNoCrash}
+use Rattle.compilation.specs.Compilation.{IsSettledAsKept, Grows, AreSectionsKept, AreRecords, AreWhole, IsInStep, NeverStuck}
+
+-- what a system is to its readers
+abbrev pub translation_of : System → Translation
+translation_of y = record {
+  flat = flat_of y;
+  program = y.program;
+  mutexes = length (flat_of y).mutexes;
+  initial = y.initial;
+  marks = y.marks;
+  resumes = y.resumes;
+  boundaries = y.plan.boundaries;
+}
+
+-- whatever has happened
+abbrev pub SettledMachinesAreKept : Type 0
+SettledMachinesAreKept = (y : System) → IsSystem y → (events : List Event) → IsSettledAsKept (translation_of y) events
+
+abbrev pub KeptStepsGrow : Type 0
+KeptStepsGrow = (c : Translation) (events : List Event) → Grows c events
+
+abbrev pub SectionsAreKept : Type 0
+SectionsAreKept = (y : System) → IsSystem y → (events : List Event) → AreSectionsKept (translation_of y) events
+
+abbrev pub MachinesRecord : Type 0
+MachinesRecord = (y : System) → IsSystem y → (events : List Event) → AreRecords (translation_of y) events
+
+abbrev pub MachinesAreWhole : Type 0
+MachinesAreWhole = (y : System) → IsSystem y → (events : List Event) → AreWhole (translation_of y) events
+
+abbrev pub HartsNeverStick : Type 0
+HartsNeverStick = (y : System) → IsSystem y → (events : List Event) → NeverStuck (translation_of y) events
+
+-- where power stays on
+abbrev pub MachinesKeepStep : Type 0
+MachinesKeepStep = (y : System) → IsSystem y → (events : List Event) → HaveNoCrash events → IsInStep (translation_of y) events

@@ -1,0 +1,3 @@
+pub mod Translations
+pub mod Compilation
+pub mod Laws

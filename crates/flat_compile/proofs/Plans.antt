@@ -1,0 +1,55 @@
+-- A plan's code, linked, is what its flat form is translated to.
+use Rattle.std.proofs.Common.{◌≡◌, refl, ℕ, zero, suc, ◌≤◌, List, [], ◌∷◌, length, map, sym, subst, ◌∙◌, arith}
+use Rattle.std.specs.Prelude.{sum_by, All, Vec}
+use Rattle.std.specs.Global.{Global}
+use Rattle.std.proofs.lemmas.List.{length-map}
+use Rattle.std.proofs.lemmas.List.Elements.{All-head, All-tail}
+use Rattle.std.proofs.lemmas.Option.{none-some, same_Some}
+use Rattle.rv64_isa.specs.declared.object.Code.{Code}
+use Rattle.rv64_isa.specs.declared.object.CodeItem.{CodeItem}
+use Rattle.rv64_isa.specs.declared.object.Object.{Object}
+use Rattle.rv64_isa.specs.declared.object.Marks.{Marks}
+use Rattle.rv64_isa.specs.Programs.{code_base, program_of}
+use Rattle.rv64_link.specs.LabelledCode.{most_words_of}
+use Rattle.rv64_link.specs.Linked.{AreLinked}
+use Rattle.rv64_link.specs.links.Threads.{items_in}
+use Rattle.variable_layout.specs.Placing.{AreInitial}
+use Rattle.flow_graph.specs.declared.cuts.Cuts.{Cuts}
+use Rattle.flow_graph.specs.Nodes.{Graph}
+use Rattle.flow_graph.specs.Cutting.{IsMinimal, boundaries_of}
+use Rattle.thread_code.specs.Plans.{Plan, IsPlan}
+use Rattle.flat_compile.specs.Translating.{IsTranslated}
+use Rattle.flat_compile.specs.links.Emission.{IsCodeFor}
+use Rattle.flat_compile.proofs.Linked.{AllFew}
+use Rattle.flat_compile.proofs.Systems.{system, system_is}
+
+abbrev IsFew : Vec CodeItem Global → Type 0
+IsFew items = sum_by most_words_of items.items ≤ 65536
+
+few_at : (threads : List (Vec CodeItem Global)) → All IsFew threads → AllFew (map items_in threads)
+few_at [] few n items there = absurd (none-some items there)
+few_at (first ∷ threads) few zero items there =
+    subst (λ (is : List CodeItem). sum_by most_words_of is ≤ 65536) (same_Some first.items items there) (All-head IsFew first threads few)
+few_at (first ∷ threads) few (suc n) items there = few_at threads (All-tail IsFew first threads few) n items there
+
+pub is_translated : (p : Plan) (code : Code) → IsCodeFor p code → IsPlan p → (object : Object) (marks : Marks) (cuts : Cuts) →
+    p.boundaries ≡ boundaries_of cuts → IsMinimal p.graph (boundaries_of cuts) →
+    AreLinked code_base (map items_in code.threads.items) (program_of object) marks.threads.items →
+    object.initial ≡ code.initial → object.mutexes ≡ code.mutexes → IsTranslated p.flat object marks cuts
+is_translated p code is plan object marks cuts at minimal linked initial mutexes =
+    let threads = map items_in code.threads.items in
+    let few = few_at code.threads.items is.few in
+    let eight : length threads ≤ 8 = omega (arith, is.eight, length-map code.threads.items items_in) in
+    let begins = subst (λ (bytes : Vec ℕ Global). AreInitial p.flat.variables bytes.items) (sym initial) is.initial in
+    record {
+      system = system p plan threads (program_of object) marks.threads.items object.initial.items is.is few eight linked begins;
+      is = system_is p plan threads (program_of object) marks.threads.items object.initial.items is.is few eight linked begins;
+      of_flat = refl;
+      at_cuts = at;
+      minimal = subst (λ (g : Graph). IsMinimal g (boundaries_of cuts)) plan.lowered minimal;
+      runs = refl;
+      marked = refl;
+      resumed = refl;
+      begins = refl;
+      mutexes = mutexes ∙ is.mutexes;
+    }

@@ -1,0 +1,9 @@
+//! The last part of the compiler: an accepted flat form to its object, which a machine resumes and doesn't undo.
+#![tactic(auto)]
+
+pub mod compile;
+pub mod laws;
+#[cfg(test)]
+mod tests;
+
+pub use compile::{Translated, translate};

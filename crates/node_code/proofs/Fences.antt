@@ -1,0 +1,209 @@
+-- The FENCEs of pieces, and the words of parts: all are instructions.
+use Rattle.std.proofs.Common.{◌≡◌, ℕ, ◌+◌, ◌-◌, ◌*◌, ◌%◌, ◌^◌, ◌<◌, ◌≤◌, zero, suc, List, [], ◌∷◌, ◌++◌, length, map, Some, refl, ap, sym, ◌∙◌, arith, subst, Bool, true, false, lit<}
+use Rattle.std.specs.Prelude.{slice_get, ◌==◌, if◌then◌else◌}
+use Rattle.std.proofs.lemmas.List.{length-append}
+use Rattle.std.proofs.lemmas.List.Sums.{sum_by-append, sum_by-cons}
+use Rattle.ido_base.specs.Layout.{slot_at}
+use Rattle.rv64_isa.specs.declared.instr.Instr.{Instr}
+use Rattle.rv64_isa.specs.declared.instr.Instr.TheVariants.{Lui, Auipc, Jal, Jalr, Branch, Load, Store, OpImmediate, ShiftImmediate, ShiftImmediateWord, Op, CboClean, Fence, Ecall}
+use Rattle.rv64_isa.specs.declared.object.CodeItem.{CodeItem}
+use Rattle.rv64_isa.specs.declared.object.CodeItem.TheVariants.{Instruction, BranchTo, MarkNext, ResumeNext}
+use Rattle.rv64_isa.specs.declared.object.Label.{Label}
+use Rattle.rv64_isa.specs.declared.object.Slot.TheVariants.{Row}
+use Rattle.rv64_isa.specs.Rows.{Effect, GoesOn, Loads, Stores, Cleans, Fences, Calls, row, read, next}
+use Rattle.rv64_link.specs.LabelledCode.{is_fence, one_if, fences_of, fences_in}
+use Rattle.rv64_link.specs.Linked.{AreInstructions}
+use Rattle.rv64_link.proofs.Instructions.{no_instructions, more_instructions}
+use Rattle.rv64_link.proofs.Places.{within, some_at}
+use Rattle.boundary_code.specs.Boundaries.{Boundary, AtBank, HasEffects, boundary_effects, bank_effects, commit_effects, lines_in_use, resume_address}
+use Rattle.operator_code.specs.Straight.{effects, seen, left_by}
+use Rattle.operator_code.specs.declared.branches.Test.{Test}
+use Rattle.node_code.specs.Sites.{Linking, IsPart, Site, begin_of, end_of}
+use Rattle.node_code.specs.links.Listing.{plain, asking, boundary_items, lock_items, unlock_items, computing_items, choice_items}
+use Rattle.node_code.proofs.Lying.{item_at}
+
+-- ---- Items
+
+pub fences_append : (xs ys : List CodeItem) → fences_in (xs ++ ys) ≡ fences_in xs + fences_in ys
+fences_append xs ys = sum_by-append fences_of xs ys
+
+pub fences_cons : (x : CodeItem) (xs : List CodeItem) → fences_in (x ∷ xs) ≡ fences_of x + fences_in xs
+fences_cons x xs = sum_by-cons fences_of x xs
+
+-- ---- Effects
+
+abbrev is_fences : Effect → Bool
+is_fences (GoesOn registers to) = false
+is_fences (Loads address bytes signed register) = false
+is_fences (Stores address bytes value) = false
+is_fences (Cleans address) = false
+is_fences Fences = true
+is_fences Calls = false
+
+abbrev fences_seen : List Effect → ℕ
+fences_seen [] = 0
+fences_seen (e ∷ es) = one_if (is_fences e) + fences_seen es
+
+seen_append : (es fs : List Effect) → fences_seen (es ++ fs) ≡ fences_seen es + fences_seen fs
+seen_append [] fs = omega arith
+seen_append (e ∷ es) fs = let h = seen_append es fs in omega (arith, h)
+
+on_is_none : (pc to : ℕ) (x : List ℕ) → fences_seen (seen pc (GoesOn x to)) ≡ 0
+on_is_none pc to x = by (to == next pc)
+  where
+    by : (b : Bool) → fences_seen (if b then [] else GoesOn x to ∷ []) ≡ 0
+    by true = refl
+    by false = refl
+
+seen_of : (i : Instr) (x : List ℕ) (pc : ℕ) → fences_seen (seen pc (row i x pc)) ≡ one_if (is_fence (Row i))
+unfolding row
+seen_of (Lui rd immediate) x pc = on_is_none pc _ _
+seen_of (Auipc rd immediate) x pc = on_is_none pc _ _
+seen_of (Jal rd offset) x pc = on_is_none pc _ _
+seen_of (Jalr rd rs1 offset) x pc = on_is_none pc _ _
+seen_of (Branch condition rs1 rs2 offset) x pc = on_is_none pc _ _
+seen_of (Load kind rd rs1 offset) x pc = refl
+seen_of (Store kind rs2 rs1 offset) x pc = refl
+seen_of (OpImmediate operation rd rs1 immediate) x pc = on_is_none pc _ _
+seen_of (ShiftImmediate operation rd rs1 count) x pc = on_is_none pc _ _
+seen_of (ShiftImmediateWord operation rd rs1 count) x pc = on_is_none pc _ _
+seen_of (Op operation rd rs1 rs2) x pc = on_is_none pc _ _
+seen_of (CboClean rs1) x pc = refl
+seen_of Fence x pc = refl
+seen_of Ecall x pc = refl
+
+-- each FENCE of straight code is seen, whatever the registers hold
+pub fences_are_seen : (code : List Instr) (x : List ℕ) (pc : ℕ) → fences_seen (effects code x pc) ≡ fences_in (plain code)
+fences_are_seen [] x pc = refl
+fences_are_seen (i ∷ is) x pc =
+    let here : fences_seen (seen pc (row i x pc)) ≡ one_if (is_fence (Row i)) = seen_of i x pc in
+    let rest : fences_seen (effects is (left_by x (row i x pc)) (pc + 4)) ≡ fences_in (plain is) = fences_are_seen is (left_by x (row i x pc)) (pc + 4) in
+    let both = seen_append (seen pc (row i x pc)) (effects is (left_by x (row i x pc)) (pc + 4)) in
+    let sum : fences_in (plain (i ∷ is)) ≡ one_if (is_fence (Row i)) + fences_in (plain is) = fences_cons (Instruction i) (plain is) in
+    omega (arith, here, rest, both, sum)
+
+-- code of which nothing is seen has none
+pub none_unseen : (code : List Instr) (x : List ℕ) (pc : ℕ) → effects code x pc ≡ [] → fences_in (plain code) ≡ 0
+none_unseen code x pc e = sym (fences_are_seen code x pc) ∙ ap fences_seen e
+
+-- ---- Boundaries
+
+stores_have_none : (rs : List ℕ) (address : ℕ → ℕ) (value : ℕ → ℕ) → fences_seen (map (λ r. Stores (address r) 8 (value r)) rs) ≡ 0
+stores_have_none [] address value = refl
+stores_have_none (r ∷ rs) address value = let h = stores_have_none rs address value in omega (arith, h)
+
+cleans_have_none : (lines : List ℕ) (address : ℕ → ℕ) → fences_seen (map (λ line. Cleans (address line)) lines) ≡ 0
+cleans_have_none [] address = refl
+cleans_have_none (l ∷ ls) address = let h = cleans_have_none ls address in omega (arith, h)
+
+bank_has_none : (b : Boundary) (bank : ℕ) (x : List ℕ) → fences_seen (bank_effects b bank x) ≡ 0
+bank_has_none b bank x =
+    let stored = map (λ (r : ℕ). Stores (slot_at b.thread bank r) 8 (read x r)) b.live in
+    let cleaned = map (λ (line : ℕ). Cleans (slot_at b.thread bank (8 * line))) (lines_in_use (0 ∷ b.live)) in
+    let first : fences_seen stored ≡ 0 = stores_have_none b.live (slot_at b.thread bank) (read x) in
+    let last : fences_seen cleaned ≡ 0 = cleans_have_none (lines_in_use (0 ∷ b.live)) (λ line. slot_at b.thread bank (8 * line)) in
+    let both : fences_seen (stored ++ cleaned) ≡ fences_seen stored + fences_seen cleaned = seen_append stored cleaned in
+    omega (arith, first, last, both)
+
+two_seen : (b : Boundary) (bank resume : ℕ) (x : List ℕ) → fences_seen (boundary_effects b bank resume x) ≡ 2
+two_seen b bank resume x = by (b.mask == 0)
+  where
+    by : (z : Bool) → fences_seen (if z then commit_effects b.thread 0 else bank_effects b bank x ++ commit_effects b.thread ((resume + bank) % 2 ^ 64)) ≡ 2
+    by true = refl
+    by false =
+        let both = seen_append (bank_effects b bank x) (commit_effects b.thread ((resume + bank) % 2 ^ 64)) in
+        let none = bank_has_none b bank x in
+        omega (arith, both, none)
+
+abbrev zeros : List ℕ
+zeros = 0 ∷ 0 ∷ 0 ∷ 0 ∷ 0 ∷ 0 ∷ 0 ∷ 0 ∷ 0 ∷ 0 ∷ 0 ∷ 0 ∷ 0 ∷ 0 ∷ 0 ∷ 0 ∷ 0 ∷ 0 ∷ 0 ∷ 0 ∷ 0 ∷ 0 ∷ 0 ∷ 0 ∷ 0 ∷ 0 ∷ 0 ∷ 0 ∷ 0 ∷ 0 ∷ 0 ∷ 0 ∷ []
+
+pub boundary_fences : (b : Boundary) (code : List Instr) → HasEffects b code → fences_in (plain code) ≡ 2
+boundary_fences b code h =
+    let at : AtBank 0 zeros = record { count = refl; zero_is = refl; offset = refl; exists = lit< tt } in
+    sym (fences_are_seen code zeros 0) ∙ ap fences_seen (h.does zeros 0 0 at) ∙ two_seen b (1 - 0) (resume_address b code 0) zeros
+
+pub boundary_items_fences : (b : Boundary) (code : List Instr) → HasEffects b code → fences_in (boundary_items code) ≡ 2
+boundary_items_fences b code h = let two = boundary_fences b code h in let sum = fences_append (plain code) (ResumeNext ∷ []) in omega (arith, two, sum)
+
+-- ---- Calls
+
+pub lock_items_fences : (b : Boundary) (mutex : ℕ) (code : List Instr) → HasEffects b code → fences_in (lock_items mutex code) ≡ 2
+lock_items_fences b mutex code h =
+    fences_append (plain (asking mutex 1)) ((MarkNext ∷ Instruction Ecall ∷ []) ++ boundary_items code) ∙
+    ap (λ (n : ℕ). 0 + n) (fences_append (MarkNext ∷ Instruction Ecall ∷ []) (boundary_items code)) ∙
+    ap (λ (n : ℕ). 0 + (0 + n)) (boundary_items_fences b code h)
+
+pub unlock_items_fences : (b : Boundary) (mutex mask : ℕ) (code : List Instr) → HasEffects b code → fences_in (unlock_items mutex mask code) ≡ 2
+unlock_items_fences b mutex mask code h =
+    let sum = fences_append (MarkNext ∷ plain code) (plain (asking mutex 2) ++ (Instruction Ecall ∷ (if mask == 0 then [] else ResumeNext ∷ []))) in
+    let marked : fences_in (MarkNext ∷ plain code) ≡ 2 = fences_cons MarkNext (plain code) ∙ ap (λ (n : ℕ). 0 + n) (boundary_fences b code h) in
+    let rest : fences_in (plain (asking mutex 2) ++ (Instruction Ecall ∷ (if mask == 0 then [] else ResumeNext ∷ []))) ≡ 0 = by (mask == 0) in
+    omega (arith, sum, marked, rest)
+  where
+    by : (z : Bool) → fences_in (plain (asking mutex 2) ++ (Instruction Ecall ∷ (if z then [] else ResumeNext ∷ []))) ≡ 0
+    by true = refl
+    by false = refl
+
+-- ---- Code that computes
+
+pub computing_fences : (i : Instr) (is : List Instr) → fences_in (computing_items (i ∷ is)) ≡ fences_in (plain (i ∷ is))
+computing_fences i is = fences_cons MarkNext (plain (i ∷ is)) ∙ omega arith
+
+pub choice_fences : (code : List Instr) (test : Test) (to : Label) → fences_in (choice_items code test to) ≡ fences_in (plain code)
+choice_fences code test to =
+    let sum = fences_append (MarkNext ∷ plain code) (BranchTo test.condition test.rs1 test.rs2 to ∷ []) in
+    let marked : fences_in (MarkNext ∷ plain code) ≡ 0 + fences_in (plain code) = fences_cons MarkNext (plain code) in
+    omega (arith, sum, marked)
+
+-- ---- Parts
+
+module _ (all : List CodeItem) (n : Linking all) where
+  abbrev to : ℕ → ℕ
+  to k = n.linked.address_of k
+
+  abbrev Are : (from to fences : ℕ) → Type 0
+  Are from to fences = AreInstructions n.program.start n.program.code from to fences
+
+  instructions_before : (k : ℕ) → k ≤ length all → (m : ℕ) × Are (to 0) (to k) m
+  instructions_before zero h =
+      let begins : to 0 ≡ n.program.start = n.linked.begins in
+      (0, no_instructions n.program.start n.program.code (to 0) 0 (omega (arith, begins)) (omega arith))
+  instructions_before (suc k) h =
+      let before = instructions_before k (omega (arith, h)) in
+      let item = some_at all k (omega (arith, h)) in
+      let e : k + 1 ≡ suc k = omega arith in
+      let here : Are (to k) (to (suc k)) (fences_of item.0) = subst (λ (q : ℕ). Are (to k) (to q) (fences_of item.0)) e (n.linked.words k item.0 item.1) in
+      (before.0 + fences_of item.0, more_instructions n.program.start n.program.code (to 0) (to k) (to (suc k)) before.0 (fences_of item.0) before.1 here)
+
+  instructions_from : (k : ℕ) (part : List CodeItem) → ((j : ℕ) (item : CodeItem) → slice_get part j ≡ Some item → slice_get all (k + j) ≡ Some item) →
+      k ≤ length all → Are (to k) (to (k + length part)) (fences_in part)
+  instructions_from k [] own h =
+      let before = instructions_before k h in
+      let from : to 0 ≡ n.program.start + 4 * before.1.first = before.1.from_is in
+      let until : to k ≡ to 0 + 4 * before.1.count = before.1.to_is in
+      let e : k ≡ k + 0 = omega arith in
+      subst (λ (q : ℕ). Are (to k) (to q) 0) e
+      (no_instructions n.program.start n.program.code (to k) (before.1.first + before.1.count) (omega (arith, from, until)) before.1.inside)
+  instructions_from k (x ∷ xs) own h =
+      let zeroth : k + 0 ≡ k = omega arith in
+      let end : k + 1 + length xs ≡ k + length (x ∷ xs) = omega arith in
+      let there : slice_get all k ≡ Some x = subst (λ (q : ℕ). slice_get all q ≡ Some x) zeroth (own 0 x refl) in
+      let below : k < length all = within all k x there in
+      let rest : Are (to (k + 1)) (to (k + 1 + length xs)) (fences_in xs) = instructions_from (k + 1) xs (λ j item e.
+      let moved : k + suc j ≡ k + 1 + j = omega arith in
+      subst (λ (q : ℕ). slice_get all q ≡ Some item) moved (own (suc j) item e)) (omega (arith, below)) in
+      let both : Are (to k) (to (k + 1 + length xs)) (fences_of x + fences_in xs) =
+      more_instructions n.program.start n.program.code (to k) (to (k + 1)) (to (k + 1 + length xs)) (fences_of x) (fences_in xs) (n.linked.words k x there) rest in
+      subst (λ (q : ℕ). Are (to k) (to q) (fences_in (x ∷ xs))) end
+      (subst (λ (m : ℕ). Are (to k) (to (k + 1 + length xs)) m) (sym (fences_cons x xs)) both)
+
+-- the words of a part are instructions, of which as many are FENCEs as of its items
+pub part_instructions : (part : List CodeItem) (site : Site part) →
+    AreInstructions site.linking.program.start site.linking.program.code (begin_of part site) (end_of part site) (fences_in part)
+part_instructions part site =
+    let p : IsPart site.items site.position part = site.is_part in
+    let whole : length site.items ≡ length (p.before ++ (part ++ p.behind)) = ap length p.split in
+    let both = length-append p.before (part ++ p.behind) in
+    let at : site.position ≡ length p.before = p.at in
+    instructions_from site.items site.linking site.position part (item_at site.items site.position part p) (omega (arith, whole, both, at))

@@ -1,0 +1,172 @@
+-- What a hart may store is in no other thread's log, and beside all that other threads read.
+use Rattle.std.proofs.Common.{◌≡◌, ◌≢◌, inl, inr, refl, ℕ, ◌+◌, ◌/◌, ◌<◌, ◌≤◌, List, ◌∷◌, length, ap, arith, sym, ◌∙◌, subst, Option, Some, None, true, ⊎_elim}
+use Rattle.std.specs.Prelude.{slice_get}
+use Rattle.std.proofs.lemmas.Bool.{true≢false, and_from}
+use Rattle.std.proofs.lemmas.Option.{same_Some}
+use Rattle.ido_base.specs.declared.event.Event.TheVariants.{Step}
+use Rattle.ido_base.specs.Words.{Word, Entry}
+use Rattle.ido_base.specs.Layout.{variable_at, byte_number}
+use Rattle.ido_base.specs.Growth.{AreRaised, AreEntries}
+use Rattle.ido_base.proofs.Growth.{are_raised_refl, write_backs_raise}
+use Rattle.ido_ints.specs.Kinds.{bytes_of}
+use Rattle.source_machine.specs.Discipline.{Guards}
+use Rattle.variable_layout.specs.Placing.{HaveRoom}
+use Rattle.variable_layout.proofs.Laying.{by_size}
+use Rattle.variable_words.specs.Working.{IsStore, IsWork, Rests, Queues, WritesBack, Makes}
+use Rattle.variable_words.proofs.Standing.{well_formed_placed}
+use Rattle.variable_words.proofs.Steps.{steps_work}
+use Rattle.rv64_isa.specs.declared.object.Slot.{Slot}
+use Rattle.rv64_isa.specs.declared.object.Slot.TheVariants.{Row}
+use Rattle.rv64_isa.specs.Rows.{Effect, GoesOn, Loads, Stores, Cleans, Fences, Calls, row}
+use Rattle.rv64_isa.specs.Machine.{Hart, World, after_event}
+use Rattle.rv64_isa.specs.Frames.{IsSound}
+use Rattle.rv64_isa.specs.Schedule.{is_running}
+use Rattle.resumption.specs.Moments.{now}
+use Rattle.log_states.specs.Logs.{log_word}
+use Rattle.log_states.specs.Stages.{is_store}
+use Rattle.log_states.specs.Machines.{IsNext, IsElsewhere}
+use Rattle.log_states.proofs.Heads.{address_of}
+use Rattle.log_states.proofs.Numbers.{variables_are_apart, logs_are_apart}
+use Rattle.code_runs.specs.Walks.{Setting}
+use Rattle.hart_runs.specs.Standing.{is_width, Agrees}
+use Rattle.hart_runs.specs.Laws.{IsApart}
+use Rattle.hart_runs.proofs.Memory.{raised_agrees, beside_agrees}
+use Rattle.hart_runs.proofs.Others.{others_leave}
+use Rattle.recovered_threads.specs.Telling.{Code}
+use Rattle.resumed_programs.specs.Systems.{System, IsSystem, flat_of, shapes_of}
+use Rattle.resumed_programs.specs.Histories.{Beside}
+use Rattle.resumed_programs.specs.Courses.{Course, IsGuarded, AnswersGuarded}
+use Rattle.resumed_programs.specs.Moving.{MayStore, nothing, in_log, element}
+use Rattle.resumed_programs.proofs.Separate.{variables_end, element_ends, element_below, elements_apart, log_behind}
+
+-- how many bytes an effect stores
+abbrev width_of : Effect → ℕ
+width_of (GoesOn registers pc) = 0
+width_of (Loads address bytes signed register) = 0
+width_of (Stores address bytes value) = bytes
+width_of (Cleans address) = 0
+width_of Fences = 0
+width_of Calls = 0
+
+-- the effect of a slot's instruction
+abbrev effect_in : Hart → Option Slot → Option Effect
+effect_in hart o = elim o [
+  | Some (Row instr) ↦ Some (row instr hart.registers hart.pc)
+  | _ ↦ None
+]
+
+-- the next instruction of a hart that makes a store
+pub next_store : (program : List (List Slot)) (w : World) (h address bytes value : ℕ) (st : IsStore program w h address bytes value) →
+    IsNext program w h st.executes.hart (Stores address bytes value)
+next_store program w h address bytes value st =
+    let e = st.executes in
+    record {
+      here = e.there;
+      runs = ap is_running e.runs;
+      is = ap (effect_in e.hart) e.fetches ∙ ap (λ (x : Effect). Some x) e.effect_is;
+    }
+
+module _ (y : System) (s : IsSystem y) (w : World) (h : ℕ) (b : Beside y)
+    (stores_own : (hart : Hart) (effect : Effect) → IsNext y.program w h hart effect → MayStore y b h effect) where
+  abbrev after : World
+  after = after_event y.program w (Step h)
+
+  room : HaveRoom (flat_of y).variables
+  room = (well_formed_placed (flat_of y) s.plan.formed).room
+
+  -- ---- Logs
+
+  module _ (n : ℕ) (other : h ≢ n) (address bytes value i : ℕ) (below : i < 128) where
+    not_in_log : (effect : Effect) → effect ≡ Stores address bytes value → MayStore y b h effect → byte_number address / 8 ≢ log_word n i
+    not_in_log _ same (nothing effect none) = absurd (true≢false (sym (ap is_store same) ∙ none))
+    not_in_log _ same (in_log a v k inside word) =
+        subst (λ (x : ℕ). byte_number x / 8 ≢ log_word n i) (ap address_of same)
+        (λ meets. logs_are_apart n h i k other below inside (sym word ∙ meets))
+    not_in_log _ same (element variable number v is there within guards) =
+        subst (λ (x : ℕ). byte_number x / 8 ≢ log_word n i) (ap address_of same)
+        (variables_are_apart n (variable_at (shapes_of y) variable number) i (element_below (flat_of y).variables room variable number is there within))
+
+  -- the step stores nothing to another thread's log
+  pub elsewhere : (n : ℕ) → h ≢ n → IsElsewhere y.program w h n
+  elsewhere n other hart address bytes value next i below =
+      not_in_log n other address bytes value i below (Stores address bytes value) refl (stores_own hart (Stores address bytes value) next)
+
+  -- ---- What others read
+
+  -- a store of a width that there is, beside all that the setting answers
+  record IsBesideAll (z : Setting) (address bytes : ℕ) : Type 0 where
+    width : is_width bytes ≡ true
+    apart : IsApart z address bytes
+
+  module _ (code : Code y.plan) (c : Course) (other : h ≢ code.thread.number) (z : Setting) (answers : AnswersGuarded y b code c z) where
+    abbrev n : ℕ
+    n = code.thread.number
+
+    -- two threads guard no variable both
+    guards_apart : (variable v : ℕ) → Guards (flat_of y) (now b.moment) h variable → Guards (flat_of y) (now b.moment) n v → variable ≢ v
+    guards_apart variable v own its same =
+        let mine : Guards (flat_of y) (now b.moment) h v = subst (λ (x : ℕ). Guards (flat_of y) (now b.moment) h x) same own in
+        other (same_Some h n (same_Some (Some h) (Some n) (sym mine ∙ its)))
+
+    answer_ends : (at count : ℕ) → IsGuarded y b code c at count → at + count ≤ variables_end
+    answer_ends at count g =
+        let ends = element_ends (flat_of y).variables room g.variable g.element g.is g.there g.within in
+        let place = g.address_is in
+        let size = g.bytes_are in
+        omega (arith, ends, place, size)
+
+    module _ (address bytes value : ℕ) where
+      beside_all : (effect : Effect) → effect ≡ Stores address bytes value → MayStore y b h effect → IsBesideAll z address bytes
+      beside_all _ same (nothing effect none) = absurd (true≢false (sym (ap is_store same) ∙ none))
+      beside_all _ same (in_log a v k inside word) =
+          let place : a ≡ address = ap address_of same in
+          let size : 8 ≡ bytes = ap width_of same in
+          record {
+            width = subst (λ (x : ℕ). is_width x ≡ true) size refl;
+            apart = λ at count found e.
+                let ends = answer_ends at count (answers at count found e) in
+                let behind = log_behind a h k word in
+                inl (omega (arith, ends, behind, place));
+          }
+      beside_all _ same (element variable number v is there within guards) =
+          let place : variable_at (shapes_of y) variable number ≡ address = ap address_of same in
+          let size : bytes_of is.kind ≡ bytes = ap width_of same in
+          record {
+            width = subst (λ (x : ℕ). is_width x ≡ true) size (by_size (λ x. is_width x ≡ true) refl refl refl refl is.kind);
+            apart = λ at count found e.
+                let g = answers at count found e in
+                let at_is = g.address_is in
+                let count_is = g.bytes_are in
+                ⊎_elim
+                (λ l. inl (omega (arith, l, place, at_is, count_is)))
+                (λ l. inr (omega (arith, l, place, size, at_is)))
+                (elements_apart (flat_of y).variables room g.variable g.element variable number g.is is g.there g.within there within
+                (guards_apart variable g.variable guards g.guards));
+          }
+
+    module _ (sound : IsSound w) (agrees : Agrees y.program w n z) where
+      count : length after.harts ≡ length w.harts
+      count = (others_leave y.program w n (Step h) sound other).1
+
+      raised_on : AreRaised w.words after.words → Agrees y.program after n z
+      raised_on raised = raised_agrees y.program w after n z count raised agrees
+
+      same_on : after.words ≡ w.words → Agrees y.program after n z
+      same_on same = raised_on (subst (λ (ws : List Word). AreRaised w.words ws) (sym same) (are_raised_refl w.words))
+
+      worked_on : (hart : Hart) (queue : List Entry) → slice_get w.harts h ≡ Some hart → IsWork y.program w h after.words hart.queue queue →
+          Agrees y.program after n z
+      worked_on hart queue here (Rests same q) = same_on same
+      worked_on hart queue here (Queues line same q) = same_on same
+      worked_on hart queue here (WritesBack e is q) =
+          let entries : AreEntries w.words (e ∷ queue) = subst (λ (es : List Entry). AreEntries w.words es) q (sound.queues h hart here) in
+          raised_on (subst (λ (ws : List Word). AreRaised w.words ws) (sym is) (write_backs_raise w.words e entries.0))
+      worked_on hart queue here (Makes address bytes value st is q) =
+          let may = stores_own st.executes.hart (Stores address bytes value) (next_store y.program w h address bytes value st) in
+          let all = beside_all address bytes value (Stores address bytes value) refl may in
+          beside_agrees y.program w after n z address bytes value count is
+          (and_from (is_width bytes) _ all.width (and_from _ _ st.inside st.is_aligned)) all.apart agrees
+
+      -- so memory goes on to agree
+      pub agrees_behind : (hart : Hart) → slice_get w.harts h ≡ Some hart → Agrees y.program after n z
+      agrees_behind hart here = let does = steps_work y.program w h hart here in worked_on hart does.after.queue here does.work

@@ -1,0 +1,123 @@
+-- A life stands behind an event.
+use Rattle.std.proofs.Common.{Vec, Global, ◌≡◌, ℕ, ◌+◌, ◌<◌, ◌≤◌, List, [], ◌∷◌, ◌++◌, length, map, Bool, cond, ap, sym, subst, ◌∙◌, arith, length-append}
+use Rattle.std.specs.Vec.{vec_capacity, vec_len}
+use Rattle.ido_base.specs.declared.event.Event.{Event}
+use Rattle.ido_base.specs.Cores.{point_stores, finished_fences}
+use Rattle.rv64_isa.specs.declared.object.Slot.{Slot}
+use Rattle.rv64_isa.specs.Frames.{IsSound}
+use Rattle.rv64_isa.proofs.Frames.{queues_stand}
+use Rattle.rv64_isa.specs.Machine.{World, IsValidEvent, after_event, start_of}
+use Rattle.rv64_isa.specs.Schedule.{Steps, steps_after, stores_point, finishes_fence}
+use Rattle.ido_machine.specs.declared.machine.Machine.{Machine}
+use Rattle.ido_machine.specs.Machines.{MachineStands, program_in, events_of}
+use Rattle.run_tracker.specs.declared.account.Account.{Account}
+use Rattle.run_tracker.specs.declared.life.Life.TheInside.{Inside}
+use Rattle.run_tracker.specs.links.Accounts.{AccountStands, AreOrdered, weight}
+use Rattle.run_tracker.specs.links.MarkTables.{AreTables}
+use Rattle.run_tracker.specs.Lives.{Course, world_of, steps_in, with_event, living, opening_of}
+use Rattle.run_tracker.specs.links.Parts.{AreCounted, IsReady, HasCounts}
+use Rattle.run_tracker.specs.links.Insides.{course_of, AreCounts, LifeStands}
+use Rattle.run_tracker.proofs.Events.{after_more, along_more, points_more, fences_more, harts-after, weight-after, ordered-after}
+use Rattle.run_tracker.proofs.Counting.{passed-few}
+
+module _ (life : Inside) (stands : LifeStands life) where
+  hart_count : length (world_of (course_of life)).harts ≡ length (program_in life.machine)
+  hart_count = omega (arith, stands.machine.standing.count, life.machine.sized, life.machine.harts.ok.0)
+
+  steps_count : length (steps_in (course_of life)).harts ≡ length (program_in life.machine)
+  steps_count = stands.account.count ∙ stands.harts
+
+  -- there is room for an event
+  pub is_ready : length life.journal.items < life.cap → IsReady life.tables.items life.machine life.account
+  is_ready room = record {
+    marks = map (λ a. a.items) life.addresses.items;
+    tables_are = stands.tables;
+    world = world_of (course_of life);
+    steps = steps_in (course_of life);
+    at = record {
+      stands = stands.machine;
+      sound = stands.sound;
+      steps = stands.account;
+      ordered = stands.ordered;
+      room = omega (arith, stands.light, room, stands.kept_room);
+      few = omega (arith, stands.light, room, stands.few);
+    };
+  }
+
+  few_counts : (counts : List ℕ) (done : ℕ → ℕ) → AreCounts counts (length (program_in life.machine)) done → ((h : ℕ) → done h ≤ length life.journal.items) → HasCounts counts (length (program_in life.machine))
+  few_counts counts done are few = record {
+    size = are.0;
+    few = λ h below. omega (arith, are.1 h below, few h, stands.within, stands.few);
+  }
+
+  pub has_points : HasCounts life.points.items (length (program_in life.machine))
+  has_points = few_counts life.points.items (point_stores living (opening_of (course_of life)) life.journal.items) stands.points
+      (λ h. passed-few living (λ m. living.stores_point m h) (opening_of (course_of life)) life.journal.items)
+
+  pub has_fences : HasCounts life.fences.items (length (program_in life.machine))
+  has_fences = few_counts life.fences.items (finished_fences living (opening_of (course_of life)) life.journal.items) stands.fences
+      (λ h. passed-few living (λ m. living.finishes_fence m h) (opening_of (course_of life)) life.journal.items)
+
+  module _ (event : Event) (machine : Machine) (account : Account) (journal : Vec Event Global) (points fences : Vec ℕ Global)
+      (valid : IsValidEvent (length (program_in life.machine)) event) (room : length life.journal.items < life.cap)
+      (same : program_in machine ≡ program_in life.machine) (events : events_of machine ≡ events_of life.machine + 1)
+      (world : MachineStands machine (after_event (program_in life.machine) (world_of (course_of life)) event))
+      (steps : AccountStands account (steps_after (map (λ a. a.items) life.addresses.items) (program_in life.machine) (world_of (course_of life)) event (steps_in (course_of life))))
+      (points_are : AreCounted life.points.items points.items (λ h. stores_point (program_in life.machine) (world_of (course_of life)) event h))
+      (fences_are : AreCounted life.fences.items fences.items (λ h. finishes_fence (program_in life.machine) (world_of (course_of life)) event h))
+      (journal_is : journal.items ≡ life.journal.items ++ event ∷ []) (journal_room : vec_capacity journal ≡ vec_capacity life.journal)
+      (kept_room : vec_capacity account.kept ≡ vec_capacity life.account.kept) (stores_room : vec_capacity account.stores ≡ vec_capacity life.account.stores)
+      (stores : vec_len account.stores ≤ vec_len life.account.stores + 1) where
+    pub course_is : course_of (record life { machine = machine; account = account; journal = journal; points = points; fences = fences }) ≡ with_event (course_of life) event
+    course_is =
+        let at : List (List Slot) → List Event → Course = λ p j. record { program = p; marks = map (λ a. a.items) life.addresses.items; opening = start_of p life.mutexes life.initial.items; journal = j; cap = life.cap } in
+        ap (λ (p : List (List Slot)). at p journal.items) same ∙ ap (at (program_in life.machine)) journal_is
+
+    world_is : world_of (with_event (course_of life) event) ≡ after_event (program_in life.machine) (world_of (course_of life)) event
+    world_is = after_more (program_in life.machine) (course_of life).opening life.journal.items event
+
+    steps_are : steps_in (with_event (course_of life) event) ≡ steps_after (map (λ a. a.items) life.addresses.items) (program_in life.machine) (world_of (course_of life)) event (steps_in (course_of life))
+    steps_are = along_more (map (λ a. a.items) life.addresses.items) (program_in life.machine) (course_of life).opening life.journal.items event _
+
+    -- what is so of the course with the event is so of the new one
+    moved : (P : Course → Type 0) → P (with_event (course_of life) event) → P (course_of (record life { machine = machine; account = account; journal = journal; points = points; fences = fences }))
+    moved P h = subst P (sym course_is) h
+
+    counts_are : (old new : List ℕ) (done now : ℕ → ℕ) (does : ℕ → Bool) → AreCounts old (length (program_in life.machine)) done → AreCounted old new does → ((h : ℕ) → now h ≡ done h + cond (does h) 1 0) → AreCounts new (length (program_in life.machine)) now
+    counts_are old new done now does are counted more = (counted.size ∙ are.0, λ h below. counted.each h (omega (arith, below, are.0)) ∙ ap (λ (n : ℕ). n + cond (does h) 1 0) (are.1 h below) ∙ sym (more h))
+
+    longer : length journal.items ≡ length life.journal.items + 1
+    longer = ap length journal_is ∙ length-append life.journal.items (event ∷ [])
+
+    valid_steps : IsValidEvent (length (steps_in (course_of life)).harts) event
+    valid_steps = subst (λ (n : ℕ). IsValidEvent n event) (sym steps_count) valid
+
+    pub lasts : LifeStands (record life { machine = machine; account = account; journal = journal; points = points; fences = fences })
+    lasts = record {
+      machine = moved (λ (x : Course). MachineStands machine (world_of x)) (subst (MachineStands machine) (sym world_is) world);
+      sound = moved (λ (x : Course). IsSound (world_of x)) (subst IsSound (sym world_is) (queues_stand (program_in life.machine) (world_of (course_of life)) event (sym hart_count) stands.sound).0);
+      events = omega (arith, events, stands.events, longer);
+      tables = subst (λ (p : List (List Slot)). AreTables life.tables.items p (map (λ a. a.items) life.addresses.items)) (sym same) stands.tables;
+      account = moved (λ (x : Course). AccountStands account (steps_in x)) (subst (AccountStands account) (sym steps_are) steps);
+      harts = sym steps.count ∙ harts-after (map (λ a. a.items) life.addresses.items) (program_in life.machine) (world_of (course_of life)) event (steps_in (course_of life)) ∙ steps_count ∙ ap length (sym same);
+      ordered = moved (λ (x : Course). AreOrdered (world_of x).words (steps_in x))
+          (subst (λ (w : World). AreOrdered w.words (steps_in (with_event (course_of life) event))) (sym world_is)
+          (subst (AreOrdered (after_event (program_in life.machine) (world_of (course_of life)) event).words) (sym steps_are) (ordered-after (map (λ a. a.items) life.addresses.items) (program_in life.machine) (world_of (course_of life)) event (steps_in (course_of life)) stands.sound stands.ordered)));
+      light = moved (λ (x : Course). weight (steps_in x) ≤ length journal.items)
+          (subst (λ (s : Steps). weight s ≤ length journal.items) (sym steps_are)
+          (omega (arith, weight-after (map (λ a. a.items) life.addresses.items) (program_in life.machine) (world_of (course_of life)) event (steps_in (course_of life)) valid_steps, stands.light, longer)));
+      points = moved (λ (x : Course). AreCounts points.items (length x.program) (point_stores living (opening_of x) x.journal))
+          (counts_are life.points.items points.items (point_stores living (opening_of (course_of life)) life.journal.items) (point_stores living (opening_of (course_of life)) (life.journal.items ++ event ∷ []))
+          (λ h. stores_point (program_in life.machine) (world_of (course_of life)) event h) stands.points points_are
+          (λ h. points_more (program_in life.machine) (course_of life).opening life.journal.items event h));
+      fences = moved (λ (x : Course). AreCounts fences.items (length x.program) (finished_fences living (opening_of x) x.journal))
+          (counts_are life.fences.items fences.items (finished_fences living (opening_of (course_of life)) life.journal.items) (finished_fences living (opening_of (course_of life)) (life.journal.items ++ event ∷ []))
+          (λ h. finishes_fence (program_in life.machine) (world_of (course_of life)) event h) stands.fences fences_are
+          (λ h. fences_more (program_in life.machine) (course_of life).opening life.journal.items event h));
+      within = omega (arith, room, longer);
+      few = stands.few;
+      journal_room = omega (arith, journal_room, stands.journal_room);
+      kept_room = omega (arith, kept_room, stands.kept_room);
+      stores_room = omega (arith, stores_room, stands.stores_room);
+      stores = omega (arith, stores, stands.stores, longer);
+    }

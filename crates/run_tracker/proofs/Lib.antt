@@ -1,0 +1,11 @@
+pub mod Bounds
+pub mod Counting
+pub mod Events
+pub mod Keeping
+pub mod Lasting
+pub mod Orders
+pub mod Places
+pub mod Scans
+pub mod Sights
+pub mod Updates
+pub mod Weights

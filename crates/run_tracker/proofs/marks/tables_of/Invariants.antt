@@ -1,0 +1,12 @@
+use Rattle.std.proofs.Common.{◌≡◌, ℕ, [], length, map, slice_get, slice_index_or, Some}
+use Rattle.rv64_isa.specs.Programs.{program_of, code_of, code_start}
+use Rattle.run_tracker.specs.declared.marks.MarkTable.{MarkTable}
+use Rattle.run_tracker.specs.links.MarkTables.{IsTableOf}
+use Rattle.run_tracker.proofs.marks.tables_of.Given as goal
+
+abbrev pub invariant-loop-thread : goal.invariant-loop-thread
+invariant-loop-thread l = record {
+  count : length l.tables.items ≡ l.thread;
+  each : (thread : ℕ) (table : MarkTable) → slice_get l.tables.items thread ≡ Some table →
+      IsTableOf table (code_start (program_of l.object) thread) (length (code_of (program_of l.object) thread)) (slice_index_or (map (λ t. t.nodes.items) l.marks.threads.items) thread []);
+}

@@ -1,0 +1,4 @@
+pub mod Accounts
+pub mod Insides
+pub mod MarkTables
+pub mod Parts

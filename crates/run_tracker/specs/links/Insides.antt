@@ -1,0 +1,43 @@
+-- What the fields of a life stand for.
+use Rattle.std.specs.Prelude.{◌≡◌, ℕ, ◌<◌, ◌≤◌, ◌^◌, List, length, map, slice_index}
+use Rattle.std.specs.Vec.{vec_capacity, vec_len}
+use Rattle.ido_base.specs.Cores.{point_stores, finished_fences}
+use Rattle.rv64_isa.specs.Machine.{start_of}
+use Rattle.rv64_isa.specs.Frames.{IsSound}
+use Rattle.ido_machine.specs.Machines.{MachineStands, program_in, events_of}
+use Rattle.run_tracker.specs.declared.life.Life.TheInside.{Inside}
+use Rattle.run_tracker.specs.links.Accounts.{AccountStands, AreOrdered, weight}
+use Rattle.run_tracker.specs.links.MarkTables.{AreTables}
+use Rattle.run_tracker.specs.Lives.{Course, world_of, steps_in, living, opening_of}
+
+abbrev pub course_of : Inside → Course
+course_of life = record {
+  program = program_in life.machine;
+  marks = map (λ a. a.items) life.addresses.items;
+  opening = start_of (program_in life.machine) life.mutexes life.initial.items;
+  journal = life.journal.items;
+  cap = life.cap;
+}
+
+-- so often each hart has done what is counted
+abbrev pub AreCounts : List ℕ → (harts : ℕ) → (done : ℕ → ℕ) → Type 0
+AreCounts counts harts done = (length counts ≡ harts) × ((h : ℕ) → h < harts → slice_index counts h ≡ done h)
+
+-- machine, account and counts are those of the events in the journal
+pub record LifeStands (life : Inside) : Type 0 where
+  pub machine : MachineStands life.machine (world_of (course_of life))
+  pub sound : IsSound (world_of (course_of life))
+  pub events : events_of life.machine ≡ length life.journal.items
+  pub tables : AreTables life.tables.items (program_in life.machine) (map (λ a. a.items) life.addresses.items)
+  pub account : AccountStands life.account (steps_in (course_of life))
+  pub harts : length life.account.harts.items ≡ length (program_in life.machine)
+  pub ordered : AreOrdered (world_of (course_of life)).words (steps_in (course_of life))
+  pub light : weight (steps_in (course_of life)) ≤ length life.journal.items
+  pub points : AreCounts life.points.items (length (program_in life.machine)) (point_stores living (opening_of (course_of life)) life.journal.items)
+  pub fences : AreCounts life.fences.items (length (program_in life.machine)) (finished_fences living (opening_of (course_of life)) life.journal.items)
+  pub within : length life.journal.items ≤ life.cap
+  pub few : life.cap < 2 ^ 63
+  pub journal_room : life.cap ≤ vec_capacity life.journal
+  pub kept_room : life.cap ≤ vec_capacity life.account.kept
+  pub stores_room : life.cap ≤ vec_capacity life.account.stores
+  pub stores : vec_len life.account.stores ≤ length life.journal.items

@@ -1,0 +1,10 @@
+//! The life of a compiled object: the machine that runs it, the journal of its events, and the account of the steps
+//! of the source that it has begun and kept. An event takes constant time (amortized) and no memory.
+#![tactic(auto)]
+
+mod account;
+pub mod life;
+mod marks;
+mod stepping;
+#[cfg(test)]
+mod tests;

@@ -1,0 +1,269 @@
+//! A life: a machine that runs a compiled object, with the journal of its events and the kept schedule.
+ghost use Rattle.std.specs.Prelude.{◌≡◌, ◌+◌, ◌-◌, ◌*◌, ◌<◌, ◌≤◌, ◌^◌, ℕ, length, not, IfOk};
+ghost use Rattle.ido_base.specs.Words.{word_at, live_value, durable_value};
+ghost use Rattle.ido_base.specs.Layout.{line_count};
+ghost use Rattle.ido_base.specs.Cores.{point_stores, finished_fences};
+ghost use Rattle.rv64_isa.specs.Machine.{World, IsValidEvent, reply_to};
+ghost use Rattle.ido_machine.specs.Machines.{MachineStands, program_in};
+ghost use Rattle.rv64_isa.specs.Schedule.{is_settled, is_settled_hart};
+ghost use Rattle.hart_core.specs.Objects.{IsWithinLimits};
+ghost use Rattle.run_tracker.specs.Lives.{Course, new_life, with_event, world_of, steps_in, is_stopped, is_stopped_phase, living, opening_of};
+
+use crate::account::Account;
+use crate::marks::{MarkTable, nodes_of, tables_of};
+use crate::stepping::make;
+use ido_base::event::{Event, Reply};
+use ido_base::machine::Core;
+use ido_base::memory::Memory;
+use ido_machine::machine::Machine;
+use rv64_isa::object::{Marks, Object};
+use rv64_isa::phase::Phase;
+use std::alloc::Global;
+use std::marker::Model;
+
+/// The line of hart 0's point, which is its word 0.
+const POINT_LINE: u32 = 1024;
+
+/// From the line of one hart's point to that of the next.
+const LOG_LINES: u32 = 16;
+
+/// A machine that runs a compiled object, with the journal of its events and the account of the steps of the source
+/// that it has begun and kept. It has room for its events from the start.
+#[derive(Debug, Drop)]
+pub struct Life {
+    /// The initial bytes of the variables, the number of mutexes and the marks' addresses are those of the object.
+    initial: Vec<u8>,
+    mutexes: u32,
+    addresses: Vec<Vec<u64>>,
+    tables: Vec<MarkTable>,
+    machine: Machine,
+    account: Account,
+    journal: Vec<Event>,
+    points: Vec<u64>,
+    fences: Vec<u64>,
+    cap: u64,
+}
+
+impl Model for Life {
+    ghost use Rattle.run_tracker.specs.Lives.{Course};
+
+    ghost Value = { Course };
+
+    ghost use Rattle.run_tracker.specs.links.Insides.{course_of, LifeStands};
+
+    ghost view = { course_of };
+
+    ghost invariant = { LifeStands };
+}
+
+/// The hart has ended, or its recovery is done.
+fn is_stopped_phase(phase: Phase) -> bool
+    ensures { result ≡ is_stopped_phase phase }
+{
+    matches!(phase, Phase::Done | Phase::Ended)
+}
+
+/// The hart holds nothing, and its live and durable points are 0.
+fn is_settled_hart(machine: &Machine, hart: u32) -> bool
+    requires { hart < length (program_in machine.now) }
+    ensures { (w : World) → MachineStands machine.now w → result ≡ is_settled_hart w hart }
+{
+    let line = POINT_LINE + LOG_LINES * hart;
+    !machine.holds(hart) && machine.durable_word(line, 0) == 0 && machine.live_word(line, 0) == 0
+}
+
+/// Each hart is settled.
+fn are_settled(machine: &Machine) -> bool
+    ensures { (w : World) → MachineStands machine.now w → result ≡ is_settled w }
+{
+    for hart in 0..machine.harts() {
+        if !is_settled_hart(machine, hart) {
+            return false;
+        }
+    }
+    true
+}
+
+impl Life {
+    /// The life of an object at its start, with room for so many events.
+    pub fn new(alloc: Global, object: &Object, marks: &Marks, cap: u64) -> Result<Life, Memory>
+        requires limits { IsWithinLimits object.now }
+        requires marks { length marks.now.threads.items ≡ length object.now.code.items }
+        requires cap { cap < 2 ^ 63 }
+        ensures { IfOk result (λ life. life ≡ new_life object.now marks.now cap) }
+    {
+        let machine = Machine::start(alloc, object)?;
+        let harts = machine.harts();
+        Ok(Life {
+            initial: object.initial.to_vec(alloc)?,
+            mutexes: object.mutexes,
+            addresses: nodes_of(alloc, marks)?,
+            tables: tables_of(alloc, object, marks)?,
+            machine,
+            account: Account::new(alloc, harts, cap)?,
+            journal: Vec::with_capacity(alloc, cap as usize)?,
+            points: vec![in alloc; 0u64; harts as usize]?,
+            fences: vec![in alloc; 0u64; harts as usize]?,
+            cap,
+        })
+    }
+
+    /// The number of harts.
+    pub fn harts(&self) -> u32
+        ensures { result ≡ length self.now.program }
+    {
+        self.machine.harts()
+    }
+
+    /// How many more events may be made.
+    pub fn room(&self) -> u64
+        ensures { result ≡ self.now.cap - length self.now.journal }
+    {
+        self.cap.saturating_sub(self.journal.len() as u64)
+    }
+
+    /// How many events were made.
+    pub fn events(&self) -> u64
+        ensures { result ≡ length self.now.journal }
+    {
+        self.journal.len() as u64
+    }
+
+    /// The events, the first one first.
+    pub fn journal(&self) -> &[Event]
+        ensures { result.now ≡ self.now.journal }
+    {
+        &self.journal
+    }
+
+    /// The kept schedule: a number of a hart for each step of the source that is kept.
+    pub fn schedule(&self) -> &[u32]
+        ensures { result.now ≡ (steps_in self.now).kept }
+    {
+        &self.account.kept
+    }
+
+    /// Each hart stands between sections: it holds nothing, and its live and durable points are 0.
+    pub fn settled(&self) -> bool
+        ensures { result ≡ is_settled (world_of self.now) }
+    {
+        are_settled(&self.machine)
+    }
+
+    /// The hart holds something, or one of its points isn't 0.
+    pub fn unsettled(&self, hart: u32) -> bool
+        requires { hart < length self.now.program }
+        ensures { result ≡ not (is_settled_hart (world_of self.now) hart) }
+    {
+        !is_settled_hart(&self.machine, hart)
+    }
+
+    /// The value that a crash would leave in a word of a line.
+    pub fn durable_word(&self, line: u32, word: u32) -> u64
+        requires exists { line < line_count (length self.now.program) }
+        requires word { word < 8 }
+        ensures { result ≡ durable_value (word_at (world_of self.now).words (8 * line + word)) }
+    {
+        self.machine.durable_word(line, word)
+    }
+
+    /// The newest value of a word of a line.
+    pub fn live_word(&self, line: u32, word: u32) -> u64
+        requires exists { line < line_count (length self.now.program) }
+        requires word { word < 8 }
+        ensures { result ≡ live_value (word_at (world_of self.now).words (8 * line + word)) }
+    {
+        self.machine.live_word(line, word)
+    }
+
+    /// Makes an event.
+    pub fn event(&mut self, event: Event) -> Reply
+        requires valid { IsValidEvent (length self.old.program) event }
+        requires room { length self.old.journal < self.old.cap }
+        ensures reply { result ≡ reply_to self.old.program (world_of self.old) event }
+        ensures life { self.new ≡ with_event self.old event }
+    {
+        let reply = make(
+            event,
+            &self.tables,
+            &mut self.machine,
+            &mut self.account,
+            &mut self.points,
+            &mut self.fences,
+        );
+        self.journal.push_reserved(event);
+        reply
+    }
+
+    /// The hart has ended, or its recovery is done.
+    pub fn stopped(&self, hart: u32) -> bool
+        requires { hart < length self.now.program }
+        ensures { result ≡ is_stopped (world_of self.now) hart }
+    {
+        is_stopped_phase(self.machine.phase(hart))
+    }
+
+    /// How often the hart has stored its point.
+    pub fn points(&self, hart: u32) -> u64
+        requires { hart < length self.now.program }
+        ensures { result ≡ point_stores living (opening_of self.now) self.now.journal hart }
+    {
+        self.points[hart as usize]
+    }
+
+    /// How many fences the hart has finished.
+    pub fn fences(&self, hart: u32) -> u64
+        requires { hart < length self.now.program }
+        ensures { result ≡ finished_fences living (opening_of self.now) self.now.journal hart }
+    {
+        self.fences[hart as usize]
+    }
+}
+
+impl Core for Life {
+    ghost use Rattle.std.specs.Prelude.{◌-◌, length};
+    ghost use Rattle.rv64_isa.specs.Machine.{IsEviction};
+    ghost use Rattle.run_tracker.specs.Lives.{Moment, living, opening_of};
+
+    ghost Meaning = { Moment };
+
+    ghost behaviour = { living };
+
+    ghost opening = { opening_of };
+
+    ghost history = { λ life. life.journal };
+
+    ghost hart_count = { λ life. length life.program };
+
+    ghost space = { λ life. life.cap - length life.journal };
+
+    ghost evictable = { λ life. IsEviction (length life.program) };
+
+    fn harts(&self) -> u32 {
+        Life::harts(self)
+    }
+
+    fn event(&mut self, event: Event) -> Reply {
+        Life::event(self, event)
+    }
+
+    fn room(&self) -> u64 {
+        Life::room(self)
+    }
+
+    fn events(&self) -> u64 {
+        Life::events(self)
+    }
+
+    fn stopped(&self, hart: u32) -> bool {
+        Life::stopped(self, hart)
+    }
+
+    fn points(&self, hart: u32) -> u64 {
+        Life::points(self, hart)
+    }
+
+    fn fences(&self, hart: u32) -> u64 {
+        Life::fences(self, hart)
+    }
+}

@@ -1,0 +1,387 @@
+-- The code of one node is its piece's.
+use Rattle.std.proofs.Common.{◌≡◌, ◌↔◌, ℕ, ◌+◌, ◌*◌, ◌≤◌, List, [], ◌∷◌, ◌++◌, length, map, refl, ap, arith, sym, ◌∙◌, subst, Bool, false}
+use Rattle.std.proofs.Common.{Option, Some, None, if◌then◌else◌}
+use Rattle.std.specs.Prelude.{slice_index_or, pos, sum_by}
+use Rattle.std.proofs.lemmas.List.Sums.{sum_by-append}
+use Rattle.std.proofs.lemmas.Option.{none-some, same_Some}
+use Rattle.ido_ints.specs.declared.kinds.Kind.{Kind}
+use Rattle.ido_ints.specs.Operators.{is_zero}
+use Rattle.ido_ints.specs.Reduction.{reduced}
+use Rattle.c_tree.specs.Exprs as e
+use Rattle.c_tree.specs.Prices.{node_price}
+use Rattle.c_tree.specs.Source.{Pending}
+use Rattle.c_tree.specs.WellFormed.{shape_of}
+use Rattle.rv64_isa.specs.declared.instr.Instr.TheVariants.{Ecall}
+use Rattle.rv64_isa.specs.declared.object.CodeItem.{CodeItem}
+use Rattle.rv64_link.specs.LabelledCode.{most_words_of, fences_in}
+use Rattle.rv64_link.specs.Linked.{Stands, AreInstructions}
+use Rattle.boundary_code.specs.Boundaries.{Boundary}
+use Rattle.code_runs.specs.Walks.{Program, Setting, Meets, Sight, Goes, marked}
+use Rattle.flow_graph.specs.Nodes.{Action, Eval, Store, Test, Lock, Unlock, End, Node}
+use Rattle.flow_graph.specs.Actions as a
+use Rattle.flow_graph.specs.Actions.{Seen, effect_of, number_in, element_in}
+use Rattle.flow_graph.specs.Cleaning.{IsCleanedLater}
+use Rattle.flow_graph.specs.Cutting.{IsChosen}
+use Rattle.flow_graph.specs.Lowering.{expr_locals}
+use Rattle.flow_graph.specs.Liveness.{NodeAt}
+use Rattle.node_code.specs.Sites.{Site}
+use Rattle.node_code.specs.Pieces.{IsBoundary, IsLeft, boundary_sights, bank_behind, Locks, words_in}
+use Rattle.node_code.proofs.Legs.{way, weaker, moved}
+use Rattle.node_code.proofs.Words.{words_are_few}
+use Rattle.node_code.proofs.Fences.{part_instructions}
+use Rattle.thread_code.specs.Plans.{Plan, Thread, IsThread, IsPlan, IsNodeOf, homes}
+use Rattle.thread_code.specs.Entering.{Enters, source_of, IsAnswered}
+use Rattle.thread_code.specs.Performing.{Places, Entrance, EntersAt, keeping, Keeping, Performs, GoesOnBehind}
+use Rattle.thread_code.specs.Programs.{IsAt, IsPlainCall, IsCalling, IsCleaning, IsNodeCode, IsWithin, action_nodes, boundary_count}
+use Rattle.rv64_codegen.specs.Emitting.{Choices, AreChoices, IsGuarded, GoesTo, IsDoing, boundary_before}
+use Rattle.rv64_codegen.specs.Locals.{HoldsEach}
+use Rattle.rv64_codegen.proofs.Reading.{left_held}
+use Rattle.rv64_codegen.proofs.Nodes.{Known}
+use Rattle.rv64_codegen.proofs.Sited.{IsLinkedIn, Spot, spot_site, IsSited, site_in, Spots, AgreesAt, bare, bare_meets}
+use Rattle.rv64_codegen.proofs.Counted.{piece_fences}
+use Rattle.rv64_codegen.proofs.Legal.{variable_below, element_below, reads_held}
+use Rattle.rv64_codegen.proofs.Parts as parts
+use Rattle.rv64_codegen.proofs.Performs as performs
+use Rattle.rv64_codegen.proofs.Performs.{known_of, enters_kept}
+
+first_same : (x y : ℕ) → x ∷ [] ≡ y ∷ [] → x ≡ y
+first_same x y same = ap (λ (xs : List ℕ). slice_index_or xs 0 0) same
+
+module _ (p : Plan) (t : Thread) (c : Choices) (program : Program) (items : List CodeItem) (n : IsLinkedIn program items) (entry : ℕ → ℕ) (node : ℕ) (is : Node)
+    (at : NodeAt p.graph node is) (before does goes : List CodeItem) (guarded : IsGuarded p t c node before) (doing : IsDoing p t c node is.action does goes)
+    (sited : IsSited t program items n entry node (before ++ (does ++ goes))) where
+  abbrev pub to : ℕ → ℕ
+  to k = n.linked.address_of k
+
+  abbrev pub does_at : ℕ
+  does_at = parts.does_at p t c program items n entry node is at before does goes guarded doing sited
+
+  abbrev pub goes_at : ℕ
+  goes_at = parts.goes_at p t c program items n entry node is at before does goes guarded doing sited
+
+  abbrev pub does_in : (s : Setting) → Meets program s → Site does
+  does_in s meets = spot_site n does (parts.does_spot p t c program items n entry node is at before does goes guarded doing sited) s meets
+
+  abbrev pub does_bare : Site does
+  does_bare = does_in (bare program) (bare_meets program)
+
+  -- where its call stands
+  abbrev pub call_of : (b : Action) → IsDoing p t c node b does goes → ℕ
+  call_of (Eval target value next) d = 0
+  call_of (Store variable kind next) d = 0
+  call_of (Test condition holds fails) d = 0
+  call_of (Lock mutex next) d = (d.0.at does_bare).call
+  call_of (Unlock mutex next) d = (d.0.at does_bare).call
+  call_of End d = (d.0.at does_bare).call
+
+  abbrev pub spots_in : Spots
+  spots_in = record { core = to does_at; call = call_of is.action doing; behind = to goes_at }
+
+module _ (p : Plan) (t : Thread) (c : Choices) (plan : IsPlan p) (of : IsThread p t) (choices : AreChoices p t c) (places : Places) (program : Program)
+    (items : List CodeItem) (n : IsLinkedIn program items) (node : ℕ) (is : Node) (own : IsNodeOf t node) (at : NodeAt p.graph node is)
+    (before does goes : List CodeItem) (guarded : IsGuarded p t c node before) (doing : IsDoing p t c node is.action does goes)
+    (sited : IsSited t program items n places.entry node (before ++ (does ++ goes)))
+    (price : sum_by most_words_of (before ++ (does ++ goes)) ≤ node_price (action_nodes is.action))
+    (agrees : AgreesAt places program c.live c.cleans node (spots_in p t c program items n places.entry node is at before does goes guarded doing sited)) where
+  abbrev addr : ℕ → ℕ
+  addr k = n.linked.address_of k
+
+  abbrev core_at : ℕ
+  core_at = parts.does_at p t c program items n places.entry node is at before does goes guarded doing sited
+
+  abbrev on_at : ℕ
+  on_at = parts.goes_at p t c program items n places.entry node is at before does goes guarded doing sited
+
+  abbrev words : ℕ
+  words = places.words node
+
+  abbrev site_of : (s : Setting) → Meets program s → Site does
+  site_of s meets = does_in p t c program items n places.entry node is at before does goes guarded doing sited s meets
+
+  abbrev bare_site : Site does
+  bare_site = site_of (bare program) (bare_meets program)
+
+  met : (s : Setting) → Meets places.program s → Meets program s
+  met s h = subst (λ (q : Program). Meets q s) agrees.of_program h
+
+  -- an entrance at the node
+  at_node : (Q : Entrance → Type 0) → ((s : Setting) (seen : Seen) (bank : ℕ) (x : List ℕ) → Meets places.program s → Enters p t node seen bank x →
+      Q (record { setting = s; node = node; seen = seen; bank = bank; registers = x })) → (m : Entrance) → m.node ≡ node → IsAt p t places m → Q m
+  at_node Q f m same is_at =
+      subst (λ (k : ℕ). Enters p t k m.seen m.bank m.registers →
+      Q (record { setting = m.setting; node = k; seen = m.seen; bank = m.bank; registers = m.registers }))
+      (sym same) (λ enters. f m.setting m.seen m.bank m.registers is_at.meets enters) is_at.enters
+
+  -- ---- The boundary before it
+
+  chosen_by : IsBoundary (boundary_before p t c node 0) before → (s : Setting) (seen : Seen) (bank : ℕ) (x : List ℕ) → Meets places.program s →
+      Enters p t node seen bank x →
+      Keeping p t places (record { setting = s; node = node; seen = seen; bank = bank; registers = x }) node (places.entry node) (places.core node)
+      (places.core node)
+  chosen_by boundary s seen bank x meets enters =
+      let b : Boundary = boundary_before p t c node 0 in
+      let P : List ℕ → Type 0 = Enters p t node seen (bank_behind b bank) in
+      let site : Site before = spot_site n before (parts.before_spot p t c program items n places.entry node is at before does goes guarded doing sited) s
+      (met s meets) in
+      let alike : boundary_sights b bank (addr core_at) x ≡ boundary_sights (keeping p t places node) bank (places.core node) x =
+      ap (λ (z : ℕ). boundary_sights b bank z x) (sym agrees.core) ∙
+      ap (λ (ls : List ℕ). boundary_sights (record { thread = t.number; mask = b.mask; live = ls; resume = pos 0 }) bank (places.core node) x)
+      (sym (agrees.live node)) in
+      subst (λ (ss : List Sight). Goes s (way x (places.entry node) (places.core node) words) ss P) alike
+      (moved s x (places.entry node) (places.entry node) (addr core_at) (places.core node) words (boundary_sights b bank (addr core_at) x) P refl
+      (sym agrees.core)
+      (parts.then_core p t c program items n places.entry node is at before does goes guarded doing sited words agrees.words s x
+      (boundary_sights b bank (addr core_at) x) P
+      (weaker s (way x (addr sited.position) (addr core_at)
+      (parts.before_words p t c program items n places.entry node is at before does goes guarded doing sited)) (boundary_sights b bank (addr core_at) x)
+      (IsLeft b bank x) P
+      (λ y left. enters_kept p t plan of c choices node 0 own seen bank x y enters left)
+      ((boundary.at site).keeps x bank enters.at_bank))))
+
+  chosen : IsChosen p.graph p.boundaries node → (m : Entrance) → m.node ≡ node → IsAt p t places m →
+      Keeping p t places m node (places.entry node) (places.core node) (places.core node)
+  chosen ch m same is_at =
+      at_node (λ (k : Entrance). Keeping p t places k node (places.entry node) (places.core node) (places.core node))
+      (chosen_by (guarded.chosen ch)) m same is_at
+
+  plain : (IsChosen p.graph p.boundaries node → ⊥) → places.entry node ≡ places.core node
+  plain free =
+      let none : before ≡ [] = guarded.plain free in
+      let e1 : sited.position ≡ sited.position + length before = let l : length before ≡ 0 = ap length none in omega (arith, l) in
+      sym sited.begin ∙ ap addr e1 ∙ sym agrees.core
+
+  -- ---- What it does
+
+  -- a call stands at one address in all settings
+  lock_call : (mutex next : ℕ) (d : IsDoing p t c node (Lock mutex next) does goes) (s : Setting) (meets : Meets program s) →
+      (d.0.at (site_of s meets)).call ≡ (d.0.at bare_site).call
+  lock_call mutex next d s meets = first_same _ _ (sym (d.0.at (site_of s meets)).marks ∙ (d.0.at bare_site).marks)
+
+  unlock_call : (mutex next : ℕ) (d : IsDoing p t c node (Unlock mutex next) does goes) (s : Setting) (meets : Meets program s) →
+      (d.0.at (site_of s meets)).call ≡ (d.0.at bare_site).call
+  unlock_call mutex next d s meets =
+      let here : addr on_at ≡ (d.0.at (site_of s meets)).call + 4 = (d.0.at (site_of s meets)).behind in
+      let there : addr on_at ≡ (d.0.at bare_site).call + 4 = (d.0.at bare_site).behind in
+      omega (arith, here, there)
+
+  end_call : (d : IsDoing p t c node End does goes) (s : Setting) (meets : Meets program s) → (d.0.at (site_of s meets)).call ≡ (d.0.at bare_site).call
+  end_call d s meets =
+      let here : addr on_at ≡ (d.0.at (site_of s meets)).call + 4 = (d.0.at (site_of s meets)).behind in
+      let there : addr on_at ≡ (d.0.at bare_site).call + 4 = (d.0.at bare_site).behind in
+      omega (arith, here, there)
+
+  module _ (s : Setting) (meets : Meets program s) (seen : Seen) (bank : ℕ) (x : List ℕ) (enters : Enters p t node seen bank x) where
+    abbrev m : Entrance
+    m = record { setting = s; node = node; seen = seen; bank = bank; registers = x }
+
+    abbrev By : a.Effect → Type 0
+    By effect = Performs p t places m effect
+
+    does_store : (variable : ℕ) (kind : Kind) (next : ℕ) → is.action ≡ Store variable kind next →
+        Known p.flat t.kinds t.part.first t.part.end p.graph.nodes is (Store variable kind next) → IsDoing p t c node (Store variable kind next) does goes →
+        (effect : a.Effect) → effect_of (Store variable kind next) seen ≡ Some effect → By effect
+    does_store variable kind next same known d effect eq = by seen.pending refl eq
+      where
+        by : (o : Option Pending) → seen.pending ≡ o → (elim o [
+          | Some store ↦ Some (a.Makes store next)
+          | None ↦ None
+        ]) ≡ Some effect → By effect
+        by None none eq = absurd (none-some effect eq)
+        by (Some store) pending eq =
+            subst By (same_Some (a.Makes store next) effect eq)
+            (performs.makes_it p t c plan of choices places program items n node is own at before does goes guarded doing sited agrees.words agrees.of_program
+            agrees.live agrees.cleans agrees.core s meets seen bank x enters variable kind next same known (d.0.at (site_of s meets)) d.1 store pending)
+
+    does_it : (b : Action) → is.action ≡ b → Known p.flat t.kinds t.part.first t.part.end p.graph.nodes is b → (d : IsDoing p t c node b does goes) →
+        places.call node ≡ call_of p t c program items n places.entry node is at before does goes guarded doing sited b d →
+        IsAnswered (source_of p t seen) s.around.loads b → (effect : a.Effect) → effect_of b seen ≡ Some effect → By effect
+    does_it (Eval (e.ToLocal local kind) val next) same known d call answered effect eq =
+        subst By (same_Some (a.Sets local (reduced kind (number_in seen val.expr)) next) effect eq)
+        (performs.sets p t c plan of choices places program items n node is own at before does goes guarded doing sited agrees.words agrees.of_program
+        agrees.live agrees.cleans agrees.core s meets seen bank x enters local kind val next same known d.0 d.1 answered)
+    does_it (Eval (e.ToVariable place variable kind) val next) same known d call answered effect eq =
+        let store : Pending = record { variable = variable; element = 0; number = reduced kind (number_in seen val.expr) } in
+        subst By (same_Some (a.Owes store next) effect eq)
+        (performs.owes_it p t c plan of choices places program items n node is own at before does goes guarded doing sited agrees.words agrees.of_program
+        agrees.live agrees.cleans agrees.core s meets seen bank x enters (e.ToVariable place variable kind) val next same known d.0 d.1 answered store
+        variable kind
+        known.assigns known.owed (λ r. refl)
+        (λ y got. record {
+          variable_is = refl;
+          address = got.has.0;
+          below = variable_below p t plan of variable kind false known.target_is.0;
+          value = got.has.1;
+        }))
+    does_it (Eval (e.ToElement place variable kind index) val next) same known d call answered effect eq =
+        let store : Pending = record { variable = variable; element = element_in seen index.expr; number = reduced kind (number_in seen val.expr) } in
+        let target : e.Target = e.ToElement place variable kind index in
+        let held : HoldsEach (homes p t) (source_of p t seen) x (expr_locals index.expr ++ expr_locals val.expr) =
+        performs.held_uses p t c plan of choices places program items n node is own at before does goes guarded doing sited agrees.words agrees.of_program
+        agrees.live agrees.cleans agrees.core s meets seen bank x enters target val next same known d.0 d.1 answered in
+        subst By (same_Some (a.Owes store next) effect eq)
+        (performs.owes_it p t c plan of choices places program items n node is own at before does goes guarded doing sited agrees.words agrees.of_program
+        agrees.live agrees.cleans agrees.core s meets seen bank x enters target val next same known d.0 d.1 answered store variable kind
+        known.assigns known.owed (λ r. refl)
+        (λ y got. record {
+          variable_is = refl;
+          address = got.has.0;
+          below = element_below p t plan of seen variable kind index.place index.expr known.target_is.0.0 known.target_is.1.0
+              (reads_held p t plan of seen s.around x index (known.target_is.0.1, known.target_is.1.1)
+              (left_held (homes p t) (source_of p t seen) x (expr_locals index.expr) (expr_locals val.expr) held) answered.0);
+          value = got.has.1;
+        }))
+    does_it (Store variable kind next) same known d call answered effect eq = does_store variable kind next same known d effect eq
+    does_it (Test condition holds fails) same known d call answered effect eq =
+        subst By (same_Some (a.Goes (if is_zero (number_in seen condition.expr) then fails else holds)) effect eq)
+        (performs.tests_it p t c plan of choices places program items n node is own at before does goes guarded doing sited agrees.words agrees.of_program
+        agrees.live agrees.cleans agrees.core s meets seen bank x enters condition holds fails same known answered d)
+    does_it (Lock mutex next) same known d call answered effect eq =
+        subst By (same_Some (a.Takes mutex next) effect eq)
+        (performs.takes_it p t c plan of choices places program items n node is own at before does goes guarded doing sited agrees.words agrees.of_program
+        agrees.live agrees.cleans agrees.core s meets seen bank x enters mutex next same known (d.0.at (site_of s meets))
+        (call ∙ sym (lock_call mutex next d s meets)))
+    does_it (Unlock mutex next) same known d call answered effect eq =
+        subst By (same_Some (a.Gives mutex next) effect eq)
+        (performs.gives_it p t c plan of choices places program items n node is own at before does goes guarded doing sited agrees.words agrees.of_program
+        agrees.live agrees.cleans agrees.core s meets seen bank x enters mutex next same known (d.0.at (site_of s meets))
+        (call ∙ sym (unlock_call mutex next d s meets)) agrees.behind)
+    does_it End same known d call answered effect eq =
+        subst By (same_Some a.Ends effect eq)
+        (performs.ends_it p t c plan of choices places program items n node is own at before does goes guarded doing sited agrees.words agrees.of_program
+        agrees.live agrees.cleans agrees.core s meets seen bank x enters (d.0.at (site_of s meets)) (call ∙ sym (end_call d s meets)))
+
+  performs_it : (m : Entrance) (effect : a.Effect) → m.node ≡ node → IsAt p t places m →
+      IsAnswered (source_of p t m.seen) m.setting.around.loads is.action → effect_of is.action m.seen ≡ Some effect → Performs p t places m effect
+  performs_it m effect same is_at =
+      at_node (λ (k : Entrance). IsAnswered (source_of p t k.seen) k.setting.around.loads is.action → effect_of is.action k.seen ≡ Some effect →
+      Performs p t places k effect)
+      (λ s seen bank x meets enters answered eq.
+      does_it s (met s meets) seen bank x enters is.action refl (known_of p t plan of node is own at) doing agrees.call answered effect eq) m same is_at
+
+  -- ---- Calls
+
+  goes_on_behind : (next : ℕ) → IsNodeOf t next → GoesTo p t c node next goes → GoesOnBehind p t places node next
+  goes_on_behind next of_next g = record {
+    on = λ m meets same enters.
+        subst (λ (k : ℕ). Goes m.setting (way m.registers (places.behind node) (places.entry next) (places.words k)) [] (Enters p t next m.seen m.bank))
+        (sym same)
+        (moved m.setting m.registers (addr on_at) (places.behind node) (places.entry next) (places.entry next) words [] (Enters p t next m.seen m.bank)
+        (sym agrees.behind) refl
+        (weaker m.setting (way m.registers (addr on_at) (places.entry next) words) [] (λ y. y ≡ m.registers) (Enters p t next m.seen m.bank)
+        (λ y is_it. subst (λ (z : List ℕ). Enters p t next m.seen m.bank z) (sym is_it) enters)
+        (parts.on_from_behind p t c program items n places.entry node is at before does goes guarded doing sited words agrees.words next of_next g m.setting
+        (met m.setting meets) m.registers)));
+  }
+
+  -- behind the call of a lock
+  keeps_behind : (mutex next : ℕ) → IsNodeOf t next → (d : IsDoing p t c node (Lock mutex next) does goes) →
+      places.call node ≡ (d.0.at bare_site).call → (m : Entrance) → Meets places.program m.setting → m.node ≡ node → EntersAt p t places m next →
+      Keeping p t places m next (places.call node + 4) (places.behind node) (places.behind node)
+  keeps_behind mutex next of_next d call m meets same enters =
+      let s : Setting = m.setting in
+      let x : List ℕ = m.registers in
+      let b : Boundary = boundary_before p t c next 0 in
+      let P : List ℕ → Type 0 = Enters p t next m.seen (bank_behind b m.bank) in
+      let locks : Locks b mutex does (site_of s (met s meets)) = d.0.at (site_of s (met s meets)) in
+      let at_call : locks.call + 4 ≡ places.call node + 4 = ap (λ (z : ℕ). z + 4) (lock_call mutex next d s (met s meets) ∙ sym call) in
+      let alike : boundary_sights b m.bank (addr on_at) x ≡ boundary_sights (keeping p t places next) m.bank (places.behind node) x =
+      ap (λ (z : ℕ). boundary_sights b m.bank z x) (sym agrees.behind) ∙
+      ap (λ (ls : List ℕ). boundary_sights (record { thread = t.number; mask = b.mask; live = ls; resume = pos 0 }) m.bank (places.behind node) x)
+      (sym (agrees.live next)) in
+      subst (λ (k : ℕ). Goes s (way x (places.call node + 4) (places.behind node) (places.words k))
+      (boundary_sights (keeping p t places next) m.bank (places.behind node) x) P) (sym same)
+      (subst (λ (ss : List Sight). Goes s (way x (places.call node + 4) (places.behind node) words) ss P) alike
+      (moved s x (locks.call + 4) (places.call node + 4) (addr on_at) (places.behind node) words (boundary_sights b m.bank (addr on_at) x) P at_call
+      (sym agrees.behind)
+      (parts.within p t c program items n places.entry node is at before does goes guarded doing sited words agrees.words s x (locks.call + 4) (addr on_at)
+      (boundary_sights b m.bank (addr on_at) x) P
+      (weaker s (way x (locks.call + 4) (addr on_at)
+      (parts.does_words p t c program items n places.entry node is at before does goes guarded doing sited)) (boundary_sights b m.bank (addr on_at) x)
+      (IsLeft b m.bank x) P
+      (λ y left. enters_kept p t plan of c choices next 0 of_next m.seen m.bank x y enters left) (locks.keeps x m.bank enters.at_bank)))))
+
+  stands_there : (call : ℕ) → places.call node ≡ call → Stands program.start program.code call Ecall →
+      Stands places.program.start places.program.code (places.call node) Ecall
+  stands_there call same h =
+      subst (λ (z : ℕ). Stands places.program.start places.program.code z Ecall) (sym same)
+      (subst (λ (q : Program). Stands q.start q.code call Ecall) (sym agrees.of_program) h)
+
+  plain_there : (call : ℕ) → places.call node ≡ call → marked program.nodes call ≡ [] → IsPlainCall p t places node
+  plain_there call same h =
+      subst (λ (z : ℕ). marked places.program.nodes z ≡ []) (sym same) (subst (λ (q : Program). marked q.nodes call ≡ []) (sym agrees.of_program) h)
+
+  calls_by : (b : Action) → is.action ≡ b → Known p.flat t.kinds t.part.first t.part.end p.graph.nodes is b → (d : IsDoing p t c node b does goes) →
+      places.call node ≡ call_of p t c program items n places.entry node is at before does goes guarded doing sited b d → IsCalling p t places b node
+  calls_by (Eval target val next) same known d call = tt
+  calls_by (Store variable kind next) same known d call = tt
+  calls_by (Test condition holds fails) same known d call = tt
+  calls_by (Lock mutex next) same known d call =
+      let of_next : IsNodeOf t next = record { from_first = known.inside.0; below_end = known.inside.1 } in (
+        stands_there (d.0.at bare_site).call call (d.0.at bare_site).stands,
+        goes_on_behind next of_next d.1,
+        keeps_behind mutex next of_next d call,
+      )
+  calls_by (Unlock mutex next) same known d call =
+      let of_next : IsNodeOf t next = record { from_first = known.inside.0; below_end = known.inside.1 } in (
+        stands_there (d.0.at bare_site).call call (d.0.at bare_site).stands,
+        goes_on_behind next of_next d.1,
+        agrees.behind ∙ (d.0.at bare_site).behind ∙ ap (λ (z : ℕ). z + 4) (sym call),
+        plain_there (d.0.at bare_site).call call (d.0.at bare_site).plain,
+      )
+  calls_by End same known d call =
+      (stands_there (d.0.at bare_site).call call (d.0.at bare_site).stands, plain_there (d.0.at bare_site).call call (d.0.at bare_site).plain)
+
+  cleans_by : (b : Action) → is.action ≡ b → IsCleaning p t places b node
+  cleans_by (Eval target val next) same = tt
+  cleans_by (Store variable kind next) same =
+      subst (λ (z : Bool). (z ≡ false) ↔ IsCleanedLater p.graph p.boundaries (map shape_of p.flat.variables) node) (sym agrees.cleans)
+      (choices.cleaned node is variable kind next own at same)
+  cleans_by (Test condition holds fails) same = tt
+  cleans_by (Lock mutex next) same = tt
+  cleans_by (Unlock mutex next) same = tt
+  cleans_by End same = tt
+
+  -- ---- Its price
+
+  priced : places.words node ≤ node_price (action_nodes is.action)
+  priced =
+      let bare_of : (part : List CodeItem) → Spot items part → Site part = λ part spot. spot_site n part spot (bare program) (bare_meets program) in
+      let first = parts.before_spot p t c program items n places.entry node is at before does goes guarded doing sited in
+      let second = parts.does_spot p t c program items n places.entry node is at before does goes guarded doing sited in
+      let third = parts.goes_spot p t c program items n places.entry node is at before does goes guarded doing sited in
+      let a1 : words_in before (bare_of before first) ≤ sum_by most_words_of before = words_are_few before (bare_of before first) in
+      let a2 : words_in does (bare_of does second) ≤ sum_by most_words_of does = words_are_few does (bare_of does second) in
+      let a3 : words_in goes (bare_of goes third) ≤ sum_by most_words_of goes = words_are_few goes (bare_of goes third) in
+      let sum : words_in before (bare_of before first) + (words_in does (bare_of does second) + words_in goes (bare_of goes third)) ≡ words =
+      parts.all_words p t c program items n places.entry node is at before does goes guarded doing sited words agrees.words in
+      let b1 : sum_by most_words_of (before ++ (does ++ goes)) ≡ sum_by most_words_of before + sum_by most_words_of (does ++ goes) =
+      sum_by-append most_words_of before (does ++ goes) in
+      let b2 : sum_by most_words_of (does ++ goes) ≡ sum_by most_words_of does + sum_by most_words_of goes = sum_by-append most_words_of does goes in
+      omega (arith, a1, a2, a3, sum, b1, b2, price)
+
+  -- ---- Its words
+
+  words_are : AreInstructions places.program.start places.program.code (places.entry node) (places.entry (node + 1)) (2 * boundary_count p.boundaries node)
+  words_are =
+      let piece : List CodeItem = before ++ (does ++ goes) in
+      let count : ℕ = 2 * boundary_count p.boundaries node in
+      let site : Site piece = site_in t program items n places.entry node piece sited (bare program) (bare_meets program) in
+      let own_words : AreInstructions program.start program.code (addr sited.position) (addr (sited.position + length piece)) (fences_in piece) =
+      part_instructions piece site in
+      let fences : fences_in piece ≡ count = piece_fences p t c plan node is at before does goes guarded doing in
+      subst (λ (q : Program). AreInstructions q.start q.code (places.entry node) (places.entry (node + 1)) count) (sym agrees.of_program)
+      (subst (λ (a : ℕ). AreInstructions program.start program.code a (places.entry (node + 1)) count) sited.begin
+      (subst (λ (a : ℕ). AreInstructions program.start program.code (addr sited.position) a count) sited.end
+      (subst (λ (m : ℕ). AreInstructions program.start program.code (addr sited.position) (addr (sited.position + length piece)) m) fences own_words)))
+
+  pub node_code : IsWithin places is.action node → IsNodeCode p t places node is
+  node_code within = record {
+    chosen = chosen;
+    plain = plain;
+    performs = performs_it;
+    calls = calls_by is.action refl (known_of p t plan of node is own at) doing agrees.call;
+    cleans = cleans_by is.action refl;
+    price = priced;
+    within = within;
+    words = words_are;
+  }

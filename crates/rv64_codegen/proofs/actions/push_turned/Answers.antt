@@ -1,0 +1,29 @@
+use Rattle.std.proofs.Common.{◌+◌, [], ◌∷◌}
+use Rattle.c_tree.specs.Exprs.{placed_of}
+use Rattle.flow_graph.specs.Nodes.{Test}
+use Rattle.rv64_codegen.proofs.Doing.{turned_done}
+use Rattle.rv64_codegen.proofs.Opened.{formed_at, cheap_at}
+use Rattle.rv64_codegen.proofs.Refused.{same_refused}
+use Rattle.rv64_codegen.proofs.actions.push_turned.Goals as goal
+
+pub label-to-requires : goal.label-to-requires
+label-to-requires c =
+    (formed_at c.args.thread.now c.args.node (Test (placed_of c.args.condition.now) (c.args.node + 1) c.args.fails) c.requires).1.1
+
+pub push_test-requires-clause-home : goal.push_test-requires-clause-home
+push_test-requires-clause-home c =
+    (formed_at c.args.thread.now c.args.node (Test (placed_of c.args.condition.now) (c.args.node + 1) c.args.fails) c.requires).0
+
+pub push_test-requires-clause-price : goal.push_test-requires-clause-price
+push_test-requires-clause-price c =
+    cheap_at c.args.thread.now c.args.node (Test (placed_of c.args.condition.now) (c.args.node + 1) c.args.fails) c.requires
+
+pub returns-in-Err : goal.returns-in-Err
+returns-in-Err c = same_refused (placed_of c.args.condition.now ∷ []) c.in-Err.error c.emit_error.result c.in-Err.ensures c.emit_error.ensures
+
+pub returns-in-Ok : goal.returns-in-Ok
+returns-in-Ok c = (
+  c.in-Ok.ensures.0,
+  turned_done c.args.thread.now c.args.node (placed_of c.args.condition.now) c.args.fails c.label-to.result.0 _ _ c.requires c.label-to.ensures
+      c.in-Ok.ensures.1,
+)

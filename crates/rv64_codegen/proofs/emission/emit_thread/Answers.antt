@@ -1,0 +1,63 @@
+use Rattle.std.proofs.Common.{◌≡◌, ◌∙◌, ℕ, List, Vec, Some, ap, sym, subst, length, map, arith}
+use Rattle.std.specs.Global.{Global}
+use Rattle.std.specs.Prelude.{slice_get, slice_index}
+use Rattle.std.proofs.lemmas.List.{length-map}
+use Rattle.log_layout.specs.declared.roles.TheConstants.{LOCALS}
+use Rattle.flow_graph.specs.declared.graph.Part.{Part}
+use Rattle.flow_graph.specs.Colours.{colouring_of}
+use Rattle.flow_graph.specs.Nodes.{node_of}
+use Rattle.rv64_codegen.specs.Plans.{plan_of}
+use Rattle.rv64_codegen.specs.links.Live.{AreLists}
+use Rattle.rv64_codegen.proofs.Chosen.{read_get}
+use Rattle.rv64_codegen.proofs.Homes.{same_some}
+use Rattle.rv64_codegen.proofs.Planned.{colours_at, part_order, part_end}
+use Rattle.rv64_codegen.proofs.emission.emit_thread.Goals as goal
+use Rattle.rv64_codegen.proofs.emission.emit_thread.Goals.{After-deref, After-index-part}
+
+coloured : (c : After-deref) → slice_get (colouring_of c.args.plan.now.colours.now) c.args.number ≡ Some c.deref.result.now
+coloured c =
+    let vs = c.args.plan.now.colours.now.threads.items in
+    let many : length (map (λ (v : Vec ℕ Global). v.items) vs) ≡ length vs = length-map vs (λ (v : Vec ℕ Global). v.items) in
+    colours_at vs c.args.number c.index.result.now (omega (arith, c.requires.number, c.requires.plan.registers.threads, many)) c.index.ensures
+    ∙ ap (λ (xs : List ℕ). Some xs) (sym c.deref.ensures.value)
+
+part_there : (c : After-index-part) → slice_get c.args.plan.now.graph.now.threads.items c.args.number ≡ Some c.index-part.result.now
+part_there c = read_get c.args.plan.now.graph.now.threads.items c.args.number c.index-part.result.now c.requires.number c.index-part.ensures
+
+pub registers-requires : goal.registers-requires
+registers-requires c =
+    λ colour among. c.requires.plan.registers.exist c.args.number colour c.deref.result.now (coloured (goal.at.registers-requires c).After-deref) among
+
+pub live_lists-requires-clause-order : goal.live_lists-requires-clause-order
+live_lists-requires-clause-order c =
+    part_order (plan_of c.args.plan.now) c.requires.plan c.args.number c.index-part.result.now
+    (part_there (goal.at.live_lists-requires-clause-order c).After-index-part)
+
+pub live_lists-requires-clause-end : goal.live_lists-requires-clause-end
+live_lists-requires-clause-end c =
+    omega (
+      arith,
+      part_end (plan_of c.args.plan.now) c.requires.plan c.args.number c.index-part.result.now
+          (part_there (goal.at.live_lists-requires-clause-end c).After-index-part),
+      length-map c.args.plan.now.graph.now.nodes.items node_of,
+    )
+
+pub emit_from-requires-clause-registers : goal.emit_from-requires-clause-registers
+emit_from-requires-clause-registers c =
+    λ colours at. c.deref-3.ensures.value ∙ c.in-Ok.ensures
+    ∙ ap (λ (cs : List ℕ). map (λ (colour : ℕ). slice_index LOCALS colour) cs)
+    (same_some _ _ _ (coloured (goal.at.emit_from-requires-clause-registers c).After-deref) at)
+
+pub emit_from-requires-clause-live : goal.emit_from-requires-clause-live
+emit_from-requires-clause-live c =
+    λ part at.
+    let g = (plan_of c.args.plan.now).graph in
+    let sets = c.args.plan.now.live.now in
+    let same : c.index-part.result.now ≡ part =
+    same_some _ _ _ (part_there (goal.at.emit_from-requires-clause-live c).After-index-part) at in
+    let registers : c.deref-2.result.now ≡ c.deref-3.result.now = c.deref-2.ensures.value ∙ sym c.deref-3.ensures.value in
+    let P : Part → Type 0 = λ z. AreLists g c.deref-3.result.now sets z.first z.end c.deref-4.result.now in
+    let Q : List ℕ → Type 0 = λ rs. AreLists g rs sets c.index-part.result.now.first c.index-part.result.now.end c.deref-4.result.now in
+    let R : List (Vec ℕ Global) → Type 0 = λ ls.
+    AreLists g c.deref-2.result.now sets c.index-part.result.now.first c.index-part.result.now.end ls in
+    subst P same (subst Q registers (subst R (sym c.deref-4.ensures.value) c.in-Ok-live_lists.ensures))

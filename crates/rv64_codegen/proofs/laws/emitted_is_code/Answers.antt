@@ -1,0 +1,5 @@
+use Rattle.rv64_codegen.proofs.Emitted.{emitted_is_code}
+use Rattle.rv64_codegen.proofs.laws.emitted_is_code.Goals as goal
+
+pub returns : goal.returns
+returns c = emitted_is_code

@@ -1,0 +1,5 @@
+use Rattle.rv64_codegen.specs.links.Live.{AreLiveLocals}
+use Rattle.rv64_codegen.proofs.registers.live_locals.Given as goal
+
+abbrev pub invariant-loop-number : goal.invariant-loop-number
+invariant-loop-number l = AreLiveLocals l.registers l.live l.node l.number l.found.items

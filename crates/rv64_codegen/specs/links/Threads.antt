@@ -1,0 +1,130 @@
+-- A thread whose code is made, and the pieces of its nodes.
+use Rattle.std.specs.Prelude.{◌≡◌, ◌↔◌, ℕ, ◌+◌, ◌-◌, ◌*◌, ◌≤◌, List, [], ◌++◌, length, map, slice_get, slice_index_or, sum_by, Some, Bool, true, false, not}
+use Rattle.std.specs.Prelude.{Vec}
+use Rattle.std.specs.Global.{Global}
+use Rattle.c_tree.specs.Flats as f
+use Rattle.c_tree.specs.WellFormed.{shape_of}
+use Rattle.ido_ints.specs.declared.kinds.Kind.{Kind}
+use Rattle.rv64_isa.specs.declared.object.CodeItem.{CodeItem}
+use Rattle.rv64_link.specs.LabelledCode.{most_words_of}
+use Rattle.expr_code.specs.Evaluating.{homes_of}
+use Rattle.flow_graph.specs.declared.graph.Part.{Part}
+use Rattle.flow_graph.specs.Nodes.{Action, Eval, Store, Test, Lock, Unlock, End, Node}
+use Rattle.flow_graph.specs.Liveness.{NodeAt}
+use Rattle.flow_graph.specs.Cleaning.{IsCleanedLater}
+use Rattle.flow_graph.specs.Cutting.{IsChosen}
+use Rattle.node_code.specs.declared.kept.Kept as kept
+use Rattle.node_code.specs.Pieces.{IsBoundary}
+use Rattle.thread_code.specs.Plans.{Plan, Thread, IsPlan, IsThread, IsNodeOf, homes, mask_before}
+use Rattle.thread_code.specs.Programs.{action_nodes}
+use Rattle.rv64_codegen.specs.declared.error.EmitError.{EmitError}
+use Rattle.rv64_codegen.specs.declared.thread.ThreadPlan as opened
+use Rattle.rv64_codegen.specs.Evaluations.{NeedFew}
+use Rattle.rv64_codegen.specs.Emitting.{Choices, IsDoing, IsNodePiece, GoesTo, boundary_before}
+use Rattle.rv64_codegen.specs.Plans.{plan_of}
+use Rattle.rv64_codegen.specs.Refusing.{action_exprs, IsRefusedBy}
+use Rattle.rv64_codegen.specs.links.Live.{AreLists}
+
+-- ---- A thread
+
+-- the kinds of the locals of the thread of that number
+abbrev pub kinds_in : Plan → (number : ℕ) → List Kind
+kinds_in p number = slice_index_or (map (λ (t : f.Thread). t.locals) p.flat.threads) number []
+
+abbrev pub thread_at : Plan → (number : ℕ) → Part → (registers : List ℕ) → Thread
+thread_at p number part registers = record { number = number; part = part; kinds = kinds_in p number; registers = registers }
+
+abbrev pub plan_in : opened.ThreadPlan → Plan
+plan_in x = plan_of x.plan.now
+
+abbrev pub thread_of : opened.ThreadPlan → Thread
+thread_of x = thread_at (plan_in x) x.number x.part x.frame.registers.now
+
+-- the list of that number, or none
+abbrev pub list_at : List (Vec ℕ Global) → ℕ → List ℕ
+list_at lists i = slice_index_or (map (λ (v : Vec ℕ Global). v.items) lists) i []
+
+abbrev pub choices_of : opened.ThreadPlan → Choices
+choices_of x = record { live = λ node. list_at x.live.now (node - x.part.first); cleans = λ node. not (slice_index_or x.later.now node false) }
+
+-- of each node whether a later store cleans the line that it stores into
+pub record AreCleaned (p : Plan) (later : List Bool) : Type 0 where
+  pub count : length later ≡ length p.graph.nodes
+  pub each : (node : ℕ) → (slice_get later node ≡ Some true) ↔ IsCleanedLater p.graph p.boundaries (map shape_of p.flat.variables) node
+
+-- all that is known of the thread
+pub record IsOpen (x : opened.ThreadPlan) : Type 0 where
+  pub plan : IsPlan (plan_in x)
+  pub thread : IsThread (plan_in x) (thread_of x)
+  pub homes : homes_of x.frame ≡ homes (plan_in x) (thread_of x)
+  pub lists : AreLists (plan_in x).graph x.frame.registers.now (plan_in x).live x.part.first x.part.end x.live.now
+  pub later : AreCleaned (plan_in x) x.later.now
+
+-- the node is one of its nodes
+pub record IsOwn (x : opened.ThreadPlan) (node : ℕ) : Type 0 where
+  pub open_is : IsOpen x
+  pub own : IsNodeOf (thread_of x) node
+
+-- it does this
+pub record IsAt (x : opened.ThreadPlan) (node : ℕ) (action : Action) : Type 0 where
+  pub own : IsOwn x node
+  pub is : Node
+  pub at : NodeAt (plan_in x).graph node is
+  pub action_is : is.action ≡ action
+
+-- what a boundary keeps that lets the thread go on at the node
+pub record IsKeptFor (x : opened.ThreadPlan) (node : ℕ) (k : kept.Kept) : Type 0 where
+  pub thread_is : k.thread ≡ x.number
+  pub mask_is : k.mask ≡ mask_before (plan_in x) (thread_of x) node
+  pub live_is : k.live.now ≡ (choices_of x).live node
+
+-- ---- Pieces
+
+abbrev pub gives : Action → Bool
+gives (Eval target value next) = false
+gives (Store variable kind next) = false
+gives (Test condition holds fails) = false
+gives (Lock mutex next) = false
+gives (Unlock mutex next) = true
+gives End = false
+
+-- the boundary before the node stands there by choice, or there is none
+pub data Guards (x : opened.ThreadPlan) (node : ℕ) (piece : List CodeItem) : Type 0 where
+  stands : IsChosen (plan_in x).graph (plan_in x).boundaries node →
+      IsBoundary (boundary_before (plan_in x) (thread_of x) (choices_of x) node 0) piece → Guards x node piece
+  absent : ¬ (IsChosen (plan_in x).graph (plan_in x).boundaries node) → piece ≡ [] → Guards x node piece
+
+-- the next node follows, or a jump leads to it
+abbrev pub Goes : opened.ThreadPlan → (node next : ℕ) → List CodeItem → Type 0
+Goes x node next piece = GoesTo (plan_in x) (thread_of x) (choices_of x) node next piece
+
+-- words that what a node does may take
+abbrev pub most_doing : Action → ℕ
+most_doing (Eval target value next) = 16 * action_nodes (Eval target value next) + 18
+most_doing (Store variable kind next) = 3
+most_doing (Test condition holds fails) = 16 * action_nodes (Test condition holds fails) + 11
+most_doing (Lock mutex next) = 59
+most_doing (Unlock mutex next) = 59
+most_doing End = 2
+
+-- what the node does, and how it goes on
+pub record Does (x : opened.ThreadPlan) (node : ℕ) (action : Action) (piece : List CodeItem) : Type 0 where
+  pub does : List CodeItem
+  pub goes : List CodeItem
+  pub split : piece ≡ does ++ goes
+  pub doing : IsDoing (plan_in x) (thread_of x) (choices_of x) node action does goes
+  pub few : sum_by most_words_of piece ≤ most_doing action
+
+-- ---- At a node
+
+abbrev pub DoesAt : opened.ThreadPlan → (node : ℕ) → List CodeItem → Type 0
+DoesAt x node piece = (is : Node) → NodeAt (plan_in x).graph node is → Does x node is.action piece
+
+abbrev pub IsPiece : opened.ThreadPlan → (node : ℕ) → List CodeItem → Type 0
+IsPiece x node piece = (is : Node) → NodeAt (plan_in x).graph node is → IsNodePiece (plan_in x) (thread_of x) (choices_of x) node is piece
+
+abbrev pub NeedFewAt : opened.ThreadPlan → (node : ℕ) → Type 0
+NeedFewAt x node = (is : Node) → NodeAt (plan_in x).graph node is → NeedFew (action_exprs is.action)
+
+abbrev pub IsRefusedAt : opened.ThreadPlan → (node : ℕ) → EmitError → Type 0
+IsRefusedAt x node error = (is : Node) → NodeAt (plan_in x).graph node is → IsRefusedBy (action_exprs is.action) error

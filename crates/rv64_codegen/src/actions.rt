@@ -1,0 +1,266 @@
+//! What nodes do, and how they go on.
+ghost use Rattle.std.specs.Prelude.{◌≡◌, ◌==◌, ◌+◌, [], ◌∷◌, OnOk, MatchResult};
+ghost use Rattle.c_tree.specs.Exprs.{placed_of, target_of};
+ghost use Rattle.c_tree.specs.Temporaries.{assign_exprs};
+ghost use Rattle.flow_graph.specs.Nodes.{Eval, Store, Test, Lock, Unlock, End, action_of};
+ghost use Rattle.node_code.specs.Pieces.{Appends};
+ghost use Rattle.rv64_codegen.specs.Evaluations.{NeedFew};
+ghost use Rattle.rv64_codegen.specs.Refusing.{IsRefusedBy, action_exprs};
+ghost use Rattle.rv64_codegen.specs.links.Errors.{emit_result};
+ghost use Rattle.rv64_codegen.specs.links.Threads.{IsOwn, IsAt, Does, DoesAt, Goes, NeedFewAt, IsRefusedAt};
+
+use crate::error::{EmitError, emit_error};
+use crate::evaluations::push_evaluation;
+use crate::tests_of_conditions::push_test;
+use crate::thread::ThreadPlan;
+use c_tree::expr::{Placed, Target};
+use flow_graph::graph::Action;
+use ido_base::memory::Memory;
+use ido_ints::Kind;
+use node_code::{push_end, push_jump, push_lock, push_store, push_unlock};
+use rv64_isa::object::CodeItem;
+use std::alloc::Global;
+
+/// Whether the one node follows the other.
+fn follows(node: usize, next: usize) -> bool
+    ensures { result ≡ (next == node + 1) }
+{
+    next > node && next - node == 1
+}
+
+/// The next node follows, or a jump leads to it.
+fn push_way(
+    items: &mut Vec<CodeItem>,
+    thread: &ThreadPlan,
+    node: usize,
+    next: usize,
+) -> Result<(), Memory>
+    requires { IsOwn thread.now next }
+    ensures { OnOk result (Appends items.old.items items.new.items (Goes thread.now node next)) }
+{
+    if follows(node, next) {
+        return Ok(());
+    }
+    push_jump(items, thread.label(next))
+}
+
+/// An evaluation.
+fn push_eval(
+    alloc: Global,
+    items: &mut Vec<CodeItem>,
+    thread: &ThreadPlan,
+    node: usize,
+    target: &Target,
+    value: &Placed,
+    next: usize,
+) -> Result<(), EmitError>
+    requires { IsAt thread.now node (Eval (target_of target.now) (placed_of value.now) next) }
+    ensures { MatchResult result
+        (λ _. NeedFew (assign_exprs (target_of target.now) (placed_of value.now)) ×
+        Appends items.old.items items.new.items (Does thread.now node (Eval (target_of target.now) (placed_of value.now) next)))
+        (λ error. IsRefusedBy (assign_exprs (target_of target.now) (placed_of value.now)) error) }
+{
+    match push_evaluation(alloc, items, &thread.frame, target, value) {
+        Ok(()) => {}
+        Err(error) => return Err(emit_error(error)),
+    }
+    match push_way(items, thread, node, next) {
+        Ok(()) => Ok(()),
+        Err(_) => Err(EmitError::Memory),
+    }
+}
+
+/// A test whose first way is what follows: it is turned round.
+fn push_turned(
+    alloc: Global,
+    items: &mut Vec<CodeItem>,
+    thread: &ThreadPlan,
+    node: usize,
+    condition: &Placed,
+    fails: usize,
+) -> Result<(), EmitError>
+    requires { IsAt thread.now node (Test (placed_of condition.now) (node + 1) fails) }
+    ensures { MatchResult result
+        (λ _. NeedFew (placed_of condition.now ∷ []) ×
+        Appends items.old.items items.new.items (Does thread.now node (Test (placed_of condition.now) (node + 1) fails)))
+        (λ error. IsRefusedBy (placed_of condition.now ∷ []) error) }
+{
+    let to = thread.label(fails);
+    match push_test(alloc, items, &thread.frame, condition, true, to) {
+        Ok(()) => Ok(()),
+        Err(error) => Err(emit_error(error)),
+    }
+}
+
+/// A test that is not turned round.
+fn push_straight(
+    alloc: Global,
+    items: &mut Vec<CodeItem>,
+    thread: &ThreadPlan,
+    node: usize,
+    condition: &Placed,
+    holds: usize,
+    fails: usize,
+) -> Result<(), EmitError>
+    requires { IsAt thread.now node (Test (placed_of condition.now) holds fails) }
+    ensures { MatchResult result
+        (λ _. NeedFew (placed_of condition.now ∷ []) ×
+        Appends items.old.items items.new.items (Does thread.now node (Test (placed_of condition.now) holds fails)))
+        (λ error. IsRefusedBy (placed_of condition.now ∷ []) error) }
+{
+    let to = thread.label(holds);
+    match push_test(alloc, items, &thread.frame, condition, false, to) {
+        Ok(()) => {}
+        Err(error) => return Err(emit_error(error)),
+    }
+    match push_way(items, thread, node, fails) {
+        Ok(()) => Ok(()),
+        Err(_) => Err(EmitError::Memory),
+    }
+}
+
+/// A test: where the node that it leads to where the condition isn't 0 follows, it is turned round.
+fn push_choosing(
+    alloc: Global,
+    items: &mut Vec<CodeItem>,
+    thread: &ThreadPlan,
+    node: usize,
+    condition: &Placed,
+    holds: usize,
+    fails: usize,
+) -> Result<(), EmitError>
+    requires { IsAt thread.now node (Test (placed_of condition.now) holds fails) }
+    ensures { MatchResult result
+        (λ _. NeedFew (placed_of condition.now ∷ []) ×
+        Appends items.old.items items.new.items (Does thread.now node (Test (placed_of condition.now) holds fails)))
+        (λ error. IsRefusedBy (placed_of condition.now ∷ []) error) }
+{
+    if follows(node, holds) {
+        push_turned(alloc, items, thread, node, condition, fails)
+    } else {
+        push_straight(alloc, items, thread, node, condition, holds, fails)
+    }
+}
+
+/// A store. Its line is cleaned at once where no later store of the region cleans it.
+fn push_making(
+    items: &mut Vec<CodeItem>,
+    thread: &ThreadPlan,
+    node: usize,
+    variable: u32,
+    kind: Kind,
+    next: usize,
+) -> Result<(), Memory>
+    requires { IsAt thread.now node (Store variable kind next) }
+    ensures { OnOk result (Appends items.old.items items.new.items (Does thread.now node (Store variable kind next))) }
+{
+    push_store(items, kind, !thread.later[node])?;
+    push_way(items, thread, node, next)
+}
+
+/// A mutex is taken.
+fn push_taking(
+    alloc: Global,
+    items: &mut Vec<CodeItem>,
+    thread: &ThreadPlan,
+    node: usize,
+    mutex: u32,
+    next: usize,
+) -> Result<(), Memory>
+    requires { IsAt thread.now node (Lock mutex next) }
+    ensures { OnOk result (Appends items.old.items items.new.items (Does thread.now node (Lock mutex next))) }
+{
+    let kept = thread.kept(next);
+    push_lock(alloc, items, &kept, mutex as u16)?;
+    push_way(items, thread, node, next)
+}
+
+/// A mutex is given back.
+fn push_giving(
+    alloc: Global,
+    items: &mut Vec<CodeItem>,
+    thread: &ThreadPlan,
+    node: usize,
+    mutex: u32,
+    next: usize,
+) -> Result<(), Memory>
+    requires { IsAt thread.now node (Unlock mutex next) }
+    ensures { OnOk result (Appends items.old.items items.new.items (Does thread.now node (Unlock mutex next))) }
+{
+    let kept = thread.kept(next);
+    push_unlock(alloc, items, &kept, mutex as u16)?;
+    push_way(items, thread, node, next)
+}
+
+/// The thread ends.
+fn push_ending(items: &mut Vec<CodeItem>, thread: &ThreadPlan, node: usize) -> Result<(), Memory>
+    requires { IsAt thread.now node End }
+    ensures { OnOk result (Appends items.old.items items.new.items (Does thread.now node End)) }
+{
+    push_end(items)
+}
+
+/// The answer, where only want of memory can be the reason.
+fn answer(done: Result<(), Memory>) -> Result<(), EmitError>
+    ensures { result ≡ emit_result done }
+{
+    match done {
+        Ok(()) => Ok(()),
+        Err(_) => Err(EmitError::Memory),
+    }
+}
+
+/// What a node does, and how it goes on.
+fn push_doing(
+    alloc: Global,
+    items: &mut Vec<CodeItem>,
+    thread: &ThreadPlan,
+    node: usize,
+    action: Action,
+) -> Result<(), EmitError>
+    requires { IsAt thread.now node (action_of action) }
+    ensures { MatchResult result
+        (λ _. NeedFew (action_exprs (action_of action.entry)) × Appends items.old.items items.new.items (Does thread.now node (action_of action.entry)))
+        (λ error. IsRefusedBy (action_exprs (action_of action.entry)) error) }
+{
+    match action {
+        Action::Eval {
+            target,
+            value,
+            next,
+        } => push_eval(alloc, items, thread, node, target, value, next),
+        Action::Store {
+            variable,
+            kind,
+            next,
+        } => answer(push_making(items, thread, node, variable, kind, next)),
+        Action::Test {
+            condition,
+            holds,
+            fails,
+        } => push_choosing(alloc, items, thread, node, condition, holds, fails),
+        Action::Lock { mutex, next } => answer(push_taking(
+            alloc, items, thread, node, mutex, next,
+        )),
+        Action::Unlock { mutex, next } => {
+            answer(push_giving(alloc, items, thread, node, mutex, next))
+        }
+        Action::End => answer(push_ending(items, thread, node)),
+    }
+}
+
+/// Appends what a node of the thread does, and how it goes on.
+pub(crate) fn push_action(
+    alloc: Global,
+    items: &mut Vec<CodeItem>,
+    thread: &ThreadPlan,
+    node: usize,
+) -> Result<(), EmitError>
+    requires { IsOwn thread.now node }
+    ensures { MatchResult result
+        (λ _. NeedFewAt thread.now node × Appends items.old.items items.new.items (DoesAt thread.now node))
+        (λ error. IsRefusedAt thread.now node error) }
+{
+    let action = thread.plan.graph.nodes[node].action;
+    push_doing(alloc, items, thread, node, action)
+}

@@ -1,0 +1,199 @@
+//! The code of all threads.
+ghost use Rattle.std.specs.Prelude.{◌≡◌, ◌<◌, ◌≤◌, ◌++◌, ◌∷◌, [], ℕ, length, map, sum_by, All, IfOk, IfErr, OnOk, MatchResult};
+ghost use Rattle.rv64_isa.specs.declared.object.CodeItem.TheVariants.{Here};
+ghost use Rattle.rv64_link.specs.LabelledCode.{most_words_of};
+ghost use Rattle.rv64_link.specs.links.Threads.{items_in};
+ghost use Rattle.node_code.specs.Pieces.{Appends};
+ghost use Rattle.variable_layout.specs.Placing.{AreInitial, AreAddresses};
+ghost use Rattle.thread_code.specs.Plans.{IsPlan};
+ghost use Rattle.rv64_codegen.specs.Plans.{plan_of};
+ghost use Rattle.rv64_codegen.specs.Emitting.{IsCode};
+ghost use Rattle.rv64_codegen.specs.Refusing.{IsRefused, AllNeedFew};
+ghost use Rattle.rv64_codegen.specs.links.Threads.{IsOpen, IsOwn, AreCleaned, NeedFewAt, IsRefusedAt, IsPiece};
+ghost use Rattle.rv64_codegen.specs.links.Emission.{IsEmittedThread, IsRefusedThread, IsEmittedOf, IsRefusedOf, AreRegistersOf, AreListsOf, AreEmittedTo};
+
+use crate::actions::push_action;
+use crate::error::EmitError;
+use crate::guards::push_guard;
+use crate::plan::Plan;
+use crate::registers::{live_lists, registers};
+use crate::shapes::shapes;
+use crate::thread::ThreadPlan;
+use expr_code::Frame;
+use ido_base::memory::Memory;
+use region_cutter::cleaned_later;
+use rv64_isa::field::Register;
+use rv64_isa::object::{Code, CodeItem, Label};
+use std::alloc::Global;
+use variable_layout::{addresses, initial_bytes};
+
+/// Appends a label.
+fn push_label(items: &mut Vec<CodeItem>, label: Label) -> Result<(), Memory>
+    ensures { OnOk result (items.new.items ≡ items.old.items ++ Here label ∷ []) }
+{
+    let item = CodeItem::Here(label);
+    match item {
+        CodeItem::Instruction(instr) => items.push(CodeItem::Instruction(instr))?,
+        _ => items.push(item)?,
+    }
+    Ok(())
+}
+
+/// Appends the code of a node: the boundary before it, what it does, and how it goes on.
+fn push_node(
+    alloc: Global,
+    items: &mut Vec<CodeItem>,
+    thread: &ThreadPlan,
+    node: usize,
+) -> Result<(), EmitError>
+    requires { IsOwn thread.now node }
+    ensures { MatchResult result
+        (λ _. NeedFewAt thread.now node × Appends items.old.items items.new.items (IsPiece thread.now node))
+        (λ error. IsRefusedAt thread.now node error) }
+{
+    match push_guard(alloc, items, thread, node) {
+        Ok(()) => {}
+        Err(_) => return Err(EmitError::Memory),
+    }
+    push_action(alloc, items, thread, node)
+}
+
+/// The code of a thread: node after node in their order, each behind its label.
+fn thread_items(alloc: Global, thread: &ThreadPlan) -> Result<Vec<CodeItem>, EmitError>
+    requires { IsOpen thread.now }
+    ensures { MatchResult result (λ r. IsEmittedThread thread.now r.items) (IsRefusedThread thread.now) }
+{
+    let mut items = Vec::new(alloc);
+    for node in thread.part.first..thread.part.end {
+        push_label(&mut items, thread.label(node))?;
+        match push_node(alloc, &mut items, thread, node) {
+            Ok(()) => {}
+            Err(error) => return Err(error),
+        }
+    }
+    Ok(items)
+}
+
+/// The code of the thread of this number, whose locals have these registers.
+fn emit_from<'a>(
+    alloc: Global,
+    plan: &'a Plan,
+    addresses: &'a [u32],
+    later: &'a [bool],
+    registers: &'a [Register],
+    live: &'a [Vec<Register>],
+    number: usize,
+) -> Result<Vec<CodeItem>, EmitError>
+    requires plan { IsPlan (plan_of plan.now) }
+    requires addresses { AreAddresses (plan_of plan.now).flat.variables addresses.now }
+    requires later { AreCleaned (plan_of plan.now) later.now }
+    requires number { number < length plan.now.graph.now.threads.items }
+    requires registers { AreRegistersOf (plan_of plan.now) number registers.now }
+    requires live { AreListsOf (plan_of plan.now) number registers.now live.now }
+    ensures { MatchResult result (λ r. IsEmittedOf (plan_of plan.now) number r.items) (IsRefusedOf (plan_of plan.now) number) }
+{
+    let thread = ThreadPlan {
+        plan,
+        number: number as u32,
+        part: plan.graph.threads[number],
+        frame: Frame {
+            addresses,
+            registers,
+        },
+        live,
+        later,
+    };
+    thread_items(alloc, &thread)
+}
+
+/// The code of the thread of this number.
+fn emit_thread(
+    alloc: Global,
+    plan: &Plan,
+    addresses: &[u32],
+    later: &[bool],
+    number: usize,
+) -> Result<Vec<CodeItem>, EmitError>
+    requires plan { IsPlan (plan_of plan.now) }
+    requires addresses { AreAddresses (plan_of plan.now).flat.variables addresses.now }
+    requires later { AreCleaned (plan_of plan.now) later.now }
+    requires number { number < length plan.now.graph.now.threads.items }
+    ensures { MatchResult result (λ r. IsEmittedOf (plan_of plan.now) number r.items) (IsRefusedOf (plan_of plan.now) number) }
+{
+    let registers = match registers(alloc, &plan.colours.threads[number]) {
+        Ok(registers) => registers,
+        Err(_) => return Err(EmitError::Memory),
+    };
+    let part = plan.graph.threads[number];
+    let live = match live_lists(alloc, plan, &registers, part) {
+        Ok(live) => live,
+        Err(_) => return Err(EmitError::Memory),
+    };
+    emit_from(
+        alloc,
+        &*plan,
+        &*addresses,
+        &*later,
+        &registers,
+        &live,
+        number,
+    )
+}
+
+/// The code of all threads.
+fn emit_threads(
+    alloc: Global,
+    plan: &Plan,
+    addresses: &[u32],
+    later: &[bool],
+) -> Result<Vec<Vec<CodeItem>>, EmitError>
+    requires plan { IsPlan (plan_of plan.now) }
+    requires addresses { AreAddresses (plan_of plan.now).flat.variables addresses.now }
+    requires later { AreCleaned (plan_of plan.now) later.now }
+    ensures { MatchResult result
+        (λ r. AreEmittedTo (plan_of plan.now) (length plan.now.graph.now.threads.items) r.items)
+        (IsRefused (plan_of plan.now).graph) }
+{
+    let mut threads = Vec::new(alloc);
+    for number in 0..plan.graph.threads.len() {
+        match emit_thread(alloc, plan, addresses, later, number) {
+            Ok(items) => threads.push(items)?,
+            Err(error) => return Err(error),
+        }
+    }
+    Ok(threads)
+}
+
+/// Of each node whether a later store cleans the line that it stores into.
+fn cleaned(alloc: Global, plan: &Plan) -> Result<Vec<bool>, Memory>
+    requires { IsPlan (plan_of plan.now) }
+    ensures { IfOk result (λ r. AreCleaned (plan_of plan.now) r.items) }
+{
+    let shapes = shapes(alloc, &plan.flat.variables)?;
+    cleaned_later(alloc, plan.graph, plan.cuts, &shapes)
+}
+
+/// The code of a program: that of each thread, the bytes of the variables, and the number of mutexes.
+pub fn emit(alloc: Global, plan: &Plan) -> Result<Code, EmitError>
+    requires { IsPlan (plan_of plan.now) }
+    ensures code { IfOk result (λ code. IsCode (plan_of plan.now) (map items_in code.threads.items)) }
+    ensures threads { IfOk result (λ code. length code.threads.items ≤ 8) }
+    ensures few { IfOk result (λ code. All (λ items. sum_by most_words_of items.items ≤ 65536) code.threads.items) }
+    ensures initial { IfOk result (λ code. AreInitial (plan_of plan.now).flat.variables code.initial.items) }
+    ensures mutexes { IfOk result (λ code. code.mutexes ≡ length (plan_of plan.now).flat.mutexes) }
+    ensures temporaries { IfOk result (λ _. AllNeedFew (plan_of plan.now).graph) }
+    ensures refused { IfErr result (IsRefused (plan_of plan.now).graph) }
+{
+    let addresses = addresses(alloc, &plan.flat.variables)?;
+    let initial = initial_bytes(alloc, &plan.flat.variables)?;
+    let later = cleaned(alloc, plan)?;
+    let threads = match emit_threads(alloc, plan, &addresses, &later) {
+        Ok(threads) => threads,
+        Err(error) => return Err(error),
+    };
+    Ok(Code {
+        threads,
+        initial,
+        mutexes: plan.flat.mutexes.len() as u32,
+    })
+}

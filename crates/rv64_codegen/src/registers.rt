@@ -1,0 +1,124 @@
+//! Registers of locals, and those that are live at nodes.
+ghost use Rattle.std.specs.Prelude.{◌≡◌, ◌↔◌, ◌<◌, ◌≤◌, ◌+◌, ℕ, length, map, slice_get, slice_index, Contains, IfOk, IsTrue, Some, true};
+ghost use Rattle.log_layout.specs.declared.roles.TheConstants.{LOCALS as local_numbers};
+ghost use Rattle.log_layout.specs.Roles.{is_local};
+ghost use Rattle.flow_graph.specs.Nodes.{graph_of, node_of};
+ghost use Rattle.rv64_codegen.specs.links.Live.{HasLive, AreLiveLocals, AreLiveRegisters, AreLists, AreWithPending, is_store};
+
+use crate::plan::Plan;
+use flow_graph::graph::{Action, Node, Part};
+use flow_graph::live_sets::LiveSets;
+use ido_base::memory::Memory;
+use log_layout::roles::LOCALS;
+use rv64_isa::field::Register;
+use std::alloc::Global;
+
+/// The register of locals with this number among them.
+fn local_register(number: usize) -> Register
+    requires { number < 18 }
+    ensures is { result ≡ slice_index local_numbers number }
+    ensures local { is_local result ≡ true }
+{
+    Register::new(LOCALS[number]).unwrap()
+}
+
+/// The registers of a thread's locals, of which these are the numbers among the registers of locals.
+pub(crate) fn registers(alloc: Global, colours: &[u8]) -> Result<Vec<Register>, Memory>
+    requires { (colour : ℕ) → Contains colours.now colour → colour < 18 }
+    ensures { IfOk result (λ r. r.items ≡ map (λ (colour : ℕ). slice_index local_numbers colour) colours.now) }
+{
+    let mut registers = Vec::new(alloc);
+    for colour in colours {
+        registers.push(local_register(*colour as usize))?;
+    }
+    Ok(registers)
+}
+
+/// Whether a local that is live at the node's entry has the register.
+fn is_live_register(
+    registers: &[Register],
+    live: &LiveSets,
+    node: usize,
+    register: Register,
+) -> bool
+    ensures { IsTrue result ↔ HasLive registers.now live.now node register }
+{
+    for (local, other) in registers.iter().enumerate() {
+        if *other == register && live.is_live(node, local) {
+            return true;
+        }
+    }
+    false
+}
+
+/// The registers of the locals that are live at the node's entry, each once.
+fn live_locals(
+    alloc: Global,
+    registers: &[Register],
+    live: &LiveSets,
+    node: usize,
+) -> Result<Vec<Register>, Memory>
+    ensures { IfOk result (λ r. AreLiveLocals registers.now live.now node 18 r.items) }
+{
+    let mut found = Vec::new(alloc);
+    for number in 0..18 {
+        let register = local_register(number);
+        if is_live_register(registers, live, node, register) {
+            found.push(register)?;
+        }
+    }
+    Ok(found)
+}
+
+/// Whether the node makes a store.
+fn is_store(node: &Node) -> bool
+    ensures { result ≡ is_store (node_of node.now).action }
+{
+    match node.action {
+        Action::Store { .. } => true,
+        _ => false,
+    }
+}
+
+/// Before a store those of what it stores are live too.
+fn with_pending(mut found: Vec<Register>, is_store: bool) -> Result<Vec<Register>, Memory>
+    ensures { IfOk result (λ r. AreWithPending found.items is_store r.items) }
+{
+    if is_store {
+        found.push(Register::X28)?;
+        found.push(Register::X29)?;
+    }
+    Ok(found)
+}
+
+/// The registers that are live at the node's entry.
+fn live_registers(
+    alloc: Global,
+    plan: &Plan,
+    registers: &[Register],
+    node: usize,
+) -> Result<Vec<Register>, Memory>
+    requires { node < length plan.now.graph.now.nodes.items }
+    ensures { IfOk result (λ r. AreLiveRegisters (graph_of plan.now.graph.now) registers.now plan.now.live.now node r.items) }
+{
+    let found = live_locals(alloc, registers, plan.live, node)?;
+    with_pending(found, is_store(&plan.graph.nodes[node]))
+}
+
+/// Of each node of a thread the registers that are live at its entry.
+pub(crate) fn live_lists(
+    alloc: Global,
+    plan: &Plan,
+    registers: &[Register],
+    part: Part,
+) -> Result<Vec<Vec<Register>>, Memory>
+    requires order { part.first ≤ part.end }
+    requires end { part.end ≤ length plan.now.graph.now.nodes.items }
+    ensures { IfOk result (λ r. AreLists (graph_of plan.now.graph.now) registers.now plan.now.live.now part.first part.end r.items) }
+{
+    let mut lists = Vec::new(alloc);
+    for node in part.first..part.end {
+        lists.push(live_registers(alloc, plan, registers, node)?)?;
+    }
+    Ok(lists)
+}

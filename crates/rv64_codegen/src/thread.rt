@@ -1,0 +1,48 @@
+//! A thread whose code is made.
+ghost use Rattle.std.specs.Prelude.{◌≡◌, ◌<◌, ◌≤◌, ◌-◌, ◌+◌, ◌^◌};
+ghost use Rattle.rv64_codegen.specs.links.Threads.{IsOwn, IsKeptFor};
+
+use crate::plan::Plan;
+use expr_code::Frame;
+use flow_graph::graph::Part;
+use node_code::Kept;
+use rv64_isa::field::Register;
+use rv64_isa::object::Label;
+
+/// A thread, where its locals and the variables are, and what was found out about its nodes.
+#[derive(Clone, Copy)]
+pub(crate) struct ThreadPlan<'a, 'p> {
+    pub plan: &'a Plan<'p>,
+    /// Its number.
+    pub number: u32,
+    /// Its nodes.
+    pub part: Part,
+    pub frame: Frame<'a>,
+    /// Of each of its nodes the registers that are live at its entry.
+    pub live: &'a [Vec<Register>],
+    /// Of each node of the graph whether a later store cleans the line that it stores into.
+    pub later: &'a [bool],
+}
+
+impl<'a> ThreadPlan<'a, '_> {
+    /// The label at which a node's code begins, with the boundary before it.
+    pub(crate) fn label(&self, node: usize) -> Label
+        requires { IsOwn self.now node }
+        ensures { result.0 ≡ node - self.now.part.first }
+    {
+        Label((node - self.part.first) as u32)
+    }
+
+    /// What a boundary keeps that lets the thread go on at a node.
+    pub(crate) fn kept(&self, node: usize) -> Kept<'a>
+        requires { IsOwn self.now node }
+        ensures { IsKeptFor self.now node result }
+    {
+        let step = node - self.part.first;
+        Kept {
+            thread: self.number,
+            mask: self.plan.held.held(self.number, step as u32),
+            live: &self.live[step],
+        }
+    }
+}
