@@ -9,3 +9,16 @@ pub mod Records
 pub mod Whole
 pub mod Unstuck
 pub mod InStep
+pub mod Formed
+pub mod Imaged
+mod Nearing
+mod Loops
+mod Fitting
+mod Legs
+mod Cleaning
+mod Guarded
+mod Soon
+mod Calls
+mod Falling
+mod Entries
+mod Delaying

@@ -1,9 +1,15 @@
 -- Laws of compiled programs, in the words of their readers.
 use Rattle.std.specs.Prelude.{List, length}
 use Rattle.ido_base.specs.declared.event.Event.{Event}
+use Rattle.flow_graph.specs.Lowering.{lowered}
+use Rattle.flow_graph.specs.Cutting.{IsMinimal}
 use Rattle.resumed_programs.specs.Systems.{System, IsSystem, flat_of}
 use Rattle.compilation.specs.Translations.{Translation, HaveNoCrash}
+use Rattle.compilation.specs.Delays.{AreDelaysBounded}
 use Rattle.compilation.specs.Compilation.{IsSettledAsKept, Grows, AreSectionsKept, AreRecords, AreWhole, IsInStep, NeverStuck}
+use Rattle.compilation.specs.Forms.{HasForm}
+use Rattle.compilation.specs.Images.{image_of, IsCrashed, IsResumedAsKept}
+use Rattle.compilation.specs.Compilations.{IsCompilation}
 
 -- what a system is to its readers
 abbrev pub translation_of : System → Translation
@@ -36,6 +42,25 @@ MachinesAreWhole = (y : System) → IsSystem y → (events : List Event) → Are
 abbrev pub HartsNeverStick : Type 0
 HartsNeverStick = (y : System) → IsSystem y → (events : List Event) → NeverStuck (translation_of y) events
 
+abbrev pub DelaysAreBounded : Type 0
+DelaysAreBounded = (y : System) → IsSystem y → (events : List Event) → AreDelaysBounded (translation_of y) events
+
 -- where power stays on
 abbrev pub MachinesKeepStep : Type 0
 MachinesKeepStep = (y : System) → IsSystem y → (events : List Event) → HaveNoCrash events → IsInStep (translation_of y) events
+
+-- compiled code has its form, where no boundary that stands by choice can be taken away
+abbrev pub CompiledCodeHasForm : Type 0
+CompiledCodeHasForm = (y : System) → IsSystem y → IsMinimal (lowered (flat_of y)) y.plan.boundaries → HasForm (translation_of y)
+
+-- an image is begun from as behind the crash that left it
+abbrev pub ImagesAreCrashes : Type 0
+ImagesAreCrashes = (c : Translation) (before events : List Event) → IsCrashed c before events
+
+abbrev pub ImagesAreResumed : Type 0
+ImagesAreResumed = (y : System) → IsSystem y → (before events : List Event) →
+    IsResumedAsKept (translation_of y) (image_of (translation_of y) before) events
+
+-- all of it
+abbrev pub SystemsAreCompilations : Type 0
+SystemsAreCompilations = (y : System) → IsSystem y → IsMinimal (lowered (flat_of y)) y.plan.boundaries → IsCompilation (translation_of y)

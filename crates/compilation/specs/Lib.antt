@@ -1,3 +1,7 @@
 pub mod Translations
 pub mod Compilation
+pub mod Forms
+pub mod Images
+pub mod Delays
+pub mod Compilations
 pub mod Laws

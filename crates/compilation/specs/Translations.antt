@@ -31,6 +31,9 @@ HaveNoCrash (Evict line mask ∷ events) = HaveNoCrash events
 HaveNoCrash (Crash ∷ events) = ⊥
 
 module _ (c : Translation) where
+  abbrev pub marks_of : (thread : ℕ) → List ℕ
+  marks_of thread = slice_index_or c.marks thread []
+
   abbrev pub resumes_of : (thread : ℕ) → List ℕ
   resumes_of thread = slice_index_or c.resumes thread []
 

@@ -1,17 +1,24 @@
 //! Laws of compiled programs in the words of their readers: nothing is computed here.
 ghost use Rattle.compilation.specs.Laws.{
+  CompiledCodeHasForm,
+  DelaysAreBounded,
   HartsNeverStick,
+  ImagesAreCrashes,
+  ImagesAreResumed,
   KeptStepsGrow,
   MachinesAreWhole,
   MachinesKeepStep,
   MachinesRecord,
   SectionsAreKept,
   SettledMachinesAreKept,
+  SystemsAreCompilations,
 };
 
-use hart_runs::laws::none_is_stuck;
+use hart_runs::laws::{none_is_stuck, steps_are_counted};
+use region_cutter::laws::chosen_boundaries_are_locked;
 use resumed_programs::laws::{
-    cores_step, machines_resume, sections_are_kept as ended_sections_are_kept, ways_step,
+    cores_step, events_stand, machines_resume, sections_are_kept as ended_sections_are_kept,
+    ways_step,
 };
 use thread_runs::laws::{marks_pass, ways_go_on};
 
@@ -61,6 +68,19 @@ pub fn harts_never_stick()
     none_is_stuck();
 }
 
+/// A hart that executes instructions soon begins the next step of its thread: by as many of its steps that wait for no lock as twice the words of its code, and
+/// 18, it has begun one or has stopped, whatever other harts do and whatever is evicted in between.
+pub fn delays_are_bounded()
+    ensures { DelaysAreBounded }
+{
+    cores_step();
+    events_stand();
+    marks_pass();
+    steps_are_counted();
+    ways_go_on();
+    ways_step();
+}
+
 /// As long as power stays on, the source can be stepped by all steps that have begun, memory has the variables that it has then, and a hart holds what its
 /// thread does.
 pub fn machines_keep_step()
@@ -70,4 +90,43 @@ pub fn machines_keep_step()
     marks_pass();
     ways_go_on();
     ways_step();
+}
+
+/// The code of each thread is that of its nodes, one after another: within its price, with a mark for each node, two FENCEs for each boundary and no other
+/// FENCE, and resumed nowhere but behind boundaries. Boundaries stand where the graph is cut, by choice only where a mutex is held, and none of those can be
+/// taken away, which is asked here since systems don't say it.
+pub fn compiled_code_has_form()
+    ensures { CompiledCodeHasForm }
+{
+    chosen_boundaries_are_locked();
+}
+
+/// A run that is begun from what a crash left in memory, and from the kept schedule, is the one that goes on behind that crash.
+pub fn images_are_crashes()
+    ensures { ImagesAreCrashes }
+{}
+
+/// So in a run from an image that the same program left, the source can be stepped by all steps that are kept, those of the image first, and where all harts
+/// stand between sections, durable variables are those that it has then.
+pub fn images_are_resumed()
+    ensures { ImagesAreResumed }
+{
+    kept_steps_grow();
+    settled_machines_are_kept();
+}
+
+/// What a compiler makes of a flat form, if it is a system and has no boundary that can be taken away, is a compilation: all of the above holds of it.
+pub fn systems_are_compilations()
+    ensures { SystemsAreCompilations }
+{
+    compiled_code_has_form();
+    machines_keep_step();
+    harts_never_stick();
+    delays_are_bounded();
+    machines_are_whole();
+    machines_record();
+    kept_steps_grow();
+    sections_are_kept();
+    settled_machines_are_kept();
+    images_are_resumed();
 }

@@ -4,5 +4,6 @@ pub mod Linked
 pub mod Cleaning
 pub mod LeftOut
 pub mod Systems
+pub mod Limits
 pub mod Plans
 pub mod Sample

@@ -25,7 +25,7 @@ ends_within (item ∷ items) at h =
     let end : at (suc (length items)) ≡ at (length items + 1) = ap at (omega arith) in
     omega (arith, rest, end, h 0 item refl, sum_by-cons most_words_of item items)
 
-few_words : (start : ℕ) (items : List CodeItem) (code : List Slot) (nodes resumes : List ℕ) → IsLinked start items code nodes resumes →
+pub few_words : (start : ℕ) (items : List CodeItem) (code : List Slot) (nodes resumes : List ℕ) → IsLinked start items code nodes resumes →
     length code ≤ sum_by most_words_of items
 few_words start items code nodes resumes l =
     let within : l.address_of (length items) ≤ l.address_of 0 + 4 * sum_by most_words_of items =
@@ -42,6 +42,15 @@ linked_count start [] (code ∷ program) marks l = absurd l
 linked_count start (items ∷ threads) [] marks l = absurd l
 linked_count start (items ∷ threads) (code ∷ program) [] l = absurd l
 linked_count start (items ∷ threads) (code ∷ program) (m ∷ marks) l = ap suc (linked_count (start + 4 * length code) threads program marks l.1)
+
+pub marked_count : (start : ℕ) (threads : List (List CodeItem)) (program : List (List Slot)) (marks : List ThreadMarks) →
+    AreLinked start threads program marks → length marks ≡ length threads
+marked_count start [] [] [] l = refl
+marked_count start [] [] (m ∷ marks) l = absurd l
+marked_count start [] (code ∷ program) marks l = absurd l
+marked_count start (items ∷ threads) [] marks l = absurd l
+marked_count start (items ∷ threads) (code ∷ program) [] l = absurd l
+marked_count start (items ∷ threads) (code ∷ program) (m ∷ marks) l = ap suc (marked_count (start + 4 * length code) threads program marks l.1)
 
 -- no thread has more words than that
 abbrev pub AllFew : List (List CodeItem) → Type 0

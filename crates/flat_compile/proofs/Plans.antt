@@ -20,7 +20,8 @@ use Rattle.flow_graph.specs.Cutting.{IsMinimal, boundaries_of}
 use Rattle.thread_code.specs.Plans.{Plan, IsPlan}
 use Rattle.flat_compile.specs.Translating.{IsTranslated}
 use Rattle.flat_compile.specs.links.Emission.{IsCodeFor}
-use Rattle.flat_compile.proofs.Linked.{AllFew}
+use Rattle.flat_compile.proofs.Linked.{AllFew, marked_count}
+use Rattle.flat_compile.proofs.Limits.{count, within_limits}
 use Rattle.flat_compile.proofs.Systems.{system, system_is}
 
 abbrev IsFew : Vec CodeItem Global → Type 0
@@ -52,4 +53,8 @@ is_translated p code is plan object marks cuts at minimal linked initial mutexes
       resumed = refl;
       begins = refl;
       mutexes = mutexes ∙ is.mutexes;
+      limits = within_limits p plan threads object marks.threads.items is.is few eight linked begins (mutexes ∙ is.mutexes);
+      threads =
+          marked_count code_base threads (program_of object) marks.threads.items linked
+          ∙ sym (count p plan threads object marks.threads.items is.is few eight linked begins);
     }

@@ -85,7 +85,7 @@ parts_inside (t ∷ ts) first (suc number) own g =
     let whole : length (thread_nodes t first ++ back) ≡ length (thread_nodes t first) + length back = length-append (thread_nodes t first) back in
     omega (arith, later, whole, length-thread_nodes t first)
 
-node_there : (p : Plan) → IsPlan p → (t : Thread) → IsThread p t → (node : ℕ) → IsNodeOf t node → (is : Node) × NodeAt p.graph node is
+pub node_there : (p : Plan) → IsPlan p → (t : Thread) → IsThread p t → (node : ℕ) → IsNodeOf t node → (is : Node) × NodeAt p.graph node is
 node_there p plan t of node own =
     let long : length p.graph.nodes ≡ length (threads_nodes p.flat.threads 0) =
     ap length (ap (λ (g : Graph). g.nodes) plan.lowered ∙ lowered_nodes p.flat) in

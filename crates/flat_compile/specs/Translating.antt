@@ -5,6 +5,7 @@ use Rattle.rv64_isa.specs.declared.object.Object.{Object}
 use Rattle.rv64_isa.specs.declared.object.ThreadMarks.{ThreadMarks}
 use Rattle.rv64_isa.specs.declared.object.Marks.{Marks}
 use Rattle.rv64_isa.specs.Programs.{program_of}
+use Rattle.hart_core.specs.Objects.{IsWithinLimits}
 use Rattle.flow_graph.specs.declared.cuts.Cuts.{Cuts}
 use Rattle.flow_graph.specs.Lowering.{lowered}
 use Rattle.flow_graph.specs.Cutting.{IsMinimal, boundaries_of}
@@ -18,6 +19,7 @@ abbrev pub resume_marks : List ThreadMarks → List (List ℕ)
 resume_marks marks = map (λ (m : ThreadMarks). m.resumes.items) marks
 
 -- What the machine runs is a system of the flat form, so all laws of compiled programs hold of it; none of the boundaries can be taken away.
+-- A machine can begin with the object: it is within a machine's limits, and each of its threads has its marks.
 pub record IsTranslated (flat : Flat) (object : Object) (marks : Marks) (cuts : Cuts) : Type 0 where
   pub system : System
   pub is : IsSystem system
@@ -29,3 +31,7 @@ pub record IsTranslated (flat : Flat) (object : Object) (marks : Marks) (cuts : 
   pub resumed : system.resumes ≡ resume_marks marks.threads.items
   pub begins : system.initial ≡ object.initial.items
   pub mutexes : object.mutexes ≡ length flat.mutexes
+  -- as many threads, words, mutexes and initial bytes as a machine takes
+  pub limits : IsWithinLimits object
+  -- as many threads are marked as there are
+  pub threads : length marks.threads.items ≡ length object.code.items

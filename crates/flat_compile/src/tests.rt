@@ -1,6 +1,9 @@
-//! A thread that takes a mutex, stores a variable into itself, and gives the mutex back.
-ghost use Rattle.std.specs.Prelude.{IfOk};
-ghost use Rattle.c_tree.specs.Flats.{flat_of};
+//! A thread that takes a mutex, stores two numbers into a variable one after the other, and gives the mutex back.
+ghost use Rattle.std.specs.Prelude.{◌≡◌, IfOk};
+ghost use Rattle.ido_ints.specs.declared.kinds.Kind.TheVariants.{Long};
+ghost use Rattle.c_tree.specs.Exprs as e;
+ghost use Rattle.c_tree.specs.Flats as f;
+ghost use Rattle.c_tree.specs.Flats.{flat_of, statement_of};
 ghost use Rattle.flat_compile.specs.Accepting.{IsAcceptedForm};
 
 use crate::translate;
@@ -9,7 +12,9 @@ use c_tree::flat::{Flat, Statement, Thread};
 use c_tree::program::Variable;
 use c_tree::tree::Name;
 use ido_base::place::Place;
-use ido_ints::Kind;
+use ido_ints::{Kind, Value};
+use rv64_isa::instr::Instr;
+use rv64_isa::word::decode;
 use std::alloc::{AllocError, Global};
 
 fn name(a: Global) -> Result<Name, AllocError> {
@@ -17,6 +22,24 @@ fn name(a: Global) -> Result<Name, AllocError> {
         text: b"t".to_vec(a)?,
         place: Place(0),
     })
+}
+
+// The number, stored into the first variable.
+fn stored(place: Place, value: Value) -> Statement
+    ensures { statement_of result ≡ f.Assign place (e.ToVariable place 0 Long) (record { place = place; expr = e.Constant value }) }
+{
+    Statement::Assign {
+        place,
+        target: Target::Variable {
+            place,
+            variable: 0,
+            kind: Kind::Long,
+        },
+        value: Placed {
+            place,
+            expr: Expr::Constant { value },
+        },
+    }
 }
 
 fn short(a: Global) -> Result<Flat, AllocError>
@@ -27,22 +50,8 @@ fn short(a: Global) -> Result<Flat, AllocError>
             place: Place(0),
             mutex: 0,
         },
-        Statement::Assign {
-            place: Place(0),
-            target: Target::Variable {
-                place: Place(0),
-                variable: 0,
-                kind: Kind::Long,
-            },
-            value: Placed {
-                place: Place(0),
-                expr: Expr::Variable {
-                    place: Place(0),
-                    variable: 0,
-                    kind: Kind::Long,
-                },
-            },
-        },
+        stored(Place(0), Value::reduce(Kind::Int, 1)),
+        stored(Place(0), Value::reduce(Kind::Int, 2)),
         Statement::Unlock {
             place: Place(0),
             mutex: 0,
@@ -68,6 +77,20 @@ fn short(a: Global) -> Result<Flat, AllocError>
     })
 }
 
+// How many of the words clean a line.
+fn cleans(code: &[u32]) -> usize {
+    code.iter()
+        .filter(|word| matches!(decode(**word), Some(Instr::CboClean { .. })))
+        .count()
+}
+
+// How many of them are fences.
+fn fences(code: &[u32]) -> usize {
+    code.iter()
+        .filter(|word| matches!(decode(**word), Some(Instr::Fence)))
+        .count()
+}
+
 #[test]
 fn happy_paths(rt: HostRuntime) {
     let flat = short(rt.alloc()).expect(&rt, "a flat form");
@@ -78,17 +101,22 @@ fn happy_paths(rt: HostRuntime) {
         [0, 0, 0, 0, 0, 0, 0, 0].as_slice()
     );
     assert_eq!(rt; made.object.mutexes, 1);
-    // the lock, the evaluation, the store, the unlock and the end; a boundary is chosen before the store, which overwrites what was read
+    // the lock, an evaluation and a store for each number, the unlock and the end; nothing is read, so no boundary is chosen before a store
     assert_eq!(rt;
         made.cuts.before.as_slice(),
-        [false, false, true, true, false].as_slice()
+        [false, false, false, false, false, true, false].as_slice()
     );
     assert_eq!(rt;
         made.cuts.after_lock.as_slice(),
-        [true, false, false, false, false].as_slice()
+        [true, false, false, false, false, false, false].as_slice()
     );
     for marks in &made.marks.threads {
-        assert_eq!(rt; marks.nodes.len(), 5);
-        assert_eq!(rt; marks.resumes.len(), 2);
+        assert_eq!(rt; marks.nodes.len(), 7);
+        assert_eq!(rt; marks.resumes.len(), 1);
+    }
+    // the line of the variable is cleaned once, with two lines of the log behind the lock and one at the unlock; each boundary has two fences
+    for code in &made.object.code {
+        assert_eq!(rt; cleans(code), 4);
+        assert_eq!(rt; fences(code), 4);
     }
 }

@@ -47,10 +47,10 @@ numbers_more k n h = ap (numbers_from k) (let e : n - k ≡ suc (n - (k + 1)) = 
 numbers_end : (k n : ℕ) → n ≤ k → numbers_from k (n - k) ≡ []
 numbers_end k n h = ap (numbers_from k) (let e : n - k ≡ 0 = omega (arith, h) in e)
 
-chosen : (p : ℕ → Bool) (k : ℕ) (ks : List ℕ) → p k ≡ true → filter p (k ∷ ks) ≡ k ∷ filter p ks
+pub chosen : (p : ℕ → Bool) (k : ℕ) (ks : List ℕ) → p k ≡ true → filter p (k ∷ ks) ≡ k ∷ filter p ks
 chosen p k ks e = rw (filter, e) refl
 
-left_out : (p : ℕ → Bool) (k : ℕ) (ks : List ℕ) → p k ≡ false → filter p (k ∷ ks) ≡ filter p ks
+pub left_out : (p : ℕ → Bool) (k : ℕ) (ks : List ℕ) → p k ≡ false → filter p (k ∷ ks) ≡ filter p ks
 left_out p k ks e = rw (filter, e) refl
 
 pub filter_pushed : (p : ℕ → Bool) (xs ys new : List ℕ) (n k : ℕ) → k < n → p k ≡ true → new ≡ xs ++ k ∷ [] → xs ++ filter p (numbers_from k (n - k)) ≡ ys → new ++ filter p (numbers_from (k + 1) (n - (k + 1))) ≡ ys

@@ -1,23 +1,19 @@
 mod Worked
 mod WorkedListing
+mod WorkedNodes
 pub mod Listed
 pub mod Lists
 pub mod InputSteps
-pub mod ScriptLines
-pub mod Numerals
-pub mod Running
-pub mod Points
-pub mod Sights
-pub mod Turns
-pub mod Reported
-pub mod Plays
-pub mod TrackerLemmas
 pub mod Tops
 pub mod Gathered
-pub mod Checks
 pub mod Commands
 pub mod Rests
 pub mod Stops
-pub mod Fronts
-pub mod Verdicts
 pub mod Single
+pub mod NodeLines
+pub mod Lengths
+pub mod Settled
+pub mod DurableNumbers
+pub mod Playing
+pub mod Played
+pub mod ScriptAnswers

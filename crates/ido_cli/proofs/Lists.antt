@@ -1,11 +1,11 @@
 -- What an input within its limits is answered.
-use Rattle.std.proofs.Common.{◌≡◌, ◌⊎◌, inl, inr, ℕ, ◌<◌, ◌≤◌, List, length, sym, ap, ap₂, subst, ◌∙◌, refl, arith}
+use Rattle.std.proofs.Common.{◌≡◌, inl, inr, ℕ, ◌≤◌, List, length, subst, arith}
 use Rattle.std.specs.Prelude.{IfOk, Result, Ok, Err}
 use Rattle.object_format.specs.Reading as o
 use Rattle.ido_cli.specs.declared.command.Command.TheVariants as command
-use Rattle.ido_cli.specs.declared.play.Said.{Said}
-use Rattle.ido_cli.specs.Answers.{AnswerToInput, IsSourcePastLimits, ListAnswer, PlayAnswer, SourceAnswer, most_bytes, most_source_bytes, no_object, within_limits}
-use Rattle.ido_cli.specs.Inputs.{rest_of, source_of}
+use Rattle.ido_cli.specs.declared.said.Said.{Said}
+use Rattle.ido_cli.specs.Answers.{AnswerToInput, CompileAnswer, IsSourcePastLimits, ListAnswer, PlayAnswer, RegionsAnswer, SourceAnswer, most_bytes, most_source_bytes, no_object, within_limits}
+use Rattle.ido_cli.specs.Inputs.{source_of}
 use Rattle.ido_cli.specs.Refusals.{line_at_byte, object_fault_code, object_fault_place}
 
 pub refuses : {E : Type 0} (input : List ℕ) (fault : o.Fault) (r : Result Said E) → o.read input ≡ Err fault → IfOk r (λ said. said.status ≡ 6)
@@ -17,12 +17,20 @@ not_past : (input : List ℕ) → length input ≤ most_bytes → length (source
 not_past input short short_source (inl long) = omega (arith, short, long)
 not_past input short short_source (inr long) = omega (arith, short_source, long)
 
-pub plays : {E : Type 0} (input source script : List ℕ) (r : Result Said E) → length input ≤ most_bytes → length source ≤ most_source_bytes → source ≡ source_of input → script ≡ rest_of input
-    → IfOk r (λ said. PlayAnswer source script said.status said.output.items) → IfOk r (λ said. AnswerToInput command.Play input said.status said.output.items)
-plays input source script (Ok said) short short_source is rest answer =
-    within_limits (not_past input short (subst (λ s. length s ≤ most_source_bytes) is short_source))
-    (subst (λ s. PlayAnswer s (rest_of input) said.status said.output.items) is (subst (λ s. PlayAnswer source s said.status said.output.items) rest answer))
-plays input source script (Err e) short short_source is rest answer = tt
+pub compiles : {E : Type 0} (input : List ℕ) (r : Result Said E) → length input ≤ most_source_bytes
+    → IfOk r (λ said. CompileAnswer input said.status said.output.items) → IfOk r (λ said. AnswerToInput command.Compile input said.status said.output.items)
+compiles input (Ok said) short answer = within_limits (λ long. omega (arith, short, long)) answer
+compiles input (Err e) short answer = tt
+
+pub cuts : {E : Type 0} (input : List ℕ) (r : Result Said E) → length input ≤ most_source_bytes
+    → IfOk r (λ said. RegionsAnswer input said.status said.output.items) → IfOk r (λ said. AnswerToInput command.Regions input said.status said.output.items)
+cuts input (Ok said) short answer = within_limits (λ long. omega (arith, short, long)) answer
+cuts input (Err e) short answer = tt
+
+pub plays : {E : Type 0} (input source : List ℕ) (r : Result Said E) → length input ≤ most_bytes → length source ≤ most_source_bytes → source ≡ source_of input
+    → IfOk r (λ said. PlayAnswer input said.status said.output.items) → IfOk r (λ said. AnswerToInput command.Play input said.status said.output.items)
+plays input source (Ok said) short short_source is answer = within_limits (not_past input short (subst (λ s. length s ≤ most_source_bytes) is short_source)) answer
+plays input source (Err e) short short_source is answer = tt
 
 pub runs : {E : Type 0} (input source : List ℕ) (r : Result Said E) → length input ≤ most_bytes → length source ≤ most_source_bytes → source ≡ source_of input
     → IfOk r (λ said. SourceAnswer input said.status said.output.items) → IfOk r (λ said. AnswerToInput command.Source input said.status said.output.items)

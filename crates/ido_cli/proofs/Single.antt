@@ -1,20 +1,28 @@
--- Words that don't ask for `play`, and an input, have one answer.
-use Rattle.std.proofs.Common.{◌≡◌, ◌≢◌, refl, ℕ, ◌+◌, List, Some, None, Result, Ok, Err, true, false, sym, ap, ap₂, ◌∙◌, subst}
+-- Words and an input have one answer, where it stands on no compilation or refuses the source.
+use Rattle.std.proofs.Common.{◌≡◌, ◌⊎◌, inl, inr, ℕ, ◌+◌, List, [], ◌∷◌, Option, Some, None, Result, Ok, Err, true, false, sym, ap, ap₂, ◌∙◌, subst, arith}
 use Rattle.ido_base.specs.declared.place.Place.{Place}
 use Rattle.c_tree.specs.Flats as f
 use Rattle.c_tree.specs.Source.{start}
 use Rattle.run_scripts.specs.Schedules as s
+use Rattle.run_scripts.specs.Scripts as scripts
 use Rattle.source_machine.specs.Laws.{OneStop, NotWhole}
 use Rattle.ido_cli.specs.declared.command.Command as c
 use Rattle.ido_cli.specs.declared.command.Command.TheVariants as command
-use Rattle.ido_cli.specs.Refusals.{code_of, fault_code, fault_place, line_at, line_at_byte, line_at_step, object_fault_code, object_fault_place, stop_code}
+use Rattle.c_tree.specs.declared.rule.Rule as r
+use Rattle.flow_graph.specs.Refusals.{IsAccepted, IsRefusedBy}
+use Rattle.compilation.specs.Translations.{Translation}
+use Rattle.ido_cli.specs.Commands.{command_of}
+use Rattle.ido_cli.specs.Plays.{ScriptAnswer, too_long, ran as ran_by}
+use Rattle.ido_cli.specs.Refusals.{IsRefusedAt, code_of, fault_code, fault_place, line_at, line_at_byte, line_at_step, object_fault_code, object_fault_place, stop_code}
 use Rattle.object_format.specs.Contents.{Contents}
 use Rattle.object_format.specs.Reading as o
 use Rattle.ido_cli.specs.Listing.{listing}
-use Rattle.ido_cli.specs.Runs.{RunAnswer, ran, stopped}
+use Rattle.ido_cli.specs.Runs.{RunAnswer, ran, stopped, status_by}
 use Rattle.ido_cli.specs.Inputs.{source_of}
+use Rattle.ido_cli.specs.Answers.{CommandAnswer, CompileAnswer, uncompiled, compiled, RegionsAnswer, uncut, cut, PlayAnswer, unplayed, no_script, of_script}
 use Rattle.ido_cli.specs.Answers.{SourceAnswer, unaccepted, no_schedule, of_schedule, rest_begins, ListAnswer, no_object, of_object, AnswerToInput, past_limits, within_limits, wrong_words, taken_words}
-use Rattle.ido_cli.specs.Laws.{OneFlat, OneFault, NotBoth, OneAnswer}
+use Rattle.ido_compile.specs.Verdicts.{OneFlat, OneFault, NotBoth}
+use Rattle.ido_cli.specs.Laws.{IsPlain, OneAnswer}
 
 abbrev fails : o.Fault → Result Contents o.Fault
 fails fault = Err fault
@@ -25,6 +33,11 @@ gives object = Ok object
 -- both are the same status and output
 abbrev Same : (status other : ℕ) → (output written : List ℕ) → Type 0
 Same status other output written = (status ≡ other) × (output ≡ written)
+
+-- a rule that the source breaks, or what else is answered, which has another status
+data Verdict (text : List ℕ) (status : ℕ) (output : List ℕ) : Type 0 where
+  breaks : (found : r.Rule) (place : Place) → IsRefusedBy text found place → IsRefusedAt 1 (code_of found) text place.0 status output → Verdict text status output
+  keeps : (flat : f.Flat) → IsAccepted text flat → (status ≡ 1 → ⊥) → Verdict text status output
 
 module _ (one_flat : OneFlat) (one_fault : OneFault) (not_both : NotBoth) (one_stop : OneStop) (not_whole : NotWhole) where
   -- ---- A run
@@ -72,15 +85,60 @@ module _ (one_flat : OneFlat) (one_fault : OneFault) (not_both : NotBoth) (one_s
       let same : x ≡ y = cc both in
       (e ∙ sym h, told ∙ ap (λ z. listing z.code) same ∙ sym more)
 
-  -- ---- All words but those of `play`
+  -- ---- A refused source
 
-  one_to_input : (d : c.Command) (input : List ℕ) (status other : ℕ) (output written : List ℕ) → d ≢ command.Play → AnswerToInput d input status output → AnswerToInput d input other written → Same status other output written
+  one_refusal : (text : List ℕ) (status other : ℕ) (output written : List ℕ) → status ≡ 1 → Verdict text status output → Verdict text other written → Same status other output written
+  one_refusal text status other output written one (breaks found place is (e, told)) (breaks again elsewhere also (h, more)) =
+      let both = one_fault text found again place elsewhere is also in
+      (e ∙ sym h, told ∙ ap₂ (λ rule (at : Place). line_at (code_of rule) text at.0) both.0 both.1 ∙ sym more)
+  one_refusal text status other output written one (breaks found place is told) (keeps flat accepted other_one) = absurd (not_both text flat found place accepted is)
+  one_refusal text status other output written one (keeps flat accepted other_one) v = absurd (other_one one)
+
+  not_one : (status n : ℕ) → status ≡ n → (n ≡ 1 → ⊥) → status ≡ 1 → ⊥
+  not_one status n e other one = other (sym e ∙ one)
+
+  not_by_unsettled : (unsettled : List ℕ) (status : ℕ) → status ≡ status_by unsettled → status ≡ 1 → ⊥
+  not_by_unsettled [] status e one = omega arith
+  not_by_unsettled (h ∷ hs) status e one = omega arith
+
+  of_compile : (text : List ℕ) (status : ℕ) (output : List ℕ) → CompileAnswer text status output → Verdict text status output
+  of_compile text status output (uncompiled found place is told) = breaks found place is told
+  of_compile text status output (compiled flat is object marks cuts made e told) = keeps flat is (λ one. omega (arith, e, one))
+
+  of_regions : (text : List ℕ) (status : ℕ) (output : List ℕ) → RegionsAnswer text status output → Verdict text status output
+  of_regions text status output (uncut found place is told) = breaks found place is told
+  of_regions text status output (cut flat is object marks cuts made e told) = keeps flat is (λ one. omega (arith, e, one))
+
+  not_of_script : (c : Translation) (lines : List scripts.Line) (input : List ℕ) (begins status : ℕ) (output : List ℕ) → ScriptAnswer c lines input begins status output → status ≡ 1 → ⊥
+  not_of_script c lines input begins status output (too_long many place excess refused) one = let is = refused.0 in omega (arith, is, one)
+  not_of_script c lines input begins status output (ran_by few run) one = not_by_unsettled _ status run.reported.status_is one
+
+  of_play : (input : List ℕ) (status : ℕ) (output : List ℕ) → PlayAnswer input status output → Verdict (source_of input) status output
+  of_play input status output (unplayed found place is told) = breaks found place is told
+  of_play input status output (no_script flat is x read told) = keeps flat is (λ one. let six = told.0 in omega (arith, six, one))
+  of_play input status output (of_script flat is lines read c made answer) = keeps flat is (not_of_script c lines input (rest_begins input) status output answer)
+
+  -- ---- All words
+
+  one_within : (d : c.Command) (input : List ℕ) (status other : ℕ) (output written : List ℕ) → IsPlain (Some d) ⊎ (status ≡ 1) → CommandAnswer d input status output → CommandAnswer d input other written → Same status other output written
+  one_within command.Compile input status other output written (inl n) told more = absurd n
+  one_within command.Compile input status other output written (inr one) told more = one_refusal input status other output written one (of_compile input status output told) (of_compile input other written more)
+  one_within command.Regions input status other output written (inl n) told more = absurd n
+  one_within command.Regions input status other output written (inr one) told more = one_refusal input status other output written one (of_regions input status output told) (of_regions input other written more)
+  one_within command.Play input status other output written (inl n) told more = absurd n
+  one_within command.Play input status other output written (inr one) told more = one_refusal (source_of input) status other output written one (of_play input status output told) (of_play input other written more)
+  one_within command.Source input status other output written n told more = one_source input status other output written told more
+  one_within command.List input status other output written n told more = one_list input status other output written told more
+
+  one_to_input : (d : c.Command) (input : List ℕ) (status other : ℕ) (output written : List ℕ) → IsPlain (Some d) ⊎ (status ≡ 1) → AnswerToInput d input status output → AnswerToInput d input other written → Same status other output written
   one_to_input d input status other output written n (past_limits past (e, told)) (past_limits past' (h, more)) = (e ∙ sym h, told ∙ sym more)
   one_to_input d input status other output written n (past_limits past told) (within_limits within more) = absurd (within past)
   one_to_input d input status other output written n (within_limits within told) (past_limits past more) = absurd (within past)
-  one_to_input command.Play input status other output written n (within_limits within told) (within_limits within' more) = absurd (n refl)
-  one_to_input command.Source input status other output written n (within_limits within told) (within_limits within' more) = one_source input status other output written told more
-  one_to_input command.List input status other output written n (within_limits within told) (within_limits within' more) = one_list input status other output written told more
+  one_to_input d input status other output written n (within_limits within told) (within_limits within' more) = one_within d input status other output written n told more
+
+  plain_too : (o o' : Option c.Command) (status : ℕ) → o ≡ o' → IsPlain o ⊎ (status ≡ 1) → IsPlain o' ⊎ (status ≡ 1)
+  plain_too o o' status e (inl n) = inl (subst IsPlain e n)
+  plain_too o o' status e (inr one) = inr one
 
   pub one_answer : OneAnswer
   one_answer words input status other output written n (wrong_words wrong (e, told)) (wrong_words wrong' (h, more)) = (e ∙ sym h, told ∙ sym more)
@@ -89,4 +147,4 @@ module _ (one_flat : OneFlat) (one_fault : OneFault) (not_both : NotBoth) (one_s
   one_answer words input status other output written n (taken_words d taken told) (taken_words d' taken' more) =
       let both : Some d ≡ Some d' = sym taken ∙ taken' in
       let same : d ≡ d' = cc both in
-      one_to_input d' input status other output written (λ e. n (taken' ∙ ap Some e)) (subst (λ z. AnswerToInput z input status output) same told) more
+      one_to_input d' input status other output written (plain_too (command_of words) (Some d') status taken' n) (subst (λ z. AnswerToInput z input status output) same told) more

@@ -1,17 +1,18 @@
 -- What a run of the top call comes to.
-use Rattle.std.proofs.Common.{◌≡◌, ℕ, ◌+◌, ◌<◌, ◌⊎◌, List, [], ◌∷◌, length, replicate, Some, None, Bool, true, false, if◌then◌else◌, refl, sym, subst, arith, IfSome, inl, inr}
+use Rattle.std.proofs.Common.{◌≡◌, ℕ, ◌+◌, ◌<◌, ◌⊎◌, List, [], ◌∷◌, length, replicate, Some, None, refl, sym, subst, arith, IfSome, inl, inr}
 use Rattle.std.specs.declared.option.Option.{Option}
 use Rattle.std.proofs.lemmas.List.{length-replicate}
 use Rattle.std.specs.Prelude.{codes}
-use Rattle.rv64_isa.specs.Machine.{machine}
-use Rattle.rv64_isa.specs.Schedule.{is_settled}
-use Rattle.ido_cli.specs.declared.play.Said.{Said}
+use Rattle.ido_cli.specs.declared.said.Said.{Said}
 use Rattle.c_tree.specs.Flats as f
 use Rattle.ido_cli.specs.declared.command.Command.{Command}
 use Rattle.ido_cli.specs.declared.command.Command.TheVariants as command
 use Rattle.ido_cli.specs.Commands.{command_of}
 use Rattle.ido_cli.specs.Runs.{RunAnswer, ran, stopped, run_state, status_by}
-use Rattle.ido_cli.specs.Answers.{AcceptedAnswer, of_no_form, played, PlayAnswer, unplayed, accepted, SourceAnswer, unaccepted, no_schedule, of_schedule, CommandAnswer, ListAnswer, no_object, of_object, IsPastLimits, AnswerToInput, past_limits, within_limits, Answer, wrong_words, taken_words, IsAnswer, IsAnswered, Outside, answered, sink_failed, most_bytes, steps_of_first}
+use Rattle.ido_cli.specs.Plays.{too_long, ran as ran_by}
+use Rattle.ido_cli.specs.Answers.{CompileAnswer, uncompiled, compiled, RegionsAnswer, uncut, cut, PlayAnswer, unplayed, no_script, of_script, SourceAnswer, unaccepted, no_schedule, of_schedule}
+use Rattle.ido_cli.specs.Answers.{CommandAnswer, ListAnswer, no_object, of_object, IsPastLimits, AnswerToInput, past_limits, within_limits, Answer, wrong_words, taken_words}
+use Rattle.ido_cli.specs.Answers.{IsAnswer, IsAnswered, Outside, answered, sink_failed, most_bytes}
 use Rattle.ido_cli.specs.Deliveries.{IsSaidToInput, IsDelivered, whole, broken}
 
 -- ---- Inputs that the source may not tell
@@ -20,6 +21,8 @@ some_longer : (n : ℕ) → (input : List ℕ) × (n < length input)
 some_longer n = (replicate (n + 1) 0, omega (arith, length-replicate {A = ℕ} (n + 1) 0))
 
 long_is_past : (c : Command) (input : List ℕ) → most_bytes < length input → IsPastLimits c input
+long_is_past command.Compile input long = omega (arith, long)
+long_is_past command.Regions input long = omega (arith, long)
 long_is_past command.Play input long = inl long
 long_is_past command.Source input long = inl long
 long_is_past command.List input long = long
@@ -44,24 +47,8 @@ answer_to_taken_words words c left said taken s = record { input = s.input; told
 
 -- ---- Statuses of answers
 
-settled_or_not : (b : Bool) (status : ℕ) → status ≡ (if b then 0 else 3) → (status ≡ 0) ⊎ (status ≡ 3)
-settled_or_not true status e = inl e
-settled_or_not false status e = inr e
-
 not_four_or_seven : (status n : ℕ) → status ≡ n → (n < 4) ⊎ (n ≡ 6) → (status ≡ 4) ⊎ (status ≡ 7) → ⊥
 not_four_or_seven status n e small h = omega arith
-
-of_accepted : (source script : List ℕ) (status : ℕ) (output : List ℕ) → AcceptedAnswer source script status output → (status ≡ 4) ⊎ (status ≡ 7) → ⊥
-of_accepted source script status output (of_no_form other refused) h = not_four_or_seven status 6 refused.0 (inr refl) h
-of_accepted source script status output (played form steps is p) h =
-    elim (settled_or_not (is_settled (machine p.object (steps_of_first steps))) status p.status_is) [
-      | inl e ↦ not_four_or_seven status 0 e (inl (omega arith)) h
-      | inr e ↦ not_four_or_seven status 3 e (inl (omega arith)) h
-    ]
-
-of_play : (source script : List ℕ) (status : ℕ) (output : List ℕ) → PlayAnswer source script status output → (status ≡ 4) ⊎ (status ≡ 7) → ⊥
-of_play source script status output (unplayed found place is refused) h = not_four_or_seven status 1 refused.0 (inl (omega arith)) h
-of_play source script status output (accepted flat is answer) h = of_accepted source script status output answer h
 
 by_unsettled : (unsettled : List ℕ) (status : ℕ) → status ≡ status_by unsettled → (status ≡ 4) ⊎ (status ≡ 7) → ⊥
 by_unsettled [] status e h = not_four_or_seven status 0 e (inl (omega arith)) h
@@ -76,12 +63,28 @@ of_source input status output (unaccepted found place is refused) h = not_four_o
 of_source input status output (no_schedule flat is x read refused) h = not_four_or_seven status 6 refused.0 (inr refl) h
 of_source input status output (of_schedule flat is schedule read answer) h = of_run flat schedule status output answer h
 
+of_compile : (source : List ℕ) (status : ℕ) (output : List ℕ) → CompileAnswer source status output → (status ≡ 4) ⊎ (status ≡ 7) → ⊥
+of_compile source status output (uncompiled found place is refused) h = not_four_or_seven status 1 refused.0 (inl (omega arith)) h
+of_compile source status output (compiled flat is object marks cuts made e told) h = not_four_or_seven status 0 e (inl (omega arith)) h
+
+of_regions : (source : List ℕ) (status : ℕ) (output : List ℕ) → RegionsAnswer source status output → (status ≡ 4) ⊎ (status ≡ 7) → ⊥
+of_regions source status output (uncut found place is refused) h = not_four_or_seven status 1 refused.0 (inl (omega arith)) h
+of_regions source status output (cut flat is object marks cuts made e told) h = not_four_or_seven status 0 e (inl (omega arith)) h
+
+of_play : (input : List ℕ) (status : ℕ) (output : List ℕ) → PlayAnswer input status output → (status ≡ 4) ⊎ (status ≡ 7) → ⊥
+of_play input status output (unplayed found place is refused) h = not_four_or_seven status 1 refused.0 (inl (omega arith)) h
+of_play input status output (no_script flat is x read refused) h = not_four_or_seven status 6 refused.0 (inr refl) h
+of_play input status output (of_script flat is lines read c made (too_long many place excess refused)) h = not_four_or_seven status 6 refused.0 (inr refl) h
+of_play input status output (of_script flat is lines read c made (ran_by fits run)) h = by_unsettled _ status run.reported.status_is h
+
 of_list : (input : List ℕ) (status : ℕ) (output : List ℕ) → ListAnswer input status output → (status ≡ 4) ⊎ (status ≡ 7) → ⊥
 of_list input status output (no_object fault read e told) h = not_four_or_seven status 6 e (inr refl) h
 of_list input status output (of_object object read e told) h = not_four_or_seven status 0 e (inl (omega arith)) h
 
 of_command : (c : Command) (input : List ℕ) (status : ℕ) (output : List ℕ) → CommandAnswer c input status output → (status ≡ 4) ⊎ (status ≡ 7) → ⊥
-of_command command.Play input status output answer h = of_play _ _ status output answer h
+of_command command.Compile input status output answer h = of_compile input status output answer h
+of_command command.Regions input status output answer h = of_regions input status output answer h
+of_command command.Play input status output answer h = of_play input status output answer h
 of_command command.Source input status output answer h = of_source input status output answer h
 of_command command.List input status output answer h = of_list input status output answer h
 

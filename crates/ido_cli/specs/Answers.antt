@@ -1,32 +1,33 @@
 -- What the program answers: a status and the bytes that it writes.
-use Rattle.std.specs.Prelude.{◌≡◌, ◌⊎◌, ℕ, ◌+◌, ◌-◌, ◌<◌, List, [], ◌∷◌, ◌++◌, length, replicate, Option, Some, None, Ok, Err, if◌then◌else◌, IsTrue, codes, IfSome}
+use Rattle.std.specs.Prelude.{◌≡◌, ◌⊎◌, ℕ, ◌+◌, ◌-◌, ◌<◌, List, [], ◌++◌, length, Option, Some, None, Ok, Err, codes, IfSome}
 use Rattle.ido_base.specs.declared.place.Place.{Place}
+use Rattle.ido_outside.specs.Causes.{Rose}
+use Rattle.ido_outside.specs.Sink.{Adds, AddsFront}
 use Rattle.c_tree.specs.Flats as f
 use Rattle.c_tree.specs.declared.rule.Rule as r
+use Rattle.rv64_isa.specs.declared.object.Object.{Object}
+use Rattle.rv64_isa.specs.declared.object.Marks.{Marks}
+use Rattle.flow_graph.specs.declared.cuts.Cuts.{Cuts}
+use Rattle.flow_graph.specs.Cutting.{boundaries_of}
+use Rattle.flow_graph.specs.Lowering.{lowered}
 use Rattle.flow_graph.specs.Refusals.{IsAccepted, IsRefusedBy}
+use Rattle.flat_compile.specs.Translating.{IsTranslated}
+use Rattle.compilation.specs.Translations.{Translation}
+use Rattle.object_format.specs.Contents.{Contents, contents_of}
+use Rattle.object_format.specs.Reading as o
+use Rattle.object_format.specs.Spelling.{spelling}
+use Rattle.run_scripts.specs.Reports.{line}
 use Rattle.run_scripts.specs.Schedules as s
+use Rattle.run_scripts.specs.Scripts as e
 use Rattle.ido_cli.specs.declared.command.Command.{Command}
 use Rattle.ido_cli.specs.declared.command.Command.TheVariants as command
 use Rattle.ido_cli.specs.Commands.{command_of}
-use Rattle.object_format.specs.Contents.{Contents}
-use Rattle.object_format.specs.Reading as o
-use Rattle.ido_cli.specs.Listing.{listing}
-use Rattle.ido_cli.specs.Refusals.{IsRefusedAt, code_of, fault_code, fault_place, line_at_byte, object_fault_code, object_fault_place}
-use Rattle.ido_cli.specs.Runs.{RunAnswer}
-use Rattle.ido_base.specs.declared.event.Event.{Event}
-use Rattle.ido_base.specs.declared.event.Event.TheVariants.{Step}
-use Rattle.ido_outside.specs.Causes.{Rose}
-use Rattle.ido_outside.specs.Sink.{Adds, AddsFront}
-use Rattle.rv64_isa.specs.declared.object.Object.{Object}
-use Rattle.rv64_isa.specs.Machine.{machine, machine_start}
-use Rattle.rv64_isa.specs.Schedule.{is_settled}
-use Rattle.ido_compile.specs.Source.{after_from, runs_from, is_between}
-use Rattle.ido_compile.specs.Form.{Form, IsForm, start_state}
-use Rattle.ido_compile.specs.Compilation.{Compilation, compared, steps_of as steps_compared}
 use Rattle.ido_cli.specs.Inputs.{source_of, rest_of}
-use Rattle.ido_cli.specs.Scripts.{steps_of}
-use Rattle.run_scripts.specs.Reports.{line, report}
-use Rattle.ido_cli.specs.Reports.{machine_state, source_state}
+use Rattle.ido_cli.specs.Listing.{listing}
+use Rattle.ido_cli.specs.Plays.{IsTranslationOf, ScriptAnswer}
+use Rattle.ido_cli.specs.Refusals.{IsRefusedAt, code_of, fault_code, fault_place, line_at_byte, object_fault_code, object_fault_place, script_fault_code, script_fault_place}
+use Rattle.ido_cli.specs.Regions.{regions}
+use Rattle.ido_cli.specs.Runs.{RunAnswer}
 
 -- bytes that are read
 abbrev pub most_bytes : ℕ
@@ -41,52 +42,15 @@ abbrev pub IsSourcePastLimits : (input : List ℕ) → Type 0
 IsSourcePastLimits input = (most_bytes < length input) ⊎ (most_source_bytes < length (source_of input))
 
 abbrev pub IsPastLimits : Command → (input : List ℕ) → Type 0
+IsPastLimits command.Compile input = most_source_bytes < length input
+IsPastLimits command.Regions input = most_source_bytes < length input
 IsPastLimits command.Play input = IsSourcePastLimits input
 IsPastLimits command.Source input = IsSourcePastLimits input
 IsPastLimits command.List input = most_bytes < length input
 
--- the source is of the form, and the script asks for so many steps
-pub record IsOfForm (source script : List ℕ) (form : Form) (steps : ℕ) : Type 0 where
-  pub spelled : IsForm source form
-  pub asked : steps_of script ≡ Some steps
-
--- ---- `play`
-
 -- a status and an output: `refused` and what is refused
 abbrev pub Refuses : (refused status : ℕ) → (what output : List ℕ) → Type 0
 Refuses refused status what output = (status ≡ refused) × (output ≡ line (codes "refused " ++ what))
-
--- steps of hart 0
-abbrev pub steps_of_first : (count : ℕ) → List Event
-steps_of_first count = replicate count (Step 0)
-
--- a schedule by which the source itself runs, from its start and with no crash, until its thread stands between sections;
--- the output is the report of that run
-pub record IsSourceRun (form : Form) (output : List ℕ) : Type 0 where
-  pub schedule : List ℕ
-  pub runs : IsTrue (runs_from (start_state form) schedule)
-  pub between : IsTrue (is_between (after_from (start_state form) schedule) 0)
-  pub output_is : output ≡ report (source_state (form.variable ∷ []) (start_state form) schedule)
-
--- the report of the machine of a compilation of the form after the steps; the status says whether it is settled, and where
--- it is, the report is that of a run of the source
-pub record IsPlayed (form : Form) (steps status : ℕ) (output : List ℕ) : Type 0 where
-  pub object : Object
-  pub marks : List (List ℕ)
-  pub compilation : Compilation form object marks
-  pub status_is : status ≡ (if is_settled (machine object (steps_of_first steps)) then 0 else 3)
-  pub output_is : output ≡ report (machine_state (form.variable ∷ []) (start_state form) (machine object (steps_of_first steps)) (steps_compared (compared form object marks) (machine_start object) (steps_of_first steps)).kept)
-  pub settled : status ≡ 0 → IsSourceRun form output
-
--- what a source that is accepted and a script are answered: status and output
-pub data AcceptedAnswer (source script : List ℕ) (status : ℕ) (output : List ℕ) : Type 0 where
-  of_no_form : ((form : Form) (steps : ℕ) → IsOfForm source script form steps → ⊥) → Refuses 6 status (codes "form") output → AcceptedAnswer source script status output
-  played : (form : Form) (steps : ℕ) → IsOfForm source script form steps → IsPlayed form steps status output → AcceptedAnswer source script status output
-
--- what a source and a script are answered
-pub data PlayAnswer (source script : List ℕ) (status : ℕ) (output : List ℕ) : Type 0 where
-  unplayed : (found : r.Rule) (place : Place) → IsRefusedBy source found place → IsRefusedAt 1 (code_of found) source place.0 status output → PlayAnswer source script status output
-  accepted : (flat : f.Flat) → IsAccepted source flat → AcceptedAnswer source script status output → PlayAnswer source script status output
 
 -- ---- `source`
 
@@ -100,6 +64,28 @@ pub data SourceAnswer (input : List ℕ) (status : ℕ) (output : List ℕ) : Ty
   no_schedule : (flat : f.Flat) → IsAccepted (source_of input) flat → (x : s.Fault) → s.read (rest_of input) ≡ s.Refused x → IsRefusedAt 6 (fault_code x) input (rest_begins input + fault_place x) status output → SourceAnswer input status output
   of_schedule : (flat : f.Flat) → IsAccepted (source_of input) flat → (schedule : List ℕ) → s.read (rest_of input) ≡ s.Steps schedule → RunAnswer flat schedule status output → SourceAnswer input status output
 
+-- ---- `compile`
+
+-- what a source is answered: the bytes of its object
+pub data CompileAnswer (source : List ℕ) (status : ℕ) (output : List ℕ) : Type 0 where
+  uncompiled : (found : r.Rule) (place : Place) → IsRefusedBy source found place → IsRefusedAt 1 (code_of found) source place.0 status output → CompileAnswer source status output
+  compiled : (flat : f.Flat) → IsAccepted source flat → (object : Object) (marks : Marks) (cuts : Cuts) → IsTranslated flat object marks cuts → status ≡ 0 → output ≡ spelling (contents_of object) → CompileAnswer source status output
+
+-- ---- `regions`
+
+-- what a source is answered: the nodes of its graph, and the boundaries that are chosen among them
+pub data RegionsAnswer (source : List ℕ) (status : ℕ) (output : List ℕ) : Type 0 where
+  uncut : (found : r.Rule) (place : Place) → IsRefusedBy source found place → IsRefusedAt 1 (code_of found) source place.0 status output → RegionsAnswer source status output
+  cut : (flat : f.Flat) → IsAccepted source flat → (object : Object) (marks : Marks) (cuts : Cuts) → IsTranslated flat object marks cuts → status ≡ 0 → output ≡ regions source (lowered flat) (boundaries_of cuts) flat.threads → RegionsAnswer source status output
+
+-- ---- `play`
+
+-- what an input of a source and a script is answered
+pub data PlayAnswer (input : List ℕ) (status : ℕ) (output : List ℕ) : Type 0 where
+  unplayed : (found : r.Rule) (place : Place) → IsRefusedBy (source_of input) found place → IsRefusedAt 1 (code_of found) (source_of input) place.0 status output → PlayAnswer input status output
+  no_script : (flat : f.Flat) → IsAccepted (source_of input) flat → (x : e.Fault) → e.read (length flat.threads) (rest_of input) ≡ e.Refused x → IsRefusedAt 6 (script_fault_code x) input (rest_begins input + script_fault_place x) status output → PlayAnswer input status output
+  of_script : (flat : f.Flat) → IsAccepted (source_of input) flat → (lines : List e.Line) → e.read (length flat.threads) (rest_of input) ≡ e.Lines lines → (c : Translation) → IsTranslationOf flat c → ScriptAnswer c lines input (rest_begins input) status output → PlayAnswer input status output
+
 -- ---- `list`
 
 -- what an input of an object is answered: its listing, or its first fault
@@ -111,7 +97,9 @@ pub data ListAnswer (input : List ℕ) (status : ℕ) (output : List ℕ) : Type
 
 -- what an input within the limits is answered
 abbrev pub CommandAnswer : Command → (input : List ℕ) → (status : ℕ) → (output : List ℕ) → Type 0
-CommandAnswer command.Play input status output = PlayAnswer (source_of input) (rest_of input) status output
+CommandAnswer command.Compile input status output = CompileAnswer input status output
+CommandAnswer command.Regions input status output = RegionsAnswer input status output
+CommandAnswer command.Play input status output = PlayAnswer input status output
 CommandAnswer command.Source input status output = SourceAnswer input status output
 CommandAnswer command.List input status output = ListAnswer input status output
 

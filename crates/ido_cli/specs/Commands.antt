@@ -11,16 +11,20 @@ use Rattle.ido_cli.specs.declared.command.Command.TheVariants as command
 abbrev pub table : App
 table =
     let top = record (new_shape (codes "ido")) { subcommand_required = true } in
-    with_subcommand (with_subcommand (with_subcommand (record { top = top; subs = [] }) (new_shape (codes "play"))) (new_shape (codes "source"))) (new_shape (codes "list"))
+    let one = with_subcommand (record { top = top; subs = [] }) (new_shape (codes "compile")) in
+    let two = with_subcommand (with_subcommand one (new_shape (codes "list"))) (new_shape (codes "regions")) in
+    with_subcommand (with_subcommand two (new_shape (codes "play"))) (new_shape (codes "source"))
 
 abbrev pub is_named : (name : List ℕ) → List ℕ → Bool
 is_named name word = pointwise nat_eq word name
 
 abbrev pub command_by_name : List ℕ → Option c.Command
 command_by_name name =
-    if is_named (codes "play") name then Some command.Play
-    else if is_named (codes "source") name then Some command.Source
+    if is_named (codes "compile") name then Some command.Compile
     else if is_named (codes "list") name then Some command.List
+    else if is_named (codes "regions") name then Some command.Regions
+    else if is_named (codes "play") name then Some command.Play
+    else if is_named (codes "source") name then Some command.Source
     else None
 
 abbrev pub command_named : Option (List ℕ) → Option c.Command

@@ -2,7 +2,7 @@
 use Rattle.std.specs.Prelude.{◌≡◌, ℕ, List, Option, IfSome}
 use Rattle.ido_outside.specs.Causes.{Rose}
 use Rattle.ido_outside.specs.Sink.{Adds, AddsFront}
-use Rattle.ido_cli.specs.declared.play.Said.{Said}
+use Rattle.ido_cli.specs.declared.said.Said.{Said}
 use Rattle.ido_cli.specs.declared.command.Command.{Command}
 use Rattle.ido_cli.specs.Answers.{AnswerToInput}
 

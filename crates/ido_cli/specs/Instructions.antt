@@ -1,5 +1,5 @@
 -- The text of an instruction, as assemblers of RISC-V write it: registers as `x5`, immediates in signed decimal, targets as addresses.
-use Rattle.std.specs.Prelude.{ℕ, suc, ◌+◌, ◌-◌, ◌*◌, ◌/◌, ◌%◌, ◌^◌, List, [], ◌∷◌, ◌++◌, ℤ, pos, negsuc, false, nat_lt, if◌then◌else◌, codes, decimal}
+use Rattle.std.specs.Prelude.{ℕ, suc, ◌+◌, ◌-◌, ◌/◌, ◌%◌, ◌^◌, List, [], ◌∷◌, ◌++◌, ℤ, pos, negsuc, false, nat_lt, if◌then◌else◌, codes, decimal}
 use Rattle.std.specs.Fmt.{digits, signed_decimal}
 use Rattle.rv64_isa.specs.Rows.{displaced}
 use Rattle.rv64_isa.specs.declared.instr.Instr.{Instr}

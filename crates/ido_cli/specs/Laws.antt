@@ -1,30 +1,21 @@
--- What a text comes to, and what words and an input are answered, is at most one thing.
-use Rattle.std.specs.Prelude.{◌≡◌, ◌≢◌, ℕ, List, Some}
-use Rattle.ido_base.specs.declared.place.Place.{Place}
-use Rattle.c_tree.specs.Flats.{Flat}
-use Rattle.c_tree.specs.declared.rule.Rule.{Rule}
-use Rattle.flow_graph.specs.Refusals.{IsAccepted, IsRefusedBy}
+-- What words and an input are answered is at most one thing.
+use Rattle.std.specs.Prelude.{◌≡◌, ◌⊎◌, ℕ, List, Option, Some, None}
+use Rattle.ido_cli.specs.declared.command.Command.{Command}
 use Rattle.ido_cli.specs.declared.command.Command.TheVariants as command
 use Rattle.ido_cli.specs.Commands.{command_of}
 use Rattle.ido_cli.specs.Answers.{Answer}
 
--- ---- Texts
+-- what is written stands on no compilation
+abbrev pub IsPlain : Option Command → Type 0
+IsPlain None = Unit {0}
+IsPlain (Some command.Compile) = ⊥
+IsPlain (Some command.List) = Unit {0}
+IsPlain (Some command.Regions) = ⊥
+IsPlain (Some command.Play) = ⊥
+IsPlain (Some command.Source) = Unit {0}
 
--- an accepted text has one flat form
-abbrev pub OneFlat : Type 0
-OneFlat = (text : List ℕ) (x y : Flat) → IsAccepted text x → IsAccepted text y → x ≡ y
-
--- a refused text is so by one rule, at one place
-abbrev pub OneFault : Type 0
-OneFault = (text : List ℕ) (found other : Rule) (place elsewhere : Place) → IsRefusedBy text found place → IsRefusedBy text other elsewhere → (found ≡ other) × (place ≡ elsewhere)
-
--- and none is both
-abbrev pub NotBoth : Type 0
-NotBoth = (text : List ℕ) (x : Flat) (found : Rule) (place : Place) → IsAccepted text x → ¬ (IsRefusedBy text found place)
-
--- ---- Answers
-
--- words that don't ask for `play`, and an input, have at most one answer: a status and an output
+-- Words that don't ask for what stands on a compilation, and an input, have at most one answer: a status and an output. So have all others where the status
+-- says that the source is refused.
 abbrev pub OneAnswer : Type 0
-OneAnswer = (words : List (List ℕ)) (input : List ℕ) (status other : ℕ) (output written : List ℕ) → command_of words ≢ Some command.Play
+OneAnswer = (words : List (List ℕ)) (input : List ℕ) (status other : ℕ) (output written : List ℕ) → IsPlain (command_of words) ⊎ (status ≡ 1)
     → Answer words input status output → Answer words input other written → (status ≡ other) × (output ≡ written)

@@ -6,6 +6,7 @@ use Rattle.c_tree.specs.declared.rule.Rule.TheVariants as rule
 use Rattle.object_format.specs.Reading as o
 use Rattle.run_scripts.specs.Reports.{line}
 use Rattle.run_scripts.specs.Schedules as s
+use Rattle.run_scripts.specs.Scripts as c
 use Rattle.source_machine.specs.declared.answers.RefusedKind.{RefusedKind}
 use Rattle.source_machine.specs.declared.answers.RefusedKind.TheVariants as kind
 
@@ -45,6 +46,19 @@ abbrev pub fault_place : s.Fault → ℕ
 fault_place (s.TooMany place) = place
 fault_place (s.BadWord place) = place
 fault_place (s.BadNumber place) = place
+
+-- that of a fault of a script, and its place in the script's text
+abbrev pub script_fault_code : c.Fault → List ℕ
+script_fault_code (c.BadWord place) = codes "E2"
+script_fault_code (c.BadNumber place) = codes "E3"
+script_fault_code (c.NoHart place) = codes "E4"
+script_fault_code (c.NoLine place) = codes "E5"
+
+abbrev pub script_fault_place : c.Fault → ℕ
+script_fault_place (c.BadWord place) = place
+script_fault_place (c.BadNumber place) = place
+script_fault_place (c.NoHart place) = place
+script_fault_place (c.NoLine place) = place
 
 -- that of a step that can't be made
 abbrev pub stop_code : RefusedKind → List ℕ

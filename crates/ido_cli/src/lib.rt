@@ -3,21 +3,20 @@
 
 mod answer;
 mod command;
-pub mod forms;
-mod front;
+mod durable;
 mod input;
 mod instruction;
 pub mod laws;
 mod list;
 mod listing;
 mod mnemonic;
+mod object;
 mod play;
 mod refusal;
-mod run;
-mod script;
+mod regions;
+mod said;
 mod source;
 mod top;
-mod tracker;
 
 pub use top::{alone, ido};
 

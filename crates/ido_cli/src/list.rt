@@ -3,8 +3,8 @@ ghost use Rattle.std.specs.Prelude.{◌≡◌, ◌≤◌, length, IfOk};
 ghost use Rattle.ido_cli.specs.Answers.{ListAnswer, most_bytes};
 
 use crate::listing::listing;
-use crate::play::Said;
 use crate::refusal::refused_at_byte;
+use crate::said::Said;
 use ido_base::memory::Memory;
 use ido_base::place::Place;
 use object_format::error::ReadError;

@@ -4,7 +4,7 @@ ghost use Rattle.ido_base.specs.Places.{column_of, line_of};
 ghost use Rattle.ido_cli.specs.Refusals.{code_of, fault_code, fault_place, line_at, line_at_byte, line_at_step, stop_code};
 ghost use Rattle.run_scripts.specs.Schedules as s;
 
-use crate::play::Said;
+use crate::said::Said;
 use c_tree::rule::Rule;
 use ido_base::memory::Memory;
 use ido_base::place::{Place, line_column};
@@ -63,7 +63,7 @@ pub fn stop_code(kind: RefusedKind) -> &'static str
 }
 
 /// The line and the column of a place, past its end that of the end.
-fn place_in(text: &[u8], place: u64) -> (u32, u32)
+pub fn place_in(text: &[u8], place: u64) -> (u32, u32)
     requires { length text.now < 2 ^ 31 }
     ensures line { result.0 ≡ line_of text.now place }
     ensures column { result.1 ≡ column_of text.now place }

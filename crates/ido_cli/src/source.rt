@@ -12,11 +12,11 @@ ghost use Rattle.ido_cli.specs.Inputs.{source_of, rest_of};
 ghost use Rattle.ido_cli.specs.Refusals.{IsRefusedAt, fault_code, fault_place};
 ghost use Rattle.ido_cli.specs.Runs.{IsReport, RunAnswer, counted, run_state, taken, unsettled_threads, variable_with};
 
-use crate::front::{FrontError, front};
-use crate::play::Said;
 use crate::refusal::{code_of, refused_at, refused_at_step, stop_code};
+use crate::said::Said;
 use c_tree::flat::Flat;
 use ido_base::memory::Memory;
+use ido_compile::{CompileError, front};
 use run_scripts::report::{Reported, Variable, report};
 use run_scripts::schedule::{ScheduleError, read_schedule};
 use source_machine::SourceState;
@@ -38,7 +38,7 @@ fn unsettled(alloc: Global, state: &SourceState) -> Result<Vec<u32>, Memory>
 }
 
 /// How many sections of each thread have ended.
-fn ended(alloc: Global, state: &SourceState) -> Result<Vec<u64>, Memory>
+pub fn ended(alloc: Global, state: &SourceState) -> Result<Vec<u64>, Memory>
     requires { threads_in state.now < 2 ^ 32 }
     ensures { IfOk result (λ sections. (s : m.State) (ended : ℕ → ℕ) → Stands state.now s ended → sections.items ≡ counted ended (length s.threads)) }
 {
@@ -191,9 +191,9 @@ pub fn source_answer(
 {
     match front(alloc, source) {
         Ok(flat) => flat_answer(alloc, &flat, input, rest),
-        Err(FrontError::Refused { rule, place }) => {
+        Err(CompileError::Refused { rule, place }) => {
             refused_at(alloc, 1, code_of(rule), source, u64::from(place.0))
         }
-        Err(FrontError::Memory) => Err(Memory),
+        Err(CompileError::Memory) => Err(Memory),
     }
 }

@@ -12,8 +12,6 @@ const UNTOUCHED: &[u8] = b"x = 5\nended 0 0\nschedule\n";
 
 const UNSETTLED: &[u8] = b"unsettled 0\n";
 
-const NO_FORM: &[u8] = b"refused form\n";
-
 const PAST_LIMIT: &[u8] = b"refused limit\n";
 
 /// What the program answered.
@@ -86,24 +84,28 @@ impl Source for LineFeeds<'_> {
 }
 
 #[test]
-fn scripts_of_steps(rt: HostRuntime) -> Result<(), Fail> {
+fn scripts(rt: HostRuntime) -> Result<(), Fail> {
     for (script, status, output) in [
         (b"".as_slice(), 0, UNTOUCHED),
         (b"\n%%", 0, UNTOUCHED),
-        (b"\n%%\n\n", 0, UNTOUCHED),
         (b"\n%%\ns 0 0", 0, UNTOUCHED),
         (b"\n%%\ns 0 1\n", 0, UNTOUCHED),
         (b"\n%%\ns 0 100000", 0, WHOLE),
         (b"\r\n%%\r\n\r\ns 0 100000\r\n", 0, WHOLE),
-        (b"\n%%\ns 0 4000000\n", 0, WHOLE),
-        (b"\n%%\ns 0 4000001\n", 6, NO_FORM),
-        (b"\n%%\ns 1 5\n", 6, NO_FORM),
-        (b"\n%%\ns 0 5 \n", 6, NO_FORM),
-        (b"\n%%\ns 0 5\ns 0 5\n", 6, NO_FORM),
-        (b"\n%%\nc\n", 6, NO_FORM),
+        (b"\n%%\nb 0\nc", 0, UNTOUCHED),
+        (b"\n%%\nb 0\ne 1024 1\nc\ns 0 100000", 0, WHOLE),
+        (b"\n%%\nb 0\nb 0\nb 0\nc\ns 0 100000", 0, WHOLE),
+        (b"\n%%\nb 0", 3, UNSETTLED),
+        (b"\n%%\nf 0\nf 0\nf 0\nf 0\nf 0\nf 0\nc", 0, WHOLE),
+        (b"\n%%\nf 0\nf 0\nf 0\nf 0\nf 0\nf 0", 3, UNSETTLED),
+        (b"\n%%\ns 0 4000001", 6, b"refused E1 at 3:1\n"),
+        (b"\n%%\nx", 6, b"refused E2 at 3:1\n"),
+        (b"\n%%\ne 0 256", 6, b"refused E3 at 3:5\n"),
+        (b"\n%%\ns 9 1", 6, b"refused E4 at 3:3\n"),
+        (b"\n%%\ne 1040 1", 6, b"refused E5 at 3:3\n"),
         (b"\n %%\ns 0 5\n", 1, b"refused S3 at 2:2\n"),
     ] {
-        let answered = played(rt.alloc(), &[ADD_ONE, script])?;
+        let answered = answer_to_parts(rt.alloc(), "play", &[ADD_ONE, script])?;
         assert_eq!(rt; answered.status, status, "at {script:?}");
         assert_eq!(rt; answered.output.as_slice(), output, "at {script:?}");
     }
@@ -111,29 +113,16 @@ fn scripts_of_steps(rt: HostRuntime) -> Result<(), Fail> {
 }
 
 #[test]
-fn sources_of_the_form_and_others(rt: HostRuntime) -> Result<(), Fail> {
-    for (source, status, output) in [
-        (
-            b"mutex m;\r\npersistent(m) long x = 5;\r\nthread t {\r\n\tlock(m);\r\n\tx = x + 1;\r\n\tunlock(m);\r\n}".as_slice(),
-            0,
-            WHOLE,
-        ),
-        (
-            b"mutex a;persistent(a)long bc=9223372036854775807;thread d{lock(a);bc=bc+2047;unlock(a);}",
-            0,
-            b"bc = -9223372036854773762\nended 0 1\nschedule 0*4\n",
-        ),
-        (b"mutex m;", 6, NO_FORM),
-        (b"", 1, b"refused S3 at 2:1\n"),
-        (
-            b"mutex m;\nthread t {\n  lock(n);\n}",
-            1,
-            b"refused N1 at 3:8\n",
-        ),
+fn nodes_of_a_source(rt: HostRuntime) -> Result<(), Fail> {
+    let nodes =
+        b"thread t\n0 lock 1:47\n1 eval 1:56\n2 store 1:56 cut\n3 unlock 1:67\n4 end 1:78\n";
+    for (rest, status, output) in [
+        (b"".as_slice(), 0, nodes.as_slice()),
+        (b"lock", 1, b"refused S3 at 1:79\n"),
     ] {
-        let answered = played(rt.alloc(), &[source, b"\n%%\ns 0 100000"])?;
-        assert_eq!(rt; answered.status, status, "at {source:?}");
-        assert_eq!(rt; answered.output.as_slice(), output, "at {source:?}");
+        let answered = answer_to_parts(rt.alloc(), "regions", &[ADD_ONE, rest])?;
+        assert_eq!(rt; answered.status, status, "at {rest:?}");
+        assert_eq!(rt; answered.output.as_slice(), output, "at {rest:?}");
     }
     Ok(())
 }
@@ -157,9 +146,10 @@ fn schedules_of_a_source(rt: HostRuntime) -> Result<(), Fail> {
 }
 
 #[test]
-fn every_number_of_steps(rt: HostRuntime) -> Result<(), Fail> {
+fn some_numbers_of_steps(rt: HostRuntime) -> Result<(), Fail> {
     let mut whole = false;
-    for steps in 0..=200u32 {
+    for eighth in 0..=25u32 {
+        let steps = 8 * eighth;
         let script = format!(in rt.alloc(); "\n%%\ns 0 {steps}")?;
         let answered = played(rt.alloc(), &[ADD_ONE, script.as_bytes()])?;
         let output = answered.output.as_slice();

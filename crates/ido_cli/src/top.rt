@@ -7,8 +7,8 @@ ghost use Rattle.ido_cli.specs.Deliveries.{IsSaidToInput, IsDelivered};
 
 use crate::answer::answer;
 use crate::command::{Command, command_of};
-use crate::play::Said;
 use crate::refusal::refused;
+use crate::said::Said;
 use ido_base::memory::Memory;
 use ido_outside::{Failed, Gate, InFault, Sink, Source, read_all, write_all};
 use std::alloc::Global;
@@ -122,7 +122,7 @@ pub fn alone<S: Source, K: Sink>(
     ensures whole { IsSome result }
 
     // The status and what was written are the answer, or say what was wanting. There is one answer
-    // (`laws::one_answer`), but for `play`.
+    // (`laws::one_answer`), but where it stands on a compilation.
     ensures answered { IfSome result (λ status. IsAnswered (map string_bytes words.now) (record {
       left = S.left input.old;
       written_before = K.written output.old;
@@ -153,7 +153,7 @@ pub fn ido<R: Threads + Wait + Sync, S: Source, K: Sink, G: Gate + Sync>(
     gate: &G,
 ) -> u8
     // The status and what was written are the answer, or say what was wanting. There is one answer
-    // (`laws::one_answer`), but for `play`.
+    // (`laws::one_answer`), but where it stands on a compilation.
     ensures answered { IsAnswered (map string_bytes words.now) (record {
       left = S.left input.old;
       written_before = K.written output.old;

@@ -1,7 +1,4 @@
-pub mod Source
-pub mod Form
-pub mod Parts
-pub mod Emitted
-pub mod CompileErrors
-pub mod ThreadCode
-pub mod Compilation
+pub mod Fronts
+pub mod Compiling
+pub mod Verdicts
+pub mod FormLaws

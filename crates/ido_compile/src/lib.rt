@@ -1,16 +1,15 @@
-//! The compiler. So far it compiles one form of source: a thread that adds a number to a variable in one
-//! section. It reads the text (`form`), and emits the code of the thread, node after node, with a boundary
-//! where recovery may resume (`compiler`).
+//! The compiler: the checks of a source text, and the object of one that is accepted.
 #![tactic(auto)]
 
-mod boundary;
+pub mod checking;
 pub mod compiler;
-mod emit;
-pub mod form;
-mod lexeme;
-mod name;
-mod node;
-mod number;
-mod row;
+pub mod error;
+pub mod forms;
+pub mod laws;
+
+pub use checking::front;
+pub use compiler::{Compiled, compile};
+pub use error::CompileError;
+
 #[cfg(test)]
 mod tests;

@@ -29,21 +29,27 @@ pub along_more : (marks : List (List ℕ)) (program : List (List Slot)) (w : Wor
 along_more marks program w [] event s = refl
 along_more marks program w (e ∷ es) event s = along_more marks program (after_event program w e) es event (steps_after marks program w e s)
 
-pub played_is : (program : List (List Slot)) (w : World) (events : List Event) → played living (record { program = program; world = w }) events ≡ record { program = program; world = after_events program w events }
-played_is program w [] = refl
-played_is program w (e ∷ es) = played_is program (after_event program w e) es
+abbrev at_world : (program : List (List Slot)) (marks : List (List ℕ)) → World → Moment
+at_world program marks w = record { program = program; marks = marks; world = w }
 
-pub points_more : (program : List (List Slot)) (w : World) (events : List Event) (event : Event) (h : ℕ)
-    → point_stores living (record { program = program; world = w }) (events ++ event ∷ []) h ≡ point_stores living (record { program = program; world = w }) events h + cond (stores_point program (after_events program w events) event h) 1 0
-points_more program w events event h =
-    passed_count-more living (λ (m : Moment). living.stores_point m h) (record { program = program; world = w }) events event
-    ∙ ap (λ (m : Moment). point_stores living (record { program = program; world = w }) events h + cond (living.stores_point m h event) 1 0) (played_is program w events)
+pub played_is : (program : List (List Slot)) (marks : List (List ℕ)) (w : World) (events : List Event) →
+    played living (at_world program marks w) events ≡ at_world program marks (after_events program w events)
+played_is program marks w [] = refl
+played_is program marks w (e ∷ es) = played_is program marks (after_event program w e) es
 
-pub fences_more : (program : List (List Slot)) (w : World) (events : List Event) (event : Event) (h : ℕ)
-    → finished_fences living (record { program = program; world = w }) (events ++ event ∷ []) h ≡ finished_fences living (record { program = program; world = w }) events h + cond (finishes_fence program (after_events program w events) event h) 1 0
-fences_more program w events event h =
-    passed_count-more living (λ (m : Moment). living.finishes_fence m h) (record { program = program; world = w }) events event
-    ∙ ap (λ (m : Moment). finished_fences living (record { program = program; world = w }) events h + cond (living.finishes_fence m h event) 1 0) (played_is program w events)
+pub points_more : (program : List (List Slot)) (marks : List (List ℕ)) (w : World) (events : List Event) (event : Event) (h : ℕ)
+    → point_stores living (at_world program marks w) (events ++ event ∷ []) h
+    ≡ point_stores living (at_world program marks w) events h + cond (stores_point program (after_events program w events) event h) 1 0
+points_more program marks w events event h =
+    passed_count-more living (λ (m : Moment). living.stores_point m h) (at_world program marks w) events event
+    ∙ ap (λ (m : Moment). point_stores living (at_world program marks w) events h + cond (living.stores_point m h event) 1 0) (played_is program marks w events)
+
+pub fences_more : (program : List (List Slot)) (marks : List (List ℕ)) (w : World) (events : List Event) (event : Event) (h : ℕ)
+    → finished_fences living (at_world program marks w) (events ++ event ∷ []) h
+    ≡ finished_fences living (at_world program marks w) events h + cond (finishes_fence program (after_events program w events) event h) 1 0
+fences_more program marks w events event h =
+    passed_count-more living (λ (m : Moment). living.finishes_fence m h) (at_world program marks w) events event
+    ∙ ap (λ (m : Moment). finished_fences living (at_world program marks w) events h + cond (living.finishes_fence m h event) 1 0) (played_is program marks w events)
 
 -- ---- What a step begins and binds
 

@@ -109,11 +109,11 @@ module _ (life : Inside) (stands : LifeStands life) where
       points = moved (λ (x : Course). AreCounts points.items (length x.program) (point_stores living (opening_of x) x.journal))
           (counts_are life.points.items points.items (point_stores living (opening_of (course_of life)) life.journal.items) (point_stores living (opening_of (course_of life)) (life.journal.items ++ event ∷ []))
           (λ h. stores_point (program_in life.machine) (world_of (course_of life)) event h) stands.points points_are
-          (λ h. points_more (program_in life.machine) (course_of life).opening life.journal.items event h));
+          (λ h. points_more (program_in life.machine) (course_of life).marks (course_of life).opening life.journal.items event h));
       fences = moved (λ (x : Course). AreCounts fences.items (length x.program) (finished_fences living (opening_of x) x.journal))
           (counts_are life.fences.items fences.items (finished_fences living (opening_of (course_of life)) life.journal.items) (finished_fences living (opening_of (course_of life)) (life.journal.items ++ event ∷ []))
           (λ h. finishes_fence (program_in life.machine) (world_of (course_of life)) event h) stands.fences fences_are
-          (λ h. fences_more (program_in life.machine) (course_of life).opening life.journal.items event h));
+          (λ h. fences_more (program_in life.machine) (course_of life).marks (course_of life).opening life.journal.items event h));
       within = omega (arith, room, longer);
       few = stands.few;
       journal_room = omega (arith, journal_room, stands.journal_room);

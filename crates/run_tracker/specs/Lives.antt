@@ -46,9 +46,10 @@ with_event life event = record life { journal = life.journal ++ event ∷ [] }
 
 -- ---- A life as a core
 
--- a program with the world that it is at
+-- a program with the world that it is at, and its marks, which no event changes
 pub record Moment : Type 0 where
   pub program : List (List Slot)
+  pub marks : List (List ℕ)
   pub world : World
 
 -- the hart has ended, or its recovery is done
@@ -76,4 +77,4 @@ living = record {
 }
 
 abbrev pub opening_of : Course → Moment
-opening_of life = record { program = life.program; world = life.opening }
+opening_of life = record { program = life.program; marks = life.marks; world = life.opening }

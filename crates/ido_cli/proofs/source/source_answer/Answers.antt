@@ -4,11 +4,11 @@ use Rattle.c_tree.specs.Flats.{flat_of}
 use Rattle.std.specs.Prelude.{Err}
 use Rattle.flow_graph.specs.Refusals.{IsAccepted, IsRefusedBy}
 use Rattle.ido_cli.specs.Answers.{unaccepted}
-use Rattle.ido_cli.specs.Fronts.{IsFrontAnswer}
-use Rattle.ido_cli.specs.declared.front.FrontError.{FrontError}
+use Rattle.ido_compile.specs.Fronts.{IsFrontAnswer}
+use Rattle.ido_compile.specs.declared.error.CompileError.{CompileError}
 use Rattle.ido_cli.specs.Inputs.{source_of}
 use Rattle.ido_cli.specs.Refusals.{code_of, line_at}
-use Rattle.ido_cli.proofs.Checks.{few_threads}
+use Rattle.ido_compile.proofs.Checks.{few_threads}
 use Rattle.ido_cli.proofs.Stops.{both_ok}
 use Rattle.ido_cli.proofs.source.source_answer.Goals as goal
 
@@ -24,7 +24,7 @@ returns-in-Err-Refused c =
     let code = code_of c.in-Err-Refused.rule in
     IfOk-weaker c.refused_at.result _ _
     (λ said both.
-    unaccepted c.in-Err-Refused.rule c.in-Err-Refused.place (subst (λ (text : List ℕ). IsRefusedBy text c.in-Err-Refused.rule c.in-Err-Refused.place) c.requires.source (subst (λ (e : FrontError). IsFrontAnswer c.args.source.now (Err e)) c.in-Err-Refused.field-0-is c.in-Err-Refused.ensures)) (
+    unaccepted c.in-Err-Refused.rule c.in-Err-Refused.place (subst (λ (text : List ℕ). IsRefusedBy text c.in-Err-Refused.rule c.in-Err-Refused.place) c.requires.source (subst (λ (e : CompileError). IsFrontAnswer c.args.source.now (Err e)) c.in-Err-Refused.field-0-is c.in-Err-Refused.ensures)) (
       both.0,
       both.1 ∙ ap (λ (x : List ℕ). line_at x c.args.source.now c.from.result) c.code_of.ensures
           ∙ ap (λ (text : List ℕ). line_at code text c.from.result) c.requires.source ∙ ap (λ (place : ℕ). line_at code (source_of c.args.input.now) place) c.from.ensures,

@@ -1,7 +1,22 @@
--- What was emitted for a form that fits is a compilation of it.
-use Rattle.ido_compile.specs.Form.{form_of}
-use Rattle.ido_compile.proofs.Compiled.{compilation}
+use Rattle.std.proofs.Common.{sym, subst}
+use Rattle.c_tree.specs.Flats.{flat_of}
+use Rattle.c_tree.specs.declared.flat.Flat.{Flat}
+use Rattle.flow_graph.specs.Refusals.{IsAccepted}
+use Rattle.flat_compile.specs.Translating.{IsTranslated}
+use Rattle.ido_compile.proofs.Translations.{is_compilation}
 use Rattle.ido_compile.proofs.compiler.compile.Goals as goal
 
-pub returns-clause-compilation : goal.returns-clause-compilation
-returns-clause-compilation c = compilation (form_of c.in_ok-form.form) c.in_ok-object.object c.in_ok-object.marks c.in_ok-form.ensures.ok.initial c.in_ok-form.ensures.ok.addend c.in_ok-object.ensures
+pub with_object-requires : goal.with_object-requires
+with_object-requires c = c.accepted_forms.ensures c.args.text.now (flat_of c.in-Ok.flat) c.in-Ok.ensures
+
+pub returns-in_ok-compiled-in-Ok : goal.returns-in_ok-compiled-in-Ok
+returns-in_ok-compiled-in-Ok c =
+    let made = c.in_ok-compiled-in-Ok.compiled in
+    let translated =
+    subst (λ (x : Flat). IsTranslated (flat_of x) made.object made.marks made.cuts)
+    (sym c.in_ok-compiled-in-Ok.ensures.flat) c.in_ok-compiled-in-Ok.ensures.translated in
+    record {
+      accepted = subst (λ (x : Flat). IsAccepted c.args.text.now (flat_of x)) (sym c.in_ok-compiled-in-Ok.ensures.flat) c.in-Ok.ensures;
+      translated = translated;
+      compilation = is_compilation c.systems_are_compilations.ensures (flat_of made.flat) made.object made.marks made.cuts translated;
+    }

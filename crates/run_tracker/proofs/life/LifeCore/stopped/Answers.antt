@@ -4,4 +4,4 @@ use Rattle.run_tracker.proofs.Events.{played_is}
 use Rattle.run_tracker.proofs.life.LifeCore.stopped.Goals as goal
 
 pub returns : goal.returns
-returns c = c.stopped.ensures ∙ ap (λ (m : Moment). is_stopped m.world c.args.hart) (sym (played_is c.args.self.now.program c.args.self.now.opening c.args.self.now.journal))
+returns c = c.stopped.ensures ∙ ap (λ (m : Moment). is_stopped m.world c.args.hart) (sym (played_is c.args.self.now.program c.args.self.now.marks c.args.self.now.opening c.args.self.now.journal))

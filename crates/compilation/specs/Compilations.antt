@@ -1,0 +1,24 @@
+-- What code is that does what its source does, whatever happens: all that is promised of compiled programs.
+use Rattle.std.specs.Prelude.{List}
+use Rattle.ido_base.specs.declared.event.Event.{Event}
+use Rattle.compilation.specs.Translations.{Translation, HaveNoCrash}
+use Rattle.compilation.specs.Compilation.{IsSettledAsKept, Grows, AreSectionsKept, AreRecords, AreWhole, IsInStep, NeverStuck}
+use Rattle.compilation.specs.Forms.{HasForm}
+use Rattle.compilation.specs.Delays.{AreDelaysBounded}
+use Rattle.compilation.specs.Images.{IsResumedAsKept, image_of}
+
+-- The events are any steps, evictions and crashes, in any order.
+pub record IsCompilation (c : Translation) : Type 0 where
+  pub form : HasForm c
+  -- as long as power stays on, machine and source keep step
+  pub in_step : (events : List Event) → HaveNoCrash events → IsInStep c events
+  pub never_stuck : (events : List Event) → NeverStuck c events
+  pub delays : (events : List Event) → AreDelaysBounded c events
+  pub whole : (events : List Event) → AreWhole c events
+  pub records : (events : List Event) → AreRecords c events
+  pub grows : (events : List Event) → Grows c events
+  -- kept steps hold the sections that have ended; where harts stand between sections, durable variables are what the source leaves by those steps
+  pub sections : (events : List Event) → AreSectionsKept c events
+  pub settled : (events : List Event) → IsSettledAsKept c events
+  -- so it is in a run that is begun from what a crash left
+  pub images : (before events : List Event) → IsResumedAsKept c (image_of c before) events

@@ -1,0 +1,51 @@
+-- What a crash leaves of a machine, and runs that are begun from it.
+use Rattle.std.specs.Prelude.{◌≡◌, ℕ, List, ◌∷◌, ◌++◌, length, map, true}
+use Rattle.ido_base.specs.declared.event.Event.{Event}
+use Rattle.ido_base.specs.declared.event.Event.TheVariants.{Crash}
+use Rattle.ido_base.specs.Words.{durable_value}
+use Rattle.c_tree.specs.Source.{is_between}
+use Rattle.rv64_isa.specs.Machine.{World, after_crash_of, after_events}
+use Rattle.rv64_isa.specs.Schedule.{Steps, steps_along, first_steps, is_settled}
+use Rattle.variable_words.specs.Variables.{durable_variables}
+use Rattle.compilation.specs.Translations.{Translation, world, steps, source, Runs}
+use Rattle.compilation.specs.Compilation.{BeginsWith}
+
+pub record Image : Type 0 where
+  -- the durable value of each word
+  pub words : List ℕ
+  -- the schedule of the kept steps
+  pub kept : List ℕ
+
+-- what the machine would leave then
+abbrev pub image_of : Translation → List Event → Image
+image_of c events = record { words = map durable_value (world c events).words; kept = (steps c events).kept }
+
+module _ (c : Translation) (image : Image) where
+  -- power returns over its words: no lock is held, nothing is queued, and each hart that has a point is about to take its locks
+  abbrev pub first_from : World
+  first_from = after_crash_of c.program c.mutexes image.words
+
+  -- the machine after the events
+  abbrev pub world_from : List Event → World
+  world_from events = after_events c.program first_from events
+
+  -- the account of its steps goes on behind those that were kept
+  abbrev pub steps_from : List Event → Steps
+  steps_from events = steps_along c.marks c.program first_from events (first_steps (length c.program) image.kept)
+
+-- the run from the image that the machine would leave is the one in which power is lost then
+pub record IsCrashed (c : Translation) (before events : List Event) : Type 0 where
+  pub world_is : world_from c (image_of c before) events ≡ world c (before ++ Crash ∷ events)
+  -- with the same account, but that it has no entry for what was begun before
+  pub begun_is : (steps c before).begun ++ (steps_from c (image_of c before) events).begun ≡ (steps c (before ++ Crash ∷ events)).begun
+  pub kept_is : (steps_from c (image_of c before) events).kept ≡ (steps c (before ++ Crash ∷ events)).kept
+  pub pending_is : (steps_from c (image_of c before) events).pending ≡ (steps c (before ++ Crash ∷ events)).pending
+
+-- in a run from an image the source can be stepped by all kept steps, of which none is lost that the image has; and where all harts stand
+-- between sections, so do all threads behind these, and the durable variables are theirs
+pub record IsResumedAsKept (c : Translation) (image : Image) (events : List Event) : Type 0 where
+  pub runs : Runs c (steps_from c image events).kept
+  pub grows : BeginsWith (steps_from c image events).kept image.kept
+  pub between : is_settled (world_from c image events) ≡ true → (thread : ℕ) → is_between (source c (steps_from c image events).kept) thread ≡ true
+  pub variables : is_settled (world_from c image events) ≡ true →
+      durable_variables (world_from c image events).words c.flat.variables ≡ (source c (steps_from c image events).kept).variables

@@ -1,0 +1,46 @@
+-- Reading so many one after the other, as a loop does.
+use Rattle.std.proofs.Common.{◌≡◌, ℕ, suc, ◌-◌, ◌+◌, ◌≤◌, ◌<◌, List, [], ◌∷◌, ◌++◌, Result, Ok, Err, refl, sym, ap, ◌∙◌, append_assoc, arith}
+use Rattle.std.proofs.lemmas.List.{append-nil}
+use Rattle.crash_images.specs.declared.error.ImageError.{ImageError}
+use Rattle.crash_images.specs.declared.error.ImageError.TheVariants as e
+use Rattle.crash_images.specs.Reading.{Fault, Reads, ◌>>=◌, repeated}
+use Rattle.crash_images.specs.links.Gives.{IsFault, Fails}
+
+-- what was read before, and what is still read
+abbrev pub with_front : {A : Type 0} → List A → Reads (List A) → Reads (List A)
+with_front front read = read >>= λ x. Ok (front ++ x.0, x.1)
+
+regroup : {A : Type 0} (front : List A) (x : A) (read : Reads (List A)) → with_front front (read >>= λ y. Ok (x ∷ y.0, y.1)) ≡ with_front (front ++ x ∷ []) read
+regroup front x (Ok y) = ap (λ xs. Ok (xs, y.1)) (sym (append_assoc front (x ∷ []) y.0))
+regroup front x (Err f) = refl
+
+-- a fault of one reading is an error of another, if the faults are
+pub fails_through : {A B : Type 0} (x : ImageError) (inner : Result A Fault) (outer : Result B Fault) → ((f : Fault) → inner ≡ Err f → outer ≡ Err f) → IsFault x inner → Fails x outer
+fails_through e.Magic inner outer through fails = through _ fails
+fails_through e.Version inner outer through fails = through _ fails
+fails_through (e.Cut place) inner outer through fails = through _ fails
+fails_through e.Source inner outer through fails = through _ fails
+fails_through (e.Rest place) inner outer through fails = through _ fails
+fails_through e.Memory inner outer through fails = absurd fails
+
+pub goes_on : {A : Type 0} (read : List ℕ → Reads A) (front : List A) (count i : ℕ) (bytes : List ℕ) (x : A) (behind : List ℕ) (whole : Reads (List A)) → i < count → read bytes ≡ Ok (x, behind)
+    → with_front front (repeated read (count - i) bytes) ≡ whole → with_front (front ++ x ∷ []) (repeated read (count - (i + 1)) behind) ≡ whole
+unfolding repeated
+goes_on read front count i bytes x behind whole lt h so_far =
+    let k : count - i ≡ suc (count - (i + 1)) = omega arith in
+    let one : with_front front (repeated read (count - i) bytes) ≡ with_front (front ++ x ∷ []) (repeated read (count - (i + 1)) behind) = rw (k, h) (regroup front x (repeated read (count - (i + 1)) behind)) in
+    sym one ∙ so_far
+
+pub ends : {A : Type 0} (read : List ℕ → Reads A) (x : ImageError) (front : List A) (count i : ℕ) (bytes : List ℕ) (whole : Reads (List A)) → i < count → IsFault x (read bytes)
+    → with_front front (repeated read (count - i) bytes) ≡ whole → Fails x whole
+unfolding repeated
+ends read x front count i bytes whole lt fails so_far =
+    let k : count - i ≡ suc (count - (i + 1)) = omega arith in
+    fails_through x (read bytes) whole (λ f h. sym so_far ∙ (rw (k, h) refl)) fails
+
+pub is_done : {A : Type 0} (read : List ℕ → Reads A) (front : List A) (count i : ℕ) (bytes : List ℕ) (whole : Reads (List A)) → count ≤ i → with_front front (repeated read (count - i) bytes) ≡ whole → whole ≡ Ok (front, bytes)
+unfolding repeated
+is_done read front count i bytes whole le so_far =
+    let k : count - i ≡ 0 = omega arith in
+    let one : with_front front (repeated read (count - i) bytes) ≡ Ok (front, bytes) = rw k (ap (λ xs. Ok (xs, bytes)) (append-nil front)) in
+    sym so_far ∙ one

@@ -1,0 +1,4 @@
+pub mod Contents
+pub mod Spelling
+pub mod Reading
+pub mod links

@@ -1,0 +1,131 @@
+//! An image written as bytes.
+ghost use Rattle.std.specs.Prelude.{◌≡◌, ◌++◌, ◌<◌, ◌≤◌, ◌^◌, length, map, IfOk, OnOk, flat_map};
+ghost use Rattle.run_scripts.specs.Reports.{runs_of};
+ghost use Rattle.crash_images.specs.Contents.{contents, schedule_of, most_source, most_variables, most_logs, most_steps};
+ghost use Rattle.crash_images.specs.Spelling.{number, word, run_text, source_text, state_text, spelling};
+ghost use Rattle.crash_images.specs.Reading.{IsReadAs};
+ghost use Rattle.crash_images.specs.links.Views.{run_of};
+
+use crate::limits::WORD_BYTES;
+use crate::runs::runs_of;
+use crate::state::Run;
+use ido_base::memory::Memory;
+use std::alloc::Global;
+
+/// Adds bytes.
+fn put(out: &mut Vec<u8>, bytes: &[u8]) -> Result<(), Memory>
+    ensures { OnOk result (out.new.items ≡ out.old.items ++ bytes.now) }
+{
+    out.extend_from_slice(bytes)?;
+    Ok(())
+}
+
+/// Adds a number.
+fn put_number(out: &mut Vec<u8>, n: u32) -> Result<(), Memory>
+    ensures { OnOk result (out.new.items ≡ out.old.items ++ number n) }
+{
+    put(out, &n.to_le_bytes())
+}
+
+/// Adds a durable word.
+fn put_word(out: &mut Vec<u8>, n: u64) -> Result<(), Memory>
+    ensures { OnOk result (out.new.items ≡ out.old.items ++ word n) }
+{
+    put(out, &n.to_le_bytes())
+}
+
+/// Adds durable words.
+fn put_words(out: &mut Vec<u8>, words: &[u64]) -> Result<(), Memory>
+    ensures { OnOk result (out.new.items ≡ out.old.items ++ flat_map word words.now) }
+{
+    for word in words {
+        put_word(out, *word)?;
+    }
+    Ok(())
+}
+
+/// Adds a run.
+fn put_run(out: &mut Vec<u8>, run: Run) -> Result<(), Memory>
+    ensures { OnOk result (out.new.items ≡ out.old.items ++ run_text (run_of run)) }
+{
+    put_number(out, run.thread)?;
+    put_number(out, run.steps)
+}
+
+/// Adds runs.
+fn put_runs(out: &mut Vec<u8>, runs: &[Run]) -> Result<(), Memory>
+    ensures { OnOk result (out.new.items ≡ out.old.items ++ flat_map run_text (map run_of runs.now)) }
+{
+    for run in runs {
+        put_run(out, *run)?;
+    }
+    Ok(())
+}
+
+/// Adds what stands first, up to the end of the source.
+fn put_source(out: &mut Vec<u8>, source: &[u8]) -> Result<(), Memory>
+    requires { length source.now < 2 ^ 32 }
+    ensures { OnOk result (out.new.items ≡ out.old.items ++ source_text source.now) }
+{
+    put(out, b"IDO-IMG\n")?;
+    put_number(out, 1)?;
+    put_number(out, source.len() as u32)?;
+    put(out, source)
+}
+
+/// Adds what stands behind the source.
+fn put_state(out: &mut Vec<u8>, variables: &[u64], logs: &[u64], runs: &[Run]) -> Result<(), Memory>
+    requires variables { length variables.now ≤ most_variables }
+    requires runs { length runs.now < 2 ^ 32 }
+    ensures { OnOk result (out.new.items ≡ out.old.items ++ state_text (record { variables = variables.now; logs = logs.now; runs = map run_of runs.now })) }
+{
+    put_number(out, WORD_BYTES * variables.len() as u32)?;
+    put_words(out, variables)?;
+    put_words(out, logs)?;
+    put_number(out, runs.len() as u32)?;
+    put_runs(out, runs)
+}
+
+/// The bytes that spell an image.
+fn spelled(
+    alloc: Global,
+    source: &[u8],
+    variables: &[u64],
+    logs: &[u64],
+    schedule: &[u32],
+) -> Result<Vec<u8>, Memory>
+    requires source { length source.now ≤ most_source }
+    requires variables { length variables.now ≤ most_variables }
+    requires schedule { length schedule.now ≤ most_steps }
+    ensures { IfOk result (λ image. image.items ≡ spelling (contents source.now variables.now logs.now schedule.now)) }
+{
+    let runs = runs_of(alloc, schedule)?;
+    let mut out = Vec::new(alloc);
+    put_source(&mut out, source)?;
+    put_state(&mut out, variables, logs, &runs)?;
+    Ok(out)
+}
+
+/// The bytes of the image of a source, the durable words of its variables and of its logs, and a schedule, of
+/// which adjacent steps of one thread are merged.
+pub fn write_image(
+    alloc: Global,
+    source: &[u8],
+    variables: &[u64],
+    logs: &[u64],
+    schedule: &[u32],
+) -> Result<Vec<u8>, Memory>
+    requires source { length source.now ≤ most_source }
+    requires variables { length variables.now ≤ most_variables }
+    requires logs { length logs.now ≤ most_logs }
+    requires schedule { length schedule.now ≤ most_steps }
+    ensures spelled { IfOk result (λ image. image.items ≡ spelling (contents source.now variables.now logs.now schedule.now)) }
+    // What was written is read again.
+    ensures again { IfOk result (λ image. IsReadAs (contents source.now variables.now logs.now schedule.now) image.items) }
+    // It isn't too long for that.
+    ensures short { IfOk result (λ image. length image.items ≤ 67108864) }
+    // The runs tell each step.
+    ensures steps { schedule_of (runs_of schedule.now) ≡ schedule.now }
+{
+    spelled(alloc, source, variables, logs, schedule)
+}

@@ -1,0 +1,28 @@
+-- What the definitions of nodes' lines compute.
+use Rattle.std.specs.Prelude.{◌≡◌, ℕ, [], ◌∷◌, None, true, false, refl, codes}
+use Rattle.std.specs.Fmt.{digits}
+use Rattle.ido_ints.specs.declared.kinds.Kind.TheVariants.{Int}
+use Rattle.c_tree.specs.Flats.{Thread, no_statement}
+use Rattle.flow_graph.specs.Cutting.{Boundaries}
+use Rattle.flow_graph.specs.Nodes.{Action, Store, Lock, Unlock, End, Node, Graph}
+use Rattle.ido_cli.specs.Regions.{node_line, regions, thread_line}
+
+abbrev node : (place : ℕ) → Action → Node
+node place action = record { place = record { 0 = place }; action = action; uses = []; assigns = None; reads = []; writes = None }
+
+abbrev graph : Graph
+graph = record {
+  nodes = node 0 (Lock 0 1) ∷ node 3 (Store 0 Int 2) ∷ node 5 (Unlock 0 3) ∷ node 7 End ∷ [];
+  threads = record { first = 0; end = 4; locals = 0 } ∷ [];
+}
+
+abbrev cuts : Boundaries
+cuts = record { before = false ∷ true ∷ true ∷ false ∷ []; after_lock = true ∷ false ∷ false ∷ false ∷ [] }
+
+abbrev one : Thread
+one = record { name = record { text = codes "t"; place = record { 0 = 0 } }; locals = []; body = no_statement; closing = record { 0 = 7 } }
+
+-- the boundary before an unlock isn't marked
+lines_of_nodes : regions (codes "lo\nx;u;}") graph cuts (one ∷ []) ≡ codes "thread t\n0 lock 1:1\n1 store 2:1 cut\n2 unlock 2:3\n3 end 2:5\n"
+unfolding regions node_line thread_line digits
+lines_of_nodes = refl

@@ -1,0 +1,74 @@
+use Rattle.std.proofs.Common.{◌≤◌, ◌+◌, ◌-◌, ℕ, ap, arith, sym, subst, length, map, ◌∙◌}
+use Rattle.std.proofs.lemmas.List.{length-map}
+use Rattle.std.proofs.lemmas.Result.{IfOk-weaker}
+use Rattle.std.specs.Prelude.{codes}
+use Rattle.c_tree.specs.Flats.{flat_of, thread_of}
+use Rattle.rv64_isa.specs.Programs.{slot_of}
+use Rattle.run_scripts.specs.links.ScriptViews as scripts
+use Rattle.run_tracker.specs.Lives.{Course}
+use Rattle.ido_cli.specs.Plays.{ran}
+use Rattle.ido_cli.specs.Refusals.{line_at}
+use Rattle.ido_cli.proofs.Played.{as_many_threads, fits, harts_of_life, has_played, has_room, kept_runs, passed_at, refused, run_by}
+use Rattle.ido_cli.proofs.ScriptAnswers.{all_doable}
+use Rattle.ido_cli.proofs.Stops.{both_ok}
+use Rattle.ido_cli.proofs.play.script_answer.Goals as goal
+
+pub play-requires-clause-lines : goal.play-requires-clause-lines
+play-requires-clause-lines c =
+    let object = c.args.compiled.now.object in
+    all_doable (length object.code.items) (length c.in_ok-life.life.program) c.args.script.now.lines.items
+    (sym (length-map object.code.items (λ code. map slot_of code.items)) ∙ ap (λ (life : Course). length life.program) (sym c.in_ok-life.ensures)) c.requires.doable
+
+pub play-requires-clause-room : goal.play-requires-clause-room
+play-requires-clause-room c =
+    let least : 4000000 ≤ 4000000 - 0 = omega arith in
+    subst (λ (life : Course). 4000000 ≤ life.cap - length life.journal) (sym c.in_ok-life.ensures) least
+
+pub say-requires-clause-few : goal.say-requires-clause-few
+say-requires-clause-few c =
+    let x = c.args.compiled.now in
+    let threads = as_many_threads (flat_of x.flat) x.object x.marks x.cuts c.requires.translated in
+    omega (arith, c.requires.translated.limits.threads, threads, length-map x.flat.threads.items thread_of)
+
+pub say-requires-clause-room : goal.say-requires-clause-room
+say-requires-clause-room c =
+    let x = c.args.compiled.now in
+    has_room (flat_of x.flat) x.object x.marks x.cuts c.requires.translated
+
+pub say-requires-clause-harts : goal.say-requires-clause-harts
+say-requires-clause-harts c =
+    let x = c.args.compiled.now in
+    let lines = map scripts.line_of c.args.script.now.lines.items in
+    let played = has_played (flat_of x.flat) x.object x.marks x.cuts lines 4000000 4000000 c.in_ok-life.life c.in_ok-life.ensures c.play.new.core c.play.ensures.opening c.play.ensures.events c.in-Ok.ensures.whole in
+    harts_of_life (flat_of x.flat) x.object x.marks x.cuts c.play.new.core _ played
+
+pub say-requires-clause-runs : goal.say-requires-clause-runs
+say-requires-clause-runs c =
+    let x = c.args.compiled.now in
+    let lines = map scripts.line_of c.args.script.now.lines.items in
+    let played = has_played (flat_of x.flat) x.object x.marks x.cuts lines 4000000 4000000 c.in_ok-life.life c.in_ok-life.ensures c.play.new.core c.play.ensures.opening c.play.ensures.events c.in-Ok.ensures.whole in
+    kept_runs (flat_of x.flat) x.object x.marks x.cuts c.play.new.core _ played c.requires.compilation
+
+pub returns-in-Ok : goal.returns-in-Ok
+returns-in-Ok c =
+    let x = c.args.compiled.now in
+    let flat = flat_of x.flat in
+    let lines = map scripts.line_of c.args.script.now.lines.items in
+    let life = c.play.new.core in
+    let played = has_played flat x.object x.marks x.cuts lines 4000000 4000000 c.in_ok-life.life c.in_ok-life.ensures life c.play.ensures.opening c.play.ensures.events c.in-Ok.ensures.whole in
+    let fit = fits flat x.object x.marks x.cuts lines 4000000 4000000 c.in_ok-life.life c.in_ok-life.ensures c.in-Ok.ensures.whole in
+    IfOk-weaker c.say.result _ _
+    (λ said is.
+    ran fit (run_by flat x.object x.marks x.cuts life _ played c.requires.compilation said.status said.output.items is)) c.say.ensures
+
+pub returns : goal.returns
+returns c =
+    let x = c.args.compiled.now in
+    let flat = flat_of x.flat in
+    let lines = map scripts.line_of c.args.script.now.lines.items in
+    let input = c.args.input.now in
+    let begins = c.args.begins in
+    let some = passed_at flat x.object x.marks x.cuts lines 4000000 4000000 c.in_ok-life.life c.in_ok-life.ensures c.in-Err.many.line.0 c.in-Err.ensures.excess in
+    IfOk-weaker c.refused_at.result _ _
+    (λ said both. refused flat x.object x.marks x.cuts lines input begins c.in-Err.many.line.0 said.status said.output.items some (both.0, both.1 ∙ ap (λ (place : ℕ). line_at (codes "E1") input (begins + place)) c.from.ensures))
+    (both_ok c.refused_at.result _ _ c.refused_at.ensures.status c.refused_at.ensures.output)

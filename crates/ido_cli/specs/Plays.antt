@@ -1,0 +1,59 @@
+-- What is said of a run of a compiled source by a script.
+use Rattle.std.specs.Prelude.{◌≡◌, ℕ, ◌+◌, ◌<◌, ◌≤◌, List, length, true, Some, codes}
+use Rattle.ido_base.specs.declared.event.Event.{Event}
+use Rattle.c_tree.specs.Flats as f
+use Rattle.c_tree.specs.Source.{start, after_from, is_between, runs_from}
+use Rattle.rv64_isa.specs.declared.object.Object.{Object}
+use Rattle.rv64_isa.specs.declared.object.Marks.{Marks}
+use Rattle.flow_graph.specs.declared.cuts.Cuts.{Cuts}
+use Rattle.flat_compile.specs.Translating.{IsTranslated}
+use Rattle.compilation.specs.Translations.{Translation, first_world, world, steps}
+use Rattle.compilation.specs.Compilation.{AreSectionsKept}
+use Rattle.compilation.specs.Compilations.{IsCompilation}
+use Rattle.run_scripts.specs.Plays.{script_events, excess_at, most_events}
+use Rattle.run_scripts.specs.Reports.{report}
+use Rattle.run_scripts.specs.Scripts.{Line}
+use Rattle.run_tracker.specs.Lives.{Moment, living}
+use Rattle.ido_compile.specs.Compiling.{translation_to}
+use Rattle.ido_cli.specs.Refusals.{IsRefusedAt}
+use Rattle.ido_cli.specs.Reports.{machine_state}
+use Rattle.ido_cli.specs.Runs.{IsReport, run_state}
+
+-- What a flat form is compiled to: by an object that is a translation of it, so a compilation. Which one of them isn't said.
+pub record IsTranslationOf (flat : f.Flat) (c : Translation) : Type 0 where
+  pub object : Object
+  pub marks : Marks
+  pub cuts : Cuts
+  pub translated : IsTranslated flat object marks cuts
+  pub compilation : IsCompilation c
+  pub is : c ≡ translation_to flat object marks cuts
+
+-- its machine before any event
+abbrev pub beginning : Translation → Moment
+beginning c = record { program = c.program; marks = c.marks; world = first_world c }
+
+-- the events that the lines make, one line after another, each by what the machine is before it
+abbrev pub events_by : Translation → List Line → List Event
+events_by c lines = script_events living (beginning c) lines
+
+-- the source runs by the schedule, from its start and with no crash, until every thread stands between sections; the output is the report of that run
+pub record IsSourceRun (flat : f.Flat) (schedule : List ℕ) (output : List ℕ) : Type 0 where
+  pub runs : runs_from (start flat) schedule ≡ true
+  pub between : (thread : ℕ) → is_between (after_from (start flat) schedule) thread ≡ true
+  pub output_is : output ≡ report (run_state flat schedule)
+
+-- The report of the machine after the events, whatever steps, evictions and crashes they are: status 0, and its durable variables, the ended sections and
+-- the kept schedule, exactly where each hart is settled, else status 3 and the harts that aren't.
+-- At status 0 the output is that of the source's own run of the very schedule that is printed. Settled or not, the source can be stepped by the whole of the
+-- kept schedule, and it holds each section that a hart has left, before whatever crash.
+pub record IsRunBy (c : Translation) (events : List Event) (status : ℕ) (output : List ℕ) : Type 0 where
+  pub reported : IsReport (machine_state c.flat (world c events) (steps c events).kept) status output
+  pub runs : runs_from (start c.flat) (steps c events).kept ≡ true
+  pub settled : status ≡ 0 → IsSourceRun c.flat (steps c events).kept output
+  pub sections : AreSectionsKept c events
+
+-- What a script is answered that begins at a place of an input: a refusal exactly where its lines make more than 4,000,000 events, at the line whose events
+-- are the first past that, else the report of its run.
+pub data ScriptAnswer (c : Translation) (lines : List Line) (input : List ℕ) (begins status : ℕ) (output : List ℕ) : Type 0 where
+  too_long : most_events < length (events_by c lines) → (place : ℕ) → excess_at living (beginning c) most_events lines ≡ Some place → IsRefusedAt 6 (codes "E1") input (begins + place) status output → ScriptAnswer c lines input begins status output
+  ran : length (events_by c lines) ≤ most_events → IsRunBy c (events_by c lines) status output → ScriptAnswer c lines input begins status output

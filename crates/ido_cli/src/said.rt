@@ -1,0 +1,8 @@
+//! What the program says.
+
+/// A status, and the bytes to be written.
+#[derive(Debug, Drop)]
+pub struct Said {
+    pub status: u8,
+    pub output: Vec<u8>,
+}

@@ -1,0 +1,84 @@
+-- What a text that keeps the rules of names has: few mutexes and few threads.
+use Rattle.std.proofs.Common.{◌≡◌, refl, ℕ, zero, suc, ◌≤◌, List, [], ◌∷◌, ◌++◌, length, flat_map, ap, arith}
+use Rattle.std.proofs.lemmas.List.{length-map}
+use Rattle.c_tree.specs.Flats as f
+use Rattle.c_tree.specs.Flats.{flat_of}
+use Rattle.c_tree.specs.Inlining.{flat_form, flat_thread}
+use Rattle.c_tree.specs.Names as n
+use Rattle.c_tree.specs.Programs as p
+use Rattle.c_tree.specs.Trees as t
+use Rattle.c_tree.specs.TypeRules.{mutex_names, past, thread_names, most_mutexes, most_threads, type_faults, twice_from, too_many_bytes, item_faults}
+use Rattle.c_tree.specs.Views.{name_of}
+use Rattle.c_tree.specs.Typing.{program_from, typed_program}
+use Rattle.c_tree.specs.declared.rule.Rule as r
+use Rattle.c_tree.specs.declared.rule.Rule.TheVariants as rule
+use Rattle.c_tree.specs.declared.flat.Flat.{Flat}
+use Rattle.flow_graph.specs.Refusals.{IsAccepted}
+
+no_front : {X : Type 0} (xs ys : List X) → xs ++ ys ≡ [] → xs ≡ []
+no_front [] ys h = refl
+no_front (x ∷ xs) ys h = absurd (cc h)
+
+no_back : {X : Type 0} (xs ys : List X) → xs ++ ys ≡ [] → ys ≡ []
+no_back [] ys h = h
+no_back (x ∷ xs) ys h = absurd (cc h)
+
+few : (found : r.Rule) (most : ℕ) (xs : List t.Name) → past found most xs ≡ [] → length xs ≤ most
+few found most [] h = omega arith
+few found zero (x ∷ xs) h = absurd (cc h)
+few found (suc most) (x ∷ xs) h = let rest = few found most xs h in omega (arith, rest)
+
+mutexes_in : (gs : List n.Global) (xs : List t.Item) → length (program_from gs xs).mutexes ≡ length (mutex_names xs)
+mutexes_in gs [] = refl
+mutexes_in gs (t.MutexItem x ∷ xs) = ap suc (mutexes_in gs xs)
+mutexes_in gs (t.PersistentItem x ∷ xs) = mutexes_in gs xs
+mutexes_in gs (t.FunctionItem x ∷ xs) = mutexes_in gs xs
+mutexes_in gs (t.ThreadItem x ∷ xs) = mutexes_in gs xs
+
+threads_in : (gs : List n.Global) (xs : List t.Item) → length (program_from gs xs).threads ≡ length (thread_names xs)
+threads_in gs [] = refl
+threads_in gs (t.MutexItem x ∷ xs) = threads_in gs xs
+threads_in gs (t.PersistentItem x ∷ xs) = threads_in gs xs
+threads_in gs (t.FunctionItem x ∷ xs) = threads_in gs xs
+threads_in gs (t.ThreadItem x ∷ xs) = ap suc (threads_in gs xs)
+
+few_of : (xs : List t.Item) → type_faults xs ≡ [] → (length (typed_program xs).threads ≤ most_threads) × (length (typed_program xs).mutexes ≤ most_mutexes)
+unfolding type_faults typed_program
+few_of xs h =
+    let twice = twice_from [] (n.globals_of xs) in
+    let of_threads = past rule.Threads most_threads (thread_names xs) in
+    let of_mutexes = past rule.Mutexes most_mutexes (mutex_names xs) in
+    let a = no_front (twice ++ of_threads ++ of_mutexes ++ too_many_bytes 0 xs) (flat_map (item_faults (n.globals_of xs)) xs) h in
+    let b = no_front (twice ++ of_threads ++ of_mutexes) (too_many_bytes 0 xs) a in
+    let mutexes = no_back (twice ++ of_threads) of_mutexes b in
+    let threads = no_back twice of_threads (no_front (twice ++ of_threads) of_mutexes b) in
+    let e = threads_in (n.globals_of xs) xs in
+    let g = mutexes_in (n.globals_of xs) xs in
+    let t = few rule.Threads most_threads (thread_names xs) threads in
+    let m = few rule.Mutexes most_mutexes (mutex_names xs) mutexes in
+    (omega (arith, e, t), omega (arith, g, m))
+
+flat_counts : (x : p.Program) → (length (flat_form x).threads ≡ length x.threads) × (length (flat_form x).mutexes ≡ length x.mutexes)
+unfolding flat_form
+flat_counts x = (length-map x.threads (flat_thread x.functions), refl)
+
+pub few_mutexes : (xs : List t.Item) (x : p.Program) (flat : Flat) → type_faults xs ≡ [] → x ≡ typed_program xs → flat_of flat ≡ flat_form x →
+    length flat.mutexes.items ≤ 64
+few_mutexes xs x flat faultless typed flattened =
+    let a = (few_of xs faultless).1 in
+    let b = ap (λ (q : p.Program). length q.mutexes) typed in
+    let c = (flat_counts x).1 in
+    let d = ap (λ (y : f.Flat). length y.mutexes) flattened in
+    let e = length-map flat.mutexes.items name_of in
+    omega (arith, a, b, c, d, e)
+
+pub few_threads : (text : List ℕ) (flat : Flat) → IsAccepted text (flat_of flat) → length flat.threads.items ≤ 8
+few_threads text flat is =
+    let flattened = is.checked.flattened in
+    let it = flattened.ranged.typed in
+    let a = (few_of it.items it.faultless).0 in
+    let b = ap (λ (q : p.Program). length q.threads) it.typed in
+    let c = (flat_counts flattened.program).0 in
+    let d = ap (λ (y : f.Flat). length y.threads) flattened.flattened in
+    let e = length-map flat.threads.items f.thread_of in
+    omega (arith, a, b, c, d, e)

@@ -1,0 +1,245 @@
+-- A text is accepted and has one flat form, or it is refused by one rule, at one place: check after check.
+use Rattle.std.proofs.Common.{◌≡◌, ◌⊎◌, inl, inr, refl, ℕ, ◌<◌, ◌≤◌, List, [], length, Option, Some, None, true, false, sym, ap, ap₂, ◌∙◌, subst, arith}
+use Rattle.ido_base.specs.declared.place.Place.{Place}
+use Rattle.c_tree.specs.Checking.{HasNoBack, IsTyped, IsRanged, IsFlattened, IsChecked, IsFaulty, unread, mistyped, unfit, leads_back, too_long, undisciplined}
+use Rattle.c_tree.specs.Flats as f
+use Rattle.c_tree.specs.Inlining.{IsFirstBack, flat_form}
+use Rattle.c_tree.specs.Locking as l
+use Rattle.c_tree.specs.Locking.{lock_fault}
+use Rattle.c_tree.specs.Programs as p
+use Rattle.c_tree.specs.Ranges.{AllFit, Index, IsFirstUnfit}
+use Rattle.c_tree.specs.Reading.{IsRead, IsRefused}
+use Rattle.c_tree.specs.Scanning.{Fault}
+use Rattle.c_tree.specs.Temporaries.{price_fault, temporaries_fault}
+use Rattle.c_tree.specs.Trees.{Item}
+use Rattle.c_tree.specs.TypeRules.{IsFirst, type_faults}
+use Rattle.c_tree.specs.Typing.{typed_program}
+use Rattle.c_tree.specs.declared.rule.Rule as r
+use Rattle.c_tree.specs.declared.rule.Rule.TheVariants as rule
+use Rattle.c_reader.specs.Laws as reader
+use Rattle.c_typer.specs.Laws.{OneFirst}
+use Rattle.flow_graph.specs.Liveness.{NodeAt, HasRoom, IsFirstCrowded}
+use Rattle.flow_graph.specs.Lowering.{lowered}
+use Rattle.flow_graph.specs.Nodes.{Node, Graph}
+use Rattle.flow_graph.specs.Refusals.{IsAccepted, IsRefusedBy, faulty, crowded, too_deep}
+use Rattle.ido_compile.specs.Verdicts as laws
+
+-- ---- Verdicts
+
+data Verdict : Type 0 where
+  Accepted : f.Flat → Verdict
+  Refused : r.Rule → Place → Verdict
+
+abbrev IsOne : (Verdict → Type 0) → Type 0
+IsOne V = (v w : Verdict) → V v → V w → v ≡ w
+
+-- a check stops with a verdict; or it passes, and what follows has one
+data Check (Stops : Verdict → Type 0) (Passes : Type 0) (Follows : Verdict → Type 0) (v : Verdict) : Type 0 where
+  stops : Stops v → Check Stops Passes Follows v
+  passes : Passes → Follows v → Check Stops Passes Follows v
+
+one_check : (Stops : Verdict → Type 0) (Passes : Type 0) (Follows : Verdict → Type 0) → IsOne Stops → ((v : Verdict) → Stops v → ¬ Passes) →
+    IsOne Follows → IsOne (Check Stops Passes Follows)
+one_check Stops Passes Follows once never next v w (stops s) (stops t) = once v w s t
+one_check Stops Passes Follows once never next v w (stops s) (passes p b) = absurd (never v s p)
+one_check Stops Passes Follows once never next v w (passes p a) (stops t) = absurd (never w t p)
+one_check Stops Passes Follows once never next v w (passes p a) (passes q b) = next v w a b
+
+one_some : {X : Type 0} (o : Option X) (x y : X) → o ≡ Some x → o ≡ Some y → x ≡ y
+one_some o x y e h = let both : Some x ≡ Some y = sym e ∙ h in cc both
+
+not_none : {X : Type 0} (o : Option X) (x : X) → o ≡ Some x → o ≡ None → ⊥
+not_none o x e h = let both : Some x ≡ None = sym e ∙ h in cc both
+
+-- ---- Temporaries
+
+abbrev TemporariesStop : f.Flat → Verdict → Type 0
+TemporariesStop flat v = (place : Place) × (temporaries_fault flat ≡ Some place) × (v ≡ Refused rule.Temporaries place)
+
+abbrev ByTemporaries : f.Flat → Verdict → Type 0
+ByTemporaries flat = Check (TemporariesStop flat) (temporaries_fault flat ≡ None) (λ v. v ≡ Accepted flat)
+
+one_by_temporaries : (flat : f.Flat) → IsOne (ByTemporaries flat)
+one_by_temporaries flat = one_check (TemporariesStop flat) (temporaries_fault flat ≡ None) (λ v. v ≡ Accepted flat)
+    (λ v w s t. s.2 ∙ ap (Refused rule.Temporaries) (one_some (temporaries_fault flat) s.0 t.0 s.1 t.1) ∙ sym t.2)
+    (λ v s e. not_none (temporaries_fault flat) s.0 s.1 e)
+    (λ v w e h. e ∙ sym h)
+
+-- ---- Registers
+
+abbrev RoomStop : f.Flat → Verdict → Type 0
+RoomStop flat v = (place : Place) × (wanted : ℕ) × IsFirstCrowded (lowered flat) place wanted × (v ≡ Refused rule.Locals place)
+
+abbrev ByRoom : f.Flat → Verdict → Type 0
+ByRoom flat = Check (RoomStop flat) (HasRoom (lowered flat)) (ByTemporaries flat)
+
+one_node : (g : Graph) (n m : ℕ) (x y : Node) → n ≡ m → NodeAt g n x → NodeAt g m y → x ≡ y
+one_node g n m x y e a b = let there : NodeAt g n y = subst (λ k. NodeAt g k y) (sym e) b in one_some _ x y a there
+
+one_crowded : (g : Graph) (place other : Place) (wanted more : ℕ) → IsFirstCrowded g place wanted → IsFirstCrowded g other more → place ≡ other
+one_crowded g place other wanted more x y =
+    let sooner : ¬ (x.node < y.node) = λ h. (let few = y.first x.part x.node wanted h x.own x.spanning in absurd (omega (arith, few, x.crowded))) in
+    let later : ¬ (y.node < x.node) = λ h. (let few = x.first y.part y.node more h y.own y.spanning in absurd (omega (arith, few, y.crowded))) in
+    let same : x.node ≡ y.node = omega (arith, sooner, later) in
+    x.there ∙ ap (λ (z : Node). z.place) (one_node g x.node y.node x.is y.is same x.at y.at) ∙ sym y.there
+
+one_by_room : (flat : f.Flat) → IsOne (ByRoom flat)
+one_by_room flat = one_check (RoomStop flat) (HasRoom (lowered flat)) (ByTemporaries flat)
+    (λ v w s t. s.3 ∙ ap (Refused rule.Locals) (one_crowded (lowered flat) s.0 t.0 s.1 t.1 s.2 t.2) ∙ sym t.3)
+    (λ v s room. let few = room s.2.part s.2.node s.1 s.2.own s.2.spanning in absurd (omega (arith, few, s.2.crowded)))
+    (one_by_temporaries flat)
+
+-- ---- The lock discipline
+
+abbrev LockStop : f.Flat → Verdict → Type 0
+LockStop flat v = (x : l.Fault) × (lock_fault flat ≡ Some x) × (v ≡ Refused x.rule x.place)
+
+abbrev ByLocks : f.Flat → Verdict → Type 0
+ByLocks flat = Check (LockStop flat) (lock_fault flat ≡ None) (ByRoom flat)
+
+one_by_locks : (flat : f.Flat) → IsOne (ByLocks flat)
+one_by_locks flat = one_check (LockStop flat) (lock_fault flat ≡ None) (ByRoom flat)
+    (λ v w s t. s.2 ∙ ap (λ (x : l.Fault). Refused x.rule x.place) (one_some (lock_fault flat) s.0 t.0 s.1 t.1) ∙ sym t.2)
+    (λ v s e. not_none (lock_fault flat) s.0 s.1 e)
+    (one_by_room flat)
+
+-- ---- The price
+
+abbrev PriceStop : f.Flat → Verdict → Type 0
+PriceStop flat v = (place : Place) × (price_fault flat ≡ Some place) × (v ≡ Refused rule.Code place)
+
+abbrev ByPrice : f.Flat → Verdict → Type 0
+ByPrice flat = Check (PriceStop flat) (price_fault flat ≡ None) (ByLocks flat)
+
+one_by_price : (flat : f.Flat) → IsOne (ByPrice flat)
+one_by_price flat = one_check (PriceStop flat) (price_fault flat ≡ None) (ByLocks flat)
+    (λ v w s t. s.2 ∙ ap (Refused rule.Code) (one_some (price_fault flat) s.0 t.0 s.1 t.1) ∙ sym t.2)
+    (λ v s e. not_none (price_fault flat) s.0 s.1 e)
+    (one_by_locks flat)
+
+-- ---- Calls
+
+same_place : (x y : Place) → x.0 ≡ y.0 → x ≡ y
+same_place x y e = let place : ℕ → Place = λ n. record { 0 = n } in ap place e
+
+abbrev CallStop : p.Program → Verdict → Type 0
+CallStop x v = (place : Place) × IsFirstBack x.functions place × (v ≡ Refused rule.Recursion place)
+
+abbrev ByCalls : p.Program → Verdict → Type 0
+ByCalls x = Check (CallStop x) (HasNoBack x) (ByPrice (flat_form x))
+
+one_back : (fs : List p.Function) (place other : Place) → IsFirstBack fs place → IsFirstBack fs other → place ≡ other
+one_back fs place other x y =
+    let sooner : place.0 ≤ y.call.place.0 = x.first y.call y.back in
+    let later : other.0 ≤ x.call.place.0 = y.first x.call x.back in
+    let here : x.call.place.0 ≡ place.0 = ap (λ (q : Place). q.0) x.stands in
+    let there : y.call.place.0 ≡ other.0 = ap (λ (q : Place). q.0) y.stands in
+    same_place place other (omega (arith, sooner, later, here, there))
+
+one_by_calls : (x : p.Program) → IsOne (ByCalls x)
+one_by_calls x = one_check (CallStop x) (HasNoBack x) (ByPrice (flat_form x))
+    (λ v w s t. s.2 ∙ ap (Refused rule.Recursion) (one_back x.functions s.0 t.0 s.1 t.1) ∙ sym t.2)
+    (λ v s ends. ends s.1.call s.1.back)
+    (one_by_price (flat_form x))
+
+-- ---- Indexes
+
+abbrev IndexStop : p.Program → Verdict → Type 0
+IndexStop x v = (i : Index) × IsFirstUnfit x i × (v ≡ Refused rule.Index i.place)
+
+abbrev ByIndexes : p.Program → Verdict → Type 0
+ByIndexes x = Check (IndexStop x) (AllFit x) (ByCalls x)
+
+one_unfit : (x : p.Program) (i j : Index) → IsFirstUnfit x i → IsFirstUnfit x j → i.place ≡ j.place
+one_unfit x i j h k = go (h.first j k.found k.unfit) (k.first i h.found h.unfit)
+  where
+    go : (i.place.0 < j.place.0) ⊎ (i.place ≡ j.place) → (j.place.0 < i.place.0) ⊎ (j.place ≡ i.place) → i.place ≡ j.place
+    go (inr e) b = e
+    go (inl h) (inr e) = sym e
+    go (inl h) (inl k) = absurd (omega (arith, h, k))
+
+one_by_indexes : (x : p.Program) → IsOne (ByIndexes x)
+one_by_indexes x = one_check (IndexStop x) (AllFit x) (ByCalls x)
+    (λ v w s t. s.2 ∙ ap (Refused rule.Index) (one_unfit x s.0 t.0 s.1 t.1) ∙ sym t.2)
+    (λ v s fits. let both : true ≡ false = sym (fits s.0 s.1.found) ∙ s.1.unfit in cc both)
+    (one_by_calls x)
+
+-- ---- Names and kinds
+
+abbrev TypeStop : List Item → Verdict → Type 0
+TypeStop xs v = (x : Fault) × IsFirst (type_faults xs) x × (v ≡ Refused x.rule x.place)
+
+abbrev ByTypes : List Item → Verdict → Type 0
+ByTypes xs = Check (TypeStop xs) (type_faults xs ≡ []) (ByIndexes (typed_program xs))
+
+no_first : (fs : List Fault) (x : Fault) → fs ≡ [] → IsFirst fs x → ⊥
+no_first fs x e first = let within : first.found.0 < length fs = first.found.1 in absurd (omega (arith, within, ap length e))
+
+-- ---- The text
+
+abbrev ReadStop : (text : List ℕ) → Verdict → Type 0
+ReadStop text v = (found : r.Rule) × (place : Place) × IsRefused text found place × (v ≡ Refused found place)
+
+data ByReading (text : List ℕ) (v : Verdict) : Type 0 where
+  no_tree : ReadStop text v → ByReading text v
+  tree : (xs : List Item) → IsRead text xs → ByTypes xs v → ByReading text v
+
+typed_then : (text : List ℕ) (x : p.Program) (v : Verdict) → IsTyped text x → ByIndexes x v → ByReading text v
+typed_then text x v is by = tree is.items is.read (passes is.faultless (subst (λ y. ByIndexes y v) is.typed by))
+
+ranged_then : (text : List ℕ) (x : p.Program) (v : Verdict) → IsRanged text x → ByCalls x v → ByReading text v
+ranged_then text x v is by = typed_then text x v is.typed (passes is.fits by)
+
+flattened_then : (text : List ℕ) (flat : f.Flat) (v : Verdict) → IsFlattened text flat → ByLocks flat v → ByReading text v
+flattened_then text flat v is by = ranged_then text is.program v is.ranged (passes is.ends (passes is.short (subst (λ y. ByLocks y v) is.flattened by)))
+
+checked_then : (text : List ℕ) (flat : f.Flat) (v : Verdict) → IsChecked text flat → ByRoom flat v → ByReading text v
+checked_then text flat v is by = flattened_then text flat v is.flattened (passes is.disciplined by)
+
+accepted_by : (text : List ℕ) (flat : f.Flat) → IsAccepted text flat → ByReading text (Accepted flat)
+accepted_by text flat is = checked_then text flat (Accepted flat) is.checked (passes is.room (passes is.shallow refl))
+
+faulty_by : (text : List ℕ) (found : r.Rule) (place : Place) → IsFaulty text found place → ByReading text (Refused found place)
+faulty_by text found place (unread is) = no_tree (found, place, is, refl)
+faulty_by text found place (mistyped xs is first) = tree xs is (stops (record { rule = found; place = place }, first, refl))
+faulty_by text found place (unfit x i is first e at) = typed_then text x (Refused found place) is (stops (i, first, ap₂ Refused e at))
+faulty_by text found place (leads_back x is first e) = ranged_then text x (Refused found place) is (stops (place, first, ap (λ y. Refused y place) e))
+faulty_by text found place (too_long x is ends long e) =
+    ranged_then text x (Refused found place) is (passes ends (stops (place, long, ap (λ y. Refused y place) e)))
+faulty_by text found place (undisciplined flat x is broken e at) = flattened_then text flat (Refused found place) is (stops (x, broken, ap₂ Refused e at))
+
+refused_by : (text : List ℕ) (found : r.Rule) (place : Place) → IsRefusedBy text found place → ByReading text (Refused found place)
+refused_by text found place (faulty is) = faulty_by text found place is
+refused_by text found place (crowded flat wanted is first e) =
+    checked_then text flat (Refused found place) is (stops (place, wanted, first, ap (λ y. Refused y place) e))
+refused_by text found place (too_deep flat is room deep e) =
+    checked_then text flat (Refused found place) is (passes room (stops (place, deep, ap (λ y. Refused y place) e)))
+
+module _ (one_tree : reader.OneTree) (one_refusal : reader.OneRefusal) (not_both : reader.NotBoth) (one_first : OneFirst) where
+  one_by_types : (xs : List Item) → IsOne (ByTypes xs)
+  one_by_types xs = one_check (TypeStop xs) (type_faults xs ≡ []) (ByIndexes (typed_program xs))
+      (λ v w s t. s.2 ∙ ap (λ (x : Fault). Refused x.rule x.place) (one_first xs s.0 t.0 s.1 t.1) ∙ sym t.2)
+      (λ v s e. no_first (type_faults xs) s.0 e s.1)
+      (one_by_indexes (typed_program xs))
+
+  one_by_reading : (text : List ℕ) → IsOne (ByReading text)
+  one_by_reading text v w (no_tree (found, place, is, e)) (no_tree (other, elsewhere, also, h)) =
+      let both = one_refusal text found other place elsewhere is also in e ∙ ap₂ Refused both.0 both.1 ∙ sym h
+  one_by_reading text v w (no_tree (found, place, is, e)) (tree xs read by) = absurd (not_both text xs found place read is)
+  one_by_reading text v w (tree xs read by) (no_tree (found, place, is, e)) = absurd (not_both text xs found place read is)
+  one_by_reading text v w (tree xs read by) (tree ys also as_well) = one_by_types ys v w (subst (λ zs. ByTypes zs v) (one_tree text xs ys read also) by) as_well
+
+  pub one_flat : laws.OneFlat
+  one_flat text x y is also =
+      let both : Accepted x ≡ Accepted y = one_by_reading text (Accepted x) (Accepted y) (accepted_by text x is) (accepted_by text y also) in cc both
+
+  pub one_fault : laws.OneFault
+  one_fault text found other place elsewhere is also =
+      let both : Refused found place ≡ Refused other elsewhere =
+      one_by_reading text (Refused found place) (Refused other elsewhere) (refused_by text found place is) (refused_by text other elsewhere also) in
+      (cc both, cc both)
+
+  pub never_both : laws.NotBoth
+  never_both text x found place is also =
+      let both : Accepted x ≡ Refused found place =
+      one_by_reading text (Accepted x) (Refused found place) (accepted_by text x is) (refused_by text found place also) in cc both

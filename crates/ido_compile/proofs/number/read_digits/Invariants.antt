@@ -1,6 +1,0 @@
-use Rattle.std.proofs.Common.{◌≡◌, ◌<◌, take}
-use Rattle.std.specs.Str.Parse.{AllDigits, digits_value}
-use Rattle.ido_compile.proofs.number.read_digits.Given as goal
-
-abbrev pub invariant-loop-c : goal.invariant-loop-c
-invariant-loop-c l = (l.number < l.limit) × AllDigits 10 (take l.c-index l.text) × (l.number ≡ digits_value 10 (take l.c-index l.text))

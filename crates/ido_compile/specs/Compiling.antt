@@ -1,0 +1,41 @@
+-- What is answered to a text: its object, or the first rule that it breaks.
+use Rattle.std.specs.Prelude.{ℕ, List, Result, Ok, Err}
+use Rattle.c_tree.specs.Flats.{Flat, flat_of}
+use Rattle.rv64_isa.specs.declared.object.Object.{Object}
+use Rattle.rv64_isa.specs.declared.object.Marks.{Marks}
+use Rattle.rv64_isa.specs.Programs.{program_of}
+use Rattle.flow_graph.specs.declared.cuts.Cuts.{Cuts}
+use Rattle.flow_graph.specs.Cutting.{boundaries_of}
+use Rattle.flow_graph.specs.Refusals.{IsAccepted, IsRefusedBy}
+use Rattle.compilation.specs.Translations.{Translation}
+use Rattle.compilation.specs.Compilations.{IsCompilation}
+use Rattle.flat_compile.specs.Translating.{IsTranslated, node_marks, resume_marks}
+use Rattle.ido_compile.specs.declared.compiler.Compiled.{Compiled}
+use Rattle.ido_compile.specs.declared.error.CompileError.{CompileError}
+use Rattle.ido_compile.specs.declared.error.CompileError.TheVariants as e
+
+-- what a flat form is compiled to
+abbrev pub translation_to : Flat → Object → Marks → Cuts → Translation
+translation_to flat object marks cuts = record {
+  flat = flat;
+  program = program_of object;
+  mutexes = object.mutexes;
+  initial = object.initial.items;
+  marks = node_marks marks.threads.items;
+  resumes = resume_marks marks.threads.items;
+  boundaries = boundaries_of cuts;
+}
+
+abbrev pub translation_in : Compiled → Translation
+translation_in c = translation_to (flat_of c.flat) c.object c.marks c.cuts
+
+-- the text is accepted, what a machine runs is a translation of its flat form, and so it does what the source does, whatever happens
+pub record IsCompiled (text : List ℕ) (c : Compiled) : Type 0 where
+  pub accepted : IsAccepted text (flat_of c.flat)
+  pub translated : IsTranslated (flat_of c.flat) c.object c.marks c.cuts
+  pub compilation : IsCompilation (translation_in c)
+
+abbrev pub IsCompileAnswer : (text : List ℕ) → Result Compiled CompileError → Type 0
+IsCompileAnswer text (Ok c) = IsCompiled text c
+IsCompileAnswer text (Err (e.Refused found place)) = IsRefusedBy text found place
+IsCompileAnswer text (Err e.Memory) = Unit {0}

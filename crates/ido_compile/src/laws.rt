@@ -1,0 +1,15 @@
+//! Laws of what a text comes to: nothing is computed here.
+ghost use Rattle.ido_compile.specs.Verdicts.{NotBoth, OneFault, OneFlat};
+
+use c_reader::laws::one_reading;
+use c_typer::laws::one_first;
+
+/// A text is accepted with one flat form or refused by one rule, at one place, and never both.
+pub fn one_verdict()
+    ensures flat { OneFlat }
+    ensures fault { OneFault }
+    ensures not_both { NotBoth }
+{
+    one_reading();
+    one_first();
+}
