@@ -32,6 +32,7 @@ use Rattle.compilation.specs.Compilation.{has_stopped}
 use Rattle.compilation.specs.Delays as delays
 use Rattle.compilation.specs.Delays.{active_steps, is_active_step, has_waited, begun_by, IsStopped, delay}
 use Rattle.compilation.specs.Laws.{DelaysAreBounded, translation_of}
+use Rattle.compilation.proofs.OwnSteps.{stands_along}
 use Rattle.compilation.proofs.Nearing as nearing
 use Rattle.compilation.proofs.Soon.{most, begins_anew}
 use Rattle.compilation.proofs.Entries as entries
@@ -202,10 +203,6 @@ module _ (y : System) (s : IsSystem y) (h : ℕ) (above : thread_count y ≤ h) 
   absent w Crash left other a = absurd (other refl)
 
 -- ---- Any hart
-
-stands_along : EventsStand → (y : System) (s : IsSystem y) (events : List Event) (w : World) → Stands y s w → Stands y s (after_events y.program w events)
-stands_along stand y s [] w stands = stands
-stands_along stand y s (event ∷ events) w stands = stands_along stand y s events (after_event y.program w event) (stand y s w event stands)
 
 -- in the words of the law
 told : (y : System) (events more : List Event) (h : ℕ) →

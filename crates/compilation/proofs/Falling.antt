@@ -8,12 +8,10 @@ use Rattle.ido_base.specs.declared.event.Event.{Event}
 use Rattle.ido_base.specs.declared.event.Event.TheVariants.{Step, Evict, Crash}
 use Rattle.rv64_isa.specs.declared.phase.Phase.{Phase}
 use Rattle.rv64_isa.specs.declared.phase.Phase.TheVariants.{Take, Wait, Resume, Run, Done, Ended}
-use Rattle.rv64_isa.specs.Rows.{Effect}
-use Rattle.rv64_isa.specs.Machine.{Hart, World, Outcome, after_event, reply_to, happens, stepped, moved, with_holder}
+use Rattle.rv64_isa.specs.Machine.{Hart, World, Outcome, after_event, reply_to, happens, moved, with_holder}
 use Rattle.rv64_isa.specs.Schedule.{is_running}
 use Rattle.rv64_isa.proofs.Frames.{get-set_same}
 use Rattle.flow_graph.proofs.Lockstep.{get_cases}
-use Rattle.log_states.specs.Machines.{IsNext}
 use Rattle.hart_runs.specs.Standing.{Agrees}
 use Rattle.hart_runs.specs.Calls.{IsIn, Takes, has_all, takes_one, is_kept_from, AwaitsOthers, all_have, one_takes}
 use Rattle.hart_runs.proofs.Recovering.{takes_step, waits_step, stopped_stay}
@@ -23,15 +21,15 @@ use Rattle.hart_runs.proofs.Others.{others_leave}
 use Rattle.thread_runs.specs.Laws.{MarksPass, WaysGoOn}
 use Rattle.recovered_threads.specs.Telling.{Code}
 use Rattle.resumed_programs.specs.Systems.{System, IsSystem, thread_count}
-use Rattle.resumed_programs.specs.Histories.{Beside, now_of}
+use Rattle.resumed_programs.specs.Histories.{now_of}
 use Rattle.resumed_programs.specs.Standing.{AreHeld, Stands}
 use Rattle.resumed_programs.specs.Laws.{EventsStand}
 use Rattle.resumed_programs.specs.Moving as moving
 use Rattle.resumed_programs.specs.Moving.{MayStore, OwnStep, WaysStep, CoresStep}
-use Rattle.resumed_programs.proofs.Calling.{calls_step}
 use Rattle.resumed_programs.proofs.Locked.{runs_held}
 use Rattle.resumed_programs.proofs.Quietly.{matches_now}
 use Rattle.resumed_programs.proofs.Ready.{runs_ready}
+use Rattle.compilation.proofs.OwnSteps.{none_there, stores_own}
 use Rattle.compilation.proofs.Where.{IsWhere, is_where}
 use Rattle.compilation.specs.Delays.{is_active_step, has_waited}
 use Rattle.compilation.proofs.Nearing as nearing
@@ -43,11 +41,6 @@ use Rattle.compilation.proofs.Calls as calls
 
 not_same : (g n : ℕ) → g ≢ n → (g == n) ≡ false
 not_same g n other = grind (arith, other)
-
--- a hart that isn't there stays away
-none_there : (y : System) (w : World) (g : ℕ) → slice_get w.harts g ≡ None → after_event y.program w (Step g) ≡ w
-unfolding happens
-none_there y w g missing = ap (λ (o : Option Hart). (stepped y.program w g o).0) missing
 
 module _ (y : System) (s : IsSystem y) (h : ℕ) (below : h < thread_count y) where
   abbrev code : Code y.plan
@@ -78,27 +71,6 @@ module _ (y : System) (s : IsSystem y) (h : ℕ) (below : h < thread_count y) wh
   -- ---- Others
 
   module _ (ways_step : WaysStep) (cores_step : CoresStep) where
-    own_step : (w : World) (g : ℕ) (stands : Stands y s w) (there : g < thread_count y) → IsIn w g Run → moving.IsReady y s w g stands there →
-        OwnStep y s w g stands
-    own_step w g stands there i (moving.on_way o steps is) = ways_step y s w g stands there i o steps is
-    own_step w g stands there i (moving.calls o zero_left calling) = calls_step y s w g stands there i o zero_left calling
-    own_step w g stands there i (moving.at_core core free) = cores_step y s w g stands there i core free
-
-    is_run : (phase : Phase) → is_running phase ≡ true → phase ≡ Run
-    is_run Run e = refl
-    is_run Take e = absurd (true≢false (sym e))
-    is_run Wait e = absurd (true≢false (sym e))
-    is_run Resume e = absurd (true≢false (sym e))
-    is_run Done e = absurd (true≢false (sym e))
-    is_run Ended e = absurd (true≢false (sym e))
-
-    stores_own : (w : World) (g : ℕ) (stands : Stands y s w) (hart : Hart) (effect : Effect) → IsNext y.program w g hart effect →
-        MayStore y stands.trails.beside g effect
-    stores_own w g stands hart effect is =
-        let i : IsIn w g Run = record { hart = hart; here = is.here; phase_is = is_run hart.phase is.runs } in
-        let r = runs_ready y s w g stands i in
-        subst (λ (b : Beside y). MayStore y b g effect) r.beside ((own_step w g r.stands r.below i r.ready).stores_own hart effect is)
-
     pub goes_running : (w : World) (left : ℕ) → Goes w left → IsIn w h Run
     goes_running w left g =
         let on = g.leg.way.on in
@@ -121,7 +93,7 @@ module _ (y : System) (s : IsSystem y) (h : ℕ) (below : h < thread_count y) wh
         | inr there ↦
             let held = held_in w stands (goes_running w left goes) in
             let b = stands.trails.beside in
-            agrees_still y s n w g b (stores_own w g stands) other goes.setting goes.answers
+            agrees_still y s n w g b (stores_own ways_step cores_step y s w g stands) other goes.setting goes.answers
             (λ lock has. held.holds lock g (ap (λ (hs : List (Option ℕ)). slice_get hs lock) (matches_now y s b).holders ∙ has))
             stands.trails.sound goes.leg.way.agrees there.0 there.1
       ]

@@ -11,6 +11,9 @@ pub mod Unstuck
 pub mod InStep
 pub mod Formed
 pub mod Imaged
+mod OwnSteps
+pub mod Between
+pub mod Filed
 mod Nearing
 mod Loops
 mod Fitting

@@ -5,7 +5,7 @@ use Rattle.compilation.specs.Translations.{Translation, HaveNoCrash}
 use Rattle.compilation.specs.Compilation.{IsSettledAsKept, Grows, AreSectionsKept, AreRecords, AreWhole, IsInStep, NeverStuck}
 use Rattle.compilation.specs.Forms.{HasForm}
 use Rattle.compilation.specs.Delays.{AreDelaysBounded}
-use Rattle.compilation.specs.Images.{IsResumedAsKept, image_of}
+use Rattle.compilation.specs.Images.{IsResumedAsKept, IsInFile, image_of, file_of, image_in}
 
 -- The events are any steps, evictions and crashes, in any order.
 pub record IsCompilation (c : Translation) : Type 0 where
@@ -22,3 +22,6 @@ pub record IsCompilation (c : Translation) : Type 0 where
   pub settled : (events : List Event) → IsSettledAsKept c events
   -- so it is in a run that is begun from what a crash left
   pub images : (before events : List Event) → IsResumedAsKept c (image_of c before) events
+  -- and from a file of that, which has the words of variables and logs alone
+  pub in_file : (before : List Event) → IsInFile c (image_of c before)
+  pub files : (before events : List Event) → IsResumedAsKept c (image_in c (file_of c (image_of c before))) events

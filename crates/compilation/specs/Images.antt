@@ -1,8 +1,9 @@
 -- What a crash leaves of a machine, and runs that are begun from it.
-use Rattle.std.specs.Prelude.{◌≡◌, ℕ, List, ◌∷◌, ◌++◌, length, map, true}
+use Rattle.std.specs.Prelude.{◌≡◌, ℕ, ◌+◌, ◌*◌, ◌/◌, ◌<◌, ◌≤◌, List, ◌∷◌, ◌++◌, length, map, take, drop, true}
 use Rattle.ido_base.specs.declared.event.Event.{Event}
 use Rattle.ido_base.specs.declared.event.Event.TheVariants.{Crash}
-use Rattle.ido_base.specs.Words.{durable_value}
+use Rattle.ido_base.specs.Words.{durable_value, word_of, word_at}
+use Rattle.ido_base.specs.Layout.{variable_lines, log_lines, spread_words}
 use Rattle.c_tree.specs.Source.{is_between}
 use Rattle.rv64_isa.specs.Machine.{World, after_crash_of, after_events}
 use Rattle.rv64_isa.specs.Schedule.{Steps, steps_along, first_steps, is_settled}
@@ -49,3 +50,26 @@ pub record IsResumedAsKept (c : Translation) (image : Image) (events : List Even
   pub between : is_settled (world_from c image events) ≡ true → (thread : ℕ) → is_between (source c (steps_from c image events).kept) thread ≡ true
   pub variables : is_settled (world_from c image events) ≡ true →
       durable_variables (world_from c image events).words c.flat.variables ≡ (source c (steps_from c image events).kept).variables
+
+-- ---- Image files
+
+-- how many words the variables have
+abbrev pub variable_words : Translation → ℕ
+variable_words c = length c.initial / 8
+
+-- a file has those of an image, and behind them the words of the logs
+abbrev pub file_of : Translation → Image → Image
+file_of c image = record { words = take (variable_words c) image.words ++ drop (8 * variable_lines) image.words; kept = image.kept }
+
+-- a machine begins with a file's words, and with zeros between those of the variables and those of the logs
+abbrev pub image_in : Translation → (file : Image) → Image
+image_in c file = record { words = spread_words (variable_words c) file.words; kept = file.kept }
+
+-- no word between those has been stored to: it is 0, durably, and has no other past
+abbrev pub StayBetween : Translation → List Event → Type 0
+StayBetween c events = (word : ℕ) → variable_words c ≤ word → word < 8 * variable_lines → word_at (world c events).words word ≡ word_of 0
+
+-- the image's file has the words of the variables and a log for each thread, and is all of the image
+pub record IsInFile (c : Translation) (image : Image) : Type 0 where
+  pub size : length (file_of c image).words ≡ variable_words c + 8 * log_lines * length c.program
+  pub is_all : image_in c (file_of c image) ≡ image

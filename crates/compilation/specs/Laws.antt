@@ -8,7 +8,7 @@ use Rattle.compilation.specs.Translations.{Translation, HaveNoCrash}
 use Rattle.compilation.specs.Delays.{AreDelaysBounded}
 use Rattle.compilation.specs.Compilation.{IsSettledAsKept, Grows, AreSectionsKept, AreRecords, AreWhole, IsInStep, NeverStuck}
 use Rattle.compilation.specs.Forms.{HasForm}
-use Rattle.compilation.specs.Images.{image_of, IsCrashed, IsResumedAsKept}
+use Rattle.compilation.specs.Images.{image_of, file_of, image_in, IsCrashed, IsResumedAsKept, StayBetween, IsInFile}
 use Rattle.compilation.specs.Compilations.{IsCompilation}
 
 -- what a system is to its readers
@@ -60,6 +60,18 @@ ImagesAreCrashes = (c : Translation) (before events : List Event) → IsCrashed 
 abbrev pub ImagesAreResumed : Type 0
 ImagesAreResumed = (y : System) → IsSystem y → (before events : List Event) →
     IsResumedAsKept (translation_of y) (image_of (translation_of y) before) events
+
+-- no hart stores between the variables and the logs
+abbrev pub WordsBetweenStay : Type 0
+WordsBetweenStay = (y : System) → IsSystem y → (events : List Event) → StayBetween (translation_of y) events
+
+-- so the words of these are all of an image
+abbrev pub FilesAreImages : Type 0
+FilesAreImages = (y : System) → IsSystem y → (events : List Event) → IsInFile (translation_of y) (image_of (translation_of y) events)
+
+abbrev pub FilesAreResumed : Type 0
+FilesAreResumed = (y : System) → IsSystem y → (before events : List Event) →
+    IsResumedAsKept (translation_of y) (image_in (translation_of y) (file_of (translation_of y) (image_of (translation_of y) before))) events
 
 -- all of it
 abbrev pub SystemsAreCompilations : Type 0

@@ -2,6 +2,8 @@
 ghost use Rattle.compilation.specs.Laws.{
   CompiledCodeHasForm,
   DelaysAreBounded,
+  FilesAreImages,
+  FilesAreResumed,
   HartsNeverStick,
   ImagesAreCrashes,
   ImagesAreResumed,
@@ -12,6 +14,7 @@ ghost use Rattle.compilation.specs.Laws.{
   SectionsAreKept,
   SettledMachinesAreKept,
   SystemsAreCompilations,
+  WordsBetweenStay,
 };
 
 use hart_runs::laws::{none_is_stuck, steps_are_counted};
@@ -115,6 +118,32 @@ pub fn images_are_resumed()
     settled_machines_are_kept();
 }
 
+/// Whatever happens, no hart stores between the variables and the logs: those words are 0, durably.
+pub fn words_between_stay()
+    ensures { WordsBetweenStay }
+{
+    cores_step();
+    events_stand();
+    ways_step();
+}
+
+/// So a file of an image has all of it in the words of the variables and of the logs, and a machine that begins with these, and with zeros between them, begins
+/// with the image.
+pub fn files_are_images()
+    ensures { FilesAreImages }
+{
+    events_stand();
+    words_between_stay();
+}
+
+/// In a run from such a file, too, the source can be stepped by all steps that are kept, those of the file first.
+pub fn files_are_resumed()
+    ensures { FilesAreResumed }
+{
+    files_are_images();
+    images_are_resumed();
+}
+
 /// What a compiler makes of a flat form, if it is a system and has no boundary that can be taken away, is a compilation: all of the above holds of it.
 pub fn systems_are_compilations()
     ensures { SystemsAreCompilations }
@@ -129,4 +158,6 @@ pub fn systems_are_compilations()
     sections_are_kept();
     settled_machines_are_kept();
     images_are_resumed();
+    files_are_images();
+    files_are_resumed();
 }

@@ -2,3 +2,4 @@ pub mod Fronts
 pub mod Compiling
 pub mod Verdicts
 pub mod FormLaws
+pub mod Files

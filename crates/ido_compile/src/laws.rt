@@ -1,4 +1,5 @@
 //! Laws of what a text comes to: nothing is computed here.
+ghost use Rattle.ido_compile.specs.Files.{FilesBegin};
 ghost use Rattle.ido_compile.specs.Verdicts.{NotBoth, OneFault, OneFlat};
 
 use c_reader::laws::one_reading;
@@ -13,3 +14,8 @@ pub fn one_verdict()
     one_reading();
     one_first();
 }
+
+/// The machine of an object that begins with the words of an image file is the one of the image that stands in it.
+pub fn files_begin()
+    ensures { FilesBegin }
+{}

@@ -13,4 +13,6 @@ returns c y s minimal = record {
   sections = c.sections_are_kept.ensures y s;
   settled = c.settled_machines_are_kept.ensures y s;
   images = c.images_are_resumed.ensures y s;
+  in_file = c.files_are_images.ensures y s;
+  files = c.files_are_resumed.ensures y s;
 }
