@@ -10,8 +10,8 @@ use Rattle.crash_images.specs.Contents.{Contents, State, IsState, IsWord, IsRun,
 use Rattle.crash_images.specs.Spelling.{magic, version, number, word, run_text, source_text, state_text, spelling}
 use Rattle.crash_images.specs.Reading as r
 use Rattle.crash_images.specs.Reading.{Fault, Reads, ◌>>=◌, bytes_at, number_at, word_at, run_at, repeated, magic_at, version_at, source_at, size_at, ended, state_at, image_at}
-use Rattle.crash_images.specs.declared.error.ImageError.{ImageError}
-use Rattle.crash_images.specs.declared.error.ImageError.TheVariants as e
+use Rattle.crash_images.specs.declared.fields.FieldError.{FieldError}
+use Rattle.crash_images.specs.declared.fields.FieldError.TheVariants as e
 use Rattle.crash_images.specs.declared.state.State as code
 use Rattle.crash_images.specs.links.Gives.{Tells, Gives}
 use Rattle.crash_images.specs.links.Views.{state_of}
@@ -98,12 +98,12 @@ source_again source rest few =
     source_in : ℕ → List ℕ → Reads (List ℕ)
     source_in total bytes = magic_at total bytes >>= λ m. version_at total m >>= λ v. number_at total v >>= λ n. cond (nat_le n.0 most_source) (bytes_at total n.0 n.1) (Err r.Source)
 
-pub source_is_found : {X : Type 0} (view : X → List ℕ × List ℕ) (bytes : List ℕ) (x : Result X ImageError) → IsBytes bytes → Tells view x (source_at bytes)
+pub source_is_found : {X : Type 0} (view : X → List ℕ × List ℕ) (bytes : List ℕ) (x : Result X FieldError) → IsBytes bytes → Tells view x (source_at bytes)
     → IfOk x (λ y. (length (view y).0 ≤ most_source) × (bytes ≡ source_text (view y).0 ++ (view y).1))
 source_is_found view bytes (Ok y) fits told = source_takes bytes (view y) fits told
 source_is_found view bytes (Err e) fits told = tt
 
-pub read_as : {X : Type 0} (front back : X → List ℕ) (x : Result X ImageError) (source rest : List ℕ) → Tells {Y = List ℕ × List ℕ} (λ y. (front y, back y)) x (Ok (source, rest))
+pub read_as : {X : Type 0} (front back : X → List ℕ) (x : Result X FieldError) (source rest : List ℕ) → Tells {Y = List ℕ × List ℕ} (λ y. (front y, back y)) x (Ok (source, rest))
     → IsOkAnd x (λ y. (front y ≡ source) × (back y ≡ rest))
 read_as front back (Ok y) source rest told =
     let e : (source, rest) ≡ (front y, back y) = ok_is (source, rest) (front y, back y) told in
@@ -184,7 +184,7 @@ state_again total size threads s lt good =
     ap (repeated (run_at total) (length s.runs)) (sym (append-nil (flat_map run_text s.runs))) ∙ repeated_again run_text IsRun (run_at total) (run_again total) s.runs [] good.fields in
     rw (begins, variables, logs, count, runs) refl
 
-pub state_is_found : (total size threads : ℕ) (bytes : List ℕ) (x : Result code.State ImageError) → IsBytes bytes → size % word_bytes ≡ 0 → Gives state_of x (state_at total size threads bytes)
+pub state_is_found : (total size threads : ℕ) (bytes : List ℕ) (x : Result code.State FieldError) → IsBytes bytes → size % word_bytes ≡ 0 → Gives state_of x (state_at total size threads bytes)
     → IfOk x (λ state. IsState size threads (state_of state) × (bytes ≡ state_text (state_of state)))
 state_is_found total size threads bytes (Ok state) fits whole given = state_takes total size threads bytes (state_of state) fits whole given
 state_is_found total size threads bytes (Err e) fits whole given = tt

@@ -1,8 +1,8 @@
 -- Reading so many one after the other, as a loop does.
 use Rattle.std.proofs.Common.{◌≡◌, ℕ, suc, ◌-◌, ◌+◌, ◌≤◌, ◌<◌, List, [], ◌∷◌, ◌++◌, Result, Ok, Err, refl, sym, ap, ◌∙◌, append_assoc, arith}
 use Rattle.std.proofs.lemmas.List.{append-nil}
-use Rattle.crash_images.specs.declared.error.ImageError.{ImageError}
-use Rattle.crash_images.specs.declared.error.ImageError.TheVariants as e
+use Rattle.crash_images.specs.declared.fields.FieldError.{FieldError}
+use Rattle.crash_images.specs.declared.fields.FieldError.TheVariants as e
 use Rattle.crash_images.specs.Reading.{Fault, Reads, ◌>>=◌, repeated}
 use Rattle.crash_images.specs.links.Gives.{IsFault, Fails}
 
@@ -15,7 +15,7 @@ regroup front x (Ok y) = ap (λ xs. Ok (xs, y.1)) (sym (append_assoc front (x �
 regroup front x (Err f) = refl
 
 -- a fault of one reading is an error of another, if the faults are
-pub fails_through : {A B : Type 0} (x : ImageError) (inner : Result A Fault) (outer : Result B Fault) → ((f : Fault) → inner ≡ Err f → outer ≡ Err f) → IsFault x inner → Fails x outer
+pub fails_through : {A B : Type 0} (x : FieldError) (inner : Result A Fault) (outer : Result B Fault) → ((f : Fault) → inner ≡ Err f → outer ≡ Err f) → IsFault x inner → Fails x outer
 fails_through e.Magic inner outer through fails = through _ fails
 fails_through e.Version inner outer through fails = through _ fails
 fails_through (e.Cut place) inner outer through fails = through _ fails
@@ -31,7 +31,7 @@ goes_on read front count i bytes x behind whole lt h so_far =
     let one : with_front front (repeated read (count - i) bytes) ≡ with_front (front ++ x ∷ []) (repeated read (count - (i + 1)) behind) = rw (k, h) (regroup front x (repeated read (count - (i + 1)) behind)) in
     sym one ∙ so_far
 
-pub ends : {A : Type 0} (read : List ℕ → Reads A) (x : ImageError) (front : List A) (count i : ℕ) (bytes : List ℕ) (whole : Reads (List A)) → i < count → IsFault x (read bytes)
+pub ends : {A : Type 0} (read : List ℕ → Reads A) (x : FieldError) (front : List A) (count i : ℕ) (bytes : List ℕ) (whole : Reads (List A)) → i < count → IsFault x (read bytes)
     → with_front front (repeated read (count - i) bytes) ≡ whole → Fails x whole
 unfolding repeated
 ends read x front count i bytes whole lt fails so_far =

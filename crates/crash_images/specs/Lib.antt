@@ -1,4 +1,9 @@
 pub mod Contents
 pub mod Spelling
 pub mod Reading
+pub mod Schedules
+pub mod Logs
+pub mod Checks
+pub mod Images
+pub mod Laws
 pub mod links

@@ -1,11 +1,14 @@
 //! Why bytes are no image.
 ghost use Rattle.std.specs.Prelude.{◌≡◌};
 
+use crate::fields::FieldError;
+use crate::schedules::ScheduleFault;
 use ido_base::memory::Memory;
 use ido_base::place::Place;
+use ido_compile::CompileError;
 use thiserror::Error;
 
-/// The first fault of bytes, in their order.
+/// The first fault of bytes, in the order of these variants.
 #[derive(Clone, Copy, Debug, PartialEq, Eq, Drop, Error)]
 pub enum ImageError {
     /// The first 8 bytes are others.
@@ -17,15 +20,48 @@ pub enum ImageError {
     /// A field isn't whole. The place is the end of the bytes.
     #[error("bytes are missing")]
     Cut(Place),
-    /// The source is too long, or its variables take another number of bytes.
+    /// The source is too long, the compiler refuses it, or its variables take another number of bytes.
     #[error("another source")]
     Source,
     /// The image ends there, and more bytes follow.
     #[error("bytes behind the end")]
     Rest(Place),
+    /// The thread can't be resumed at its point.
+    #[error("no point of thread {thread}")]
+    Point { thread: u32 },
+    /// Where the thread is resumed, it holds other mutexes than its log says.
+    #[error("other mutexes of thread {thread}")]
+    Mask { thread: u32 },
+    /// No local that is live in the register where the thread is resumed has such a number; or, of register 28,
+    /// no element that the thread may write next has this address.
+    #[error("another number in register {register} of thread {thread}")]
+    Slot { thread: u32, register: u8 },
+    /// Both threads hold the mutex of this number.
+    #[error("mutex {lock} is held by threads {first} and {second}")]
+    Shared { lock: u32, first: u32, second: u32 },
+    /// The step of the schedule, counted from 1, is none that the source makes, or isn't told as it should be.
+    #[error("no step {step}")]
+    Schedule { step: u64 },
     /// An allocation was refused.
     #[error("out of memory")]
     Memory,
+}
+
+impl From<FieldError> for ImageError {
+    ghost use Rattle.crash_images.specs.links.Errors.{of_field};
+
+    ghost from_gives = { λ x e. e ≡ of_field x };
+
+    fn from(error: FieldError) -> Self {
+        match error {
+            FieldError::Magic => ImageError::Magic,
+            FieldError::Version => ImageError::Version,
+            FieldError::Cut(place) => ImageError::Cut(place),
+            FieldError::Source => ImageError::Source,
+            FieldError::Rest(place) => ImageError::Rest(place),
+            FieldError::Memory => ImageError::Memory,
+        }
+    }
 }
 
 impl From<Memory> for ImageError {
@@ -35,5 +71,31 @@ impl From<Memory> for ImageError {
 
     fn from(_: Memory) -> Self {
         ImageError::Memory
+    }
+}
+
+impl From<CompileError> for ImageError {
+    ghost use Rattle.crash_images.specs.links.Errors.{of_compile};
+
+    ghost from_gives = { λ x e. e ≡ of_compile x };
+
+    fn from(error: CompileError) -> Self {
+        match error {
+            CompileError::Refused { .. } => ImageError::Source,
+            CompileError::Memory => ImageError::Memory,
+        }
+    }
+}
+
+impl From<ScheduleFault> for ImageError {
+    ghost use Rattle.crash_images.specs.links.Errors.{of_schedule};
+
+    ghost from_gives = { λ x e. e ≡ of_schedule x };
+
+    fn from(error: ScheduleFault) -> Self {
+        match error {
+            ScheduleFault::Step(step) => ImageError::Schedule { step },
+            ScheduleFault::Memory => ImageError::Memory,
+        }
     }
 }

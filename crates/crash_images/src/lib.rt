@@ -3,10 +3,19 @@
 
 pub mod error;
 mod fields;
+pub mod image;
+pub mod laws;
 mod limits;
-pub mod reading;
+mod logs;
+mod mutexes;
+mod reading;
 mod runs;
-pub mod state;
+#[cfg(test)]
+mod schedule_tests;
+mod schedules;
+mod slots;
+mod state;
 #[cfg(test)]
 mod tests;
+mod threads;
 pub mod writing;

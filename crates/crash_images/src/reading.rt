@@ -8,8 +8,9 @@ ghost use Rattle.crash_images.specs.Reading.{repeated, word_at, run_at, size_at,
 ghost use Rattle.crash_images.specs.links.Gives.{Tells, Gives};
 ghost use Rattle.crash_images.specs.links.Views.{run_of, state_of};
 
-use crate::error::ImageError;
-use crate::fields::{bytes_at, magic_at, number_at, place_of, run_at, version_at, word_at};
+use crate::fields::{
+    FieldError, bytes_at, magic_at, number_at, place_of, run_at, version_at, word_at,
+};
 use crate::limits::{LOG_WORDS, MOST_SOURCE, WORD_BYTES};
 use crate::state::{Run, State};
 use ido_base::memory::Memory;
@@ -29,7 +30,7 @@ fn words_at(
     total: u32,
     count: u64,
     bytes: &[u8],
-) -> Result<(Vec<u64>, &[u8]), ImageError>
+) -> Result<(Vec<u64>, &[u8]), FieldError>
     ensures { Gives (λ x. (x.0.items, x.1.now)) result (repeated (word_at total) count bytes.now) }
 {
     let mut words = Vec::new(alloc);
@@ -48,7 +49,7 @@ fn runs_at(
     total: u32,
     count: u32,
     bytes: &[u8],
-) -> Result<(Vec<Run>, &[u8]), ImageError>
+) -> Result<(Vec<Run>, &[u8]), FieldError>
     ensures { Gives (λ x. (map run_of x.0.items, x.1.now)) result (repeated (run_at total) count bytes.now) }
 {
     let mut runs = Vec::new(alloc);
@@ -63,20 +64,20 @@ fn runs_at(
 
 /// How many bytes the variables take: so many.
 #[tactic(auto, unfolding(crate::specs::Reading::size_at))]
-fn size_at(total: u32, size: u32, bytes: &[u8]) -> Result<&[u8], ImageError>
+fn size_at(total: u32, size: u32, bytes: &[u8]) -> Result<&[u8], FieldError>
     ensures { Tells (λ x. x.now) result (size_at total size bytes.now) }
 {
     let (found, rest) = number_at(total, bytes)?;
     if found == size {
         Ok(rest)
     } else {
-        Err(ImageError::Source)
+        Err(FieldError::Source)
     }
 }
 
 /// The source of all bytes and what stands behind it, or their first fault.
 #[tactic(auto, unfolding(crate::specs::Reading::source_at))]
-fn source_at(bytes: &[u8]) -> Result<(&[u8], &[u8]), ImageError>
+fn source_at(bytes: &[u8]) -> Result<(&[u8], &[u8]), FieldError>
     requires { length bytes.now ≤ 67108864 }
     ensures { Tells (λ x. (x.0.now, x.1.now)) result (source_at bytes.now) }
 {
@@ -87,7 +88,7 @@ fn source_at(bytes: &[u8]) -> Result<(&[u8], &[u8]), ImageError>
     if size <= MOST_SOURCE {
         bytes_at(total, size as usize, rest)
     } else {
-        Err(ImageError::Source)
+        Err(FieldError::Source)
     }
 }
 
@@ -99,7 +100,7 @@ fn state_at(
     rest: &[u8],
     size: u32,
     threads: u32,
-) -> Result<State, ImageError>
+) -> Result<State, FieldError>
     ensures { Gives state_of result (state_at total size threads rest.now) }
 {
     let rest = size_at(total, size, rest)?;
@@ -108,7 +109,7 @@ fn state_at(
     let (count, rest) = number_at(total, rest)?;
     let (runs, rest) = runs_at(alloc, total, count, rest)?;
     if !rest.is_empty() {
-        return Err(ImageError::Rest(place_of(total, rest)));
+        return Err(FieldError::Rest(place_of(total, rest)));
     }
     Ok(State {
         variables,
@@ -121,7 +122,7 @@ fn state_at(
 ///
 /// Numbers are of four bytes, little-endian: 8 bytes `IDO-IMG` and LF, the version 1, the number of bytes of
 /// the source, at most 1,048,576, and these.
-pub fn read_source(bytes: &[u8]) -> Result<(&[u8], &[u8]), ImageError>
+pub(crate) fn read_source(bytes: &[u8]) -> Result<(&[u8], &[u8]), FieldError>
     requires short { length bytes.now ≤ 67108864 }
     // What is read is spelled so, and isn't too long.
     ensures found { IfOk result (λ x. (length x.0.now ≤ most_source) × (bytes.now ≡ source_text x.0.now ++ x.1.now)) }
@@ -139,13 +140,13 @@ pub fn read_source(bytes: &[u8]) -> Result<(&[u8], &[u8]), ImageError>
 /// Numbers are of four bytes, little-endian: the number of bytes of the variables, their durable words, the
 /// durable words of the logs, 128 for each thread, the number of runs, and of each run the thread and how many
 /// steps it took. Words are of eight bytes, little-endian.
-pub fn read_state(
+pub(crate) fn read_state(
     alloc: Global,
     total: u32,
     rest: &[u8],
     size: u32,
     threads: u32,
-) -> Result<State, ImageError>
+) -> Result<State, FieldError>
     requires whole { size % word_bytes ≡ 0 }
     // What is read is spelled so, and fits the source.
     ensures found { IfOk result (λ state. IsState size threads (state_of state) × (rest.now ≡ state_text (state_of state))) }

@@ -4,6 +4,7 @@ ghost use Rattle.run_scripts.specs.Reports.{runs_of};
 ghost use Rattle.crash_images.specs.Contents.{contents, schedule_of, most_source, most_variables, most_logs, most_steps};
 ghost use Rattle.crash_images.specs.Spelling.{number, word, run_text, source_text, state_text, spelling};
 ghost use Rattle.crash_images.specs.Reading.{IsReadAs};
+ghost use Rattle.crash_images.specs.Schedules.{AreMerged};
 ghost use Rattle.crash_images.specs.links.Views.{run_of};
 
 use crate::limits::WORD_BYTES;
@@ -126,6 +127,8 @@ pub fn write_image(
     ensures short { IfOk result (λ image. length image.items ≤ 67108864) }
     // The runs tell each step.
     ensures steps { schedule_of (runs_of schedule.now) ≡ schedule.now }
+    // Each of them takes a step, and the next is of another thread.
+    ensures merged { AreMerged (runs_of schedule.now) }
 {
     spelled(alloc, source, variables, logs, schedule)
 }

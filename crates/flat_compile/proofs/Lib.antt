@@ -6,4 +6,9 @@ pub mod LeftOut
 pub mod Systems
 pub mod Limits
 pub mod Plans
+pub mod Stores
+pub mod Spots
+pub mod Owned
+pub mod Lives
+pub mod Tables
 pub mod Sample

@@ -18,7 +18,15 @@ use Rattle.flow_graph.specs.declared.cuts.Cuts.{Cuts}
 use Rattle.flow_graph.specs.Nodes.{Graph}
 use Rattle.flow_graph.specs.Cutting.{IsMinimal, boundaries_of}
 use Rattle.thread_code.specs.Plans.{Plan, IsPlan}
-use Rattle.flat_compile.specs.Translating.{IsTranslated}
+use Rattle.std.proofs.Common.{ap}
+use Rattle.std.specs.Prelude.{slice_index_or}
+use Rattle.rv64_isa.specs.declared.object.ThreadMarks.{ThreadMarks}
+use Rattle.code_runs.specs.Walks.{Program}
+use Rattle.recovered_threads.specs.Telling.{Codes}
+use Rattle.resumed_programs.specs.Systems.{System, IsSystem}
+use Rattle.flat_compile.specs.declared.resumes.Resume.{Resume}
+use Rattle.flat_compile.specs.Resuming.{AreMarksOf, AreMarked, IsResumeTable}
+use Rattle.flat_compile.specs.Translating.{IsTranslated, IsResumable, resume_marks}
 use Rattle.flat_compile.specs.links.Emission.{IsCodeFor}
 use Rattle.flat_compile.proofs.Linked.{AllFew, marked_count}
 use Rattle.flat_compile.proofs.Limits.{count, within_limits}
@@ -58,3 +66,33 @@ is_translated p code is plan object marks cuts at minimal linked initial mutexes
           marked_count code_base threads (program_of object) marks.threads.items linked
           ∙ sym (count p plan threads object marks.threads.items is.is few eight linked begins);
     }
+
+-- ---- Where recovery may resume its threads
+
+marks_of : (y : System) (s : IsSystem y) → length y.resumes ≡ length y.plan.graph.threads → AreMarksOf y.plan s.codes y.resumes
+marks_of y s long = record {
+  count = long;
+  each = λ n below.
+      ap (λ (x : Program). x.resumes) (s.own n below).program ∙ ap (λ (m : ℕ). slice_index_or y.resumes m []) (s.codes.number n below);
+}
+
+module _ (p : Plan) (code : Code) (is : IsCodeFor p code) (plan : IsPlan p) (object : Object) (marks : Marks) (cuts : Cuts)
+    (at : p.boundaries ≡ boundaries_of cuts) (minimal : IsMinimal p.graph (boundaries_of cuts))
+    (linked : AreLinked code_base (map items_in code.threads.items) (program_of object) marks.threads.items)
+    (initial : object.initial ≡ code.initial) (mutexes : object.mutexes ≡ code.mutexes) where
+  abbrev whole : IsTranslated p.flat object marks cuts
+  whole = is_translated p code is plan object marks cuts at minimal linked initial mutexes
+
+  resumes_long : length (resume_marks marks.threads.items) ≡ length p.graph.threads
+  resumes_long =
+      length-map marks.threads.items (λ (m : ThreadMarks). m.resumes.items)
+      ∙ marked_count code_base (map items_in code.threads.items) (program_of object) marks.threads.items linked ∙ is.is.count
+
+  pub marked : AreMarked p (resume_marks marks.threads.items)
+  unfolding is_translated
+  marked = record { codes = whole.is.codes; are = marks_of whole.system whole.is resumes_long }
+
+  pub resumable : (table : List (Vec Resume Global)) → ((codes : Codes p) → AreMarksOf p codes (resume_marks marks.threads.items) → IsResumeTable p codes table) →
+      IsResumable p.flat object marks cuts table
+  unfolding is_translated
+  resumable table h = record { translated = whole; are = h whole.is.codes (marks_of whole.system whole.is resumes_long) }

@@ -1,3 +1,4 @@
 pub mod Accepting
+pub mod Resuming
 pub mod Translating
 pub mod links

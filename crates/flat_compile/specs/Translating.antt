@@ -10,6 +10,10 @@ use Rattle.flow_graph.specs.declared.cuts.Cuts.{Cuts}
 use Rattle.flow_graph.specs.Lowering.{lowered}
 use Rattle.flow_graph.specs.Cutting.{IsMinimal, boundaries_of}
 use Rattle.resumed_programs.specs.Systems.{System, IsSystem, flat_of}
+use Rattle.std.specs.Prelude.{Vec}
+use Rattle.std.specs.Global.{Global}
+use Rattle.flat_compile.specs.declared.resumes.Resume.{Resume}
+use Rattle.flat_compile.specs.Resuming.{IsResumeTable}
 
 -- of each thread the marks of its nodes, and where it may be resumed
 abbrev pub node_marks : List ThreadMarks → List (List ℕ)
@@ -35,3 +39,8 @@ pub record IsTranslated (flat : Flat) (object : Object) (marks : Marks) (cuts : 
   pub limits : IsWithinLimits object
   -- as many threads are marked as there are
   pub threads : length marks.threads.items ≡ length object.code.items
+
+-- the table tells of each thread of that system what it has where recovery may resume it
+pub record IsResumable (flat : Flat) (object : Object) (marks : Marks) (cuts : Cuts) (table : List (Vec Resume Global)) : Type 0 where
+  pub translated : IsTranslated flat object marks cuts
+  pub are : IsResumeTable translated.system.plan translated.is.codes table

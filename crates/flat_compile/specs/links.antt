@@ -1,1 +1,2 @@
 pub mod Emission
+pub mod Resuming

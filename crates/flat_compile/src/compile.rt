@@ -10,9 +10,12 @@ ghost use Rattle.flow_graph.specs.Colours.{colouring_of};
 ghost use Rattle.thread_code.specs.Plans.{IsPlan};
 ghost use Rattle.rv64_codegen.specs.Plans.{plan_of};
 ghost use Rattle.flat_compile.specs.Accepting.{IsAcceptedForm};
-ghost use Rattle.flat_compile.specs.Translating.{IsTranslated};
+ghost use Rattle.recovered_threads.specs.Telling.{Codes};
+ghost use Rattle.flat_compile.specs.Translating.{IsTranslated, IsResumable, resume_marks};
+ghost use Rattle.flat_compile.specs.Resuming.{IsResumeTable, AreMarksOf, AreMarked};
 ghost use Rattle.flat_compile.specs.links.Emission.{IsCodeFor, plan_from};
 
+use crate::resumes::{Resume, resume_table};
 use c_tree::flat::Flat;
 use flow_graph::colours::Colours;
 use flow_graph::cuts::Cuts;
@@ -37,6 +40,8 @@ pub struct Translated {
     pub marks: Marks,
     /// Where boundaries stand among the nodes of the graph.
     pub cuts: Cuts,
+    /// Of each thread what it has where recovery may resume it, in the order of the addresses.
+    pub resumes: Vec<Vec<Resume>>,
 }
 
 // The mutexes that are held before each step: the form keeps the lock discipline.
@@ -103,11 +108,40 @@ fn code(
     emitted(alloc, &plan)
 }
 
+// Of each thread what it has where recovery may resume it.
+fn resumes(
+    alloc: Global,
+    flat: &Flat,
+    graph: &Graph,
+    cuts: &Cuts,
+    held: &Held,
+    live: &LiveSets,
+    colours: &Colours,
+    marks: &Marks,
+) -> Result<Vec<Vec<Resume>>, Memory>
+    requires plan { IsPlan (plan_from flat.now graph.now cuts.now held.now live.now colours.now) }
+    requires marked { AreMarked (plan_from flat.now graph.now cuts.now held.now live.now colours.now) (resume_marks marks.now.threads.items) }
+    ensures { IfOk result (λ r. (codes : Codes (plan_from flat.now graph.now cuts.now held.now live.now colours.now)) →
+        AreMarksOf (plan_from flat.now graph.now cuts.now held.now live.now colours.now) codes (resume_marks marks.now.threads.items) →
+        IsResumeTable (plan_from flat.now graph.now cuts.now held.now live.now colours.now) codes r.items) }
+{
+    let plan = Plan {
+        flat,
+        graph,
+        cuts,
+        held,
+        live,
+        colours,
+    };
+    resume_table(alloc, &plan, marks)
+}
+
 /// The object of an accepted flat form, the addresses of its marks, and where boundaries stand: a machine that runs it is resumed after
 /// each crash. Want of memory is all that may hinder it.
 pub fn translate(alloc: Global, flat: &Flat) -> Result<Translated, Memory>
     requires { IsAcceptedForm (flat_of flat.now) }
-    ensures { IfOk result (λ r. IsTranslated (flat_of flat.now) r.object r.marks r.cuts) }
+    ensures translated { IfOk result (λ r. IsTranslated (flat_of flat.now) r.object r.marks r.cuts) }
+    ensures resumes { IfOk result (λ r. IsResumable (flat_of flat.now) r.object r.marks r.cuts r.resumes.items) }
 {
     let held = held(alloc, flat)?;
     let graph = lower(alloc, flat)?;
@@ -116,9 +150,11 @@ pub fn translate(alloc: Global, flat: &Flat) -> Result<Translated, Memory>
     let cuts = cut(alloc, &graph)?;
     let code = code(alloc, flat, &graph, &cuts, &held, &live, &colours)?;
     let (object, marks) = link(alloc, code)?;
+    let resumes = resumes(alloc, flat, &graph, &cuts, &held, &live, &colours, &marks)?;
     Ok(Translated {
         object,
         marks,
         cuts,
+        resumes,
     })
 }

@@ -3,6 +3,7 @@
 
 pub mod compile;
 pub mod laws;
+pub mod resumes;
 #[cfg(test)]
 mod tests;
 

@@ -114,6 +114,18 @@ fn happy_paths(rt: HostRuntime) {
         assert_eq!(rt; marks.nodes.len(), 7);
         assert_eq!(rt; marks.resumes.len(), 1);
     }
+    // the thread is resumed behind the lock, at the evaluation: it holds the mutex, and nothing is live or pending there
+    assert_eq!(rt; made.resumes.len(), 1);
+    for (resumes, marks) in made.resumes.iter().zip(&made.marks.threads) {
+        assert_eq!(rt; resumes.len(), 1);
+        for (resume, address) in resumes.iter().zip(&marks.resumes) {
+            assert_eq!(rt; resume.address, *address);
+            assert_eq!(rt; resume.node, 1);
+            assert_eq!(rt; resume.mask, 1);
+            assert_eq!(rt; resume.live.len(), 0);
+            assert!(rt; resume.pending.is_none());
+        }
+    }
     // the line of the variable is cleaned once, with two lines of the log behind the lock and one at the unlock; each boundary has two fences
     for code in &made.object.code {
         assert_eq!(rt; cleans(code), 4);

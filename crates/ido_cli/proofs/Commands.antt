@@ -1,10 +1,15 @@
 -- What `clap` tells of words.
-use Rattle.std.proofs.Common.{◌≡◌, refl, List, [], ◌∷◌, sym, ◌∙◌, ap, subst, Bool, true, false, Option, Some, None, inl, inr, length, ◌==◌, arith}
+use Rattle.std.proofs.Common.{◌≡◌, refl, ℕ, ◌-◌, ◌^◌, ◌<◌, ◌≤◌, List, [], ◌∷◌, sym, ◌∙◌, ap, ap₂, subst, Bool, true, false, Option, Some, None, Result, Ok, Err, inl, inr, length, ◌==◌, arith}
 use Rattle.std.proofs.lemmas.Bool.{eqb-true}
-use Rattle.std.specs.Prelude.{option_map, Box, if◌then◌else◌}
+use Rattle.std.specs.Prelude.{option_and_then, option_map, Box, if◌then◌else◌}
 use Rattle.std.specs.Box.{box_value}
-use Rattle.clap.specs.Words.{App, HasKind, HasMatchesOf, IsAmong, Kinds, Text, fault_of, is_simple, is_simple_and_free, kind_of, subcommand_name_of, subcommand_of, subcommand_rows, subcommand_rows_of}
+use Rattle.std.specs.Str.Parse.{ParsesUnsigned, digits_value, without_leading_plus}
+use Rattle.clap.specs.Matches.{ReadsOne}
+use Rattle.clap.specs.Values.{IsUnsignedIn}
+use Rattle.clap.specs.ValueTests.{is_unsigned_in}
+use Rattle.clap.specs.Words.{App, HasKind, HasMatchesOf, IsAmong, Kinds, Row, Text, fault_of, is_simple, is_simple_and_free, kind_of, subcommand_name_of, subcommand_of, subcommand_rows, subcommand_rows_of}
 use Rattle.clap.specs.Walk.{is_empty}
+use Rattle.clap.specs.declared.builder.value_parser.ValueParser.TheVariants as parser
 use Rattle.clap.specs.declared.error.Error.{Error}
 use Rattle.clap.specs.declared.error.kind.ErrorKind.{ErrorKind}
 use Rattle.clap.specs.declared.error.kind.ErrorKind.TheVariants as kind
@@ -12,7 +17,8 @@ use Rattle.clap.specs.declared.parser.matches.ArgMatches.{ArgMatches}
 use Rattle.clap.specs.declared.parser.matches.ArgMatches.TheViews.{out-ArgMatches, out-SubCommand}
 use Rattle.clap.specs.declared.parser.matches.SubCommand.{SubCommand}
 use Rattle.clap.proofs.OnLiterals.{clap_on_literals}
-use Rattle.ido_cli.specs.Commands.{command_named, command_of, table}
+use Rattle.clap.proofs.ValueTestLemmas.{accepts-Accepts, Accepts-accepts}
+use Rattle.ido_cli.specs.Commands.{command_by_name, command_of, number_of, table}
 use Rattle.ido_cli.specs.declared.command.Command as c
 
 simple : is_simple table ≡ true
@@ -23,6 +29,42 @@ free : is_simple_and_free table ≡ true
 unfolding clap_on_literals
 free = refl
 
+-- ---- Numbers
+
+number_is : (text : Text) → IsUnsignedIn 0 (2 ^ 32 - 1) text → number_of text ≡ Some (digits_value 10 (without_leading_plus text))
+number_is text is =
+    let n = digits_value 10 (without_leading_plus text) in
+    ap (λ (b : Bool). let o : Option ℕ = if b then Some n else None in o) (Accepts-accepts false (parser.Unsigned 0 (2 ^ 32 - 1)) text is)
+
+no_number : (text : Text) → (IsUnsignedIn 0 (2 ^ 32 - 1) text → ⊥) → number_of text ≡ None
+no_number text not = by (is_unsigned_in 0 (2 ^ 32 - 1) text) refl
+  where
+    by : (b : Bool) → is_unsigned_in 0 (2 ^ 32 - 1) text ≡ b → number_of text ≡ None
+    by true e = absurd (not (accepts-Accepts false (parser.Unsigned 0 (2 ^ 32 - 1)) text e))
+    by false e = ap (λ (b : Bool). let o : Option ℕ = if b then Some (digits_value 10 (without_leading_plus text)) else None in o) e
+
+-- what a text is read as that stands for a number of 32 bits
+pub read_number : {E : Type 0} (gives : Text → Result ℕ E → Type 0) → ((t : Text) (r : Result ℕ E) → gives t r → ParsesUnsigned 32 10 t r) →
+    (text : Text) (value : Option ℕ) → ReadsOne gives text value → value ≡ number_of text
+read_number gives parses text (Some n) read =
+    let parsed = parses text (Ok n) read in
+    ap Some parsed.1 ∙ sym (number_is text (parsed.0.0, omega (arith, parsed.0.1), omega arith, omega (arith, parsed.0.1)))
+read_number gives parses text None read =
+    let not = parses text (Err read.0) read.1 in
+    sym (no_number text (λ is. not (is.0, omega (arith, is.3))))
+
+pub read_turns : {E : Type 0} (gives : Text → Result ℕ E → Type 0) → ((t : Text) (r : Result ℕ E) → gives t r → ParsesUnsigned 32 10 t r) →
+    (text : Option Text) (value : Option ℕ) → (text ≡ None → value ≡ None) → ((t : Text) → text ≡ Some t → ReadsOne gives t value) →
+    value ≡ option_and_then number_of text
+read_turns gives parses None value none some = none refl
+read_turns gives parses (Some t) value none some = read_number gives parses t value (some t refl)
+
+-- ---- Commands
+
+-- the command of a name and of the rows of its own words, where there is one
+abbrev named : Option (Text × List Row) → Option c.Command
+named o = option_and_then (λ p. command_by_name p.0 p.1) o
+
 name_of_rows : {Z : Type 0} (o : Option (Box SubCommand Z)) → option_map (λ b. (out-SubCommand (box_value b)).name.now) o ≡ option_map (λ p. p.0) (subcommand_rows o)
 name_of_rows None = refl
 name_of_rows (Some b) = refl
@@ -30,13 +72,37 @@ name_of_rows (Some b) = refl
 named_by_rows : (m : ArgMatches) → subcommand_name_of m ≡ option_map (λ p. p.0) (subcommand_rows_of m)
 named_by_rows m = name_of_rows (out-ArgMatches m).subcommand
 
-pub taken : (a : App) (words : List Text) (m : ArgMatches) (result : Option c.Command) → a ≡ table → HasMatchesOf a words m → (is_simple_and_free a ≡ true → fault_of a words ≡ []) → result ≡ command_named (subcommand_name_of m) → result ≡ command_of words
+both_of : (name : Text) (rows : List Row) (o : Option (Text × List Row)) → Some name ≡ option_map (λ p. p.0) o → Some rows ≡ option_map (λ p. p.1) o → command_by_name name rows ≡ named o
+both_of name rows None n r = absurd (cc n)
+both_of name rows (Some p) n r =
+    let names : name ≡ p.0 = cc in
+    let same : rows ≡ p.1 = cc in
+    ap₂ command_by_name names same
+
+none_of : (o : Option (Text × List Row)) → None ≡ option_map (λ p. p.0) o → None ≡ named o
+none_of None n = refl
+none_of (Some p) n = absurd (cc n)
+
+met : (a : App) (words : List Text) (m : ArgMatches) → a ≡ table → HasMatchesOf a words m → (is_simple_and_free a ≡ true → fault_of a words ≡ []) → named (subcommand_rows_of m) ≡ command_of words
 unfolding command_of
-taken a words m result is matches faultless e =
+met a words m is matches faultless =
     let none : fault_of table words ≡ [] = sym (ap (λ (x : App). fault_of x words) is) ∙ faultless (ap is_simple_and_free is ∙ free) in
     let rows : subcommand_rows_of m ≡ subcommand_of table words = (matches (ap is_simple is ∙ simple)).1 ∙ ap (λ (x : App). subcommand_of x words) is in
-    e ∙ ap command_named (named_by_rows m ∙ ap (option_map (λ p. p.0)) rows)
-    ∙ sym (ap (λ (k : Kinds). let o : Option c.Command = if is_empty k then command_named (option_map (λ p. p.0) (subcommand_of table words)) else None in o) none)
+    ap named rows
+    ∙ sym (ap (λ (k : Kinds). let o : Option c.Command = if is_empty k then named (subcommand_of table words) else None in o) none)
+
+-- where the words are taken, with a command or without
+pub taken : (a : App) (words : List Text) (m : ArgMatches) (name : Text) (rows : List Row) (result : Option c.Command) → a ≡ table → HasMatchesOf a words m →
+    (is_simple_and_free a ≡ true → fault_of a words ≡ []) → Some name ≡ subcommand_name_of m → Some rows ≡ option_map (λ p. p.1) (subcommand_rows_of m) →
+    result ≡ command_by_name name rows → result ≡ command_of words
+taken a words m name rows result is matches faultless name_is rows_are e =
+    e ∙ both_of name rows (subcommand_rows_of m) (name_is ∙ named_by_rows m) rows_are ∙ met a words m is matches faultless
+
+pub none_taken : (a : App) (words : List Text) (m : ArgMatches) → a ≡ table → HasMatchesOf a words m → (is_simple_and_free a ≡ true → fault_of a words ≡ []) →
+    None ≡ subcommand_name_of m → None ≡ command_of words
+none_taken a words m is matches faultless none = none_of (subcommand_rows_of m) (none ∙ named_by_rows m) ∙ met a words m is matches faultless
+
+-- ---- Words that aren't taken
 
 some_fault : (k : ErrorKind) (ks : Kinds) (o : Option c.Command) → IsAmong k ks → None ≡ (let r : Option c.Command = if is_empty ks then o else None in r)
 some_fault k [] o h = absurd h
@@ -52,4 +118,4 @@ refused a words e is other fault = by (fault (ap is_simple_and_free is ∙ free)
   where
     by : HasKind (fault_of a words) e → None ≡ command_of words
     by (inl h) = absurd (other h)
-    by (inr h) = some_fault (kind_of e) (fault_of table words) (command_named (option_map (λ p. p.0) (subcommand_of table words))) (subst (λ (x : App). IsAmong (kind_of e) (fault_of x words)) is h)
+    by (inr h) = some_fault (kind_of e) (fault_of table words) (named (subcommand_of table words)) (subst (λ (x : App). IsAmong (kind_of e) (fault_of x words)) is h)

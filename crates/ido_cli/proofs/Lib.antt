@@ -16,4 +16,8 @@ pub mod Settled
 pub mod DurableNumbers
 pub mod Playing
 pub mod Played
+pub mod Kept
+pub mod Imaged
+pub mod Turns
+pub mod Recovering
 pub mod ScriptAnswers

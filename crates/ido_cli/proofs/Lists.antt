@@ -1,11 +1,14 @@
 -- What an input within its limits is answered.
 use Rattle.std.proofs.Common.{◌≡◌, inl, inr, ℕ, ◌≤◌, List, length, subst, arith}
-use Rattle.std.specs.Prelude.{IfOk, Result, Ok, Err}
+use Rattle.std.specs.Prelude.{IfOk, Result, Ok, Err, codes}
 use Rattle.object_format.specs.Reading as o
 use Rattle.ido_cli.specs.declared.command.Command.TheVariants as command
+use Rattle.ido_cli.specs.declared.play.Asked.{Asked}
+use Rattle.ido_cli.specs.declared.play.Asked.TheVariants as asks
 use Rattle.ido_cli.specs.declared.said.Said.{Said}
-use Rattle.ido_cli.specs.Answers.{AnswerToInput, CompileAnswer, IsSourcePastLimits, ListAnswer, PlayAnswer, RegionsAnswer, SourceAnswer, most_bytes, most_source_bytes, no_object, within_limits}
+use Rattle.ido_cli.specs.Answers.{AnswerToInput, CompileAnswer, IsSourcePastLimits, ListAnswer, Refuses, RegionsAnswer, ScriptedAnswer, SourceAnswer, most_bytes, most_source_bytes, no_object, past_limits, within_limits}
 use Rattle.ido_cli.specs.Inputs.{source_of}
+use Rattle.ido_cli.specs.links.Asking.{Says, command_asking}
 use Rattle.ido_cli.specs.Refusals.{line_at_byte, object_fault_code, object_fault_place}
 
 pub refuses : {E : Type 0} (input : List ℕ) (fault : o.Fault) (r : Result Said E) → o.read input ≡ Err fault → IfOk r (λ said. said.status ≡ 6)
@@ -27,10 +30,17 @@ pub cuts : {E : Type 0} (input : List ℕ) (r : Result Said E) → length input 
 cuts input (Ok said) short answer = within_limits (λ long. omega (arith, short, long)) answer
 cuts input (Err e) short answer = tt
 
-pub plays : {E : Type 0} (input source : List ℕ) (r : Result Said E) → length input ≤ most_bytes → length source ≤ most_source_bytes → source ≡ source_of input
-    → IfOk r (λ said. PlayAnswer input said.status said.output.items) → IfOk r (λ said. AnswerToInput command.Play input said.status said.output.items)
-plays input source (Ok said) short short_source is answer = within_limits (not_past input short (subst (λ s. length s ≤ most_source_bytes) is short_source)) answer
-plays input source (Err e) short short_source is answer = tt
+pub plays : {E : Type 0} (asked : Asked) (input source : List ℕ) (r : Result Said E) → length input ≤ most_bytes → length source ≤ most_source_bytes → source ≡ source_of input
+    → IfOk r (λ said. ScriptedAnswer (Says asked (source_of input)) input said.status said.output.items) → IfOk r (λ said. AnswerToInput (command_asking asked) input said.status said.output.items)
+plays asks.Report input source (Ok said) short short_source is answer = within_limits (not_past input short (subst (λ s. length s ≤ most_source_bytes) is short_source)) answer
+plays asks.Image input source (Ok said) short short_source is answer = within_limits (not_past input short (subst (λ s. length s ≤ most_source_bytes) is short_source)) answer
+plays asked input source (Err e) short short_source is answer = tt
+
+-- where the limits are past, whatever is asked
+pub plays_past : (asked : Asked) (input : List ℕ) (status : ℕ) (output : List ℕ) → IsSourcePastLimits input → Refuses 6 status (codes "limit") output →
+    AnswerToInput (command_asking asked) input status output
+plays_past asks.Report input status output past refuses = past_limits past refuses
+plays_past asks.Image input status output past refuses = past_limits past refuses
 
 pub runs : {E : Type 0} (input source : List ℕ) (r : Result Said E) → length input ≤ most_bytes → length source ≤ most_source_bytes → source ≡ source_of input
     → IfOk r (λ said. SourceAnswer input said.status said.output.items) → IfOk r (λ said. AnswerToInput command.Source input said.status said.output.items)

@@ -36,7 +36,7 @@ use Rattle.ido_cli.specs.Reports.{machine_state, unsettled_harts}
 use Rattle.ido_cli.specs.Runs.{IsReport, counted, named, run_state, taken, unsettled_threads}
 use Rattle.ido_cli.proofs.Gathered.{reported_is}
 use Rattle.ido_cli.proofs.Playing.{events_fit, events_pass}
-use Rattle.ido_cli.proofs.Settled.{settled_run}
+use Rattle.ido_cli.proofs.Settled.{run_of}
 
 -- ---- Harts of a machine
 
@@ -76,14 +76,14 @@ pub record HasPlayed (object : Object) (marks : Marks) (life : Course) (events :
   pub journal : life.journal ≡ events
 
 module _ (flat : f.Flat) (object : Object) (marks : Marks) (cuts : Cuts) (life : Course) (events : List Event) (p : HasPlayed object marks life events) where
-  same_world : world_of life ≡ world (translation_to flat object marks cuts) events
+  pub same_world : world_of life ≡ world (translation_to flat object marks cuts) events
   same_world =
       ap (λ (x : Moment). after_events x.program x.world life.journal) p.begins
       ∙ ap (after_events (program_of object) (first_world (translation_to flat object marks cuts))) p.journal
 
-  same_steps : steps_in life ≡ steps (translation_to flat object marks cuts) events
+  pub same_steps : steps_in life ≡ steps (translation_to flat object marks cuts) events
   same_steps =
-      ap (λ (x : Moment). steps_along x.marks x.program x.world life.journal (first_steps (length x.program) [])) p.begins
+      ap (λ (x : Moment). steps_along x.marks x.program x.world life.journal (first_steps (length x.program) x.kept_before)) p.begins
       ∙ ap (λ (es : List Event). steps (translation_to flat object marks cuts) es) p.journal
 
   pub harts_of_life : length (world_of life).harts ≡ length life.program
@@ -92,23 +92,13 @@ module _ (flat : f.Flat) (object : Object) (marks : Marks) (cuts : Cuts) (life :
       ∙ sym (ap (λ (x : Moment). length x.program) p.begins)
 
   module _ (compilation : IsCompilation (translation_to flat object marks cuts)) where
-    pub kept_runs : m.runs_from (m.start flat) (steps_in life).kept ≡ true
-    kept_runs =
-        ap (λ (s : Steps). m.runs_from (m.start flat) s.kept) same_steps ∙ (compilation.settled events).runs
-
     pub run_by : (status : ℕ) (output : List ℕ) → IsReport (machine_state flat (world_of life) (steps_in life).kept) status output →
         IsRunBy (translation_to flat object marks cuts) events status output
     run_by status output told =
         let c = translation_to flat object marks cuts in
-        let reported =
-        subst (λ (s : Steps). IsReport (machine_state flat (world c events) s.kept) status output) same_steps
-        (subst (λ (w : World). IsReport (machine_state flat w (steps_in life).kept) status output) same_world told) in
-        record {
-          reported = reported;
-          runs = (compilation.settled events).runs;
-          settled = settled_run c compilation events status output reported;
-          sections = compilation.sections events;
-        }
+        run_of c compilation events status output
+        (subst (λ (s : Steps). IsReport (machine_state flat (world c events) s.kept) status output) same_steps
+        (subst (λ (w : World). IsReport (machine_state flat w (steps_in life).kept) status output) same_world told))
 
 -- ---- The play of a script
 
@@ -139,10 +129,10 @@ module _ (flat : f.Flat) (object : Object) (marks : Marks) (cuts : Cuts) (lines 
     passed_at place some =
         subst (λ (x : Course). excess_at living (played living (opening_of x) x.journal) room lines ≡ Some place) is some
 
-  pub refused : (input : List ℕ) (begins place status : ℕ) (output : List ℕ) →
+  pub refused : (Says : List Event → ℕ → List ℕ → Type 0) (input : List ℕ) (begins place status : ℕ) (output : List ℕ) →
       excess_at living (beginning (translation_to flat object marks cuts)) most_events lines ≡ Some place → IsRefusedAt 6 (codes "E1") input (begins + place) status output →
-      ScriptAnswer (translation_to flat object marks cuts) lines input begins status output
-  refused input begins place status output some told =
+      ScriptAnswer (translation_to flat object marks cuts) Says lines input begins status output
+  refused Says input begins place status output some told =
       too_long (events_pass living (beginning (translation_to flat object marks cuts)) most_events place lines some) place some told
 
 -- ---- What is reported

@@ -11,7 +11,7 @@ use Rattle.compilation.specs.Translations.{Translation, world, steps, source}
 use Rattle.compilation.specs.Compilations.{IsCompilation}
 use Rattle.run_scripts.specs.Reports as r
 use Rattle.run_scripts.specs.Reports.{report}
-use Rattle.ido_cli.specs.Plays.{IsSourceRun}
+use Rattle.ido_cli.specs.Plays.{IsRunBy, IsSourceRun}
 use Rattle.ido_cli.specs.Reports.{machine_state, unsettled_harts}
 use Rattle.ido_cli.specs.Runs.{IsReport, named, run_state, status_by, unsettled_threads}
 use Rattle.ido_cli.proofs.Gathered.{chosen, left_out}
@@ -76,3 +76,13 @@ settled_run c is events status output told done =
       between = between;
       output_is = told.output_is ∙ ap report (same_state c.flat w (steps c events).kept none (all_between (source c (steps c events).kept) between) (k.variables settled));
     }
+
+-- all that is said of a run, of a translation and whatever events
+pub run_of : (c : Translation) → IsCompilation c → (events : List Event) (status : ℕ) (output : List ℕ) →
+    IsReport (machine_state c.flat (world c events) (steps c events).kept) status output → IsRunBy c events status output
+run_of c is events status output told = record {
+  reported = told;
+  runs = (is.settled events).runs;
+  settled = settled_run c is events status output told;
+  sections = is.sections events;
+}

@@ -1,5 +1,6 @@
--- Words and an input have one answer, where it stands on no compilation or refuses the source.
-use Rattle.std.proofs.Common.{◌≡◌, ◌⊎◌, inl, inr, ℕ, ◌+◌, List, [], ◌∷◌, Option, Some, None, Result, Ok, Err, true, false, sym, ap, ap₂, ◌∙◌, subst, arith}
+-- Words and an input have one answer, where it stands on no compilation.
+use Rattle.std.proofs.Common.{◌≡◌, ℕ, ◌+◌, List, [], ◌∷◌, length, Option, Some, None, Result, Ok, Err, true, false, sym, ap, ap₂, ◌∙◌, subst, arith}
+use Rattle.ido_base.specs.declared.event.Event.{Event}
 use Rattle.ido_base.specs.declared.place.Place.{Place}
 use Rattle.c_tree.specs.Flats as f
 use Rattle.c_tree.specs.Source.{start}
@@ -12,17 +13,19 @@ use Rattle.c_tree.specs.declared.rule.Rule as r
 use Rattle.flow_graph.specs.Refusals.{IsAccepted, IsRefusedBy}
 use Rattle.compilation.specs.Translations.{Translation}
 use Rattle.ido_cli.specs.Commands.{command_of}
-use Rattle.ido_cli.specs.Plays.{ScriptAnswer, too_long, ran as ran_by}
-use Rattle.ido_cli.specs.Refusals.{IsRefusedAt, code_of, fault_code, fault_place, line_at, line_at_byte, line_at_step, object_fault_code, object_fault_place, stop_code}
+use Rattle.ido_cli.specs.Images.{IsImageBehind}
+use Rattle.ido_cli.specs.Plays.{IsRunBy, ScriptAnswer, too_long, ran as ran_by}
+use Rattle.ido_cli.specs.Refusals.{IsRefusedAt, code_of, fault_code, fault_place, line_at, line_at_byte, line_at_step, object_fault_code, object_fault_place}
+use Rattle.ido_cli.specs.Refusals.{script_fault_code, script_fault_place, stop_code}
 use Rattle.object_format.specs.Contents.{Contents}
 use Rattle.object_format.specs.Reading as o
 use Rattle.ido_cli.specs.Listing.{listing}
 use Rattle.ido_cli.specs.Runs.{RunAnswer, ran, stopped, status_by}
-use Rattle.ido_cli.specs.Inputs.{source_of}
-use Rattle.ido_cli.specs.Answers.{CommandAnswer, CompileAnswer, uncompiled, compiled, RegionsAnswer, uncut, cut, PlayAnswer, unplayed, no_script, of_script}
-use Rattle.ido_cli.specs.Answers.{SourceAnswer, unaccepted, no_schedule, of_schedule, rest_begins, ListAnswer, no_object, of_object, AnswerToInput, past_limits, within_limits, wrong_words, taken_words}
+use Rattle.ido_cli.specs.Inputs.{source_of, rest_of}
+use Rattle.ido_cli.specs.Answers.{CommandAnswer, CompileAnswer, uncompiled, compiled, RegionsAnswer, uncut, cut, PlayAnswer, ScriptedAnswer, unplayed, no_script, of_script, ImageAnswer, RecoverAnswer, no_image, of_image}
+use Rattle.ido_cli.specs.Answers.{SourceAnswer, unaccepted, no_schedule, of_schedule, rest_begins, ListAnswer, no_object, of_object, AnswerToInput, IsPastLimits, past_limits, within_limits, wrong_words, taken_words}
 use Rattle.ido_compile.specs.Verdicts.{OneFlat, OneFault, NotBoth}
-use Rattle.ido_cli.specs.Laws.{IsPlain, OneAnswer}
+use Rattle.ido_cli.specs.Laws.{IsUncompiled, plain, past, breaks_rule, misspelled, OneAnswer}
 
 abbrev fails : o.Fault → Result Contents o.Fault
 fails fault = Err fault
@@ -109,36 +112,84 @@ module _ (one_flat : OneFlat) (one_fault : OneFault) (not_both : NotBoth) (one_s
   of_regions text status output (uncut found place is told) = breaks found place is told
   of_regions text status output (cut flat is object marks cuts made e told) = keeps flat is (λ one. omega (arith, e, one))
 
-  not_of_script : (c : Translation) (lines : List scripts.Line) (input : List ℕ) (begins status : ℕ) (output : List ℕ) → ScriptAnswer c lines input begins status output → status ≡ 1 → ⊥
-  not_of_script c lines input begins status output (too_long many place excess refused) one = let is = refused.0 in omega (arith, is, one)
-  not_of_script c lines input begins status output (ran_by few run) one = not_by_unsettled _ status run.reported.status_is one
+  module _ (Says : Translation → List Event → ℕ → List ℕ → Type 0) (others : (c : Translation) (events : List Event) (status : ℕ) (output : List ℕ) → Says c events status output → status ≡ 1 → ⊥) where
+    not_of_script : (c : Translation) (lines : List scripts.Line) (input : List ℕ) (begins status : ℕ) (output : List ℕ) → ScriptAnswer c (Says c) lines input begins status output → status ≡ 1 → ⊥
+    not_of_script c lines input begins status output (too_long many place excess refused) one = let is = refused.0 in omega (arith, is, one)
+    not_of_script c lines input begins status output (ran_by few said) one = others c _ status output said one
+
+    of_scripted : (input : List ℕ) (status : ℕ) (output : List ℕ) → ScriptedAnswer Says input status output → Verdict (source_of input) status output
+    of_scripted input status output (unplayed found place is told) = breaks found place is told
+    of_scripted input status output (no_script flat is x read told) = keeps flat is (λ one. let six = told.0 in omega (arith, six, one))
+    of_scripted input status output (of_script flat is lines read c made answer) = keeps flat is (not_of_script c lines input (rest_begins input) status output answer)
 
   of_play : (input : List ℕ) (status : ℕ) (output : List ℕ) → PlayAnswer input status output → Verdict (source_of input) status output
-  of_play input status output (unplayed found place is told) = breaks found place is told
-  of_play input status output (no_script flat is x read told) = keeps flat is (λ one. let six = told.0 in omega (arith, six, one))
-  of_play input status output (of_script flat is lines read c made answer) = keeps flat is (not_of_script c lines input (rest_begins input) status output answer)
+  of_play input status output answer = of_scripted IsRunBy (λ c events s o run. not_by_unsettled _ s run.reported.status_is) input status output answer
+
+  of_image_of : (input : List ℕ) (status : ℕ) (output : List ℕ) → ImageAnswer input status output → Verdict (source_of input) status output
+  of_image_of input status output answer =
+      of_scripted (IsImageBehind (source_of input)) (λ c events s o image one. let zero = image.status_is in omega (arith, zero, one)) input status output answer
+
+  not_of_recover : (turns : ℕ) (input : List ℕ) (status : ℕ) (output : List ℕ) → RecoverAnswer turns input status output → status ≡ 1 → ⊥
+  not_of_recover turns input status output (no_image error is e told) one = omega (arith, e, one)
+  not_of_recover turns input status output (of_image image is recovery) one = not_by_unsettled _ status recovery.reported.status_is one
+
+  -- ---- A script that isn't spelled as one
+
+  module _ (Says : Translation → List Event → ℕ → List ℕ → Type 0) (input : List ℕ) (flat : f.Flat) (is : IsAccepted (source_of input) flat) (x : scripts.Fault)
+      (bad : scripts.read (length flat.threads) (rest_of input) ≡ scripts.Refused x) where
+    reading : (other : f.Flat) → IsAccepted (source_of input) other → scripts.read (length other.threads) (rest_of input) ≡ scripts.Refused x
+    reading other also = ap (λ (z : f.Flat). scripts.read (length z.threads) (rest_of input)) (one_flat (source_of input) other flat also is) ∙ bad
+
+    misspelling : (status : ℕ) (output : List ℕ) → ScriptedAnswer Says input status output →
+        IsRefusedAt 6 (script_fault_code x) input (rest_begins input + script_fault_place x) status output
+    misspelling status output (unplayed found place broken told) = absurd (not_both (source_of input) flat found place is broken)
+    misspelling status output (no_script other also y read told) =
+        let both : scripts.Refused y ≡ scripts.Refused x = sym read ∙ reading other also in
+        let same : y ≡ x = cc both in
+        subst (λ z. IsRefusedAt 6 (script_fault_code z) input (rest_begins input + script_fault_place z) status output) same told
+    misspelling status output (of_script other also lines read c made answer) =
+        let both : scripts.Lines lines ≡ scripts.Refused x = sym read ∙ reading other also in cc both
+
+    one_misspelling : (status other : ℕ) (output written : List ℕ) → ScriptedAnswer Says input status output → ScriptedAnswer Says input other written →
+        Same status other output written
+    one_misspelling status other output written told more =
+        let one = misspelling status output told in
+        let two = misspelling other written more in
+        (one.0 ∙ sym two.0, one.1 ∙ sym two.1)
 
   -- ---- All words
 
-  one_within : (d : c.Command) (input : List ℕ) (status other : ℕ) (output written : List ℕ) → IsPlain (Some d) ⊎ (status ≡ 1) → CommandAnswer d input status output → CommandAnswer d input other written → Same status other output written
-  one_within command.Compile input status other output written (inl n) told more = absurd n
-  one_within command.Compile input status other output written (inr one) told more = one_refusal input status other output written one (of_compile input status output told) (of_compile input other written more)
-  one_within command.Regions input status other output written (inl n) told more = absurd n
-  one_within command.Regions input status other output written (inr one) told more = one_refusal input status other output written one (of_regions input status output told) (of_regions input other written more)
-  one_within command.Play input status other output written (inl n) told more = absurd n
-  one_within command.Play input status other output written (inr one) told more = one_refusal (source_of input) status other output written one (of_play input status output told) (of_play input other written more)
-  one_within command.Source input status other output written n told more = one_source input status other output written told more
-  one_within command.List input status other output written n told more = one_list input status other output written told more
+  one_within : (d : c.Command) (input : List ℕ) (status other : ℕ) (output written : List ℕ) → (IsPastLimits d input → ⊥) → IsUncompiled (Some d) input status → CommandAnswer d input status output → CommandAnswer d input other written → Same status other output written
+  one_within d input status other output written within (past d' e over) told more =
+      let same : d ≡ d' = cc e in
+      absurd (within (subst (λ z. IsPastLimits z input) (sym same) over))
+  one_within command.Compile input status other output written within (plain n) told more = absurd n
+  one_within command.Compile input status other output written within (breaks_rule one) told more = one_refusal input status other output written one (of_compile input status output told) (of_compile input other written more)
+  one_within command.Compile input status other output written within (misspelled takes flat is x bad) told more = absurd takes
+  one_within command.Regions input status other output written within (plain n) told more = absurd n
+  one_within command.Regions input status other output written within (breaks_rule one) told more = one_refusal input status other output written one (of_regions input status output told) (of_regions input other written more)
+  one_within command.Regions input status other output written within (misspelled takes flat is x bad) told more = absurd takes
+  one_within command.Play input status other output written within (plain n) told more = absurd n
+  one_within command.Play input status other output written within (breaks_rule one) told more = one_refusal (source_of input) status other output written one (of_play input status output told) (of_play input other written more)
+  one_within command.Play input status other output written within (misspelled takes flat is x bad) told more = one_misspelling IsRunBy input flat is x bad status other output written told more
+  one_within command.Image input status other output written within (plain n) told more = absurd n
+  one_within command.Image input status other output written within (breaks_rule one) told more = one_refusal (source_of input) status other output written one (of_image_of input status output told) (of_image_of input other written more)
+  one_within command.Image input status other output written within (misspelled takes flat is x bad) told more = one_misspelling (IsImageBehind (source_of input)) input flat is x bad status other output written told more
+  one_within (command.Recover turns) input status other output written within (plain n) told more = absurd n
+  one_within (command.Recover turns) input status other output written within (breaks_rule one) told more = absurd (not_of_recover turns input status output told one)
+  one_within (command.Recover turns) input status other output written within (misspelled takes flat is x bad) told more = absurd takes
+  one_within command.Source input status other output written within (plain n) told more = one_source input status other output written told more
+  one_within command.Source input status other output written within (breaks_rule one) told more = one_source input status other output written told more
+  one_within command.Source input status other output written within (misspelled takes flat is x bad) told more = one_source input status other output written told more
+  one_within command.List input status other output written within (plain n) told more = one_list input status other output written told more
+  one_within command.List input status other output written within (breaks_rule one) told more = one_list input status other output written told more
+  one_within command.List input status other output written within (misspelled takes flat is x bad) told more = one_list input status other output written told more
 
-  one_to_input : (d : c.Command) (input : List ℕ) (status other : ℕ) (output written : List ℕ) → IsPlain (Some d) ⊎ (status ≡ 1) → AnswerToInput d input status output → AnswerToInput d input other written → Same status other output written
-  one_to_input d input status other output written n (past_limits past (e, told)) (past_limits past' (h, more)) = (e ∙ sym h, told ∙ sym more)
-  one_to_input d input status other output written n (past_limits past told) (within_limits within more) = absurd (within past)
-  one_to_input d input status other output written n (within_limits within told) (past_limits past more) = absurd (within past)
-  one_to_input d input status other output written n (within_limits within told) (within_limits within' more) = one_within d input status other output written n told more
-
-  plain_too : (o o' : Option c.Command) (status : ℕ) → o ≡ o' → IsPlain o ⊎ (status ≡ 1) → IsPlain o' ⊎ (status ≡ 1)
-  plain_too o o' status e (inl n) = inl (subst IsPlain e n)
-  plain_too o o' status e (inr one) = inr one
+  one_to_input : (d : c.Command) (input : List ℕ) (status other : ℕ) (output written : List ℕ) → IsUncompiled (Some d) input status → AnswerToInput d input status output → AnswerToInput d input other written → Same status other output written
+  one_to_input d input status other output written n (past_limits over (e, told)) (past_limits over' (h, more)) = (e ∙ sym h, told ∙ sym more)
+  one_to_input d input status other output written n (past_limits over told) (within_limits within more) = absurd (within over)
+  one_to_input d input status other output written n (within_limits within told) (past_limits over more) = absurd (within over)
+  one_to_input d input status other output written n (within_limits within told) (within_limits within' more) = one_within d input status other output written within n told more
 
   pub one_answer : OneAnswer
   one_answer words input status other output written n (wrong_words wrong (e, told)) (wrong_words wrong' (h, more)) = (e ∙ sym h, told ∙ sym more)
@@ -147,4 +198,4 @@ module _ (one_flat : OneFlat) (one_fault : OneFault) (not_both : NotBoth) (one_s
   one_answer words input status other output written n (taken_words d taken told) (taken_words d' taken' more) =
       let both : Some d ≡ Some d' = sym taken ∙ taken' in
       let same : d ≡ d' = cc both in
-      one_to_input d' input status other output written (plain_too (command_of words) (Some d') status taken' n) (subst (λ z. AnswerToInput z input status output) same told) more
+      one_to_input d' input status other output written (subst (λ o. IsUncompiled o input status) taken' n) (subst (λ z. AnswerToInput z input status output) same told) more

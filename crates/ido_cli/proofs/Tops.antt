@@ -4,14 +4,18 @@ use Rattle.std.specs.declared.option.Option.{Option}
 use Rattle.std.proofs.lemmas.List.{length-replicate}
 use Rattle.std.specs.Prelude.{codes}
 use Rattle.ido_cli.specs.declared.said.Said.{Said}
+use Rattle.ido_base.specs.declared.event.Event.{Event}
 use Rattle.c_tree.specs.Flats as f
+use Rattle.compilation.specs.Translations.{Translation}
 use Rattle.ido_cli.specs.declared.command.Command.{Command}
 use Rattle.ido_cli.specs.declared.command.Command.TheVariants as command
 use Rattle.ido_cli.specs.Commands.{command_of}
 use Rattle.ido_cli.specs.Runs.{RunAnswer, ran, stopped, run_state, status_by}
-use Rattle.ido_cli.specs.Plays.{too_long, ran as ran_by}
-use Rattle.ido_cli.specs.Answers.{CompileAnswer, uncompiled, compiled, RegionsAnswer, uncut, cut, PlayAnswer, unplayed, no_script, of_script, SourceAnswer, unaccepted, no_schedule, of_schedule}
-use Rattle.ido_cli.specs.Answers.{CommandAnswer, ListAnswer, no_object, of_object, IsPastLimits, AnswerToInput, past_limits, within_limits, Answer, wrong_words, taken_words}
+use Rattle.ido_cli.specs.Images.{IsImageBehind}
+use Rattle.ido_cli.specs.Inputs.{source_of}
+use Rattle.ido_cli.specs.Plays.{IsRunBy, too_long, ran as ran_by}
+use Rattle.ido_cli.specs.Answers.{CompileAnswer, uncompiled, compiled, RegionsAnswer, uncut, cut, ScriptedAnswer, unplayed, no_script, of_script, SourceAnswer, unaccepted, no_schedule, of_schedule}
+use Rattle.ido_cli.specs.Answers.{CommandAnswer, ListAnswer, no_object, of_object, RecoverAnswer, no_image, of_image, IsPastLimits, AnswerToInput, past_limits, within_limits, Answer, wrong_words, taken_words}
 use Rattle.ido_cli.specs.Answers.{IsAnswer, IsAnswered, Outside, answered, sink_failed, most_bytes}
 use Rattle.ido_cli.specs.Deliveries.{IsSaidToInput, IsDelivered, whole, broken}
 
@@ -26,6 +30,8 @@ long_is_past command.Regions input long = omega (arith, long)
 long_is_past command.Play input long = inl long
 long_is_past command.Source input long = inl long
 long_is_past command.List input long = long
+long_is_past command.Image input long = inl long
+long_is_past (command.Recover turns) input long = long
 
 pub said_to_long_input : (c : Command) (left : Option (List ℕ)) (said : Said) → IfSome left (λ bytes. most_bytes < length bytes) → said.status ≡ 6 → said.output.items ≡ codes "refused limit\n" → IsSaidToInput c left said
 said_to_long_input c (Some bytes) said long status output = record { input = bytes; told = refl; answer = past_limits (long_is_past c bytes long) (status, output) }
@@ -71,11 +77,17 @@ of_regions : (source : List ℕ) (status : ℕ) (output : List ℕ) → RegionsA
 of_regions source status output (uncut found place is refused) h = not_four_or_seven status 1 refused.0 (inl (omega arith)) h
 of_regions source status output (cut flat is object marks cuts made e told) h = not_four_or_seven status 0 e (inl (omega arith)) h
 
-of_play : (input : List ℕ) (status : ℕ) (output : List ℕ) → PlayAnswer input status output → (status ≡ 4) ⊎ (status ≡ 7) → ⊥
-of_play input status output (unplayed found place is refused) h = not_four_or_seven status 1 refused.0 (inl (omega arith)) h
-of_play input status output (no_script flat is x read refused) h = not_four_or_seven status 6 refused.0 (inr refl) h
-of_play input status output (of_script flat is lines read c made (too_long many place excess refused)) h = not_four_or_seven status 6 refused.0 (inr refl) h
-of_play input status output (of_script flat is lines read c made (ran_by fits run)) h = by_unsettled _ status run.reported.status_is h
+of_scripted : (Says : Translation → List Event → ℕ → List ℕ → Type 0) →
+    ((c : Translation) (events : List Event) (status : ℕ) (output : List ℕ) → Says c events status output → (status ≡ 4) ⊎ (status ≡ 7) → ⊥) →
+    (input : List ℕ) (status : ℕ) (output : List ℕ) → ScriptedAnswer Says input status output → (status ≡ 4) ⊎ (status ≡ 7) → ⊥
+of_scripted Says others input status output (unplayed found place is refused) h = not_four_or_seven status 1 refused.0 (inl (omega arith)) h
+of_scripted Says others input status output (no_script flat is x read refused) h = not_four_or_seven status 6 refused.0 (inr refl) h
+of_scripted Says others input status output (of_script flat is lines read c made (too_long many place excess refused)) h = not_four_or_seven status 6 refused.0 (inr refl) h
+of_scripted Says others input status output (of_script flat is lines read c made (ran_by fits said)) h = others c _ status output said h
+
+of_recover : (turns : ℕ) (input : List ℕ) (status : ℕ) (output : List ℕ) → RecoverAnswer turns input status output → (status ≡ 4) ⊎ (status ≡ 7) → ⊥
+of_recover turns input status output (no_image error is e told) h = not_four_or_seven status 6 e (inr refl) h
+of_recover turns input status output (of_image image is recovery) h = by_unsettled _ status recovery.reported.status_is h
 
 of_list : (input : List ℕ) (status : ℕ) (output : List ℕ) → ListAnswer input status output → (status ≡ 4) ⊎ (status ≡ 7) → ⊥
 of_list input status output (no_object fault read e told) h = not_four_or_seven status 6 e (inr refl) h
@@ -84,9 +96,12 @@ of_list input status output (of_object object read e told) h = not_four_or_seven
 of_command : (c : Command) (input : List ℕ) (status : ℕ) (output : List ℕ) → CommandAnswer c input status output → (status ≡ 4) ⊎ (status ≡ 7) → ⊥
 of_command command.Compile input status output answer h = of_compile input status output answer h
 of_command command.Regions input status output answer h = of_regions input status output answer h
-of_command command.Play input status output answer h = of_play input status output answer h
+of_command command.Play input status output answer h = of_scripted IsRunBy (λ c events s o run. by_unsettled _ s run.reported.status_is) input status output answer h
 of_command command.Source input status output answer h = of_source input status output answer h
 of_command command.List input status output answer h = of_list input status output answer h
+of_command command.Image input status output answer h =
+    of_scripted (IsImageBehind (source_of input)) (λ c events s o image. not_four_or_seven s 0 image.status_is (inl (omega arith))) input status output answer h
+of_command (command.Recover turns) input status output answer h = of_recover turns input status output answer h
 
 of_input : (c : Command) (input : List ℕ) (status : ℕ) (output : List ℕ) → AnswerToInput c input status output → (status ≡ 4) ⊎ (status ≡ 7) → ⊥
 of_input c input status output (past_limits past refused) h = not_four_or_seven status 6 refused.0 (inr refl) h

@@ -57,6 +57,38 @@ source_is_taken : command_of (codes "ido" ∷ codes "source" ∷ []) ≡ Some co
 unfolding command_of clap_on_literals
 source_is_taken = refl
 
+image_is_taken : command_of (codes "ido" ∷ codes "image" ∷ []) ≡ Some command.Image
+unfolding command_of clap_on_literals
+image_is_taken = refl
+
+recover_is_taken : command_of (codes "ido" ∷ codes "recover" ∷ codes "1000000" ∷ []) ≡ Some (command.Recover 1000000)
+unfolding command_of clap_on_literals
+recover_is_taken = refl
+
+zeros_are_taken : command_of (codes "ido" ∷ codes "recover" ∷ codes "+007" ∷ []) ≡ Some (command.Recover 7)
+unfolding command_of clap_on_literals
+zeros_are_taken = refl
+
+no_more_turns : command_of (codes "ido" ∷ codes "recover" ∷ codes "1000001" ∷ []) ≡ None
+unfolding command_of clap_on_literals
+no_more_turns = refl
+
+turns_are_wanted : command_of (codes "ido" ∷ codes "recover" ∷ []) ≡ None
+unfolding command_of clap_on_literals
+turns_are_wanted = refl
+
+no_minus : command_of (codes "ido" ∷ codes "recover" ∷ codes "-0" ∷ []) ≡ None
+unfolding command_of clap_on_literals
+no_minus = refl
+
+no_minus_behind : command_of (codes "ido" ∷ codes "recover" ∷ codes "--" ∷ codes "-0" ∷ []) ≡ None
+unfolding command_of clap_on_literals
+no_minus_behind = refl
+
+turns_once : command_of (codes "ido" ∷ codes "recover" ∷ codes "1" ∷ codes "1" ∷ []) ≡ None
+unfolding command_of clap_on_literals
+turns_once = refl
+
 frob_is_not : command_of (codes "ido" ∷ codes "frob" ∷ []) ≡ None
 unfolding command_of clap_on_literals
 frob_is_not = refl

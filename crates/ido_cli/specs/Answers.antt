@@ -1,5 +1,6 @@
 -- What the program answers: a status and the bytes that it writes.
-use Rattle.std.specs.Prelude.{◌≡◌, ◌⊎◌, ℕ, ◌+◌, ◌-◌, ◌<◌, List, [], ◌++◌, length, Option, Some, None, Ok, Err, codes, IfSome}
+use Rattle.std.specs.Prelude.{◌≡◌, ◌⊎◌, ℕ, ◌+◌, ◌-◌, ◌<◌, List, [], ◌++◌, length, Option, Some, None, Ok, Err, codes, IfSome, IsSome}
+use Rattle.ido_base.specs.declared.event.Event.{Event}
 use Rattle.ido_base.specs.declared.place.Place.{Place}
 use Rattle.ido_outside.specs.Causes.{Rose}
 use Rattle.ido_outside.specs.Sink.{Adds, AddsFront}
@@ -13,19 +14,26 @@ use Rattle.flow_graph.specs.Lowering.{lowered}
 use Rattle.flow_graph.specs.Refusals.{IsAccepted, IsRefusedBy}
 use Rattle.flat_compile.specs.Translating.{IsTranslated}
 use Rattle.compilation.specs.Translations.{Translation}
+use Rattle.compilation.specs.Images.{Image}
+use Rattle.crash_images.specs.declared.error.ImageError.{ImageError}
+use Rattle.crash_images.specs.declared.image.Image as i
+use Rattle.crash_images.specs.Images.{IsImageAnswer}
 use Rattle.object_format.specs.Contents.{Contents, contents_of}
 use Rattle.object_format.specs.Reading as o
 use Rattle.object_format.specs.Spelling.{spelling}
 use Rattle.run_scripts.specs.Reports.{line}
 use Rattle.run_scripts.specs.Schedules as s
 use Rattle.run_scripts.specs.Scripts as e
+use Rattle.ido_compile.specs.Compiling.{translation_in}
 use Rattle.ido_cli.specs.declared.command.Command.{Command}
 use Rattle.ido_cli.specs.declared.command.Command.TheVariants as command
 use Rattle.ido_cli.specs.Commands.{command_of}
+use Rattle.ido_cli.specs.Images.{IsImageBehind}
 use Rattle.ido_cli.specs.Inputs.{source_of, rest_of}
 use Rattle.ido_cli.specs.Listing.{listing}
-use Rattle.ido_cli.specs.Plays.{IsTranslationOf, ScriptAnswer}
-use Rattle.ido_cli.specs.Refusals.{IsRefusedAt, code_of, fault_code, fault_place, line_at_byte, object_fault_code, object_fault_place, script_fault_code, script_fault_place}
+use Rattle.ido_cli.specs.Plays.{IsRunBy, IsTranslationOf, ScriptAnswer}
+use Rattle.ido_cli.specs.Recoveries.{IsRecovery}
+use Rattle.ido_cli.specs.Refusals.{IsRefusedAt, code_of, fault_code, fault_place, image_line, line_at_byte, object_fault_code, object_fault_place, script_fault_code, script_fault_place}
 use Rattle.ido_cli.specs.Regions.{regions}
 use Rattle.ido_cli.specs.Runs.{RunAnswer}
 
@@ -47,6 +55,8 @@ IsPastLimits command.Regions input = most_source_bytes < length input
 IsPastLimits command.Play input = IsSourcePastLimits input
 IsPastLimits command.Source input = IsSourcePastLimits input
 IsPastLimits command.List input = most_bytes < length input
+IsPastLimits command.Image input = IsSourcePastLimits input
+IsPastLimits (command.Recover turns) input = most_bytes < length input
 
 -- a status and an output: `refused` and what is refused
 abbrev pub Refuses : (refused status : ℕ) → (what output : List ℕ) → Type 0
@@ -78,13 +88,32 @@ pub data RegionsAnswer (source : List ℕ) (status : ℕ) (output : List ℕ) : 
   uncut : (found : r.Rule) (place : Place) → IsRefusedBy source found place → IsRefusedAt 1 (code_of found) source place.0 status output → RegionsAnswer source status output
   cut : (flat : f.Flat) → IsAccepted source flat → (object : Object) (marks : Marks) (cuts : Cuts) → IsTranslated flat object marks cuts → status ≡ 0 → output ≡ regions source (lowered flat) (boundaries_of cuts) flat.threads → RegionsAnswer source status output
 
--- ---- `play`
+-- ---- `play` and `image`
 
--- what an input of a source and a script is answered
-pub data PlayAnswer (input : List ℕ) (status : ℕ) (output : List ℕ) : Type 0 where
-  unplayed : (found : r.Rule) (place : Place) → IsRefusedBy (source_of input) found place → IsRefusedAt 1 (code_of found) (source_of input) place.0 status output → PlayAnswer input status output
-  no_script : (flat : f.Flat) → IsAccepted (source_of input) flat → (x : e.Fault) → e.read (length flat.threads) (rest_of input) ≡ e.Refused x → IsRefusedAt 6 (script_fault_code x) input (rest_begins input + script_fault_place x) status output → PlayAnswer input status output
-  of_script : (flat : f.Flat) → IsAccepted (source_of input) flat → (lines : List e.Line) → e.read (length flat.threads) (rest_of input) ≡ e.Lines lines → (c : Translation) → IsTranslationOf flat c → ScriptAnswer c lines input (rest_begins input) status output → PlayAnswer input status output
+-- what an input of a source and a script is answered, by what is to be said of a translation and the script's events
+pub data ScriptedAnswer (Says : Translation → List Event → (status : ℕ) → (output : List ℕ) → Type 0) (input : List ℕ) (status : ℕ) (output : List ℕ) : Type 0 where
+  unplayed : (found : r.Rule) (place : Place) → IsRefusedBy (source_of input) found place → IsRefusedAt 1 (code_of found) (source_of input) place.0 status output → ScriptedAnswer Says input status output
+  no_script : (flat : f.Flat) → IsAccepted (source_of input) flat → (x : e.Fault) → e.read (length flat.threads) (rest_of input) ≡ e.Refused x → IsRefusedAt 6 (script_fault_code x) input (rest_begins input + script_fault_place x) status output → ScriptedAnswer Says input status output
+  of_script : (flat : f.Flat) → IsAccepted (source_of input) flat → (lines : List e.Line) → e.read (length flat.threads) (rest_of input) ≡ e.Lines lines → (c : Translation) → IsTranslationOf flat c → ScriptAnswer c (Says c) lines input (rest_begins input) status output → ScriptedAnswer Says input status output
+
+-- the report of the script's run
+abbrev pub PlayAnswer : (input : List ℕ) → (status : ℕ) → (output : List ℕ) → Type 0
+PlayAnswer input status output = ScriptedAnswer IsRunBy input status output
+
+-- the bytes of the image that a crash would leave behind it
+abbrev pub ImageAnswer : (input : List ℕ) → (status : ℕ) → (output : List ℕ) → Type 0
+ImageAnswer input status output = ScriptedAnswer (IsImageBehind (source_of input)) input status output
+
+-- ---- `recover`
+
+-- the file in an image
+abbrev pub file_in : i.Image → Image
+file_in image = record { words = image.words.items; kept = image.schedule.items }
+
+-- what an input of an image is answered: its first fault, or what is said of a run that goes on from it
+pub data RecoverAnswer (turns : ℕ) (input : List ℕ) (status : ℕ) (output : List ℕ) : Type 0 where
+  no_image : (error : ImageError) → IsImageAnswer input (Err error) → status ≡ 6 → image_line error ≡ Some output → RecoverAnswer turns input status output
+  of_image : (image : i.Image) → IsImageAnswer input (Ok image) → IsRecovery (translation_in image.compiled) (file_in image) turns status output → RecoverAnswer turns input status output
 
 -- ---- `list`
 
@@ -102,6 +131,8 @@ CommandAnswer command.Regions input status output = RegionsAnswer input status o
 CommandAnswer command.Play input status output = PlayAnswer input status output
 CommandAnswer command.Source input status output = SourceAnswer input status output
 CommandAnswer command.List input status output = ListAnswer input status output
+CommandAnswer command.Image input status output = ImageAnswer input status output
+CommandAnswer (command.Recover turns) input status output = RecoverAnswer turns input status output
 
 -- what an input of a command is answered
 pub data AnswerToInput (c : Command) (input : List ℕ) (status : ℕ) (output : List ℕ) : Type 0 where
@@ -136,8 +167,8 @@ pub record IsAnswer (words : List (List ℕ)) (left : Option (List ℕ)) (status
 pub data IsAnswered (words : List (List ℕ)) (o : Outside) (status : ℕ) : Type 0 where
   -- the answer, and all of it
   answered : (output : List ℕ) → IsAnswer words o.left status output → Adds o.written_before o.written output → IsAnswered words o status
-  -- the source failed, and nothing was written
-  source_failed : status ≡ 4 → Rose o.source_faults_before o.source_faults → Adds o.written_before o.written [] → IsAnswered words o status
+  -- words were taken, the source failed, and nothing was written
+  source_failed : IsSome (command_of words) → status ≡ 4 → Rose o.source_faults_before o.source_faults → Adds o.written_before o.written [] → IsAnswered words o status
   -- the sink failed, and a front of the answer was written
   sink_failed : (output : List ℕ) (answer : ℕ) → status ≡ 5 → Rose o.sink_faults_before o.sink_faults → IsAnswer words o.left answer output → AddsFront o.written_before o.written output → IsAnswered words o status
   -- want of memory, and nothing was written

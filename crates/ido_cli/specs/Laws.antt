@@ -1,9 +1,13 @@
 -- What words and an input are answered is at most one thing.
-use Rattle.std.specs.Prelude.{◌≡◌, ◌⊎◌, ℕ, List, Option, Some, None}
+use Rattle.std.specs.Prelude.{◌≡◌, ℕ, List, length, Option, Some, None}
+use Rattle.c_tree.specs.Flats.{Flat}
+use Rattle.flow_graph.specs.Refusals.{IsAccepted}
+use Rattle.run_scripts.specs.Scripts.{Fault, Refused, read}
 use Rattle.ido_cli.specs.declared.command.Command.{Command}
 use Rattle.ido_cli.specs.declared.command.Command.TheVariants as command
 use Rattle.ido_cli.specs.Commands.{command_of}
-use Rattle.ido_cli.specs.Answers.{Answer}
+use Rattle.ido_cli.specs.Inputs.{source_of, rest_of}
+use Rattle.ido_cli.specs.Answers.{Answer, IsPastLimits}
 
 -- what is written stands on no compilation
 abbrev pub IsPlain : Option Command → Type 0
@@ -13,9 +17,30 @@ IsPlain (Some command.List) = Unit {0}
 IsPlain (Some command.Regions) = ⊥
 IsPlain (Some command.Play) = ⊥
 IsPlain (Some command.Source) = Unit {0}
+IsPlain (Some command.Image) = ⊥
+IsPlain (Some (command.Recover turns)) = ⊥
 
--- Words that don't ask for what stands on a compilation, and an input, have at most one answer: a status and an output. So have all others where the status
--- says that the source is refused.
+-- behind its source it has a script
+abbrev pub TakesScript : Option Command → Type 0
+TakesScript None = ⊥
+TakesScript (Some command.Compile) = ⊥
+TakesScript (Some command.List) = ⊥
+TakesScript (Some command.Regions) = ⊥
+TakesScript (Some command.Play) = Unit {0}
+TakesScript (Some command.Source) = ⊥
+TakesScript (Some command.Image) = Unit {0}
+TakesScript (Some (command.Recover turns)) = ⊥
+
+-- What is said stands on no compilation: the command compiles nothing, or what it is asked is refused before, since the input is past the limits, its source breaks
+-- a rule, which status 1 says, or its script isn't spelled as one.
+pub data IsUncompiled (c : Option Command) (input : List ℕ) (status : ℕ) : Type 0 where
+  plain : IsPlain c → IsUncompiled c input status
+  past : (d : Command) → c ≡ Some d → IsPastLimits d input → IsUncompiled c input status
+  breaks_rule : status ≡ 1 → IsUncompiled c input status
+  misspelled : TakesScript c → (flat : Flat) → IsAccepted (source_of input) flat → (x : Fault) → read (length flat.threads) (rest_of input) ≡ Refused x →
+      IsUncompiled c input status
+
+-- words and an input have at most one such answer: a status and an output
 abbrev pub OneAnswer : Type 0
-OneAnswer = (words : List (List ℕ)) (input : List ℕ) (status other : ℕ) (output written : List ℕ) → IsPlain (command_of words) ⊎ (status ≡ 1)
+OneAnswer = (words : List (List ℕ)) (input : List ℕ) (status other : ℕ) (output written : List ℕ) → IsUncompiled (command_of words) input status
     → Answer words input status output → Answer words input other written → (status ≡ other) × (output ≡ written)

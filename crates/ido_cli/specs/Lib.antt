@@ -4,9 +4,13 @@ pub mod Runs
 pub mod Inputs
 pub mod Reports
 pub mod Plays
+pub mod Images
+pub mod Legs
+pub mod Recoveries
 pub mod Regions
 pub mod Deliveries
 pub mod Instructions
 pub mod Listing
 pub mod Answers
 pub mod Laws
+pub mod links

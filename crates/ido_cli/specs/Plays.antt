@@ -1,5 +1,5 @@
 -- What is said of a run of a compiled source by a script.
-use Rattle.std.specs.Prelude.{◌≡◌, ℕ, ◌+◌, ◌<◌, ◌≤◌, List, length, true, Some, codes}
+use Rattle.std.specs.Prelude.{◌≡◌, ℕ, ◌+◌, ◌/◌, ◌<◌, ◌≤◌, List, [], length, true, Some, codes}
 use Rattle.ido_base.specs.declared.event.Event.{Event}
 use Rattle.c_tree.specs.Flats as f
 use Rattle.c_tree.specs.Source.{start, after_from, is_between, runs_from}
@@ -30,7 +30,7 @@ pub record IsTranslationOf (flat : f.Flat) (c : Translation) : Type 0 where
 
 -- its machine before any event
 abbrev pub beginning : Translation → Moment
-beginning c = record { program = c.program; marks = c.marks; world = first_world c }
+beginning c = record { program = c.program; marks = c.marks; variable_words = length c.initial / 8; kept_before = []; world = first_world c }
 
 -- the events that the lines make, one line after another, each by what the machine is before it
 abbrev pub events_by : Translation → List Line → List Event
@@ -53,7 +53,8 @@ pub record IsRunBy (c : Translation) (events : List Event) (status : ℕ) (outpu
   pub sections : AreSectionsKept c events
 
 -- What a script is answered that begins at a place of an input: a refusal exactly where its lines make more than 4,000,000 events, at the line whose events
--- are the first past that, else the report of its run.
-pub data ScriptAnswer (c : Translation) (lines : List Line) (input : List ℕ) (begins status : ℕ) (output : List ℕ) : Type 0 where
-  too_long : most_events < length (events_by c lines) → (place : ℕ) → excess_at living (beginning c) most_events lines ≡ Some place → IsRefusedAt 6 (codes "E1") input (begins + place) status output → ScriptAnswer c lines input begins status output
-  ran : length (events_by c lines) ≤ most_events → IsRunBy c (events_by c lines) status output → ScriptAnswer c lines input begins status output
+-- are the first past that, else what is to be said of its events.
+pub data ScriptAnswer (c : Translation) (Says : List Event → (status : ℕ) → (output : List ℕ) → Type 0) (lines : List Line) (input : List ℕ) (begins status : ℕ) (output : List ℕ) : Type 0 where
+  too_long : most_events < length (events_by c lines) → (place : ℕ) → excess_at living (beginning c) most_events lines ≡ Some place →
+      IsRefusedAt 6 (codes "E1") input (begins + place) status output → ScriptAnswer c Says lines input begins status output
+  ran : length (events_by c lines) ≤ most_events → Says (events_by c lines) status output → ScriptAnswer c Says lines input begins status output

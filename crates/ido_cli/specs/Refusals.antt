@@ -1,8 +1,10 @@
 -- Lines that say what is refused.
-use Rattle.std.specs.Prelude.{◌≡◌, ℕ, List, ◌++◌, codes, decimal}
+use Rattle.std.specs.Prelude.{◌≡◌, ℕ, List, ◌++◌, Option, Some, None, codes, decimal}
 use Rattle.ido_base.specs.Places.{column_of, line_of}
 use Rattle.c_tree.specs.declared.rule.Rule as r
 use Rattle.c_tree.specs.declared.rule.Rule.TheVariants as rule
+use Rattle.crash_images.specs.declared.error.ImageError.{ImageError}
+use Rattle.crash_images.specs.declared.error.ImageError.TheVariants as image
 use Rattle.object_format.specs.Reading as o
 use Rattle.run_scripts.specs.Reports.{line}
 use Rattle.run_scripts.specs.Schedules as s
@@ -81,6 +83,8 @@ object_fault_place (o.Cut place) = place
 object_fault_place (o.Field place) = place
 object_fault_place (o.Rest place) = place
 
+-- ---- Lines
+
 -- `refused L1 at 4:3`
 unfoldable pub line_at : (code text : List ℕ) → (place : ℕ) → List ℕ
 line_at code text place = line (codes "refused " ++ code ++ codes " at " ++ decimal (line_of text place) ++ codes ":" ++ decimal (column_of text place))
@@ -92,6 +96,33 @@ line_at_step code step = line (codes "refused " ++ code ++ codes " at step " ++ 
 -- `refused O3 at byte 35`
 unfoldable pub line_at_byte : (code : List ℕ) → (place : ℕ) → List ℕ
 line_at_byte code place = line (codes "refused " ++ code ++ codes " at byte " ++ decimal place)
+
+-- `refused I5 thread 2`
+unfoldable pub line_at_thread : (code : List ℕ) → (thread : ℕ) → List ℕ
+line_at_thread code thread = line (codes "refused " ++ code ++ codes " thread " ++ decimal thread)
+
+-- `refused I10 thread 2 register 7`
+unfoldable pub line_at_register : (code : List ℕ) → (thread register : ℕ) → List ℕ
+line_at_register code thread register = line (codes "refused " ++ code ++ codes " thread " ++ decimal thread ++ codes " register " ++ decimal register)
+
+-- `refused I7 lock 0 threads 1 2`
+unfoldable pub line_of_threads : (code : List ℕ) → (lock first second : ℕ) → List ℕ
+line_of_threads code lock first second =
+    line (codes "refused " ++ code ++ codes " lock " ++ decimal lock ++ codes " threads " ++ decimal first ++ codes " " ++ decimal second)
+
+-- that of a fault of an image; want of memory is none
+abbrev pub image_line : ImageError → Option (List ℕ)
+image_line image.Magic = Some (line_at_byte (codes "I1") 0)
+image_line image.Version = Some (line_at_byte (codes "I2") 8)
+image_line (image.Cut place) = Some (line_at_byte (codes "I3") place.0)
+image_line image.Source = Some (line (codes "refused I4"))
+image_line (image.Point thread) = Some (line_at_thread (codes "I5") thread)
+image_line (image.Mask thread) = Some (line_at_thread (codes "I6") thread)
+image_line (image.Shared lock first second) = Some (line_of_threads (codes "I7") lock first second)
+image_line (image.Rest place) = Some (line_at_byte (codes "I8") place.0)
+image_line (image.Schedule step) = Some (line_at_step (codes "I9") step)
+image_line (image.Slot thread register) = Some (line_at_register (codes "I10") thread register)
+image_line image.Memory = None
 
 -- the refusal by the code at the place, with the status
 abbrev pub IsRefusedAt : (refused : ℕ) → (code text : List ℕ) → (place status : ℕ) → (output : List ℕ) → Type 0

@@ -2,12 +2,14 @@
 ghost use Rattle.std.specs.Prelude.{◌≤◌, length, IfOk};
 ghost use Rattle.ido_cli.specs.declared.command.Command.TheVariants as command;
 ghost use Rattle.ido_cli.specs.Answers.{AnswerToInput, most_bytes};
+ghost use Rattle.ido_cli.specs.links.Asking.{command_asking};
 
 use crate::command::Command;
 use crate::input::split;
 use crate::list::list_answer;
 use crate::object::compile_answer;
-use crate::play::play_answer;
+use crate::play::{Asked, scripted_answer};
+use crate::recover::recover_answer;
 use crate::refusal::refused;
 use crate::regions::regions_answer;
 use crate::said::Said;
@@ -40,16 +42,16 @@ fn regions_input(alloc: Global, input: &[u8]) -> Result<Said, Memory>
     regions_answer(alloc, input)
 }
 
-/// The answer to an input of `play`.
-fn play_input(alloc: Global, input: &[u8]) -> Result<Said, Memory>
+/// The answer to an input of `play` or of `image`.
+fn scripted_input(alloc: Global, asked: Asked, input: &[u8]) -> Result<Said, Memory>
     requires { length input.now ≤ most_bytes }
-    ensures { IfOk result (λ said. AnswerToInput command.Play input.now said.status said.output.items) }
+    ensures { IfOk result (λ said. AnswerToInput (command_asking asked) input.now said.status said.output.items) }
 {
     let (source, script) = split(input);
     if source.len() > MOST_SOURCE_BYTES {
         return refused(alloc, 6, b"refused limit\n");
     }
-    play_answer(alloc, input, source, script)
+    scripted_answer(alloc, asked, input, source, script)
 }
 
 /// The answer to an input of `source`.
@@ -73,7 +75,9 @@ pub fn answer(alloc: Global, command: Command, input: &[u8]) -> Result<Said, Mem
         Command::Compile => compile_input(alloc, input),
         Command::List => list_answer(alloc, input),
         Command::Regions => regions_input(alloc, input),
-        Command::Play => play_input(alloc, input),
+        Command::Play => scripted_input(alloc, Asked::Report, input),
         Command::Source => source_input(alloc, input),
+        Command::Image => scripted_input(alloc, Asked::Image, input),
+        Command::Recover { turns } => recover_answer(alloc, input, turns),
     }
 }

@@ -3,16 +3,13 @@ ghost use Rattle.std.specs.Prelude.{◌≡◌, ◌≤◌, length, IfOk};
 ghost use Rattle.ido_cli.specs.Answers.{ListAnswer, most_bytes};
 
 use crate::listing::listing;
-use crate::refusal::refused_at_byte;
+use crate::refusal::{VERSION_PLACE, refused_at_byte};
 use crate::said::Said;
 use ido_base::memory::Memory;
 use ido_base::place::Place;
 use object_format::error::ReadError;
 use object_format::reading::read_object;
 use std::alloc::Global;
-
-/// Where the version stands.
-const VERSION_PLACE: Place = Place(8);
 
 /// The answer to an input of `list`.
 pub fn list_answer(alloc: Global, input: &[u8]) -> Result<Said, Memory>

@@ -1,7 +1,7 @@
 //! Lines that say what is refused.
 ghost use Rattle.std.specs.Prelude.{◌≡◌, ◌<◌, ◌^◌, length, IfOk};
 ghost use Rattle.ido_base.specs.Places.{column_of, line_of};
-ghost use Rattle.ido_cli.specs.Refusals.{code_of, fault_code, fault_place, line_at, line_at_byte, line_at_step, stop_code};
+ghost use Rattle.ido_cli.specs.Refusals.{code_of, fault_code, fault_place, line_at, line_at_byte, line_at_register, line_at_step, line_at_thread, line_of_threads, stop_code};
 ghost use Rattle.run_scripts.specs.Schedules as s;
 
 use crate::said::Said;
@@ -10,6 +10,9 @@ use ido_base::memory::Memory;
 use ido_base::place::{Place, line_column};
 use source_machine::RefusedKind;
 use std::alloc::Global;
+
+/// Where the version stands in an object, and in an image.
+pub const VERSION_PLACE: Place = Place(8);
 
 /// A refusal.
 pub fn refused(alloc: Global, status: u8, line: &[u8]) -> Result<Said, Memory>
@@ -113,6 +116,56 @@ pub fn refused_at_byte(alloc: Global, code: &str, place: Place) -> Result<Said, 
 {
     let byte = place.0;
     let output = format!(in alloc; "refused {code} at byte {byte}\n")?;
+    Ok(Said {
+        status: 6,
+        output: output.into_bytes(),
+    })
+}
+
+/// The refusal by a code that names a thread.
+#[tactic(auto, unfolding(crate::specs::Refusals::line_at_thread))]
+pub fn refused_at_thread(alloc: Global, code: &str, thread: u32) -> Result<Said, Memory>
+    ensures status { IfOk result (λ said. said.status ≡ 6) }
+    ensures output { IfOk result (λ said. said.output.items ≡ line_at_thread code.now thread) }
+{
+    let output = format!(in alloc; "refused {code} thread {thread}\n")?;
+    Ok(Said {
+        status: 6,
+        output: output.into_bytes(),
+    })
+}
+
+/// The refusal by a code that names a register of a thread.
+#[tactic(auto, unfolding(crate::specs::Refusals::line_at_register))]
+pub fn refused_at_register(
+    alloc: Global,
+    code: &str,
+    thread: u32,
+    register: u8,
+) -> Result<Said, Memory>
+    ensures status { IfOk result (λ said. said.status ≡ 6) }
+    ensures output { IfOk result (λ said. said.output.items ≡ line_at_register code.now thread register) }
+{
+    let output = format!(in alloc; "refused {code} thread {thread} register {register}\n")?;
+    Ok(Said {
+        status: 6,
+        output: output.into_bytes(),
+    })
+}
+
+/// The refusal by a code that names two threads which share a lock.
+#[tactic(auto, unfolding(crate::specs::Refusals::line_of_threads))]
+pub fn refused_of_threads(
+    alloc: Global,
+    code: &str,
+    lock: u32,
+    threads: (u32, u32),
+) -> Result<Said, Memory>
+    ensures status { IfOk result (λ said. said.status ≡ 6) }
+    ensures output { IfOk result (λ said. said.output.items ≡ line_of_threads code.now lock threads.0 threads.1) }
+{
+    let (first, second) = threads;
+    let output = format!(in alloc; "refused {code} lock {lock} threads {first} {second}\n")?;
     Ok(Said {
         status: 6,
         output: output.into_bytes(),

@@ -62,6 +62,7 @@ fn say_to<S: Source>(alloc: Global, words: &[String], input: &mut S) -> Result<S
     ensures said { IfOk result (λ said.
         IsAnswer (map string_bytes words.now) (S.left input.old) said.status said.output.items) }
     ensures failed { IsErrOf result Unsaid.Failed → Rose (S.faults input.old) (S.faults input.new) }
+    ensures taken { IsErrOf result Unsaid.Failed → IsSome (command_of (map string_bytes words.now)) }
     ensures unread { command_of (map string_bytes words.now) ≡ None → input.new ≡ input.old }
 {
     match command_of(alloc, words)? {

@@ -1,5 +1,5 @@
 -- What is answered to a text: its object, or the first rule that it breaks.
-use Rattle.std.specs.Prelude.{ℕ, List, Result, Ok, Err}
+use Rattle.std.specs.Prelude.{◌≡◌, ℕ, List, Result, Ok, Err}
 use Rattle.c_tree.specs.Flats.{Flat, flat_of}
 use Rattle.rv64_isa.specs.declared.object.Object.{Object}
 use Rattle.rv64_isa.specs.declared.object.Marks.{Marks}
@@ -9,7 +9,7 @@ use Rattle.flow_graph.specs.Cutting.{boundaries_of}
 use Rattle.flow_graph.specs.Refusals.{IsAccepted, IsRefusedBy}
 use Rattle.compilation.specs.Translations.{Translation}
 use Rattle.compilation.specs.Compilations.{IsCompilation}
-use Rattle.flat_compile.specs.Translating.{IsTranslated, node_marks, resume_marks}
+use Rattle.flat_compile.specs.Translating.{IsTranslated, IsResumable, node_marks, resume_marks}
 use Rattle.ido_compile.specs.declared.compiler.Compiled.{Compiled}
 use Rattle.ido_compile.specs.declared.error.CompileError.{CompileError}
 use Rattle.ido_compile.specs.declared.error.CompileError.TheVariants as e
@@ -31,8 +31,11 @@ translation_in c = translation_to (flat_of c.flat) c.object c.marks c.cuts
 
 -- the text is accepted, what a machine runs is a translation of its flat form, and so it does what the source does, whatever happens
 pub record IsCompiled (text : List ℕ) (c : Compiled) : Type 0 where
+  pub text_is : c.text.items ≡ text
   pub accepted : IsAccepted text (flat_of c.flat)
   pub translated : IsTranslated (flat_of c.flat) c.object c.marks c.cuts
+  -- of each thread it tells what it has where recovery may resume it
+  pub resumable : IsResumable (flat_of c.flat) c.object c.marks c.cuts c.resumes.items
   pub compilation : IsCompilation (translation_in c)
 
 abbrev pub IsCompileAnswer : (text : List ℕ) → Result Compiled CompileError → Type 0

@@ -29,27 +29,21 @@ pub along_more : (marks : List (List ℕ)) (program : List (List Slot)) (w : Wor
 along_more marks program w [] event s = refl
 along_more marks program w (e ∷ es) event s = along_more marks program (after_event program w e) es event (steps_after marks program w e s)
 
-abbrev at_world : (program : List (List Slot)) (marks : List (List ℕ)) → World → Moment
-at_world program marks w = record { program = program; marks = marks; world = w }
+pub played_is : (m : Moment) (events : List Event) → played living m events ≡ record m { world = after_events m.program m.world events }
+played_is m [] = refl
+played_is m (e ∷ es) = played_is (record m { world = after_event m.program m.world e }) es
 
-pub played_is : (program : List (List Slot)) (marks : List (List ℕ)) (w : World) (events : List Event) →
-    played living (at_world program marks w) events ≡ at_world program marks (after_events program w events)
-played_is program marks w [] = refl
-played_is program marks w (e ∷ es) = played_is program marks (after_event program w e) es
+pub points_more : (m : Moment) (events : List Event) (event : Event) (h : ℕ)
+    → point_stores living m (events ++ event ∷ []) h ≡ point_stores living m events h + cond (stores_point m.program (after_events m.program m.world events) event h) 1 0
+points_more m events event h =
+    passed_count-more living (λ (n : Moment). living.stores_point n h) m events event
+    ∙ ap (λ (n : Moment). point_stores living m events h + cond (living.stores_point n h event) 1 0) (played_is m events)
 
-pub points_more : (program : List (List Slot)) (marks : List (List ℕ)) (w : World) (events : List Event) (event : Event) (h : ℕ)
-    → point_stores living (at_world program marks w) (events ++ event ∷ []) h
-    ≡ point_stores living (at_world program marks w) events h + cond (stores_point program (after_events program w events) event h) 1 0
-points_more program marks w events event h =
-    passed_count-more living (λ (m : Moment). living.stores_point m h) (at_world program marks w) events event
-    ∙ ap (λ (m : Moment). point_stores living (at_world program marks w) events h + cond (living.stores_point m h event) 1 0) (played_is program marks w events)
-
-pub fences_more : (program : List (List Slot)) (marks : List (List ℕ)) (w : World) (events : List Event) (event : Event) (h : ℕ)
-    → finished_fences living (at_world program marks w) (events ++ event ∷ []) h
-    ≡ finished_fences living (at_world program marks w) events h + cond (finishes_fence program (after_events program w events) event h) 1 0
-fences_more program marks w events event h =
-    passed_count-more living (λ (m : Moment). living.finishes_fence m h) (at_world program marks w) events event
-    ∙ ap (λ (m : Moment). finished_fences living (at_world program marks w) events h + cond (living.finishes_fence m h event) 1 0) (played_is program marks w events)
+pub fences_more : (m : Moment) (events : List Event) (event : Event) (h : ℕ)
+    → finished_fences living m (events ++ event ∷ []) h ≡ finished_fences living m events h + cond (finishes_fence m.program (after_events m.program m.world events) event h) 1 0
+fences_more m events event h =
+    passed_count-more living (λ (n : Moment). living.finishes_fence n h) m events event
+    ∙ ap (λ (n : Moment). finished_fences living m events h + cond (living.finishes_fence n h event) 1 0) (played_is m events)
 
 -- ---- What a step begins and binds
 

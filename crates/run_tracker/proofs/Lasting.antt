@@ -1,24 +1,25 @@
 -- A life stands behind an event.
-use Rattle.std.proofs.Common.{Vec, Global, ◌≡◌, ℕ, ◌+◌, ◌<◌, ◌≤◌, List, [], ◌∷◌, ◌++◌, length, map, Bool, cond, ap, sym, subst, ◌∙◌, arith, length-append}
+use Rattle.std.proofs.Common.{Vec, Global, ◌≡◌, ℕ, ◌+◌, ◌/◌, ◌<◌, ◌≤◌, List, [], ◌∷◌, ◌++◌, length, map, Bool, cond, ap, sym, subst, ◌∙◌, arith, length-append}
 use Rattle.std.specs.Vec.{vec_capacity, vec_len}
 use Rattle.ido_base.specs.declared.event.Event.{Event}
 use Rattle.ido_base.specs.Cores.{point_stores, finished_fences}
 use Rattle.rv64_isa.specs.declared.object.Slot.{Slot}
 use Rattle.rv64_isa.specs.Frames.{IsSound}
 use Rattle.rv64_isa.proofs.Frames.{queues_stand}
-use Rattle.rv64_isa.specs.Machine.{World, IsValidEvent, after_event, start_of}
+use Rattle.rv64_isa.specs.Machine.{World, IsValidEvent, after_event}
 use Rattle.rv64_isa.specs.Schedule.{Steps, steps_after, stores_point, finishes_fence}
 use Rattle.ido_machine.specs.declared.machine.Machine.{Machine}
 use Rattle.ido_machine.specs.Machines.{MachineStands, program_in, events_of}
 use Rattle.run_tracker.specs.declared.account.Account.{Account}
 use Rattle.run_tracker.specs.declared.life.Life.TheInside.{Inside}
-use Rattle.run_tracker.specs.links.Accounts.{AccountStands, AreOrdered, weight}
+use Rattle.run_tracker.specs.links.Accounts.{AccountStands, AreOpen, AreOrdered, weight}
 use Rattle.run_tracker.specs.links.MarkTables.{AreTables}
 use Rattle.run_tracker.specs.Lives.{Course, world_of, steps_in, with_event, living, opening_of}
 use Rattle.run_tracker.specs.links.Parts.{AreCounted, IsReady, HasCounts}
-use Rattle.run_tracker.specs.links.Insides.{course_of, AreCounts, LifeStands}
+use Rattle.run_tracker.specs.links.Insides.{course_of, opening_by, AreCounts, LifeStands}
 use Rattle.run_tracker.proofs.Events.{after_more, along_more, points_more, fences_more, harts-after, weight-after, ordered-after}
 use Rattle.run_tracker.proofs.Counting.{passed-few}
+use Rattle.run_tracker.proofs.Opens.{open-after}
 
 module _ (life : Inside) (stands : LifeStands life) where
   hart_count : length (world_of (course_of life)).harts ≡ length (program_in life.machine)
@@ -70,7 +71,15 @@ module _ (life : Inside) (stands : LifeStands life) where
       (stores : vec_len account.stores ≤ vec_len life.account.stores + 1) where
     pub course_is : course_of (record life { machine = machine; account = account; journal = journal; points = points; fences = fences }) ≡ with_event (course_of life) event
     course_is =
-        let at : List (List Slot) → List Event → Course = λ p j. record { program = p; marks = map (λ a. a.items) life.addresses.items; opening = start_of p life.mutexes life.initial.items; journal = j; cap = life.cap } in
+        let at : List (List Slot) → List Event → Course = λ p j. record {
+          program = p;
+          marks = map (λ a. a.items) life.addresses.items;
+          variable_words = length life.initial.items / 8;
+          kept_before = life.before.items;
+          opening = opening_by p life.mutexes life.initial.items life.left;
+          journal = j;
+          cap = life.cap;
+        } in
         ap (λ (p : List (List Slot)). at p journal.items) same ∙ ap (at (program_in life.machine)) journal_is
 
     world_is : world_of (with_event (course_of life) event) ≡ after_event (program_in life.machine) (world_of (course_of life)) event
@@ -103,19 +112,23 @@ module _ (life : Inside) (stands : LifeStands life) where
       ordered = moved (λ (x : Course). AreOrdered (world_of x).words (steps_in x))
           (subst (λ (w : World). AreOrdered w.words (steps_in (with_event (course_of life) event))) (sym world_is)
           (subst (AreOrdered (after_event (program_in life.machine) (world_of (course_of life)) event).words) (sym steps_are) (ordered-after (map (λ a. a.items) life.addresses.items) (program_in life.machine) (world_of (course_of life)) event (steps_in (course_of life)) stands.sound stands.ordered)));
-      light = moved (λ (x : Course). weight (steps_in x) ≤ length journal.items)
-          (subst (λ (s : Steps). weight s ≤ length journal.items) (sym steps_are)
+      are_open = moved (λ (x : Course). AreOpen (world_of x).words (steps_in x))
+          (subst (λ (w : World). AreOpen w.words (steps_in (with_event (course_of life) event))) (sym world_is)
+          (subst (AreOpen (after_event (program_in life.machine) (world_of (course_of life)) event).words) (sym steps_are) (open-after (map (λ a. a.items) life.addresses.items) (program_in life.machine) (world_of (course_of life)) event (steps_in (course_of life)))));
+      light = moved (λ (x : Course). weight (steps_in x) ≤ length life.before.items + length journal.items)
+          (subst (λ (s : Steps). weight s ≤ length life.before.items + length journal.items) (sym steps_are)
           (omega (arith, weight-after (map (λ a. a.items) life.addresses.items) (program_in life.machine) (world_of (course_of life)) event (steps_in (course_of life)) valid_steps, stands.light, longer)));
       points = moved (λ (x : Course). AreCounts points.items (length x.program) (point_stores living (opening_of x) x.journal))
           (counts_are life.points.items points.items (point_stores living (opening_of (course_of life)) life.journal.items) (point_stores living (opening_of (course_of life)) (life.journal.items ++ event ∷ []))
           (λ h. stores_point (program_in life.machine) (world_of (course_of life)) event h) stands.points points_are
-          (λ h. points_more (program_in life.machine) (course_of life).marks (course_of life).opening life.journal.items event h));
+          (λ h. points_more (opening_of (course_of life)) life.journal.items event h));
       fences = moved (λ (x : Course). AreCounts fences.items (length x.program) (finished_fences living (opening_of x) x.journal))
           (counts_are life.fences.items fences.items (finished_fences living (opening_of (course_of life)) life.journal.items) (finished_fences living (opening_of (course_of life)) (life.journal.items ++ event ∷ []))
           (λ h. finishes_fence (program_in life.machine) (world_of (course_of life)) event h) stands.fences fences_are
-          (λ h. fences_more (program_in life.machine) (course_of life).marks (course_of life).opening life.journal.items event h));
+          (λ h. fences_more (opening_of (course_of life)) life.journal.items event h));
       within = omega (arith, room, longer);
       few = stands.few;
+      bytes = stands.bytes;
       journal_room = omega (arith, journal_room, stands.journal_room);
       kept_room = omega (arith, kept_room, stands.kept_room);
       stores_room = omega (arith, stores_room, stands.stores_room);

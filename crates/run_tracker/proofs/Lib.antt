@@ -1,8 +1,12 @@
 pub mod Bounds
 pub mod Counting
+pub mod Drains
+pub mod Durables
 pub mod Events
 pub mod Keeping
 pub mod Lasting
+pub mod Openings
+pub mod Opens
 pub mod Orders
 pub mod Places
 pub mod Scans

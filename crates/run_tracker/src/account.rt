@@ -1,5 +1,5 @@
 //! The account of begun and kept steps.
-ghost use Rattle.std.specs.Prelude.{◌≡◌, [], ◌+◌, ◌<◌, ◌≤◌, ◌++◌, ◌^◌, ℕ, List, drop, filter, nat_lt, length, replicate, sum_by, if◌then◌else◌, IfOk};
+ghost use Rattle.std.specs.Prelude.{◌≡◌, ◌+◌, ◌<◌, ◌≤◌, ◌++◌, ◌^◌, ℕ, List, drop, filter, nat_lt, length, replicate, sum_by, if◌then◌else◌, IfOk};
 ghost use Rattle.std.specs.Vec.{vec_capacity, vec_len};
 ghost use Rattle.ido_base.specs.Words.{Word, word_at};
 ghost use Rattle.rv64_isa.specs.Schedule.{Steps, first_steps, no_steps, with_begun, with_bound, with_kept, durable_steps};
@@ -80,16 +80,21 @@ fn push_steps(kept: &mut Vec<u32>, hart: u32, count: u64)
 }
 
 impl Account {
-    /// Before any step, with room for so many.
-    pub fn new(alloc: Global, harts: u32, cap: u64) -> Result<Account, Memory>
-        ensures stands { IfOk result (λ account. AccountStands account (first_steps harts [])) }
-        ensures kept { IfOk result (λ account. vec_capacity account.kept ≡ cap) }
+    /// Before any step, with a schedule that is kept already and room for so many steps more.
+    pub fn new(alloc: Global, harts: u32, before: &[u32], cap: u64) -> Result<Account, Memory>
+        requires few { length before.now + cap < 2 ^ 63 }
+        ensures stands { IfOk result (λ account. AccountStands account (first_steps harts before.now)) }
+        ensures kept { IfOk result (λ account. vec_capacity account.kept ≡ length before.now + cap) }
         ensures reserved { IfOk result (λ account. vec_capacity account.stores ≡ cap) }
         ensures stores { IfOk result (λ account. vec_len account.stores ≡ 0) }
     {
         let nothing = OpenSteps { free: 0, first: 0 };
+        let mut kept = Vec::with_capacity(alloc, before.len() + cap as usize)?;
+        for step in before {
+            kept.push_reserved(*step);
+        }
         Ok(Account {
-            kept: Vec::with_capacity(alloc, cap as usize)?,
+            kept,
             stores: Vec::with_capacity(alloc, cap as usize)?,
             harts: vec![in alloc; nothing; harts as usize]?,
         })

@@ -1,13 +1,18 @@
 //! A life: a machine that runs a compiled object, with the journal of its events and the kept schedule.
-ghost use Rattle.std.specs.Prelude.{◌≡◌, ◌+◌, ◌-◌, ◌*◌, ◌<◌, ◌≤◌, ◌^◌, ℕ, length, not, IfOk};
+ghost use Rattle.std.specs.Prelude.{◌≡◌, [], ◌+◌, ◌-◌, ◌*◌, ◌/◌, ◌<◌, ◌≤◌, ◌^◌, ◌++◌, ℕ, length, map, not, IfOk};
+ghost use Rattle.std.specs.Vec.{vec_capacity, vec_len};
 ghost use Rattle.ido_base.specs.Words.{word_at, live_value, durable_value};
 ghost use Rattle.ido_base.specs.Layout.{line_count};
 ghost use Rattle.ido_base.specs.Cores.{point_stores, finished_fences};
-ghost use Rattle.rv64_isa.specs.Machine.{World, IsValidEvent, reply_to};
-ghost use Rattle.ido_machine.specs.Machines.{MachineStands, program_in};
+ghost use Rattle.rv64_isa.specs.Machine.{World, IsValidEvent, reply_to, numbers_from};
+ghost use Rattle.ido_machine.specs.Machines.{MachineStands, program_in, events_of};
+ghost use Rattle.rv64_isa.specs.Programs.{program_of};
+ghost use Rattle.rv64_isa.specs.Frames.{IsSound};
 ghost use Rattle.rv64_isa.specs.Schedule.{is_settled, is_settled_hart};
 ghost use Rattle.hart_core.specs.Objects.{IsWithinLimits};
-ghost use Rattle.run_tracker.specs.Lives.{Course, new_life, with_event, world_of, steps_in, is_stopped, is_stopped_phase, living, opening_of};
+ghost use Rattle.run_tracker.specs.Lives.{Course, new_life, life_at, life_from, with_event, world_of, steps_in, left_words};
+ghost use Rattle.run_tracker.specs.Lives.{is_stopped, is_stopped_phase, living, opening_of};
+ghost use Rattle.run_tracker.specs.links.Insides.{opening_by};
 
 use crate::account::Account;
 use crate::marks::{MarkTable, nodes_of, tables_of};
@@ -27,6 +32,12 @@ const POINT_LINE: u32 = 1024;
 /// From the line of one hart's point to that of the next.
 const LOG_LINES: u32 = 16;
 
+/// Words that the variables may have: the logs stand behind them.
+const VARIABLE_WORDS: u32 = 8192;
+
+/// The words of a log.
+const LOG_WORDS: u32 = 128;
+
 /// A machine that runs a compiled object, with the journal of its events and the account of the steps of the source
 /// that it has begun and kept. It has room for its events from the start.
 #[derive(Debug, Drop)]
@@ -35,6 +46,10 @@ pub struct Life {
     initial: Vec<u8>,
     mutexes: u32,
     addresses: Vec<Vec<u64>>,
+    /// What a crash left of the variables and logs, where the life begins after one.
+    left: Option<Vec<u64>>,
+    /// The schedule that was kept before the first event.
+    before: Vec<u32>,
     tables: Vec<MarkTable>,
     machine: Machine,
     account: Account,
@@ -84,6 +99,21 @@ fn are_settled(machine: &Machine) -> bool
     true
 }
 
+/// Adds the durable values of so many words from this one on.
+fn push_durable(machine: &Machine, words: &mut Vec<u64>, from: u32, count: u32)
+    requires exists { from + count ≤ 8 * line_count (length (program_in machine.now)) }
+    requires room { vec_len words.old + count ≤ vec_capacity words.old }
+    ensures items { (w : World) → MachineStands machine.now w →
+        words.new.items ≡ words.old.items ++ map (λ i. durable_value (word_at w.words i)) (numbers_from from count) }
+    ensures len { vec_len words.new ≡ vec_len words.old + count }
+    ensures capacity { vec_capacity words.new ≡ vec_capacity words.old }
+{
+    for at in 0..count {
+        let word = from + at;
+        words.push_reserved(machine.durable_word(word / 8, word % 8));
+    }
+}
+
 impl Life {
     /// The life of an object at its start, with room for so many events.
     pub fn new(alloc: Global, object: &Object, marks: &Marks, cap: u64) -> Result<Life, Memory>
@@ -93,14 +123,60 @@ impl Life {
         ensures { IfOk result (λ life. life ≡ new_life object.now marks.now cap) }
     {
         let machine = Machine::start(alloc, object)?;
+        Life::begun(alloc, object, marks, machine, None, &[], cap)
+    }
+
+    /// The life of an object that begins as after a crash that left these words of its variables and, behind them, of
+    /// its logs, with this schedule kept already and room for so many events.
+    pub fn of_words(
+        alloc: Global,
+        object: &Object,
+        marks: &Marks,
+        words: &[u64],
+        schedule: &[u32],
+        cap: u64,
+    ) -> Result<Life, Memory>
+        requires limits { IsWithinLimits object.now }
+        requires marks { length marks.now.threads.items ≡ length object.now.code.items }
+        requires count { length words.now ≡ length object.now.initial.items / 8 + 128 * length object.now.code.items }
+        requires cap { length schedule.now + cap < 2 ^ 63 }
+        ensures { IfOk result (λ life. life ≡ life_from object.now marks.now words.now schedule.now cap) }
+    {
+        let machine = Machine::of_words(alloc, object, words)?;
+        let left = Some(words.to_vec(alloc)?);
+        Life::begun(alloc, object, marks, machine, left, schedule, cap)
+    }
+
+    /// The life of an object whose machine has made no event yet.
+    fn begun(
+        alloc: Global,
+        object: &Object,
+        marks: &Marks,
+        machine: Machine,
+        left: Option<Vec<u64>>,
+        before: &[u32],
+        cap: u64,
+    ) -> Result<Life, Memory>
+        requires limits { IsWithinLimits object.now }
+        requires marks { length marks.now.threads.items ≡ length object.now.code.items }
+        requires program { program_in machine ≡ program_of object.now }
+        requires events { events_of machine ≡ 0 }
+        requires stands { MachineStands machine (opening_by (program_of object.now) object.now.mutexes object.now.initial.items left) }
+        requires sound { IsSound (opening_by (program_of object.now) object.now.mutexes object.now.initial.items left) }
+        requires cap { length before.now + cap < 2 ^ 63 }
+        ensures { IfOk result (λ life. life ≡
+            life_at object.now marks.now (opening_by (program_of object.now) object.now.mutexes object.now.initial.items left) before.now cap) }
+    {
         let harts = machine.harts();
         Ok(Life {
             initial: object.initial.to_vec(alloc)?,
             mutexes: object.mutexes,
             addresses: nodes_of(alloc, marks)?,
+            left,
+            before: before.to_vec(alloc)?,
             tables: tables_of(alloc, object, marks)?,
             machine,
-            account: Account::new(alloc, harts, cap)?,
+            account: Account::new(alloc, harts, before, cap)?,
             journal: Vec::with_capacity(alloc, cap as usize)?,
             points: vec![in alloc; 0u64; harts as usize]?,
             fences: vec![in alloc; 0u64; harts as usize]?,
@@ -174,6 +250,18 @@ impl Life {
         ensures { result ≡ live_value (word_at (world_of self.now).words (8 * line + word)) }
     {
         self.machine.live_word(line, word)
+    }
+
+    /// What a crash would leave: the durable words of the variables and, behind them, of the logs.
+    pub fn durable_words(&self, alloc: Global) -> Result<Vec<u64>, Memory>
+        ensures { IfOk result (λ words. words.items ≡ left_words self.now.variable_words (world_of self.now).words) }
+    {
+        let variables = (self.initial.len() / 8) as u32;
+        let logs = LOG_WORDS * self.machine.harts();
+        let mut words = Vec::with_capacity(alloc, (variables + logs) as usize)?;
+        push_durable(&self.machine, &mut words, 0, variables);
+        push_durable(&self.machine, &mut words, VARIABLE_WORDS, logs);
+        Ok(words)
     }
 
     /// Makes an event.

@@ -1,14 +1,14 @@
 //! What an event does to the machine and to the account.
-ghost use Rattle.std.specs.Prelude.{◌≡◌, ◌+◌, ◌<◌, ◌≤◌, ◌^◌, ◌&&◌, List, ℕ, length, slice_set, slice_index, if◌then◌else◌};
+ghost use Rattle.std.specs.Prelude.{◌≡◌, ◌+◌, ◌<◌, ◌≤◌, ◌^◌, ◌&&◌, ◌||◌, List, false, ℕ, length, slice_set, slice_index, if◌then◌else◌};
 ghost use Rattle.std.specs.Vec.{vec_capacity, vec_len};
 ghost use Rattle.ido_base.specs.declared.event.Event.TheVariants.{Step, Evict, Crash};
 ghost use Rattle.ido_base.specs.Layout.{line_count};
 ghost use Rattle.rv64_isa.specs.Machine.{World, IsValidEvent, happens};
 ghost use Rattle.rv64_isa.specs.Schedule.{Steps, has_moved, is_running, stores_point, finishes_fence, steps_after, with_all_kept};
 ghost use Rattle.ido_machine.specs.Machines.{MachineStands, IsAfter, program_in, events_of};
-ghost use Rattle.run_tracker.specs.links.Accounts.{AccountStands};
+ghost use Rattle.run_tracker.specs.links.Accounts.{AccountStands, AreOpen};
 ghost use Rattle.run_tracker.specs.links.MarkTables.{AreTables};
-ghost use Rattle.run_tracker.specs.links.Parts.{IsSeen, IsAtSome, IsReady, HasSteps, HasCounts, AreCounted};
+ghost use Rattle.run_tracker.specs.links.Parts.{is_drained, IsSeen, IsAtSome, IsReady, HasSteps, HasCounts, AreCounted};
 
 use crate::account::Account;
 use crate::marks::MarkTable;
@@ -93,6 +93,35 @@ fn keep_all(machine: &Machine, account: &mut Account)
     }
 }
 
+/// A queued entry was written back.
+fn is_drained(reply: Reply) -> bool
+    ensures { result ≡ is_drained reply }
+{
+    matches!(reply, Reply::Drained)
+}
+
+/// Steps may have become durable with a step: it has stored the hart's point, or has written something back.
+fn is_due(point: bool, reply: Reply) -> bool
+    ensures { result ≡ (point || is_drained reply) }
+{
+    point || is_drained(reply)
+}
+
+/// Keeps the steps whose points have become durable, where some may have.
+fn keep_if(due: bool, machine: &Machine, account: &mut Account)
+    requires harts { length account.old.harts.items ≡ length (program_in machine.now) }
+    requires at { HasSteps machine.now account.old }
+    ensures stands { (w : World) (s : Steps) → MachineStands machine.now w → AccountStands account.old s → (due ≡ false → AreOpen w.words s)
+        → AccountStands account.new (with_all_kept w.words (length account.old.harts.items) s) }
+    ensures stores { account.new.stores ≡ account.old.stores }
+    ensures capacity { vec_capacity account.new.kept ≡ vec_capacity account.old.kept }
+{
+    if !due {
+        return;
+    }
+    keep_all(machine, account);
+}
+
 /// A step of a hart of which this was seen.
 fn step(machine: &mut Machine, account: &mut Account, sight: Sight, hart: u32) -> Reply
     requires exists { hart < length (program_in machine.old) }
@@ -102,7 +131,8 @@ fn step(machine: &mut Machine, account: &mut Account, sight: Sight, hart: u32) -
     requires at { (marks : List (List ℕ)) × IsAtSome (program_in machine.old) marks sight hart machine.old account.old }
     ensures world { (w : World) → MachineStands machine.old w → IsAfter machine.new result (happens (program_in machine.old) w (Step hart)) }
     ensures steps { (marks : List (List ℕ)) (w : World) (s : Steps) → MachineStands machine.old w → AccountStands account.old s
-        → IsSeen marks (program_in machine.old) w hart sight → AccountStands account.new (steps_after marks (program_in machine.old) w (Step hart) s) }
+        → IsSeen marks (program_in machine.old) w hart sight → AreOpen w.words s
+        → AccountStands account.new (steps_after marks (program_in machine.old) w (Step hart) s) }
     ensures program { program_in machine.new ≡ program_in machine.old }
     ensures events { events_of machine.new ≡ events_of machine.old + 1 }
     ensures stores { vec_len account.new.stores ≤ vec_len account.old.stores + 1 }
@@ -113,7 +143,7 @@ fn step(machine: &mut Machine, account: &mut Account, sight: Sight, hart: u32) -
     account.begin_if(passes(sight.marked, reply), hart);
     let position = machine.last_position(POINT_LINE + LOG_LINES * hart, 0);
     account.bind_if(sight.point, hart, position);
-    keep_all(machine, account);
+    keep_if(is_due(sight.point, reply), machine, account);
     reply
 }
 
@@ -183,7 +213,8 @@ pub(crate) fn make(
     requires at { IsReady tables.now machine.old account.old }
     ensures world { (w : World) → MachineStands machine.old w → IsAfter machine.new result (happens (program_in machine.old) w event) }
     ensures steps { (marks : List (List ℕ)) (w : World) (s : Steps) → AreTables tables.now (program_in machine.old) marks
-        → MachineStands machine.old w → AccountStands account.old s → AccountStands account.new (steps_after marks (program_in machine.old) w event s) }
+        → MachineStands machine.old w → AccountStands account.old s → AreOpen w.words s
+        → AccountStands account.new (steps_after marks (program_in machine.old) w event s) }
     ensures points { (w : World) → MachineStands machine.old w → AreCounted points.old points.new (λ h. stores_point (program_in machine.old) w event h) }
     ensures fences { (w : World) → MachineStands machine.old w → AreCounted fences.old fences.new (λ h. finishes_fence (program_in machine.old) w event h) }
     ensures program { program_in machine.new ≡ program_in machine.old }

@@ -3,7 +3,8 @@
 //! Rows that are answered in another way are written with their answers, and then how many rows there are.
 //!
 //! In inputs and answers `` `N:TEXT` `` stands for N times the text, in which `#` is the number of the round, from 0,
-//! and `@` the next number.
+//! and `@` the next number; `` `xN:05 ff` `` for N times the bytes with these hexadecimal digits. An answer that ends
+//! with `` `.` `` has no line feed at its end.
 #![tactic(auto)]
 
 use ido_base::memory::Memory;
@@ -23,6 +24,9 @@ const ROW: &[u8] = b"=== ";
 
 /// What stands before an answer.
 const ANSWER: &[u8] = b"==> ";
+
+/// What stands at the end of an answer that no line feed ends.
+const OPEN_END: &[u8] = b"`.`";
 
 /// A row of the table.
 #[derive(Clone, Copy)]
@@ -71,13 +75,54 @@ fn first_row(table: &[u8]) -> Option<(Row<'_>, &[u8])> {
     Some((row, next))
 }
 
+/// The number that digits spell, and 0 where they spell none.
+fn number(digits: &[u8]) -> u32 {
+    let number = str::from_utf8(digits)
+        .ok()
+        .and_then(|digits| digits.parse::<u32>().ok());
+    number.unwrap_or(0)
+}
+
+/// The value of a hexadecimal digit.
+fn digit(byte: u8) -> Option<u8> {
+    match byte {
+        b'0'..=b'9' => Some(byte - b'0'),
+        b'a'..=b'f' => Some(byte - b'a' + 10),
+        _ => None,
+    }
+}
+
+/// Adds the bytes that pairs of hexadecimal digits spell. What isn't one is passed over.
+fn put_bytes(digits: &[u8], text: &mut Vec<u8>) -> Result<(), Memory> {
+    let mut first = None;
+    for byte in digits {
+        let Some(low) = digit(*byte) else {
+            continue;
+        };
+        match first {
+            None => first = Some(low << 4),
+            Some(high) => {
+                text.push(high | low)?;
+                first = None;
+            }
+        }
+    }
+    Ok(())
+}
+
+/// Adds the rounds of `xN:05 ff`, but for the `x`.
+fn put_byte_rounds(repeated: &[u8], text: &mut Vec<u8>) -> Result<(), Memory> {
+    let (count, digits) = split(repeated, b':');
+    for _ in 0..number(count) {
+        put_bytes(digits, text)?;
+    }
+    Ok(())
+}
+
 /// Adds the rounds of `N:TEXT`.
 fn put_rounds(alloc: Global, repeated: &[u8], text: &mut Vec<u8>) -> Result<(), Memory> {
     let (count, part) = split(repeated, b':');
-    let rounds = str::from_utf8(count)
-        .ok()
-        .and_then(|digits| digits.parse::<u32>().ok());
-    for round in 0..rounds.unwrap_or(0) {
+    for round in 0..number(count) {
         for byte in part {
             match *byte {
                 b'#' => text.extend_from_slice(format!(in alloc; "{round}")?.as_bytes())?,
@@ -101,7 +146,10 @@ fn written_out(alloc: Global, short: &[u8]) -> Result<Vec<u8>, Memory> {
         let (plain, marked) = split(rest, b'`');
         let (repeated, next) = split(marked, b'`');
         text.extend_from_slice(plain)?;
-        put_rounds(alloc, repeated, &mut text)?;
+        match repeated.strip_prefix(b"x") {
+            Some(bytes) => put_byte_rounds(bytes, &mut text)?,
+            None => put_rounds(alloc, repeated, &mut text)?,
+        }
         rest = next;
     }
     Ok(text)
@@ -141,7 +189,9 @@ fn findings(alloc: Global, table: &[u8]) -> Result<Vec<u8>, Memory> {
             break;
         };
         let mut wanted = written_out(alloc, row.answer)?;
-        wanted.push(b'\n')?;
+        if !row.answer.ends_with(OPEN_END) {
+            wanted.push(b'\n')?;
+        }
         let answer = answer_to(alloc, &row)?;
         if answer != wanted {
             said.extend_from_slice(row.name)?;

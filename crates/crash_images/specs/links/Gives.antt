@@ -1,11 +1,11 @@
 -- What a reader of the code returned is what reading gives.
 use Rattle.std.specs.Prelude.{◌≡◌, Result, Ok, Err}
 use Rattle.crash_images.specs.Reading.{Fault, Magic, Version, Cut, Source, Rest}
-use Rattle.crash_images.specs.declared.error.ImageError.{ImageError}
-use Rattle.crash_images.specs.declared.error.ImageError.TheVariants as e
+use Rattle.crash_images.specs.declared.fields.FieldError.{FieldError}
+use Rattle.crash_images.specs.declared.fields.FieldError.TheVariants as e
 
 -- the error tells the fault
-abbrev pub IsFault : {Y : Type 0} → ImageError → Result Y Fault → Type 0
+abbrev pub IsFault : {Y : Type 0} → FieldError → Result Y Fault → Type 0
 IsFault e.Magic read = read ≡ Err Magic
 IsFault e.Version read = read ≡ Err Version
 IsFault (e.Cut place) read = read ≡ Err (Cut place.0)
@@ -14,12 +14,12 @@ IsFault (e.Rest place) read = read ≡ Err (Rest place.0)
 IsFault e.Memory read = ⊥
 
 -- seen by view
-abbrev pub Tells : {X Y : Type 0} → (X → Y) → Result X ImageError → Result Y Fault → Type 0
+abbrev pub Tells : {X Y : Type 0} → (X → Y) → Result X FieldError → Result Y Fault → Type 0
 Tells view (Ok x) read = read ≡ Ok (view x)
 Tells view (Err e) read = IsFault e read
 
 -- want of memory tells nothing
-abbrev pub Fails : {Y : Type 0} → ImageError → Result Y Fault → Type 0
+abbrev pub Fails : {Y : Type 0} → FieldError → Result Y Fault → Type 0
 Fails e.Magic read = read ≡ Err Magic
 Fails e.Version read = read ≡ Err Version
 Fails (e.Cut place) read = read ≡ Err (Cut place.0)
@@ -28,6 +28,6 @@ Fails (e.Rest place) read = read ≡ Err (Rest place.0)
 Fails e.Memory read = Unit {0}
 
 -- seen by view, unless memory ran out
-abbrev pub Gives : {X Y : Type 0} → (X → Y) → Result X ImageError → Result Y Fault → Type 0
+abbrev pub Gives : {X Y : Type 0} → (X → Y) → Result X FieldError → Result Y Fault → Type 0
 Gives view (Ok x) read = read ≡ Ok (view x)
 Gives view (Err e) read = Fails e read

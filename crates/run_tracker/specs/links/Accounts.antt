@@ -70,6 +70,10 @@ abbrev pub IsAscending : List Bound → Type 0
 IsAscending [] = Unit {0}
 IsAscending (b ∷ bs) = AllFrom b.position bs × IsAscending bs
 
+-- no steps are bound to a position that is durable
+abbrev pub AreOpen : List Word → Steps → Type 0
+AreOpen words s = (h : ℕ) → AllFrom ((word_at words (point_word h)).durable + 1) (hart_steps s h).bound
+
 -- of each hart they are in order, up to the newest position of its point
 pub record AreOrdered (words : List Word) (s : Steps) : Type 0 where
   pub ascending : (h : ℕ) → IsAscending (hart_steps s h).bound

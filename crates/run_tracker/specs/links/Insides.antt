@@ -1,20 +1,30 @@
 -- What the fields of a life stand for.
-use Rattle.std.specs.Prelude.{◌≡◌, ℕ, ◌<◌, ◌≤◌, ◌^◌, List, length, map, slice_index}
+use Rattle.std.specs.Prelude.{Vec, ◌≡◌, ℕ, ◌+◌, ◌/◌, ◌<◌, ◌≤◌, ◌^◌, List, length, map, slice_index, Option, Some, None}
+use Rattle.std.specs.Global.{Global}
 use Rattle.std.specs.Vec.{vec_capacity, vec_len}
 use Rattle.ido_base.specs.Cores.{point_stores, finished_fences}
-use Rattle.rv64_isa.specs.Machine.{start_of}
+use Rattle.ido_base.specs.Layout.{spread_words}
+use Rattle.rv64_isa.specs.declared.object.Slot.{Slot}
+use Rattle.rv64_isa.specs.Machine.{World, start_of, after_crash_of}
 use Rattle.rv64_isa.specs.Frames.{IsSound}
 use Rattle.ido_machine.specs.Machines.{MachineStands, program_in, events_of}
 use Rattle.run_tracker.specs.declared.life.Life.TheInside.{Inside}
-use Rattle.run_tracker.specs.links.Accounts.{AccountStands, AreOrdered, weight}
+use Rattle.run_tracker.specs.links.Accounts.{AccountStands, AreOpen, AreOrdered, weight}
 use Rattle.run_tracker.specs.links.MarkTables.{AreTables}
 use Rattle.run_tracker.specs.Lives.{Course, world_of, steps_in, living, opening_of}
+
+-- the world before the first event: that of the start, or that after a crash that left these words
+abbrev pub opening_by : List (List Slot) → (locks : ℕ) → (initial : List ℕ) → Option (Vec ℕ Global) → World
+opening_by program locks initial None = start_of program locks initial
+opening_by program locks initial (Some words) = after_crash_of program locks (spread_words (length initial / 8) words.items)
 
 abbrev pub course_of : Inside → Course
 course_of life = record {
   program = program_in life.machine;
   marks = map (λ a. a.items) life.addresses.items;
-  opening = start_of (program_in life.machine) life.mutexes life.initial.items;
+  variable_words = length life.initial.items / 8;
+  kept_before = life.before.items;
+  opening = opening_by (program_in life.machine) life.mutexes life.initial.items life.left;
   journal = life.journal.items;
   cap = life.cap;
 }
@@ -32,12 +42,14 @@ pub record LifeStands (life : Inside) : Type 0 where
   pub account : AccountStands life.account (steps_in (course_of life))
   pub harts : length life.account.harts.items ≡ length (program_in life.machine)
   pub ordered : AreOrdered (world_of (course_of life)).words (steps_in (course_of life))
-  pub light : weight (steps_in (course_of life)) ≤ length life.journal.items
+  pub are_open : AreOpen (world_of (course_of life)).words (steps_in (course_of life))
+  pub light : weight (steps_in (course_of life)) ≤ length life.before.items + length life.journal.items
   pub points : AreCounts life.points.items (length (program_in life.machine)) (point_stores living (opening_of (course_of life)) life.journal.items)
   pub fences : AreCounts life.fences.items (length (program_in life.machine)) (finished_fences living (opening_of (course_of life)) life.journal.items)
   pub within : length life.journal.items ≤ life.cap
-  pub few : life.cap < 2 ^ 63
+  pub few : length life.before.items + life.cap < 2 ^ 63
+  pub bytes : length life.initial.items ≤ 65536
   pub journal_room : life.cap ≤ vec_capacity life.journal
-  pub kept_room : life.cap ≤ vec_capacity life.account.kept
+  pub kept_room : length life.before.items + life.cap ≤ vec_capacity life.account.kept
   pub stores_room : life.cap ≤ vec_capacity life.account.stores
   pub stores : vec_len life.account.stores ≤ length life.journal.items

@@ -1,7 +1,9 @@
 -- What the parts of a life stand for before and behind an event.
-use Rattle.std.specs.Prelude.{◌≡◌, ℕ, ◌+◌, ◌<◌, ◌≤◌, ◌^◌, ◌&&◌, List, length, slice_index, Bool, if◌then◌else◌}
+use Rattle.std.specs.Prelude.{◌≡◌, ℕ, ◌+◌, ◌<◌, ◌≤◌, ◌^◌, ◌&&◌, List, length, slice_index, Bool, true, false, if◌then◌else◌}
 use Rattle.std.specs.Vec.{vec_capacity}
 use Rattle.ido_base.specs.declared.event.Event.TheVariants.{Step}
+use Rattle.ido_base.specs.declared.event.Reply.{Reply}
+use Rattle.ido_base.specs.declared.event.Reply.TheVariants.{Moved, Drained, Waits, Barrier, Still, Stuck, Device}
 use Rattle.rv64_isa.specs.declared.object.Slot.{Slot}
 use Rattle.rv64_isa.specs.Machine.{World, reply_to}
 use Rattle.rv64_isa.specs.Schedule.{Steps, hart_steps, has_moved, passes_mark, stores_point, finishes_fence}
@@ -13,6 +15,16 @@ use Rattle.run_tracker.specs.declared.marks.MarkTable.{MarkTable}
 use Rattle.run_tracker.specs.declared.stepping.Sight.{Sight}
 use Rattle.run_tracker.specs.links.MarkTables.{AreTables}
 use Rattle.run_tracker.specs.links.Accounts.{AccountStands, AreOrdered, weight, IsAscending}
+
+-- a queued entry was written back
+abbrev pub is_drained : Reply → Bool
+is_drained Moved = false
+is_drained Drained = true
+is_drained (Waits lock holder) = false
+is_drained (Barrier hart) = false
+is_drained Still = false
+is_drained (Stuck cause) = false
+is_drained Device = false
 
 -- what was seen of a hart before its step
 pub record IsSeen (marks : List (List ℕ)) (program : List (List Slot)) (w : World) (h : ℕ) (sight : Sight) : Type 0 where

@@ -1,5 +1,6 @@
 use Rattle.std.proofs.Common.{arith}
 use Rattle.crash_images.proofs.Written.{written_again, written_short}
+use Rattle.crash_images.proofs.Merging.{runs_merged}
 use Rattle.crash_images.proofs.RunLaws.{each_step}
 use Rattle.crash_images.proofs.writing.write_image.Goals as goal
 
@@ -14,3 +15,6 @@ returns-clause-short c =
 
 pub returns-clause-steps : goal.returns-clause-steps
 returns-clause-steps c = each_step c.args.schedule.now
+
+pub returns-clause-merged : goal.returns-clause-merged
+returns-clause-merged c = runs_merged c.args.schedule.now

@@ -1,13 +1,15 @@
-use Rattle.std.proofs.Common.{map, string_bytes, ap, ◌∙◌}
+use Rattle.std.proofs.Common.{map, string_bytes, sym, ap, ◌∙◌}
+use Rattle.clap.specs.Matches.{found_of}
+use Rattle.clap.specs.Walk.{rows_of}
 use Rattle.clap.specs.Words.{app_of}
-use Rattle.ido_cli.specs.Commands.{command_named}
-use Rattle.ido_cli.proofs.Commands.{refused, taken}
+use Rattle.ido_cli.proofs.Commands.{none_taken, refused, taken}
 use Rattle.ido_cli.proofs.command.command_of.Goals as goal
 
-pub returns-in-Ok : goal.returns-in-Ok
-returns-in-Ok c =
-    taken (app_of c.in_ok-table.field-0) (map string_bytes c.args.words.now) c.in-Ok.matches c.command_named.result c.in_ok-table.ensures c.in-Ok.ensures.matches c.in-Ok.ensures.kinds
-    (c.command_named.ensures ∙ ap command_named c.subcommand_name.ensures)
+pub returns-in-Some : goal.returns-in-Some
+returns-in-Some c =
+    let found = c.in-Some.ensures in
+    taken (app_of c.in_ok-table.field-0) (map string_bytes c.args.words.now) c.in-Ok.matches c.in-Some.name.now (rows_of (found_of c.in-Some.own.now)) c.command_by_name.result
+    c.in_ok-table.ensures c.in-Ok.ensures.matches c.in-Ok.ensures.kinds found.name found.rows c.command_by_name.ensures
 
 pub returns : goal.returns
 returns c =

@@ -1,9 +1,12 @@
-use Rattle.std.proofs.Common.{◌≡◌, ◌∙◌, arith, ap, length, refl}
+use Rattle.std.proofs.Common.{List, ℕ, subst, ◌-◌, ◌≡◌, ◌∙◌, arith, ap, length, refl}
 use Rattle.std.proofs.lemmas.Result.{IfOk-weaker}
 use Rattle.c_tree.specs.Flats.{flat_of}
 use Rattle.run_scripts.specs.links.ScriptViews as scripts
 use Rattle.std.specs.Prelude.{map}
 use Rattle.ido_compile.specs.Compiling.{translation_in}
+use Rattle.ido_cli.specs.Inputs.{source_of}
+use Rattle.ido_cli.specs.Plays.{ScriptAnswer}
+use Rattle.ido_cli.specs.links.Asking.{Says}
 use Rattle.ido_cli.proofs.Played.{as_many_threads}
 use Rattle.ido_cli.proofs.Rests.{rest_short}
 use Rattle.ido_cli.proofs.ScriptAnswers.{script_fault_answer, script_run_answer}
@@ -16,6 +19,9 @@ read_script-requires c = omega (arith, c.requires.short, ap length c.requires.re
 pub overflow_sub-begins : goal.overflow_sub-begins
 overflow_sub-begins c = omega (arith, ap length c.requires.rest, rest_short c.args.input.now)
 
+pub script_answer-requires-clause-short_source : goal.script_answer-requires-clause-short_source
+script_answer-requires-clause-short_source c = omega (arith, c.requires.short_source, ap length c.requires.compiled.text_is)
+
 pub returns-in-Ok : goal.returns-in-Ok
 returns-in-Ok c =
     let x = c.args.compiled.now in
@@ -23,8 +29,9 @@ returns-in-Ok c =
     let many : c.len.result ≡ length x.object.code.items = omega (arith, c.len.ensures, c.args.compiled.now.object.code.ok) in
     IfOk-weaker c.script_answer.result _ _
     (λ said is.
-    script_run_answer c.args.input.now c.args.rest.now (flat_of x.flat) _ c.requires.rest (many ∙ threads) c.requires.compiled.accepted (map scripts.line_of c.in-Ok.script.lines.items) (translation_in x) said.status said.output.items
-    c.in-Ok.ensures.lines (record { object = x.object; marks = x.marks; cuts = x.cuts; translated = c.requires.compiled.translated; compilation = c.requires.compiled.compilation; is = refl }) is) c.script_answer.ensures
+    script_run_answer c.args.input.now c.args.rest.now (flat_of x.flat) _ c.requires.rest (many ∙ threads) c.requires.compiled.accepted (Says c.args.asked (source_of c.args.input.now)) (map scripts.line_of c.in-Ok.script.lines.items) (translation_in x) said.status said.output.items
+    c.in-Ok.ensures.lines (record { object = x.object; marks = x.marks; cuts = x.cuts; translated = c.requires.compiled.translated; compilation = c.requires.compiled.compilation; is = refl })
+    (subst (λ (text : List ℕ). ScriptAnswer (translation_in x) (Says c.args.asked text (translation_in x)) (map scripts.line_of c.in-Ok.script.lines.items) c.args.input.now (length c.args.input.now - length c.args.rest.now) said.status said.output.items) c.requires.compiled.text_is is)) c.script_answer.ensures
 
 pub returns-in-Err : goal.returns-in-Err
 returns-in-Err c =
@@ -33,6 +40,6 @@ returns-in-Err c =
     let many : c.len.result ≡ length x.object.code.items = omega (arith, c.len.ensures, c.args.compiled.now.object.code.ok) in
     IfOk-weaker c.script_refused.result _ _
     (λ said both.
-    script_fault_answer c.args.input.now c.args.rest.now (flat_of x.flat) _ c.requires.rest (many ∙ threads) c.requires.compiled.accepted (scripts.refused_fault c.in-Err.error) said.status said.output.items both.0
+    script_fault_answer c.args.input.now c.args.rest.now (flat_of x.flat) _ c.requires.rest (many ∙ threads) c.requires.compiled.accepted (Says c.args.asked (source_of c.args.input.now)) (scripts.refused_fault c.in-Err.error) said.status said.output.items both.0
     c.in-Err.ensures.refused both.1)
     (both_ok c.script_refused.result _ _ c.script_refused.ensures.fault c.script_refused.ensures.said)

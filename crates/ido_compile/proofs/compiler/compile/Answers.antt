@@ -2,7 +2,7 @@ use Rattle.std.proofs.Common.{sym, subst}
 use Rattle.c_tree.specs.Flats.{flat_of}
 use Rattle.c_tree.specs.declared.flat.Flat.{Flat}
 use Rattle.flow_graph.specs.Refusals.{IsAccepted}
-use Rattle.flat_compile.specs.Translating.{IsTranslated}
+use Rattle.flat_compile.specs.Translating.{IsTranslated, IsResumable}
 use Rattle.ido_compile.proofs.Translations.{is_compilation}
 use Rattle.ido_compile.proofs.compiler.compile.Goals as goal
 
@@ -17,6 +17,9 @@ returns-in_ok-compiled-in-Ok c =
     (sym c.in_ok-compiled-in-Ok.ensures.flat) c.in_ok-compiled-in-Ok.ensures.translated in
     record {
       accepted = subst (λ (x : Flat). IsAccepted c.args.text.now (flat_of x)) (sym c.in_ok-compiled-in-Ok.ensures.flat) c.in-Ok.ensures;
+      text_is = c.in_ok-compiled-in-Ok.ensures.text;
       translated = translated;
+      resumable = subst (λ (x : Flat). IsResumable (flat_of x) made.object made.marks made.cuts made.resumes.items)
+          (sym c.in_ok-compiled-in-Ok.ensures.flat) c.in_ok-compiled-in-Ok.ensures.resumes;
       compilation = is_compilation c.systems_are_compilations.ensures (flat_of made.flat) made.object made.marks made.cuts translated;
     }

@@ -35,7 +35,7 @@ invariant_of-self c =
     let fences_items = with_items_is life.fences made.new.fences (fences.size ∙ c.deref_mut-2.ensures.len) in
     lasts life stands event made.new.machine made.new.account c.push_reserved.new.self _ _ valid room made.ensures.program made.ensures.events
     (made.ensures.world world stands.machine).stands
-    (made.ensures.steps marks world (steps_in (course_of life)) tables stands.machine stands.account)
+    (made.ensures.steps marks world (steps_in (course_of life)) tables stands.machine stands.account stands.are_open)
     (subst (λ (xs : List ℕ). AreCounted life.points.items xs (λ h. stores_point program world event h)) (sym points_items)
     (subst (λ (xs : List ℕ). AreCounted xs made.new.points (λ h. stores_point program world event h)) c.deref_mut.ensures.value points))
     (subst (λ (xs : List ℕ). AreCounted life.fences.items xs (λ h. finishes_fence program world event h)) (sym fences_items)

@@ -1,59 +1,6 @@
-use Rattle.std.proofs.Common.{◌≡◌, ℕ, zero, suc, [], ◌≤◌, List, length, replicate, get_or, map, ap, sym, subst, ◌∙◌, refl, arith, rules}
-use Rattle.std.proofs.lemmas.List.{length-replicate}
-use Rattle.rv64_isa.specs.declared.object.Slot.{Slot}
-use Rattle.rv64_isa.specs.Frames.{IsSound}
 use Rattle.rv64_isa.proofs.Frames.{starts_stand}
 use Rattle.rv64_isa.specs.Programs.{program_of}
-use Rattle.rv64_isa.specs.Machine.{machine_start}
-use Rattle.rv64_isa.specs.Schedule.{first_steps, no_steps}
-use Rattle.ido_base.specs.Cores.{point_stores, finished_fences}
-use Rattle.ido_machine.specs.Machines.{MachineStands, program_in}
-use Rattle.run_tracker.specs.links.Accounts.{AccountStands, AreOrdered, weight}
-use Rattle.run_tracker.specs.links.MarkTables.{AreTables}
-use Rattle.run_tracker.specs.Lives.{Course, new_life, world_of, steps_in, living, opening_of}
-use Rattle.run_tracker.specs.links.Insides.{course_of, AreCounts}
-use Rattle.run_tracker.proofs.Events.{weightless}
-use Rattle.run_tracker.proofs.Orders.{ordered-none}
 use Rattle.run_tracker.proofs.life.Life.new.Goals as goal
 
-each_is : {X : Type 0} (count h : ℕ) (x : X) → get_or (replicate count x) h x ≡ x
-each_is zero h x = refl
-each_is (suc count) zero x = refl
-each_is (suc count) (suc h) x = each_is count h x
-
-pub invariant_of-result : goal.invariant_of-result
-invariant_of-result c =
-    let object = c.args.object.now in
-    let marks = c.args.marks.now in
-    let machine = c.in_ok-machine.machine in
-    let account = c.in_ok-new.field-0 in
-    let journal = c.in_ok-with_capacity.field-0 in
-    let start : Course = new_life object marks c.args.cap in
-    let is : start ≡ course_of (record { initial = c.in_ok-to_vec.field-0; mutexes = object.mutexes; addresses = c.in_ok-nodes_of.field-0; tables = c.in_ok-tables_of.field-0; machine = machine; account = account; journal = journal; points = c.in_ok-vec.field-0; fences = c.in_ok-vec-2.field-0; cap = c.args.cap }) = search rules in
-    let program_is : program_in machine ≡ program_of object = c.in_ok-machine.ensures.program in
-    let count : c.harts-harts.result ≡ length (program_of object) = c.harts-harts.ensures ∙ ap length program_is in
-    let none_yet : length journal.items ≡ 0 = ap length c.in_ok-with_capacity.ensures.items in
-    let stands : AccountStands account (first_steps (length (program_of object)) []) = subst (λ (n : ℕ). AccountStands account (first_steps n [])) count c.in_ok-new.ensures.stands in
-    let points : c.in_ok-vec.field-0.items ≡ replicate c.harts-harts.result 0 = search rules in
-    let fences : c.in_ok-vec-2.field-0.items ≡ replicate c.harts-harts.result 0 = search rules in
-    record {
-      machine = subst (λ (x : Course). MachineStands machine (world_of x)) is c.in_ok-machine.ensures.stands;
-      sound = subst (λ (x : Course). IsSound (world_of x)) is (starts_stand (program_of object) object.mutexes object.initial.items).0;
-      events = c.in_ok-machine.ensures.events ∙ sym none_yet;
-      tables = subst (λ (p : List (List Slot)). AreTables c.in_ok-tables_of.field-0.items p (map (λ a. a.items) c.in_ok-nodes_of.field-0.items)) (sym program_is)
-          (subst (AreTables c.in_ok-tables_of.field-0.items (program_of object)) (sym c.in_ok-nodes_of.ensures) c.in_ok-tables_of.ensures);
-      account = subst (λ (x : Course). AccountStands account (steps_in x)) is stands;
-      harts = sym stands.count ∙ length-replicate (length (program_of object)) no_steps ∙ ap length (sym program_is);
-      ordered = subst (λ (x : Course). AreOrdered (world_of x).words (steps_in x)) is (ordered-none (machine_start object).words (first_steps (length (program_of object)) []) (length (program_of object)) refl);
-      light = subst (λ (x : Course). weight (steps_in x) ≤ length journal.items) is (omega (arith, weightless (length (program_of object))));
-      points = subst (λ (x : Course). AreCounts c.in_ok-vec.field-0.items (length x.program) (point_stores living (opening_of x) x.journal)) is
-          (ap length points ∙ length-replicate c.harts-harts.result 0 ∙ count, λ h below. ap (λ (xs : List ℕ). get_or xs h 0) points ∙ each_is c.harts-harts.result h 0);
-      fences = subst (λ (x : Course). AreCounts c.in_ok-vec-2.field-0.items (length x.program) (finished_fences living (opening_of x) x.journal)) is
-          (ap length fences ∙ length-replicate c.harts-harts.result 0 ∙ count, λ h below. ap (λ (xs : List ℕ). get_or xs h 0) fences ∙ each_is c.harts-harts.result h 0);
-      within = omega (arith, none_yet);
-      few = c.requires.cap;
-      journal_room = omega (arith, c.in_ok-with_capacity.ensures.exact);
-      kept_room = omega (arith, c.in_ok-new.ensures.kept);
-      stores_room = omega (arith, c.in_ok-new.ensures.reserved);
-      stores = omega (arith, c.in_ok-new.ensures.stores);
-    }
+pub begun-requires-clause-sound : goal.begun-requires-clause-sound
+begun-requires-clause-sound c = (starts_stand (program_of c.args.object.now) c.args.object.now.mutexes c.args.object.now.initial.items).0

@@ -1,0 +1,80 @@
+-- Before each store of a flat form's graph stands its evaluation.
+use Rattle.std.proofs.Common.{◌≡◌, refl, ℕ, zero, suc, ◌+◌, List, [], ◌∷◌, ◌++◌, ◌∙◌, ap, subst, Some, Bool, true, false}
+use Rattle.std.specs.Prelude.{slice_get}
+use Rattle.ido_base.specs.declared.place.Place.{Place}
+use Rattle.c_tree.specs.Exprs as e
+use Rattle.c_tree.specs.Flats as f
+use Rattle.flow_graph.specs.Nodes.{Action, Eval, Store, Test, Lock, Unlock, End, Node}
+use Rattle.flow_graph.specs.Lowering.{test_node, plain_node, assign_nodes, count, statements_count, arms_count, thread_count, entry, statement_nodes, statements_nodes, arms_nodes, thread_nodes, threads_nodes}
+use Rattle.rv64_codegen.specs.links.Live.{is_store}
+
+abbrev pub is_eval : Action → Bool
+is_eval (Eval target value next) = true
+is_eval (Store variable kind next) = false
+is_eval (Test condition holds fails) = false
+is_eval (Lock mutex next) = false
+is_eval (Unlock mutex next) = false
+is_eval End = false
+
+-- each store stands behind an evaluation, where it is said of what stands before the list whether it is one
+abbrev Follow : (eval : Bool) → List Node → Type 0
+Follow eval [] = Unit {0}
+Follow eval (x ∷ xs) = (is_store x.action ≡ true → eval ≡ true) × Follow (is_eval x.action) xs
+
+any : (eval : Bool) (xs : List Node) → Follow false xs → Follow eval xs
+any eval [] h = tt
+any eval (x ∷ xs) h = (λ s. let no : false ≡ true = h.0 s in cc, h.1)
+
+on : (eval : Bool) (xs ys : List Node) → Follow eval xs → Follow false ys → Follow eval (xs ++ ys)
+on eval [] ys h k = any eval ys k
+on eval (x ∷ xs) ys h k = (h.0, on (is_eval x.action) xs ys h.1 k)
+
+assigned : (target : e.Target) (place : Place) (value : e.Placed) (first next : ℕ) → Follow false (assign_nodes place target value first next)
+assigned (e.ToLocal local kind) place value first next = (λ s. cc, tt)
+assigned (e.ToVariable name variable kind) place value first next = (λ s. cc, (λ s. refl, tt))
+assigned (e.ToElement name variable kind index) place value first next = (λ s. cc, (λ s. refl, tt))
+
+mutual
+  of_statement : (y : f.Statement) (first next : ℕ) → Follow false (statement_nodes y first next)
+  of_statement (f.Assign place target value) first next = assigned target place value first next
+  of_statement (f.If place arms otherwise) first next =
+      on false _ _ (of_arms arms place (entry (statements_count otherwise) (first + arms_count arms) next) first next)
+      (of_all otherwise (first + arms_count arms) next)
+  of_statement (f.While place condition body) first next = (λ s. cc, of_all body (suc first) first)
+  of_statement (f.Do place body condition) first next =
+      on false _ (test_node place condition first next ∷ []) (of_all body first (first + statements_count body)) (λ s. cc, tt)
+  of_statement (f.Lock place mutex) first next = (λ s. cc, tt)
+  of_statement (f.Unlock place mutex) first next = (λ s. cc, tt)
+
+  of_all : (ys : f.Statements) (first next : ℕ) → Follow false (statements_nodes ys first next)
+  of_all f.no_statement first next = tt
+  of_all (f.statement_and y rest) first next =
+      on false _ _ (of_statement y first (entry (statements_count rest) (first + count y) next)) (of_all rest (first + count y) next)
+
+  of_arms : (arms : f.Arms) (place : Place) (last first next : ℕ) → Follow false (arms_nodes arms place last first next)
+  of_arms f.no_arm place last first next = tt
+  of_arms (f.arm_and condition body rest) place last first next =
+      (λ s. cc, on false _ _ (of_all body (suc first) next) (of_arms rest place last (suc first + statements_count body) next))
+
+of_threads : (ts : List f.Thread) (first : ℕ) → Follow false (threads_nodes ts first)
+of_threads [] first = tt
+of_threads (t ∷ ts) first =
+    on false (thread_nodes t first) _
+    (on false (statements_nodes t.body first (first + statements_count t.body)) (plain_node t.closing End ∷ [])
+    (of_all t.body first (first + statements_count t.body)) (λ s. cc, tt))
+    (of_threads ts (first + thread_count t))
+
+behind : (xs : List Node) (eval : Bool) (k : ℕ) (x y : Node) → Follow eval xs → slice_get xs k ≡ Some x → slice_get xs (suc k) ≡ Some y →
+    is_store y.action ≡ true → is_eval x.action ≡ true
+behind [] eval k x y h a b s = cc
+behind (z ∷ []) eval zero x y h a b s = cc
+behind (z ∷ []) eval (suc k) x y h a b s = cc
+behind (z ∷ w ∷ xs) eval zero x y h a b s =
+    let first : z ≡ x = cc in
+    let second : w ≡ y = cc in
+    subst (λ (n : Node). is_eval n.action ≡ true) first (h.1.0 (ap (λ (n : Node). is_store n.action) second ∙ s))
+behind (z ∷ w ∷ xs) eval (suc k) x y h a b s = behind (w ∷ xs) (is_eval z.action) k x y h.1 a b s
+
+pub store_behind : (x : f.Flat) (k : ℕ) (before it : Node) → slice_get (threads_nodes x.threads 0) k ≡ Some before →
+    slice_get (threads_nodes x.threads 0) (suc k) ≡ Some it → is_store it.action ≡ true → is_eval before.action ≡ true
+store_behind x k before it a b s = behind (threads_nodes x.threads 0) false k before it (of_threads x.threads 0) a b s

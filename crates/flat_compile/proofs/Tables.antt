@@ -1,0 +1,248 @@
+-- A thread's resumes are those of its code.
+use Rattle.std.proofs.Common.{◌≡◌, refl, ℕ, zero, suc, ◌+◌, ◌*◌, ◌<◌, List, [], ◌∷◌, ◌++◌, length, map, take, ◌∙◌, ap, sym, subst, arith, Some, Vec}
+use Rattle.std.specs.Prelude.{slice_get, slice_index, slice_index_or, Contains}
+use Rattle.std.specs.Option.{option_map}
+use Rattle.std.proofs.lemmas.List.{length-map}
+use Rattle.std.proofs.lemmas.Option.{same_Some, slice_get_within, slice_get-map}
+use Rattle.ido_ints.specs.declared.kinds.Kind.{Kind}
+use Rattle.c_tree.specs.Flats as f
+use Rattle.log_layout.specs.declared.roles.TheConstants.{LOCALS}
+use Rattle.flow_graph.specs.declared.graph.Part.{Part}
+use Rattle.flow_graph.proofs.Lockstep.{found_in}
+use Rattle.flow_graph.specs.Lowering.{parts, thread_count}
+use Rattle.std.proofs.Common.{◌⊎◌, inl, inr, ⊎_elim, get_or}
+use Rattle.std.specs.Global.{Global}
+use Rattle.std.proofs.lemmas.Bool.{cases_lt}
+use Rattle.std.proofs.lemmas.List.{take_more, length-append}
+use Rattle.rv64_isa.specs.declared.object.ThreadMarks.{ThreadMarks}
+use Rattle.recovered_threads.specs.Telling.{Codes}
+use Rattle.rv64_codegen.proofs.Known.{threads_are}
+use Rattle.rv64_codegen.proofs.Chosen.{read_get}
+use Rattle.flat_compile.specs.Resuming.{AreMarksOf, resumes_at}
+use Rattle.flat_compile.specs.links.Resuming.{AreTabled}
+use Rattle.code_runs.specs.Walks.{Program}
+use Rattle.thread_code.specs.Plans.{Plan, IsPlan, Thread, IsThread, IsNodeOf}
+use Rattle.thread_code.specs.Programs.{IsThreadCode}
+use Rattle.flat_compile.specs.declared.resumes.Resume.{Resume}
+use Rattle.flat_compile.specs.Resuming.{goes_on_at, address_in, IsFound, AreResumes}
+use Rattle.flat_compile.specs.links.Resuming.{thread_in, IsOwn, AreNodesBelow, AreFoundAt}
+use Rattle.flat_compile.proofs.Spots.{order, goes_on_own, head, tail}
+
+contained : {X : Type 0} (xs : List X) (k : ℕ) (x : X) → slice_get xs k ≡ Some x → Contains xs x
+contained [] k x g = cc
+contained (y ∷ xs) zero x g = let same : y ≡ x = cc in subst (λ z. Contains (y ∷ xs) z) same (head y xs)
+contained (y ∷ xs) (suc k) x g = tail y xs x (contained xs k x g)
+
+-- two lists that are mapped to one, at a number
+both_at : {X Y : Type 0} (f : X → ℕ) (g : Y → ℕ) (xs : List X) (ys : List Y) → map f xs ≡ map g ys → (k : ℕ) (x : X) (y : Y) →
+    slice_get xs k ≡ Some x → slice_get ys k ≡ Some y → f x ≡ g y
+both_at f g xs ys same k x y a b =
+    same_Some (f x) (g y) (sym (slice_get-map f xs k ∙ ap (option_map f) a) ∙ ap (λ (zs : List ℕ). slice_get zs k) same
+    ∙ slice_get-map g ys k ∙ ap (option_map g) b)
+
+-- ---- The thread of a number
+
+register_of : ℕ → ℕ
+register_of colour = slice_index LOCALS colour
+
+locals_of : f.Thread → List Kind
+locals_of t = t.locals
+
+kinds_at : (ts : List f.Thread) (n : ℕ) (text : f.Thread) → slice_get ts n ≡ Some text →
+    slice_index_or (map (λ (t : f.Thread). t.locals) ts) n [] ≡ text.locals
+kinds_at [] n text g = cc
+kinds_at (t ∷ ts) zero text g = let same : t ≡ text = cc in ap (λ (x : f.Thread). x.locals) same
+kinds_at (t ∷ ts) (suc n) text g = kinds_at ts n text g
+
+list_at : (xs : List (List ℕ)) (n : ℕ) (x : List ℕ) → slice_get xs n ≡ Some x → slice_index_or xs n [] ≡ x
+list_at [] n x g = cc
+list_at (y ∷ xs) zero x g = let same : y ≡ x = cc in same
+list_at (y ∷ xs) (suc n) x g = list_at xs n x g
+
+pub own_thread : (p : Plan) → IsPlan p → (n : ℕ) (part : Part) → slice_get p.graph.threads n ≡ Some part → n < length p.flat.threads → IsOwn p n part
+own_thread p plan n part g below =
+    let text = found_in p.flat.threads n below in
+    let short = slice_get_within p.graph.threads n part g in
+    let colours = found_in p.colours n (omega (arith, short, plan.registers.threads)) in
+    record {
+      plan = plan;
+      thread = record {
+        nodes = g;
+        text = text.0;
+        of_text = text.1;
+        kinds = kinds_at p.flat.threads n text.0 text.1;
+        colours = colours.0;
+        of_colours = colours.1;
+        registers = ap (λ (cs : List ℕ). map (λ (colour : ℕ). slice_index LOCALS colour) cs) (list_at p.colours n colours.0 colours.1);
+      };
+    }
+
+abbrev made : (number : ℕ) → Part → List Kind → List ℕ → Thread
+made number part kinds registers = record { number = number; part = part; kinds = kinds; registers = registers }
+
+pub same_thread : (p : Plan) (t : Thread) → IsThread p t → (part : Part) → slice_get p.graph.threads t.number ≡ Some part → thread_in p t.number part ≡ t
+same_thread p t th part g =
+    let k : slice_index_or (map (λ (x : f.Thread). x.locals) p.flat.threads) t.number [] ≡ t.kinds =
+    kinds_at p.flat.threads t.number th.text th.of_text ∙ sym th.kinds in
+    let r : map (λ (colour : ℕ). slice_index LOCALS colour) (slice_index_or p.colours t.number []) ≡ t.registers =
+    ap (λ (cs : List ℕ). map (λ (colour : ℕ). slice_index LOCALS colour) cs) (list_at p.colours t.number th.colours th.of_colours) ∙ sym th.registers in
+    let q : part ≡ t.part = same_Some part t.part (sym g ∙ th.nodes) in
+    ap (λ (x : Part). made t.number x (slice_index_or (map (λ (x : f.Thread). x.locals) p.flat.threads) t.number [])
+    (map (λ (colour : ℕ). slice_index LOCALS colour) (slice_index_or p.colours t.number []))) q
+    ∙ ap (λ (x : List Kind). made t.number t.part x (map (λ (colour : ℕ). slice_index LOCALS colour) (slice_index_or p.colours t.number []))) k
+    ∙ ap (λ (x : List ℕ). made t.number t.part t.kinds x) r
+
+-- ---- Its resumes
+
+module _ (p : Plan) (plan : IsPlan p) (t : Thread) (th : IsThread p t) where
+  pub nodes_own : (nodes : List ℕ) (bound : ℕ) → AreNodesBelow p t bound nodes → (k node : ℕ) → slice_get nodes k ≡ Some node → IsNodeOf t node
+  nodes_own nodes bound h k node g =
+      let mapped : slice_get (map goes_on_at h.spots) k ≡ Some node = ap (λ (ns : List ℕ). slice_get ns k) h.goes_on ∙ g in
+      let below = slice_get_within (map goes_on_at h.spots) k node mapped in
+      let s = found_in h.spots k (omega (arith, below, length-map h.spots goes_on_at)) in
+      let same = same_Some (goes_on_at s.0) node (sym (slice_get-map goes_on_at h.spots k ∙ ap (option_map goes_on_at) s.1) ∙ mapped) in
+      subst (λ (n : ℕ). IsNodeOf t n) same (goes_on_own p t plan th s.0 (h.are.each s.0 (contained h.spots k s.0 s.1)).0)
+
+  module _ (program : Program) (code : IsThreadCode p t program) (nodes : List ℕ) (h : AreNodesBelow p t (2 * t.part.end) nodes) where
+    pub as_many : length nodes ≡ length program.resumes
+    as_many =
+        ap (λ (ns : List ℕ). length ns) (sym h.goes_on) ∙ length-map h.spots goes_on_at ∙ sym (length-map h.spots (address_in code.places))
+        ∙ ap (λ (ns : List ℕ). length ns) (order p plan t th program code h.spots h.are)
+
+    pub resumes_are : (rs : List Resume) → AreFoundAt p t nodes program.resumes rs → AreResumes p t program code rs
+    resumes_are rs found = record {
+      addresses = found.addresses_are;
+      each = λ k r g.
+          let short = slice_get_within rs k r g in
+          let many = ap (λ (ns : List ℕ). length ns) (h.goes_on ∙ sym found.nodes_are) in
+          let s = found_in h.spots k (omega (arith, short, many, length-map h.spots goes_on_at, length-map rs (λ (x : Resume). x.node))) in
+          record {
+            spot = s.0;
+            is = (h.are.each s.0 (contained h.spots k s.0 s.1)).0;
+            at = both_at (address_in code.places) (λ (x : Resume). x.address) h.spots rs
+                (order p plan t th program code h.spots h.are ∙ sym found.addresses_are) k s.0 r s.1 g;
+            goes_on = both_at goes_on_at (λ (x : Resume). x.node) h.spots rs (h.goes_on ∙ sym found.nodes_are) k s.0 r s.1 g;
+            found = found.each k r g;
+          };
+    }
+
+  -- by the thread of its number
+  pub resumes_in : (part : Part) → slice_get p.graph.threads t.number ≡ Some part → (program : Program) (code : IsThreadCode p t program) (nodes : List ℕ) →
+      AreNodesBelow p (thread_in p t.number part) (2 * part.end) nodes → (rs : List Resume) →
+      AreFoundAt p (thread_in p t.number part) nodes program.resumes rs → AreResumes p t program code rs
+  resumes_in part g program code nodes h rs found =
+      let same = same_thread p t th part g in
+      let end : part.end ≡ t.part.end = ap (λ (x : Part). x.end) (same_Some part t.part (sym g ∙ th.nodes)) in
+      let below : AreNodesBelow p t (2 * t.part.end) nodes =
+      subst (λ (n : ℕ). AreNodesBelow p t (2 * n) nodes) end (subst (λ (x : Thread). AreNodesBelow p x (2 * part.end) nodes) same h) in
+      resumes_are program code nodes below rs (subst (λ (x : Thread). AreFoundAt p x nodes program.resumes rs) same found)
+
+  pub many_in : (part : Part) → slice_get p.graph.threads t.number ≡ Some part → (program : Program) (code : IsThreadCode p t program) (nodes : List ℕ) →
+      AreNodesBelow p (thread_in p t.number part) (2 * part.end) nodes → length nodes ≡ length program.resumes
+  many_in part g program code nodes h =
+      let same = same_thread p t th part g in
+      let end : part.end ≡ t.part.end = ap (λ (x : Part). x.end) (same_Some part t.part (sym g ∙ th.nodes)) in
+      let below : AreNodesBelow p t (2 * t.part.end) nodes =
+      subst (λ (n : ℕ). AreNodesBelow p t (2 * n) nodes) end (subst (λ (x : Thread). AreNodesBelow p x (2 * part.end) nodes) same h) in
+      as_many program code nodes below
+
+-- ---- One more
+
+map_push : {X : Type 0} (f : X → ℕ) (xs : List X) (x : X) → map f (xs ++ x ∷ []) ≡ map f xs ++ f x ∷ []
+map_push f [] x = refl
+map_push f (y ∷ xs) x = ap (λ (ns : List ℕ). f y ∷ ns) (map_push f xs x)
+
+push_cases : {X : Type 0} (xs : List X) (y : X) (k : ℕ) (z : X) → slice_get (xs ++ y ∷ []) k ≡ Some z → (slice_get xs k ≡ Some z) ⊎ (y ≡ z)
+push_cases [] y zero z g = inr (let same : y ≡ z = cc in same)
+push_cases [] y (suc k) z g = cc
+push_cases (x ∷ xs) y zero z g = inl g
+push_cases (x ∷ xs) y (suc k) z g = push_cases xs y k z g
+
+pub found_more : (p : Plan) (t : Thread) (nodes addresses : List ℕ) (k d e : ℕ) (rs : List Resume) (r : Resume) → k < length nodes → k < length addresses →
+    r.node ≡ get_or nodes k d → r.address ≡ get_or addresses k e → IsFound p t r → AreFoundAt p t (take k nodes) (take k addresses) rs →
+    AreFoundAt p t (take (k + 1) nodes) (take (k + 1) addresses) (rs ++ r ∷ [])
+found_more p t nodes addresses k d e rs r short few node address found h = record {
+  nodes_are = map_push (λ (x : Resume). x.node) rs r ∙ ap (λ (ns : List ℕ). ns ++ r.node ∷ []) h.nodes_are
+      ∙ ap (λ (n : ℕ). take k nodes ++ n ∷ []) node ∙ sym (take_more nodes k d short);
+  addresses_are = map_push (λ (x : Resume). x.address) rs r ∙ ap (λ (ns : List ℕ). ns ++ r.address ∷ []) h.addresses_are
+      ∙ ap (λ (n : ℕ). take k addresses ++ n ∷ []) address ∙ sym (take_more addresses k e few);
+  each = λ j z g. ⊎_elim (λ l. h.each j z l) (λ same. subst (λ (x : Resume). IsFound p t x) same found) (push_cases rs r j z g);
+}
+
+pub marks_at : (ms : List ThreadMarks) (n : ℕ) (m : ThreadMarks) → slice_get ms n ≡ Some m →
+    slice_index_or (map (λ (x : ThreadMarks). x.resumes.items) ms) n [] ≡ m.resumes.items
+marks_at [] n m g = cc
+marks_at (x ∷ ms) zero m g = let same : x ≡ m = cc in ap (λ (y : ThreadMarks). y.resumes.items) same
+marks_at (x ∷ ms) (suc n) m g = marks_at ms n m g
+
+parts_count : (ts : List f.Thread) (first : ℕ) → length (parts ts first) ≡ length ts
+parts_count [] first = refl
+parts_count (t ∷ ts) first = ap suc (parts_count ts (first + thread_count t))
+
+pub as_many_threads : (p : Plan) → IsPlan p → length p.graph.threads ≡ length p.flat.threads
+as_many_threads p plan = ap (λ (ps : List Part). length ps) (threads_are p plan) ∙ parts_count p.flat.threads 0
+
+before_push : (table : List (Vec Resume Global)) (rs : Vec Resume Global) (n : ℕ) → n < length table → resumes_at (table ++ rs ∷ []) n ≡ resumes_at table n
+before_push [] rs n l = absurd (omega (arith, l))
+before_push (x ∷ table) rs zero l = refl
+before_push (x ∷ table) rs (suc n) l = before_push table rs n (omega (arith, l))
+
+at_push : (table : List (Vec Resume Global)) (rs : Vec Resume Global) → resumes_at (table ++ rs ∷ []) (length table) ≡ rs.items
+at_push [] rs = refl
+at_push (x ∷ table) rs = at_push table rs
+
+pub none_tabled : (p : Plan) (marks : List (List ℕ)) → AreTabled p marks 0 []
+none_tabled p marks = record { long = refl; each = λ codes are n below l. absurd (omega (arith, l)) }
+
+pub tabled_more : (p : Plan) (marks : List (List ℕ)) (count : ℕ) (table : List (Vec Resume Global)) (rs : Vec Resume Global) → AreTabled p marks count table →
+    ((codes : Codes p) → AreMarksOf p codes marks → (below : count < length p.graph.threads) →
+    AreResumes p (codes.each count below).thread (codes.each count below).program (codes.each count below).is rs.items) →
+    AreTabled p marks (count + 1) (table ++ rs ∷ [])
+tabled_more p marks count table rs h last = record {
+  long = length-append table (rs ∷ []) ∙ ap (λ (n : ℕ). n + 1) h.long;
+  each = λ codes are n below l. ⊎_elim
+      (λ less. subst (λ (xs : List Resume). AreResumes p (codes.each n below).thread (codes.each n below).program (codes.each n below).is xs)
+      (sym (before_push table rs n (omega (arith, less, h.long)))) (h.each codes are n below less))
+      (λ g.
+      let same : count ≡ n = omega (arith, g, l) in
+      let here : rs.items ≡ resumes_at (table ++ rs ∷ []) count = sym (ap (resumes_at (table ++ rs ∷ [])) (sym h.long) ∙ at_push table rs) in
+      last_at codes n same below (λ b. subst (λ (xs : List Resume). AreResumes p (codes.each count b).thread (codes.each count b).program (codes.each count b).is xs)
+      here (last codes are b)))
+      (cases_lt n count);
+}
+  where
+    last_at : (codes : Codes p) (n : ℕ) → count ≡ n → (below : n < length p.graph.threads) → ((b : count < length p.graph.threads) →
+        AreResumes p (codes.each count b).thread (codes.each count b).program (codes.each count b).is (resumes_at (table ++ rs ∷ []) count)) →
+        AreResumes p (codes.each n below).thread (codes.each n below).program (codes.each n below).is (resumes_at (table ++ rs ∷ []) n)
+    last_at codes n same below h = subst (λ (m : ℕ). (b : m < length p.graph.threads) →
+        AreResumes p (codes.each m b).thread (codes.each m b).program (codes.each m b).is (resumes_at (table ++ rs ∷ []) m)) same h below
+
+-- ---- By the code of the threads
+
+pub addresses_at : (ms : List ThreadMarks) (n : ℕ) (m : ThreadMarks) → n < length ms → m ≡ get_or ms n m →
+    slice_index_or (map (λ (x : ThreadMarks). x.resumes.items) ms) n [] ≡ m.resumes.items
+addresses_at ms n m below e = marks_at ms n m (read_get ms n m below e)
+
+module _ (p : Plan) (plan : IsPlan p) (codes : Codes p) (marks : List (List ℕ)) (are : AreMarksOf p codes marks) (n : ℕ) (below : n < length p.graph.threads)
+    (part : Part) (g : slice_get p.graph.threads n ≡ Some part) (nodes : List ℕ) (h : AreNodesBelow p (thread_in p n part) (2 * part.end) nodes) where
+  number : n ≡ (codes.each n below).thread.number
+  number = sym (codes.number n below)
+
+  part_there : slice_get p.graph.threads (codes.each n below).thread.number ≡ Some part
+  part_there = subst (λ (m : ℕ). slice_get p.graph.threads m ≡ Some part) number g
+
+  nodes_there : AreNodesBelow p (thread_in p (codes.each n below).thread.number part) (2 * part.end) nodes
+  nodes_there = subst (λ (m : ℕ). AreNodesBelow p (thread_in p m part) (2 * part.end) nodes) number h
+
+  pub many_coded : length nodes ≡ length (slice_index_or marks n [])
+  many_coded =
+      let code = codes.each n below in
+      many_in p plan code.thread code.of part part_there code.program code.is nodes nodes_there ∙ ap (λ (ns : List ℕ). length ns) (are.each n below)
+
+  pub resumes_coded : (rs : List Resume) → AreFoundAt p (thread_in p n part) nodes (slice_index_or marks n []) rs →
+      AreResumes p (codes.each n below).thread (codes.each n below).program (codes.each n below).is rs
+  resumes_coded rs found =
+      let code = codes.each n below in
+      resumes_in p plan code.thread code.of part part_there code.program code.is nodes nodes_there rs
+      (subst (λ (ads : List ℕ). AreFoundAt p (thread_in p code.thread.number part) nodes ads rs) (sym (are.each n below))
+      (subst (λ (m : ℕ). AreFoundAt p (thread_in p m part) nodes (slice_index_or marks n []) rs) number found))

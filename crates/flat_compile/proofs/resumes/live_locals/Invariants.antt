@@ -1,0 +1,5 @@
+use Rattle.flat_compile.specs.links.Resuming.{AreLiveBelow}
+use Rattle.flat_compile.proofs.resumes.live_locals.Given as goal
+
+abbrev pub invariant-loop-number : goal.invariant-loop-number
+invariant-loop-number l = AreLiveBelow l.colours l.kinds l.live l.node l.number l.found.items

@@ -1,0 +1,249 @@
+//! Where recovery may resume threads, and what it finds there.
+ghost use Rattle.std.specs.Option.{option_to_list};
+ghost use Rattle.std.specs.Prelude.{◌≡◌, ◌↔◌, ◌<◌, ◌*◌, ◌++◌, ℕ, OnOk, length, map, slice_get, slice_index, Some, None, IfOk, IfSome, IsTrue};
+ghost use Rattle.log_layout.specs.declared.roles.TheConstants.{LOCALS as local_numbers};
+ghost use Rattle.flow_graph.specs.Nodes.{graph_of, node_of};
+ghost use Rattle.flow_graph.specs.Cutting.{IsChosen, boundaries_of};
+ghost use Rattle.thread_code.specs.Plans.{IsPlan, mask_before};
+ghost use Rattle.recovered_threads.specs.Telling.{Codes};
+ghost use Rattle.rv64_codegen.specs.Plans.{plan_of};
+ghost use Rattle.rv64_codegen.specs.links.Threads.{gives};
+ghost use Rattle.flat_compile.specs.Translating.{resume_marks};
+ghost use Rattle.flat_compile.specs.Resuming.{IsFound, IsResumeTable, AreMarksOf, AreMarked};
+ghost use Rattle.flat_compile.specs.links.Resuming.{thread_in, IsOwn, IsOwnNode, IsBehind, IsBefore, AreNodesBelow, AreFoundAt, IsLiveIn, AreLiveBelow};
+
+use flow_graph::graph::{Action, Node, Part};
+use flow_graph::live_sets::LiveSets;
+use ido_base::location::Location;
+use ido_base::memory::Memory;
+use ido_ints::Kind;
+use log_layout::roles::LOCALS;
+use rv64_codegen::Plan;
+use rv64_isa::object::Marks;
+use std::alloc::Global;
+
+/// A local that is live at a node.
+#[derive(Clone, Copy, Debug, PartialEq, Eq, Drop)]
+pub struct LiveLocal {
+    /// The number of its register.
+    pub register: u8,
+    pub local: usize,
+    pub kind: Kind,
+}
+
+/// Where a thread may be resumed, and what it has there.
+#[derive(Debug, Drop)]
+pub struct Resume {
+    pub address: u64,
+    /// The node that it goes on at.
+    pub node: usize,
+    /// The mutexes that it holds: bit i is set where it holds mutex i.
+    pub mask: u64,
+    /// The locals that are live at the node, in the order of their registers.
+    pub live: Vec<LiveLocal>,
+    /// Where a store is pending: the elements of which it writes one.
+    pub pending: Option<Location>,
+}
+
+// ---- Where
+
+// Whether the node gives a mutex back.
+fn gives(node: &Node) -> bool
+    ensures { result ≡ gives (node_of node.now).action }
+{
+    match node.action {
+        Action::Unlock { .. } => true,
+        _ => false,
+    }
+}
+
+// Whether a boundary stands before the node by choice.
+fn is_chosen(plan: &Plan, node: usize) -> bool
+    requires node { node < length plan.now.graph.now.nodes.items }
+    requires cuts { length plan.now.cuts.now.before.items ≡ length plan.now.graph.now.nodes.items }
+    ensures { IsTrue result ↔ IsChosen (graph_of plan.now.graph.now) (boundaries_of plan.now.cuts.now) node }
+{
+    plan.cuts.before[node] && !gives(&plan.graph.nodes[node])
+}
+
+// The mutexes that the thread holds before the node.
+fn mask(plan: &Plan, number: usize, part: Part, node: usize) -> u64
+    requires { IsOwnNode (plan_of plan.now) number part node }
+    ensures { result ≡ mask_before (plan_of plan.now) (thread_in (plan_of plan.now) number part) node }
+{
+    plan.held.held(number as u32, (node - part.first) as u32)
+}
+
+// Where the thread may be resumed behind the ECALL of a node: the node that it goes on at.
+fn behind(plan: &Plan, number: usize, part: Part, node: usize) -> Option<usize>
+    requires { IsOwnNode (plan_of plan.now) number part node }
+    ensures { IsBehind (plan_of plan.now) (thread_in (plan_of plan.now) number part) node result }
+{
+    match plan.graph.nodes[node].action {
+        Action::Lock { next, .. } => Some(next),
+        Action::Unlock { next, .. } => {
+            if mask(plan, number, part, next) == 0 {
+                None
+            } else {
+                Some(next)
+            }
+        }
+        _ => None,
+    }
+}
+
+// Where the thread may be resumed behind a boundary before a node: the node.
+fn before(plan: &Plan, number: usize, part: Part, node: usize) -> Option<usize>
+    requires { IsOwnNode (plan_of plan.now) number part node }
+    ensures { IsBefore (plan_of plan.now) (thread_in (plan_of plan.now) number part) node result }
+{
+    if is_chosen(plan, node) {
+        Some(node)
+    } else {
+        None
+    }
+}
+
+// Appends the node, if there is one.
+fn push_some(nodes: &mut Vec<usize>, node: Option<usize>) -> Result<(), Memory>
+    ensures { OnOk result (nodes.new.items ≡ nodes.old.items ++ option_to_list node) }
+{
+    if let Some(node) = node {
+        nodes.push(node)?;
+    }
+    Ok(())
+}
+
+// The nodes that the thread goes on at where it may be resumed, in the order of the addresses.
+fn nodes(alloc: Global, plan: &Plan, number: usize, part: Part) -> Result<Vec<usize>, Memory>
+    requires { IsOwn (plan_of plan.now) number part }
+    ensures { IfOk result (λ r. AreNodesBelow (plan_of plan.now) (thread_in (plan_of plan.now) number part) (2 * part.end) r.items) }
+{
+    let mut nodes = Vec::new(alloc);
+    for node in part.first..part.end {
+        push_some(&mut nodes, before(plan, number, part, node))?;
+        push_some(&mut nodes, behind(plan, number, part, node))?;
+    }
+    Ok(nodes)
+}
+
+// ---- What is found
+
+// The local that is live at the node's entry and has the register with this number among those of locals.
+fn local_in(colours: &[u8], live: &LiveSets, node: usize, number: usize) -> Option<usize>
+    ensures is { IfSome result (IsLiveIn colours.now live.now node number) }
+    ensures none { result ≡ None → (local : ℕ) → ¬ (IsLiveIn colours.now live.now node number local) }
+{
+    for (local, colour) in colours.iter().enumerate() {
+        if *colour as usize == number && live.is_live(node, local) {
+            return Some(local);
+        }
+    }
+    None
+}
+
+// The local of that number, whose register has this number among those of locals.
+fn live_local(kinds: &[Kind], local: usize, number: usize) -> LiveLocal
+    requires there { local < length kinds.now }
+    requires number { number < 18 }
+    ensures register { result.register ≡ slice_index local_numbers number }
+    ensures local { result.local ≡ local }
+    ensures kind { slice_get kinds.now local ≡ Some result.kind }
+{
+    LiveLocal {
+        register: LOCALS[number],
+        local,
+        kind: kinds[local],
+    }
+}
+
+// The locals that are live at the node's entry, in the order of their registers.
+fn live_locals(
+    alloc: Global,
+    colours: &[u8],
+    kinds: &[Kind],
+    live: &LiveSets,
+    node: usize,
+) -> Result<Vec<LiveLocal>, Memory>
+    requires kinds { length kinds.now ≡ length colours.now }
+    requires apart { (number a b : ℕ) → IsLiveIn colours.now live.now node number a → IsLiveIn colours.now live.now node number b → a ≡ b }
+    ensures { IfOk result (λ r. AreLiveBelow colours.now kinds.now live.now node 18 r.items) }
+{
+    let mut found = Vec::new(alloc);
+    for number in 0..18 {
+        if let Some(local) = local_in(colours, live, node, number) {
+            found.push(live_local(kinds, local, number))?;
+        }
+    }
+    Ok(found)
+}
+
+// What the thread has where it is resumed at the address and goes on at the node.
+fn found(
+    alloc: Global,
+    plan: &Plan,
+    number: usize,
+    part: Part,
+    node: usize,
+    address: u64,
+) -> Result<Resume, Memory>
+    requires { IsOwnNode (plan_of plan.now) number part node }
+    ensures address { IfOk result (λ r. r.address ≡ address) }
+    ensures node { IfOk result (λ r. r.node ≡ node) }
+    ensures found { IfOk result (IsFound (plan_of plan.now) (thread_in (plan_of plan.now) number part)) }
+{
+    let live = live_locals(
+        alloc,
+        &plan.colours.threads[number],
+        &plan.flat.threads[number].locals,
+        plan.live,
+        node,
+    )?;
+    Ok(Resume {
+        address,
+        node,
+        mask: mask(plan, number, part, node),
+        live,
+        pending: plan.graph.nodes[node].writes,
+    })
+}
+
+// ---- Of all threads
+
+// Where the thread may be resumed, by these addresses.
+fn thread_resumes(
+    alloc: Global,
+    plan: &Plan,
+    number: usize,
+    part: Part,
+    nodes: &[usize],
+    addresses: &[u64],
+) -> Result<Vec<Resume>, Memory>
+    requires own { IsOwn (plan_of plan.now) number part }
+    requires nodes { (k node : ℕ) → slice_get nodes.now k ≡ Some node → IsOwnNode (plan_of plan.now) number part node }
+    requires count { length nodes.now ≡ length addresses.now }
+    ensures { IfOk result (λ r. AreFoundAt (plan_of plan.now) (thread_in (plan_of plan.now) number part) nodes.now addresses.now r.items) }
+{
+    let mut resumes = Vec::new(alloc);
+    for k in 0..nodes.len() {
+        resumes.push(found(alloc, plan, number, part, nodes[k], addresses[k])?)?;
+    }
+    Ok(resumes)
+}
+
+/// Of each thread what it has where recovery may resume it, by its marks.
+pub fn resume_table(alloc: Global, plan: &Plan, marks: &Marks) -> Result<Vec<Vec<Resume>>, Memory>
+    requires plan { IsPlan (plan_of plan.now) }
+    requires marked { AreMarked (plan_of plan.now) (resume_marks marks.now.threads.items) }
+    ensures { IfOk result (λ r. (codes : Codes (plan_of plan.now)) → AreMarksOf (plan_of plan.now) codes (resume_marks marks.now.threads.items) →
+        IsResumeTable (plan_of plan.now) codes r.items) }
+{
+    let mut table = Vec::new(alloc);
+    for number in 0..plan.graph.threads.len() {
+        let part = plan.graph.threads[number];
+        let nodes = nodes(alloc, plan, number, part)?;
+        let addresses = &marks.threads[number].resumes;
+        table.push(thread_resumes(alloc, plan, number, part, &nodes, addresses)?)?;
+    }
+    Ok(table)
+}

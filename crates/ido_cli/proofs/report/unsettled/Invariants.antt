@@ -1,0 +1,12 @@
+use Rattle.std.proofs.Common.{◌≡◌, ◌++◌, ◌-◌, filter, length, not}
+use Rattle.rv64_isa.specs.Machine.{numbers_from}
+use Rattle.rv64_isa.specs.Schedule.{is_settled_hart}
+use Rattle.run_tracker.specs.Lives.{world_of}
+use Rattle.ido_cli.specs.Reports.{unsettled_harts}
+use Rattle.ido_cli.proofs.report.unsettled.Given as goal
+
+abbrev pub invariant-loop-hart : goal.invariant-loop-hart
+invariant-loop-hart l = record {
+  end : l.hart-end ≡ length l.life.program;
+  so_far : l.harts.items ++ filter (λ h. not (is_settled_hart (world_of l.life) h)) (numbers_from l.hart (length (world_of l.life).harts - l.hart)) ≡ unsettled_harts (world_of l.life);
+}

@@ -1,0 +1,31 @@
+-- What is said of a run that goes on from what a crash has left.
+use Rattle.std.specs.Prelude.{◌≡◌, ℕ, List, ◌∷◌, ◌++◌, length}
+use Rattle.ido_base.specs.declared.event.Event.{Event}
+use Rattle.ido_base.specs.declared.event.Event.TheVariants.{Crash}
+use Rattle.compilation.specs.Translations.{Translation}
+use Rattle.compilation.specs.Images.{Image, file_of, first_from, image_in, image_of, steps_from, variable_words, world_from}
+use Rattle.run_tracker.specs.Lives.{Moment, living}
+use Rattle.ido_cli.specs.Legs.{IsLeg, most_leg_events}
+use Rattle.ido_cli.specs.Plays.{IsRunBy}
+use Rattle.ido_cli.specs.Reports.{machine_state}
+use Rattle.ido_cli.specs.Runs.{IsReport}
+
+-- the machine of a translation before any event, where power returns over the words of a file
+abbrev pub recovering : Translation → (file : Image) → Moment
+recovering c file = record {
+  program = c.program;
+  marks = c.marks;
+  variable_words = variable_words c;
+  kept_before = file.kept;
+  world = first_from c (image_in c file);
+}
+
+-- A leg, and then the report of the machine: status 0, and its durable variables, the ended sections and the kept schedule, exactly where each hart is
+-- settled, else status 3 and the harts that aren't. The kept schedule begins with that of the file.
+pub record IsRecovery (c : Translation) (file : Image) (turns status : ℕ) (output : List ℕ) : Type 0 where
+  pub journal : List Event
+  pub leg : IsLeg living (recovering c file) (length c.program) turns most_leg_events journal
+  pub reported : IsReport (machine_state c.flat (world_from c (image_in c file) journal) (steps_from c (image_in c file) journal).kept) status output
+  -- Where the file is what a crash leaves behind events of the same translation, this is what `play` says of these events, a crash, and the leg; so at
+  -- status 0 the output is that of the source's own run of the schedule that is printed.
+  pub goes_on : (before : List Event) → file ≡ file_of c (image_of c before) → IsRunBy c (before ++ Crash ∷ journal) status output

@@ -1,0 +1,10 @@
+-- What is said of a source that isn't compiled.
+use Rattle.std.specs.Prelude.{ℕ, List}
+use Rattle.ido_compile.specs.declared.error.CompileError.{CompileError}
+use Rattle.ido_compile.specs.declared.error.CompileError.TheVariants as error
+use Rattle.ido_cli.specs.Refusals.{IsRefusedAt, code_of}
+
+-- the rule that it breaks, and the place; want of memory has another status
+abbrev pub TellsRefusal : CompileError → (source : List ℕ) → (status : ℕ) → (output : List ℕ) → Type 0
+TellsRefusal (error.Refused rule place) source status output = IsRefusedAt 1 (code_of rule) source place.0 status output
+TellsRefusal error.Memory source status output = ⊥

@@ -1,0 +1,32 @@
+//! What a crash would leave of a life, as the bytes of an image.
+ghost use Rattle.std.specs.Prelude.{◌≡◌, ◌+◌, ◌/◌, ◌≤◌, drop, length, take, IfOk};
+ghost use Rattle.crash_images.specs.Contents.{contents, most_logs, most_source, most_steps, most_variables};
+ghost use Rattle.crash_images.specs.Spelling.{spelling};
+ghost use Rattle.run_tracker.specs.Lives.{left_words, steps_in, world_of};
+
+use crate::said::Said;
+use crash_images::writing::write_image;
+use ido_base::memory::Memory;
+use run_tracker::life::Life;
+use rv64_isa::object::Object;
+use std::alloc::Global;
+
+/// The image that a crash would leave now of the life of a source's object.
+pub fn image(alloc: Global, source: &[u8], object: &Object, life: &Life) -> Result<Said, Memory>
+    requires source { length source.now ≤ most_source }
+    requires variables { life.now.variable_words ≤ most_variables }
+    requires object { life.now.variable_words ≡ length object.now.initial.items / 8 }
+    requires within { life.now.variable_words ≤ length (left_words life.now.variable_words (world_of life.now).words) }
+    requires logs { length (left_words life.now.variable_words (world_of life.now).words) ≤ life.now.variable_words + most_logs }
+    requires schedule { length (steps_in life.now).kept ≤ most_steps }
+    ensures status { IfOk result (λ said. said.status ≡ 0) }
+    ensures output { IfOk result (λ said.
+        let words = left_words life.now.variable_words (world_of life.now).words in
+        said.output.items ≡ spelling (contents source.now
+        (take life.now.variable_words words) (drop life.now.variable_words words) (steps_in life.now).kept)) }
+{
+    let words = life.durable_words(alloc)?;
+    let (variables, logs) = words.split_at(object.initial.len() / 8);
+    let output = write_image(alloc, source, variables, logs, life.schedule())?;
+    Ok(Said { status: 0, output })
+}

@@ -1,0 +1,84 @@
+//! The command `recover`: a run that goes on from what a crash has left.
+ghost use Rattle.std.specs.Prelude.{◌≡◌, ◌+◌, ◌*◌, ◌/◌, ◌≤◌, length, IfOk, Some};
+ghost use Rattle.c_tree.specs.Flats.{flat_of};
+ghost use Rattle.compilation.specs.Compilations.{IsCompilation};
+ghost use Rattle.flat_compile.specs.Translating.{IsTranslated};
+ghost use Rattle.ido_cli.specs.Answers.{RecoverAnswer, file_in, most_bytes};
+ghost use Rattle.ido_cli.specs.Recoveries.{IsRecovery};
+ghost use Rattle.ido_cli.specs.Refusals.{image_line};
+ghost use Rattle.ido_compile.specs.Compiling.{translation_in};
+
+use crate::leg::{MOST_LEG_EVENTS, leg};
+use crate::refusal::{
+    VERSION_PLACE, refused, refused_at_byte, refused_at_register, refused_at_step,
+    refused_at_thread, refused_of_threads,
+};
+use crate::report::say;
+use crate::said::Said;
+use compilation::laws::images_are_crashes;
+use crash_images::error::ImageError;
+use crash_images::image::{Image, read_image};
+use ido_base::memory::Memory;
+use ido_base::place::Place;
+use ido_compile::laws::files_begin;
+use run_tracker::life::Life;
+use std::alloc::Global;
+
+/// The refusal of bytes that are no image from which a run can go on.
+fn image_refused(alloc: Global, error: ImageError) -> Result<Said, Memory>
+    ensures status { IfOk result (λ said. said.status ≡ 6) }
+    ensures output { IfOk result (λ said. image_line error ≡ Some said.output.items) }
+{
+    match error {
+        ImageError::Magic => refused_at_byte(alloc, "I1", Place(0)),
+        ImageError::Version => refused_at_byte(alloc, "I2", VERSION_PLACE),
+        ImageError::Cut(place) => refused_at_byte(alloc, "I3", place),
+        ImageError::Source => refused(alloc, 6, b"refused I4\n"),
+        ImageError::Point { thread } => refused_at_thread(alloc, "I5", thread),
+        ImageError::Mask { thread } => refused_at_thread(alloc, "I6", thread),
+        ImageError::Shared {
+            lock,
+            first,
+            second,
+        } => refused_of_threads(alloc, "I7", lock, (first, second)),
+        ImageError::Rest(place) => refused_at_byte(alloc, "I8", place),
+        ImageError::Schedule { step } => refused_at_step(alloc, "I9", step),
+        ImageError::Slot { thread, register } => {
+            refused_at_register(alloc, "I10", thread, register)
+        }
+        ImageError::Memory => Err(Memory),
+    }
+}
+
+/// What is said of a run that goes on from an image by so many turns of each hart.
+fn recovered(alloc: Global, image: &Image, turns: u32) -> Result<Said, Memory>
+    requires translated { IsTranslated (flat_of image.now.compiled.flat) image.now.compiled.object image.now.compiled.marks image.now.compiled.cuts }
+    requires compilation { IsCompilation (translation_in image.now.compiled) }
+    requires words { length image.now.words.items ≡ length image.now.compiled.object.initial.items / 8 + 128 * length image.now.compiled.object.code.items }
+    ensures { IfOk result (λ said. IsRecovery (translation_in image.now.compiled) (file_in image.now) turns said.status said.output.items) }
+{
+    images_are_crashes();
+    files_begin();
+    let compiled = &image.compiled;
+    let mut life = Life::of_words(
+        alloc,
+        &compiled.object,
+        &compiled.marks,
+        &image.words,
+        &image.schedule,
+        MOST_LEG_EVENTS,
+    )?;
+    leg(&mut life, turns);
+    say(alloc, &compiled.flat, &life)
+}
+
+/// The answer to an input of `recover`.
+pub fn recover_answer(alloc: Global, input: &[u8], turns: u32) -> Result<Said, Memory>
+    requires { length input.now ≤ most_bytes }
+    ensures { IfOk result (λ said. RecoverAnswer turns input.now said.status said.output.items) }
+{
+    match read_image(alloc, input) {
+        Ok(image) => recovered(alloc, &image, turns),
+        Err(error) => image_refused(alloc, error),
+    }
+}

@@ -1,0 +1,81 @@
+//! The report of a life.
+ghost use Rattle.std.specs.Prelude.{◌≡◌, ◌≤◌, length, map, IfOk};
+ghost use Rattle.c_tree.specs.Flats.{flat_of};
+ghost use Rattle.c_tree.specs.Source as m;
+ghost use Rattle.rv64_isa.specs.Machine.{numbers_from};
+ghost use Rattle.run_scripts.specs.ReportViews as views;
+ghost use Rattle.run_tracker.specs.Lives.{world_of, steps_in};
+ghost use Rattle.variable_layout.specs.Placing.{HaveRoom};
+ghost use Rattle.ido_cli.specs.Reports.{machine_state, unsettled_harts};
+ghost use Rattle.ido_cli.specs.Runs.{IsReport};
+
+use crate::durable::durable;
+use crate::said::Said;
+use crate::source::ended;
+use c_tree::flat::Flat;
+use ido_base::memory::Memory;
+use run_scripts::report::{Reported, report};
+use run_tracker::life::Life;
+use source_machine::SourceState;
+use source_machine::laws::sizes_stay;
+use std::alloc::Global;
+
+/// The harts that aren't settled, ascending.
+fn unsettled(alloc: Global, life: &Life) -> Result<Vec<u32>, Memory>
+    requires { length (world_of life.now).harts ≡ length life.now.program }
+    ensures { IfOk result (λ harts. harts.items ≡ unsettled_harts (world_of life.now)) }
+{
+    let mut harts = Vec::new(alloc);
+    for hart in 0..life.harts() {
+        if life.unsettled(hart) {
+            harts.push(hart)?;
+        }
+    }
+    Ok(harts)
+}
+
+/// How many sections of each thread the source ends by a schedule, up to its first step that can't be made.
+fn ended_by(alloc: Global, flat: &Flat, schedule: &[u32]) -> Result<Vec<u64>, Memory>
+    requires few { length flat.now.threads.items ≤ 8 }
+    ensures { IfOk result (λ sections. sections.items ≡
+        map (m.ended_from (m.start (flat_of flat.now)) schedule.now) (numbers_from 0 (length flat.now.threads.items))) }
+{
+    sizes_stay();
+    let _steps = schedule.len();
+    let mut state = SourceState::start(alloc, flat)?;
+    let _whole = state.run(schedule);
+    ended(alloc, &state)
+}
+
+/// What is reported of a life.
+fn reported(alloc: Global, flat: &Flat, life: &Life) -> Result<Reported, Memory>
+    requires few { length flat.now.threads.items ≤ 8 }
+    requires room { HaveRoom (flat_of flat.now).variables }
+    requires harts { length (world_of life.now).harts ≡ length life.now.program }
+    ensures { IfOk result (λ state. views.state_of state ≡ machine_state (flat_of flat.now) (world_of life.now) (steps_in life.now).kept) }
+{
+    let unsettled = unsettled(alloc, life)?;
+    let variables = durable(alloc, life, &flat.variables)?;
+    let kept = life.schedule();
+    let ended = ended_by(alloc, flat, kept)?;
+    let schedule = kept.to_vec(alloc)?;
+    Ok(Reported {
+        unsettled,
+        variables,
+        ended,
+        schedule,
+    })
+}
+
+/// What is said of a life: its report, with the status that says whether it is settled.
+pub fn say(alloc: Global, flat: &Flat, life: &Life) -> Result<Said, Memory>
+    requires few { length flat.now.threads.items ≤ 8 }
+    requires room { HaveRoom (flat_of flat.now).variables }
+    requires harts { length (world_of life.now).harts ≡ length life.now.program }
+    ensures { IfOk result (λ said. IsReport (machine_state (flat_of flat.now) (world_of life.now) (steps_in life.now).kept) said.status said.output.items) }
+{
+    let state = reported(alloc, flat, life)?;
+    let output = report(alloc, &state)?;
+    let status = if state.unsettled.is_empty() { 0 } else { 3 };
+    Ok(Said { status, output })
+}
