@@ -27,7 +27,8 @@ fewer test (line ∷ lines) = by (test line) (fewer test lines)
 lines_length : (slots : List ℕ) → length (lines_in_use slots) ≤ 4
 lines_length slots = fewer (λ line. list_any (λ slot. slot / 8 == line) slots) (0 ∷ 1 ∷ 2 ∷ 3 ∷ [])
 
-pub boundary_short : (log mask : List Instr) (live : List ℕ) (resume : ℕ) → length log ≤ 8 → length mask ≤ 8 → length (boundary_list log mask live resume) ≤ length live + 35
+pub boundary_short : (log mask : List Instr) (live : List ℕ) (resume : ℕ) → length log ≤ 8 → length mask ≤ 8 →
+    length (boundary_list log mask live resume) ≤ length live + 35
 boundary_short log mask live resume l m =
     let slots : length (keep_slots live) ≡ length live = slots_length live in
     let cleans : length (clean_lines (lines_in_use (0 ∷ live))) ≡ 2 * length (lines_in_use (0 ∷ live)) = cleans_length (lines_in_use (0 ∷ live)) in

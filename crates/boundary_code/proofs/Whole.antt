@@ -1,5 +1,6 @@
 -- What a whole boundary does.
-use Rattle.std.proofs.Common.{◌≡◌, ◌≢◌, ℕ, ◌+◌, ◌-◌, ◌*◌, ◌%◌, ◌^◌, ◌<◌, List, [], ◌∷◌, ◌++◌, length, map, refl, ap, sym, ◌∙◌, subst, arith, append_assoc, length-append, Bool, true, false, ◌==◌, lit<, if◌then◌else◌}
+use Rattle.std.proofs.Common.{◌≡◌, ◌≢◌, ℕ, ◌+◌, ◌-◌, ◌*◌, ◌%◌, ◌^◌, ◌<◌, List, [], ◌∷◌, ◌++◌, length, map, refl, ap, sym}
+use Rattle.std.proofs.Common.{◌∙◌, subst, arith, append_assoc, length-append, Bool, true, false, ◌==◌, lit<, if◌then◌else◌}
 use Rattle.std.specs.Prelude.{slice_set, pos, negsuc, ◌≤ℤ◌}
 use Rattle.std.specs.List.{list_all}
 use Rattle.std.proofs.lemmas.List.{get_or-set_other}
@@ -47,17 +48,17 @@ whole b log mask_code x pc bank p at =
     let t : ℕ = twos_complement 64 b.resume in
     let other : ℕ = 1 - bank in
     let first = banked b.thread b.mask bank log mask_code b.live x pc p.thread (kept_registers b.live p.live) at p.is_log p.is_mask in
-    let front : List Instr = bank_part log mask_code b.live in
-    let middle : ℕ = pc + 4 * length front in
+    let prefix : List Instr = bank_part log mask_code b.live in
+    let middle : ℕ = pc + 4 * length prefix in
     let second = committed b.thread other r t x first.left middle p.thread (omega arith) (close b.resume p.low p.high) first.ready in
     let code : List Instr = parts log mask_code b.live r in
     let written : List Effect = Stores (slot_at b.thread other 0) 8 b.mask ∷
     map (λ q. Stores (slot_at b.thread other q) 8 (read x q)) b.live ++ map (λ line. Cleans (slot_at b.thread other (8 * line)))
     (lines_in_use (0 ∷ b.live)) in
     let last : ℕ → List Effect = λ v. Fences ∷ Stores (point_at b.thread) 8 v ∷ Cleans (point_at b.thread) ∷ Fences ∷ [] in
-    let run = along front (Fence ∷ point r ++ commit 30) x first.left second.end pc written
+    let run = along prefix (Fence ∷ point r ++ commit 30) x first.left second.end pc written
     (last (((middle + 4 + (28 + t)) % 2 ^ 64 + other) % 2 ^ 64)) first.runs second.runs in
-    let words : length code ≡ length front + 8 = length-append front (Fence ∷ point r ++ commit 30) in
+    let words : length code ≡ length prefix + 8 = length-append prefix (Fence ∷ point r ++ commit 30) in
     let end : middle + 4 + (28 + t) ≡ pc + 4 * length code + t = omega (arith, words) in
     record {
       effects_are = run.sees ∙ ap (λ (n : ℕ). written ++ last ((n % 2 ^ 64 + other) % 2 ^ 64)) end ∙

@@ -1,12 +1,13 @@
 //! A boundary: the bank that the point doesn't name gets what is live, and then the point names it.
 ghost use Rattle.std.specs.Prelude.{◌≡◌, ◌<◌, ◌≤◌, ◌+◌, ◌*◌, ◌^◌, ◌++◌, ◌∷◌, ◌==◌, ◌/◌, [], map, length, pos, negsuc, ◌≤ℤ◌, IsTrue, IfOk, OnOk};
 ghost use Rattle.std.specs.List.{list_all, list_any};
+ghost use Rattle.ido_base.specs.declared.limits.TheConstants.{MOST_THREADS};
 ghost use Rattle.rv64_isa.specs.Signed.{twos_complement};
 ghost use Rattle.log_layout.specs.Roles.{is_kept};
 ghost use Rattle.boundary_code.specs.Boundaries.{HasEffects, HasOffset, KeepsRegisters, lines_in_use};
 ghost use Rattle.boundary_code.specs.links.Listing.{keep_slots, clean_lines, clean_where, point, commit, bank_part, boundary_list, last_list};
 
-use ido_base::memory::Memory;
+use ido_base::memory::OutOfMemory;
 use log_layout::log::{BANK_BYTES, FIRST_BANK, LINE_SLOTS, SLOT_BYTES, log_of};
 use operator_code::constant::constant;
 use operator_code::instructions::{add, auipc, immediate, sd, shift};
@@ -48,7 +49,7 @@ fn is_in_use(line: u8, live: &[Register]) -> bool
 }
 
 /// The slots of the live registers get them.
-fn emit_slots(code: &mut Vec<Instr>, live: &[Register]) -> Result<(), Memory>
+fn emit_slots(code: &mut Vec<Instr>, live: &[Register]) -> Result<(), OutOfMemory>
     ensures { OnOk result (code.new.items ≡ code.old.items ++ keep_slots live.now) }
 {
     for register in live {
@@ -71,7 +72,7 @@ fn clean_line(line: u8) -> [Instr; 2]
 }
 
 /// A line of the bank is cleaned where it is in use.
-fn emit_clean(code: &mut Vec<Instr>, line: u8, live: &[Register]) -> Result<(), Memory>
+fn emit_clean(code: &mut Vec<Instr>, line: u8, live: &[Register]) -> Result<(), OutOfMemory>
     requires { line < 4 }
     ensures { OnOk result (code.new.items ≡ code.old.items ++ clean_where (list_any (λ slot. slot / 8 == line) (0 ∷ live.now)) line) }
 {
@@ -82,7 +83,7 @@ fn emit_clean(code: &mut Vec<Instr>, line: u8, live: &[Register]) -> Result<(), 
 }
 
 /// The bank's lines in use are cleaned.
-fn emit_cleans(code: &mut Vec<Instr>, live: &[Register]) -> Result<(), Memory>
+fn emit_cleans(code: &mut Vec<Instr>, live: &[Register]) -> Result<(), OutOfMemory>
     ensures { OnOk result (code.new.items ≡ code.old.items ++ clean_lines (lines_in_use (0 ∷ live.now))) }
 {
     for line in LINES {
@@ -130,7 +131,7 @@ fn emit_boundary(
     mask: &[Instr],
     live: &[Register],
     resume: i32,
-) -> Result<Vec<Instr>, Memory>
+) -> Result<Vec<Instr>, OutOfMemory>
     requires low { negsuc 262143 ≤ℤ resume }
     requires high { resume ≤ℤ pos 262144 }
     ensures { IfOk result (λ code. code.items ≡ boundary_list log.now mask.now live.now (twos_complement 32 resume)) }
@@ -155,7 +156,7 @@ fn emit_boundary(
 }
 
 /// A section's last boundary, where these instructions get the address of the log.
-fn emit_last_boundary(alloc: Global, log: &[Instr]) -> Result<Vec<Instr>, Memory>
+fn emit_last_boundary(alloc: Global, log: &[Instr]) -> Result<Vec<Instr>, OutOfMemory>
     ensures { IfOk result (λ code. code.items ≡ last_list log.now) }
 {
     let mut code = Vec::from_slice(alloc, log)?;
@@ -175,8 +176,8 @@ pub fn boundary(
     mask: u64,
     live: &[Register],
     resume: i32,
-) -> Result<Vec<Instr>, Memory>
-    requires thread { thread < 8 }
+) -> Result<Vec<Instr>, OutOfMemory>
+    requires thread { thread < MOST_THREADS }
     requires live { IsTrue (list_all is_kept live.now) }
     requires low { negsuc 262143 ≤ℤ resume }
     requires high { resume ≤ℤ pos 262144 }

@@ -2,7 +2,5 @@
 #![tactic(auto)]
 
 mod code;
-#[cfg(test)]
-mod tests;
 
 pub use code::boundary;

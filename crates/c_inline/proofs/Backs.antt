@@ -1,22 +1,26 @@
 -- The first call that leads back, call by call.
-use Rattle.std.proofs.Common.{◌≡◌, ◌⊎◌, ℕ, ◌+◌, ◌<◌, ◌≤◌, List, [], ◌∷◌, ◌++◌, length, Option, Some, None, MatchOption, refl, sym, ap, subst, arith, inl, inr, ⊎_elim}
+use Rattle.std.proofs.Common.{◌≡◌, ◌⊎◌, ℕ, ◌+◌, ◌<◌, ◌≤◌, List, [], ◌∷◌, ◌++◌, length, Option, Some}
+use Rattle.std.proofs.Common.{None, MatchOption, refl, sym, ap, subst, arith, inl, inr, ⊎_elim}
 use Rattle.std.specs.Prelude.{Contains}
 use Rattle.std.proofs.lemmas.Bool.{cases_lt}
 use Rattle.std.proofs.lemmas.List.Elements.{Contains-push_cases}
 use Rattle.ido_base.specs.declared.place.Place.{Place}
 use Rattle.c_tree.specs.Inlining.{Call}
-use Rattle.c_inline.specs.Calls.{calls_at, Leads, LeadsBack, IsFirstBack}
-use Rattle.c_inline.specs.Reaching.{IsNoLater, IsFirstAmong, IsBackBelow, IsBackAmong, IsBefore, IsNotAfter, IsBetter}
+use Rattle.c_inline.specs.links.Calls.{calls_at, Leads, LeadsBack, IsFirstBack}
+use Rattle.c_inline.specs.links.Reaching.{IsNoLater, IsFirstAmong, IsBackBelow, IsBackAmong, IsBefore, IsNotAfter, IsBetter}
 use Rattle.c_inline.proofs.Reach.{caller_within}
 
 module _ (cs : List (List Call)) (Among More : (caller : ℕ) → Call → Type 0) where
   -- fewer calls, or calls that do not lead back more
-  pub first_among : (best : Option Place) → ((g : ℕ) (c : Call) → More g c → Leads cs g c.function → Among g c) → IsFirstAmong cs Among best → IsFirstAmong cs More best
+  pub first_among : (best : Option Place) → ((g : ℕ) (c : Call) → More g c → Leads cs g c.function → Among g c) → IsFirstAmong cs Among best →
+      IsFirstAmong cs More best
   first_among None only h = λ g c m l. h g c (only g c m l) l
   first_among (Some place) only h = record { call = h.call; stands = h.stands; back = h.back; first = λ g c m l. h.first g c (only g c m l) l }
 
-  module _ (number : ℕ) (call : Call) (made : Contains (calls_at cs number) call) (cases : (g : ℕ) (c : Call) → More g c → Among g c ⊎ ((g ≡ number) × (c ≡ call))) where
-    before : (best : Option Place) → IsFirstAmong cs Among best → IsBefore call.place best → (g : ℕ) (c : Call) → Among g c → Leads cs g c.function → call.place.0 ≤ c.place.0
+  module _ (number : ℕ) (call : Call) (made : Contains (calls_at cs number) call)
+      (cases : (g : ℕ) (c : Call) → More g c → Among g c ⊎ ((g ≡ number) × (c ≡ call))) where
+    before : (best : Option Place) → IsFirstAmong cs Among best → IsBefore call.place best → (g : ℕ) (c : Call) → Among g c → Leads cs g c.function →
+        call.place.0 ≤ c.place.0
     before None h b g c a l = absurd (h g c a l)
     before (Some place) h b g c a l = let m = h.first g c a l in omega (arith, m, b)
 
@@ -28,7 +32,8 @@ module _ (cs : List (List Call)) (Among More : (caller : ℕ) → Call → Type 
       stands = h.stands;
       back = h.back;
       first = λ g c m l. ⊎_elim (λ a. h.first g c a l)
-          (λ is. subst (λ (x : Call). place.0 ≤ x.place.0) (sym is.1) (n (subst (λ (x : Call). Leads cs number x.function) is.1 (subst (λ (x : ℕ). Leads cs x c.function) is.0 l)))) (cases g c m);
+          (λ is. subst (λ (x : Call). place.0 ≤ x.place.0) (sym is.1)
+          (n (subst (λ (x : Call). Leads cs number x.function) is.1 (subst (λ (x : ℕ). Leads cs x c.function) is.0 l)))) (cases g c m);
     }
 
     -- one call more
@@ -45,25 +50,40 @@ module _ (cs : List (List Call)) (Among More : (caller : ℕ) → Call → Type 
 
 module _ (cs : List (List Call)) where
   pub among_none : (number : ℕ) (best : Option Place) → IsBackBelow cs number best → IsBackAmong cs number [] best
-  among_none number best h = first_among cs (λ g c. (g < number) × Contains (calls_at cs g) c) (λ g c. ((g < number) × Contains (calls_at cs g) c) ⊎ ((g ≡ number) × Contains [] c)) best
+  among_none number best h =
+      first_among cs (λ g c. (g < number) × Contains (calls_at cs g) c)
+      (λ g c. ((g < number) × Contains (calls_at cs g) c) ⊎ ((g ≡ number) × Contains [] c)) best
       (λ g c m l. ⊎_elim (λ a. a) (λ b. absurd (omega (arith, b.1.1))) m) h
 
-  pub among_more : (number : ℕ) (first : List Call) (call : Call) (best better : Option Place) → Contains (calls_at cs number) call → IsBackAmong cs number first best → IsBetter cs number call best better → IsBackAmong cs number (first ++ call ∷ []) better
+  pub among_more : (number : ℕ) (first : List Call) (call : Call) (best better : Option Place) → Contains (calls_at cs number) call →
+      IsBackAmong cs number first best → IsBetter cs number call best better → IsBackAmong cs number (first ++ call ∷ []) better
   among_more number first call best better made h b =
-      first_more cs (λ g c. ((g < number) × Contains (calls_at cs g) c) ⊎ ((g ≡ number) × Contains first c)) (λ g c. ((g < number) × Contains (calls_at cs g) c) ⊎ ((g ≡ number) × Contains (first ++ call ∷ []) c))
+      first_more cs (λ g c. ((g < number) × Contains (calls_at cs g) c) ⊎ ((g ≡ number) × Contains first c))
+      (λ g c. ((g < number) × Contains (calls_at cs g) c) ⊎ ((g ≡ number) × Contains (first ++ call ∷ []) c))
       number call made
       (λ g c m. ⊎_elim (λ a. inl (inl a)) (λ n. ⊎_elim (λ k. inl (inr (n.0, k))) (λ is. inr (n.0, sym is)) (Contains-push_cases first call c n.1)) m)
       best better h b
 
   pub among_all : (number : ℕ) (best : Option Place) → IsBackAmong cs number (calls_at cs number) best → IsBackBelow cs (number + 1) best
-  among_all number best h = first_among cs (λ g c. ((g < number) × Contains (calls_at cs g) c) ⊎ ((g ≡ number) × Contains (calls_at cs number) c)) (λ g c. (g < number + 1) × Contains (calls_at cs g) c) best
-      (λ g c m l. ⊎_elim (λ lt. inl (lt, m.1)) (λ ge. let is : g ≡ number = omega (arith, m.0) in inr (is, subst (λ (x : ℕ). Contains (calls_at cs x) c) is m.1)) (cases_lt g number)) h
+  among_all number best h =
+      first_among cs (λ g c. ((g < number) × Contains (calls_at cs g) c) ⊎ ((g ≡ number) × Contains (calls_at cs number) c))
+      (λ g c. (g < number + 1) × Contains (calls_at cs g) c) best
+      (λ g c m l. ⊎_elim (λ lt. inl (lt, m.1)) (λ ge. let is : g ≡ number = omega (arith, m.0) in
+      inr (is, subst (λ (x : ℕ). Contains (calls_at cs x) c) is m.1)) (cases_lt g number)) h
 
   -- a function in which no call leads back
-  pub below_skip : (number : ℕ) (best : Option Place) → ((c : Call) → Contains (calls_at cs number) c → Leads cs number c.function → ⊥) → IsBackBelow cs number best → IsBackBelow cs (number + 1) best
+  pub below_skip : (number : ℕ) (best : Option Place) → ((c : Call) → Contains (calls_at cs number) c → Leads cs number c.function → ⊥) →
+      IsBackBelow cs number best → IsBackBelow cs (number + 1) best
   below_skip number best none h = first_among cs (λ g c. (g < number) × Contains (calls_at cs g) c) (λ g c. (g < number + 1) × Contains (calls_at cs g) c) best
-      (λ g c m l. ⊎_elim (λ lt. (lt, m.1)) (λ ge. let is : g ≡ number = omega (arith, m.0) in absurd (none c (subst (λ (x : ℕ). Contains (calls_at cs x) c) is m.1) (subst (λ (x : ℕ). Leads cs x c.function) is l))) (cases_lt g number)) h
+      (λ g c m l. ⊎_elim (λ lt. (lt, m.1)) (λ ge. let is : g ≡ number = omega (arith, m.0) in
+      absurd (none c (subst (λ (x : ℕ). Contains (calls_at cs x) c) is m.1) (subst (λ (x : ℕ). Leads cs x c.function) is l))) (cases_lt g number)) h
 
-  pub below_all : (number : ℕ) (best : Option Place) → length cs ≤ number → IsBackBelow cs number best → MatchOption best ((c : Call) → LeadsBack cs c → ⊥) (IsFirstBack cs)
+  pub below_all : (number : ℕ) (best : Option Place) → length cs ≤ number → IsBackBelow cs number best →
+      MatchOption best ((c : Call) → LeadsBack cs c → ⊥) (IsFirstBack cs)
   below_all number None le h = λ c b. h b.caller c (omega (arith, caller_within cs b.caller c b.made), b.made) b.back
-  below_all number (Some place) le h = record { call = h.call; stands = h.stands; back = h.back; first = λ c b. h.first b.caller c (omega (arith, caller_within cs b.caller c b.made), b.made) b.back }
+  below_all number (Some place) le h = record {
+    call = h.call;
+    stands = h.stands;
+    back = h.back;
+    first = λ c b. h.first b.caller c (omega (arith, caller_within cs b.caller c b.made), b.made) b.back;
+  }

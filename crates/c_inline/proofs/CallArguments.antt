@@ -1,5 +1,6 @@
 -- What parameters hold once the arguments are passed.
-use Rattle.std.proofs.Common.{◌≡◌, ℕ, zero, suc, ◌+◌, ◌<◌, ◌≤◌, List, [], ◌∷◌, ◌++◌, length, replicate, drop, Option, Some, None, ℤ, pos, refl, sym, ap, ap₂, ◌∙◌, subst, arith, inl, inr, slice_set}
+use Rattle.std.proofs.Common.{◌≡◌, ℕ, zero, suc, ◌+◌, ◌<◌, ◌≤◌, List, [], ◌∷◌, ◌++◌, length, replicate, drop, Option}
+use Rattle.std.proofs.Common.{Some, None, ℤ, pos, refl, sym, ap, ap₂, ◌∙◌, subst, arith, inl, inr, slice_set}
 use Rattle.std.specs.Prelude.{slice_get, slice_index_or, if◌then◌else◌}
 use Rattle.std.proofs.lemmas.Option.{slice_get_within}
 use Rattle.ido_base.specs.declared.place.Place.{Place}

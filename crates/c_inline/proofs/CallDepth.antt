@@ -10,7 +10,7 @@ use Rattle.ido_ints.specs.declared.kinds.Kind.{Kind}
 use Rattle.c_tree.specs.Programs as p
 use Rattle.c_tree.specs.Inlining as i
 use Rattle.c_tree.specs.Checking.{HasNoBack}
-use Rattle.c_inline.specs.Weighing.{Low}
+use Rattle.c_inline.specs.links.Weighing.{Low}
 use Rattle.c_inline.proofs.Cycle.{leads_on, found_in, any_below, first_or, only, IsDistinct-nil}
 use Rattle.c_inline.proofs.Deep.{stable_bodies, bodies_past, fixed_bodies}
 

@@ -1,5 +1,6 @@
 -- Which locals the statements that a call becomes name.
-use Rattle.std.proofs.Common.{◌≡◌, ◌⊎◌, ℕ, zero, suc, ◌+◌, ◌<◌, ◌≤◌, List, [], ◌∷◌, ◌++◌, length, map, Option, Some, None, refl, sym, ap, ◌∙◌, subst, arith, inl, inr, ⊎_elim, append_assoc, append-nil, length-append}
+use Rattle.std.proofs.Common.{◌≡◌, ◌⊎◌, ℕ, zero, suc, ◌+◌, ◌<◌, ◌≤◌, List, [], ◌∷◌, ◌++◌, length, map, Option, Some, None}
+use Rattle.std.proofs.Common.{refl, sym, ap, ◌∙◌, subst, arith, inl, inr, ⊎_elim, append_assoc, append-nil, length-append}
 use Rattle.std.specs.Prelude.{Contains, slice_get}
 use Rattle.std.specs.Option.{option_map}
 use Rattle.std.proofs.lemmas.Option.{slice_get_within}
@@ -12,8 +13,9 @@ use Rattle.c_tree.specs.Flats as f
 use Rattle.c_tree.specs.Inlining as i
 use Rattle.c_tree.specs.Inlining.{bodies_of}
 use Rattle.c_tree.specs.Checking.{HasNoBack}
-use Rattle.c_inline.specs.CallLaws.{Use, read, assigned, ExprReads, Uses, ListUses, TargetUses, ResultUses, StatementsUse, ArmsUse, AreBelow, Takes, IsScoped, AreScoped, AreScopedArms, IsReturnedBelow, AreFunctionsScoped, Site, call_made, IsNew, IsPassed}
-use Rattle.c_inline.specs.Weighing.{Low}
+use Rattle.c_inline.specs.CallLaws.{Use, read, assigned, ExprReads, Uses, ListUses, TargetUses, ResultUses, StatementsUse, ArmsUse, AreBelow, Takes}
+use Rattle.c_inline.specs.CallLaws.{IsScoped, AreScoped, AreScopedArms, IsReturnedBelow, AreFunctionsScoped, Site, call_made, IsNew, IsPassed}
+use Rattle.c_inline.specs.links.Weighing.{Low}
 use Rattle.c_inline.proofs.Near.{alone}
 use Rattle.c_inline.proofs.Deep.{calls_of_some}
 use Rattle.c_inline.proofs.CallDepth.{low_all}

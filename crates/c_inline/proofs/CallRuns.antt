@@ -1,5 +1,6 @@
 -- What a thread that does statements before a rest does with its locals.
-use Rattle.std.proofs.Common.{◌≡◌, ◌⊎◌, ℕ, zero, suc, ◌<◌, List, [], ◌∷◌, ◌++◌, length, map, Bool, true, false, Option, Some, None, ℤ, pos, refl, sym, ap, ◌∙◌, subst, arith, inl, inr, ⊎_elim, append_assoc, slice_set}
+use Rattle.std.proofs.Common.{◌≡◌, ◌⊎◌, ℕ, zero, suc, ◌<◌, List, [], ◌∷◌, ◌++◌, length, map, Bool, true, false, Option, Some}
+use Rattle.std.proofs.Common.{None, ℤ, pos, refl, sym, ap, ◌∙◌, subst, arith, inl, inr, ⊎_elim, append_assoc, slice_set}
 use Rattle.std.specs.Prelude.{slice_get, slice_index_or, if◌then◌else◌}
 use Rattle.std.specs.Option.{option_map}
 use Rattle.std.proofs.lemmas.Bool.{cases_eq}
@@ -12,7 +13,8 @@ use Rattle.c_tree.specs.Programs as p
 use Rattle.c_tree.specs.Inlining as i
 use Rattle.c_tree.specs.Source as m
 use Rattle.c_tree.specs.Source.{source_step}
-use Rattle.c_inline.specs.CallLaws.{Use, assigned, ListUses, ResultUses, StatementUses, StatementsUse, LeftUses, Site, call_made, left_of, local_of, IsBefore, IsKept}
+use Rattle.c_inline.specs.CallLaws.{Use, assigned, ListUses, ResultUses, StatementUses, StatementsUse}
+use Rattle.c_inline.specs.CallLaws.{LeftUses, Site, call_made, left_of, local_of, IsBefore, IsKept}
 use Rattle.c_inline.proofs.Known.{get_set_same, get_set_other}
 use Rattle.c_inline.proofs.CallLocals.{not_shared}
 
@@ -69,13 +71,13 @@ keeps_by : (before after : m.Thread) (x : f.Statement) (behind news : List f.Sta
     ((l : ℕ) → LeftUses assigned news l → StatementUses assigned x l) →
     ((l : ℕ) → (StatementUses assigned x l → ⊥) → slice_index_or after.locals l (pos 0) ≡ slice_index_or before.locals l (pos 0)) → Keeps before after
 keeps_by before after x behind news is goes uses same local first rest h n unused =
-    let front = first_is x behind first rest (sym is ∙ h) (λ z. n (is ∙ z)) in
-    let more = front.0 in
-    let unused_front : LeftUses assigned (x ∷ more) local → ⊥ = subst (λ (ys : List f.Statement). LeftUses assigned ys local → ⊥) front.1 unused in (
+    let prefix = first_is x behind first rest (sym is ∙ h) (λ z. n (is ∙ z)) in
+    let more = prefix.0 in
+    let unused_prefix : LeftUses assigned (x ∷ more) local → ⊥ = subst (λ (ys : List f.Statement). LeftUses assigned ys local → ⊥) prefix.1 unused in (
       news ++ more,
-      goes ∙ ap (λ ys. news ++ ys) front.2 ∙ sym (append_assoc news more rest),
-      (λ y. ⊎_elim (λ a. unused_front (inl (uses local a))) (λ b. unused_front (inr b)) (left_append assigned news more local y)),
-      same local (λ y. unused_front (inl y)),
+      goes ∙ ap (λ ys. news ++ ys) prefix.2 ∙ sym (append_assoc news more rest),
+      (λ y. ⊎_elim (λ a. unused_prefix (inl (uses local a))) (λ b. unused_prefix (inr b)) (left_append assigned news more local y)),
+      same local (λ y. unused_prefix (inl y)),
     )
 
 -- the thread of that number steps, and keeps

@@ -1,5 +1,6 @@
 -- Where each function of some calls one of them, a call leads back.
-use Rattle.std.proofs.Common.{◌≡◌, ◌⊎◌, ℕ, zero, suc, ◌+◌, ◌<◌, List, [], ◌∷◌, length, true, false, eqb, Option, None, refl, sym, subst, arith, inl, inr, ⊎_elim}
+use Rattle.std.proofs.Common.{◌≡◌, ◌⊎◌, ℕ, zero, suc, ◌+◌, ◌<◌, List, [], ◌∷◌, length, true}
+use Rattle.std.proofs.Common.{false, eqb, Option, None, refl, sym, subst, arith, inl, inr, ⊎_elim}
 use Rattle.std.specs.Prelude.{Contains}
 use Rattle.std.specs.List.{IsDistinct, list_any, AllByRecursion}
 use Rattle.std.proofs.lemmas.Bool.{cases_eq, eqb-true, ne_eqb, or_cases, false≢true}
@@ -8,7 +9,7 @@ use Rattle.std.proofs.lemmas.Map.Keys.{IsDistinct-cons}
 use Rattle.std.proofs.lemmas.Option.{slice_get_within}
 use Rattle.c_tree.specs.Programs as p
 use Rattle.c_tree.specs.Inlining as i
-use Rattle.c_inline.specs.Weighing.{IsUnknown, IsClosed}
+use Rattle.c_inline.specs.links.Weighing.{IsUnknown, IsClosed}
 
 pub leads_on : (fs : List p.Function) (to from : ℕ) (c : i.Call) → Contains (i.calls_in fs to) c → i.Leads fs to from → i.Leads fs c.function from
 leads_on fs to from c k i.there = i.by_call from c k i.there
@@ -43,10 +44,12 @@ only x h (suc k, l, e) = absurd (omega arith)
 
 module _ (fs : List p.Function) (known : List (Option ℕ)) (closed : IsClosed fs known) where
   -- functions that are not known, each of which leads to the first
-  walk : (fuel : ℕ) (f : ℕ) (path : List ℕ) → IsDistinct eqb (f ∷ path) → ((g : ℕ) → Contains (f ∷ path) g → IsUnknown known g) → ((g : ℕ) → Contains (f ∷ path) g → i.Leads fs f g) →
+  walk : (fuel : ℕ) (f : ℕ) (path : List ℕ) → IsDistinct eqb (f ∷ path) → ((g : ℕ) → Contains (f ∷ path) g → IsUnknown known g) →
+      ((g : ℕ) → Contains (f ∷ path) g → i.Leads fs f g) →
       length known < length (f ∷ path) + fuel → (c : i.Call) × i.LeadsBack fs c
   walk zero f path distinct unknown lead long =
-      absurd (let m = length-le_from_distinct_below (f ∷ path) (length known) distinct (any_below (length known) (f ∷ path) (λ g k. slice_get_within known g None (unknown g k))) in omega (arith, m))
+      absurd (let m = length-le_from_distinct_below (f ∷ path) (length known) distinct
+      (any_below (length known) (f ∷ path) (λ g k. slice_get_within known g None (unknown g k))) in omega (arith, m))
   walk (suc fuel) f path distinct unknown lead long =
       let next = closed f (unknown f (0, omega arith, refl)) in
       ⊎_elim
@@ -59,4 +62,6 @@ module _ (fs : List p.Function) (known : List (Option ℕ)) (closed : IsClosed f
 
   -- a function that is not known is led to by none but where a call leads back
   pub call_back : (g : ℕ) → IsUnknown known g → (c : i.Call) × i.LeadsBack fs c
-  call_back g u = walk (length known) g [] (IsDistinct-cons eqb g [] tt IsDistinct-nil) (λ h k. subst (λ (x : ℕ). IsUnknown known x) (only g h k) u) (λ h k. subst (λ (x : ℕ). i.Leads fs g x) (only g h k) i.there) (omega arith)
+  call_back g u =
+      walk (length known) g [] (IsDistinct-cons eqb g [] tt IsDistinct-nil) (λ h k. subst (λ (x : ℕ). IsUnknown known x) (only g h k) u)
+      (λ h k. subst (λ (x : ℕ). i.Leads fs g x) (only g h k) i.there) (omega arith)

@@ -6,12 +6,12 @@ use Rattle.c_tree.specs.Programs as p
 use Rattle.c_tree.specs.Inlining as i
 use Rattle.c_tree.specs.Temporaries.{price_fault}
 use Rattle.c_inline.specs.declared.calls.Call.{Call}
-use Rattle.c_inline.specs.Calls as c
-use Rattle.c_inline.specs.Calls.{calls_at, lists_of, function_calls}
-use Rattle.c_inline.specs.Weights as v
-use Rattle.c_inline.specs.Weighing.{AreRight, IsUnknown, IsClosed}
-use Rattle.c_inline.specs.Making.{AreSized}
-use Rattle.c_inline.specs.Inline.{fault_among}
+use Rattle.c_inline.specs.links.Calls as c
+use Rattle.c_inline.specs.links.Calls.{calls_at, lists_of, function_calls}
+use Rattle.c_inline.specs.links.Weights as v
+use Rattle.c_inline.specs.links.Weighing.{AreRight, IsUnknown, IsClosed}
+use Rattle.c_inline.specs.links.Making.{AreSized}
+use Rattle.c_inline.specs.links.Faults.{fault_among}
 use Rattle.c_inline.proofs.CallLists.{calls_at_function}
 use Rattle.c_inline.proofs.Known.{known_cases}
 use Rattle.c_inline.proofs.Cycle.{call_back}
@@ -26,13 +26,19 @@ module _ (cs : List (Vec Call Global)) (fs : List p.Function) (lists : lists_of 
 
   leads_listed : (to from : ℕ) → i.Leads fs to from → c.Leads (lists_of cs) to from
   leads_listed to from i.there = c.there
-  leads_listed to from (i.by_call _ x k rest) = c.by_call from x (subst (λ (l : List i.Call). Contains l x) (sym (calls_same from)) k) (leads_listed to x.function rest)
+  leads_listed to from (i.by_call _ x k rest) =
+      c.by_call from x (subst (λ (l : List i.Call). Contains l x) (sym (calls_same from)) k) (leads_listed to x.function rest)
 
   back_in : (x : i.Call) → c.LeadsBack (lists_of cs) x → i.LeadsBack fs x
-  back_in x b = record { caller = b.caller; made = subst (λ (l : List i.Call). Contains l x) (calls_same b.caller) b.made; back = leads_in b.caller x.function b.back }
+  back_in x b =
+      record { caller = b.caller; made = subst (λ (l : List i.Call). Contains l x) (calls_same b.caller) b.made; back = leads_in b.caller x.function b.back }
 
   back_listed : (x : i.Call) → i.LeadsBack fs x → c.LeadsBack (lists_of cs) x
-  back_listed x b = record { caller = b.caller; made = subst (λ (l : List i.Call). Contains l x) (sym (calls_same b.caller)) b.made; back = leads_listed b.caller x.function b.back }
+  back_listed x b = record {
+    caller = b.caller;
+    made = subst (λ (l : List i.Call). Contains l x) (sym (calls_same b.caller)) b.made;
+    back = leads_listed b.caller x.function b.back;
+  }
 
   pub none_back : ((x : i.Call) → c.LeadsBack (lists_of cs) x → ⊥) → (x : i.Call) → i.LeadsBack fs x → ⊥
   none_back h x b = h x (back_listed x b)

@@ -1,5 +1,6 @@
 -- The flat form of a well formed program is well formed: each part, with its locals renumbered.
-use Rattle.std.proofs.Common.{◌≡◌, refl, sym, ◌∙◌, ap, subst, ℕ, zero, suc, ◌+◌, ◌<◌, ◌≤◌, List, [], ◌∷◌, ◌++◌, length, map, flat_map, true, Option, Some, None, arith}
+use Rattle.std.proofs.Common.{◌≡◌, refl, sym, ◌∙◌, ap, subst, ℕ, zero, suc, ◌+◌, ◌<◌, ◌≤◌, List, []}
+use Rattle.std.proofs.Common.{◌∷◌, ◌++◌, length, map, flat_map, true, Option, Some, None, arith}
 use Rattle.std.specs.Prelude.{Contains, slice_get, pos, ◌-ℤ◌}
 use Rattle.std.specs.List.{AllByRecursion}
 use Rattle.std.specs.Option.{option_map}
@@ -18,8 +19,9 @@ use Rattle.c_tree.specs.Inlining.{shifted, shifted_placed, shifted_target}
 use Rattle.c_tree.specs.Ranges as r
 use Rattle.c_tree.specs.Ranges.{Index, Interval, AllFit, index_fits, range_of, lies_in, interval, elements_of}
 use Rattle.c_tree.specs.Typing.{kind_of}
-use Rattle.c_tree.specs.WellFormed.{IsExpr, IsPlaced, IsTarget, Fits, TargetFits, IndexFits, IsResult, IsStatement, AreStatements, AreArms, HasProgramArm, IsReturned, IsFunction, IsProgram, HasArm, IsFlatPlaced, IsFlatTarget, AreFlatStatements, AreFlatArms, IsWellFormed}
-use Rattle.c_inline.specs.Weighing.{Low}
+use Rattle.c_tree.specs.WellFormed.{IsExpr, IsPlaced, IsTarget, Fits, TargetFits, IndexFits, IsResult, IsStatement, AreStatements, AreArms, HasProgramArm}
+use Rattle.c_tree.specs.WellFormed.{IsReturned, IsFunction, IsProgram, HasArm, IsFlatPlaced, IsFlatTarget, AreFlatStatements, AreFlatArms, IsWellFormed}
+use Rattle.c_inline.specs.links.Weighing.{Low}
 use Rattle.c_inline.proofs.CallDepth.{low_all}
 use Rattle.c_inline.proofs.Deep.{calls_of_some}
 use Rattle.c_inline.proofs.Ends.{flat_is}

@@ -1,5 +1,6 @@
 -- A function's weight becomes known.
-use Rattle.std.proofs.Common.{◌≡◌, ℕ, zero, suc, ◌+◌, ◌-◌, ◌^◌, ◌<◌, ◌≤◌, List, [], ◌∷◌, length, get_or, set, min, false, cond, Option, Some, None, refl, sym, ap, ◌∙◌, subst, arith, ⊎_elim}
+use Rattle.std.proofs.Common.{◌≡◌, ℕ, zero, suc, ◌+◌, ◌-◌, ◌^◌, ◌<◌, ◌≤◌, List, [], ◌∷◌, length, get_or, set}
+use Rattle.std.proofs.Common.{min, false, cond, Option, Some, None, refl, sym, ap, ◌∙◌, subst, arith, ⊎_elim}
 use Rattle.std.specs.Prelude.{Contains, slice_get, is_some}
 use Rattle.std.proofs.lemmas.Bool.{cases_lt, cases_eq, false≢true}
 use Rattle.std.proofs.lemmas.List.{length-set}
@@ -8,8 +9,8 @@ use Rattle.std.proofs.lemmas.Option.{slice_get_past, slice_get_within, get_or_fr
 use Rattle.c_tree.specs.Programs as p
 use Rattle.c_tree.specs.Inlining as i
 use Rattle.c_inline.specs.declared.weight.Weights.{Weights}
-use Rattle.c_inline.specs.Weights as v
-use Rattle.c_inline.specs.Weighing.{Low, AreRight, IsUnknown, found}
+use Rattle.c_inline.specs.links.Weights as v
+use Rattle.c_inline.specs.links.Weighing.{Low, AreRight, IsUnknown, found}
 use Rattle.c_inline.proofs.Near.{near_statements}
 use Rattle.c_inline.proofs.Deep.{low_more, calls_of_some, weight_past, fixed_weight}
 
@@ -49,7 +50,8 @@ pub known_weight_some : (known : List (Option ℕ)) (g weight : ℕ) → slice_g
 known_weight_some known g weight e = ap (λ (o : Option (Option ℕ)). elim o as (λ _. ℕ) [ Some x ↦ elim x as (λ _. ℕ) [ Some y ↦ y | None ↦ 0 ] | None ↦ 0 ]) e
 
 pub known_weight_past : (known : List (Option ℕ)) (g : ℕ) → length known ≤ g → v.known_weight known g ≡ 0
-known_weight_past known g le = ap (λ (o : Option (Option ℕ)). elim o as (λ _. ℕ) [ Some x ↦ elim x as (λ _. ℕ) [ Some y ↦ y | None ↦ 0 ] | None ↦ 0 ]) (slice_get_past known g le)
+known_weight_past known g le =
+    ap (λ (o : Option (Option ℕ)). elim o as (λ _. ℕ) [ Some x ↦ elim x as (λ _. ℕ) [ Some y ↦ y | None ↦ 0 ] | None ↦ 0 ]) (slice_get_past known g le)
 
 module _ (w : Weights) (fs : List p.Function) (known : List (Option ℕ)) (is_right : AreRight w fs known) where
   -- what is known of a function is what it weighs
@@ -98,11 +100,14 @@ module _ (w : Weights) (fs : List p.Function) (known : List (Option ℕ)) (is_ri
     are_right_now = record {
       covers = length-set known g (Some weight) ∙ is_right.covers;
       low = λ h y e. ⊎_elim
-          (λ same. low_more fs (suc (found known)) (found (set known g (Some weight))) h (omega (arith, found_now)) (subst (λ j. Low fs (suc (found known)) j) (sym same) low_now))
-          (λ other. low_more fs (found known) (found (set known g (Some weight))) h (omega (arith, found_now)) (is_right.low h y (sym (get_set_other known g h (Some weight) other) ∙ e)))
+          (λ same. low_more fs (suc (found known)) (found (set known g (Some weight))) h (omega (arith, found_now))
+          (subst (λ j. Low fs (suc (found known)) j) (sym same) low_now))
+          (λ other. low_more fs (found known) (found (set known g (Some weight))) h (omega (arith, found_now))
+          (is_right.low h y (sym (get_set_other known g h (Some weight) other) ∙ e)))
           (cases_eq h g);
       right = λ h y e. ⊎_elim
-          (λ same. let k : slice_get (set known g (Some weight)) h ≡ Some (Some weight) = ap (slice_get (set known g (Some weight))) same ∙ get_set_same known g (Some weight) (slice_get_within known g None unknown) in
+          (λ same. let k : slice_get (set known g (Some weight)) h ≡ Some (Some weight) =
+          ap (slice_get (set known g (Some weight))) same ∙ get_set_same known g (Some weight) (slice_get_within known g None unknown) in
           let f : y ≡ weight = cc (e, k) in
           f ∙ right_now ∙ ap (λ j. min (v.function_weight w 0 fs (length fs) j) (2 ^ 64 - 1)) (sym same))
           (λ other. is_right.right h y (sym (get_set_other known g h (Some weight) other) ∙ e))

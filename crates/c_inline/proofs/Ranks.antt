@@ -1,13 +1,14 @@
 -- Calls that lead to functions of no higher rank.
 use Rattle.std.proofs.Common.{ℕ, ◌<◌, ◌≤◌, List, arith}
 use Rattle.c_tree.specs.Inlining.{Call}
-use Rattle.c_inline.specs.Calls.{Leads, there, by_call}
-use Rattle.c_inline.specs.Ranking.{AreRanks, rank_at}
+use Rattle.c_inline.specs.links.Calls.{Leads, there, by_call}
+use Rattle.c_inline.specs.links.Ranking.{AreRanks, rank_at}
 
 -- so where calls lead from one function to another, the other's rank is no higher
 lead_down : (cs : List (List Call)) (ranks : _) → AreRanks cs ranks → (to from : ℕ) → Leads cs to from → rank_at ranks to ≤ rank_at ranks from
 lead_down cs ranks are to from there = omega arith
-lead_down cs ranks are to from (by_call _ c made rest) = let one = are from c made in let more = lead_down cs ranks are to c.function rest in omega (arith, one, more)
+lead_down cs ranks are to from (by_call _ c made rest) = let one = are from c made in let more = lead_down cs ranks are to c.function rest in
+    omega (arith, one, more)
 
 -- and no call leads back from a function of a lower rank
 pub never_back : (cs : List (List Call)) (ranks : _) → AreRanks cs ranks → (to from : ℕ) → rank_at ranks from < rank_at ranks to → Leads cs to from → ⊥

@@ -1,5 +1,6 @@
 -- Functions that are reached from one, and those that wait for their calls to be followed.
-use Rattle.std.proofs.Common.{◌≡◌, ◌⊎◌, ℕ, zero, suc, ◌+◌, ◌*◌, ◌<◌, ◌≤◌, List, [], ◌∷◌, ◌++◌, length, get_or, set, replicate, Bool, true, false, cond, not, Option, Some, None, refl, sym, ap, ◌∙◌, subst, arith, inl, inr, ⊎_elim}
+use Rattle.std.proofs.Common.{◌≡◌, ◌⊎◌, ℕ, zero, suc, ◌+◌, ◌*◌, ◌<◌, ◌≤◌, List, [], ◌∷◌, ◌++◌, length, get_or, set, replicate}
+use Rattle.std.proofs.Common.{Bool, true, false, cond, not, Option, Some, None, refl, sym, ap, ◌∙◌, subst, arith, inl, inr, ⊎_elim}
 use Rattle.std.specs.Prelude.{Contains, slice_get, count_by}
 use Rattle.std.proofs.lemmas.Bool.{cases_lt, cases_eq, false≢true}
 use Rattle.std.proofs.lemmas.List.{length-set, length_push}
@@ -7,8 +8,8 @@ use Rattle.std.proofs.lemmas.List.Elements.{Contains-push, Contains-push_cases, 
 use Rattle.std.proofs.lemmas.List.Sums.{sum_by-set}
 use Rattle.std.proofs.lemmas.Option.{slice_get_past, slice_get_within, get_or_from_slice_get, same_Some, none-some}
 use Rattle.c_tree.specs.Inlining.{Call}
-use Rattle.c_inline.specs.Calls.{calls_at, Leads}
-use Rattle.c_inline.specs.Reaching.{IsReached}
+use Rattle.c_inline.specs.links.Calls.{calls_at, Leads}
+use Rattle.c_inline.specs.links.Reaching.{IsReached}
 use Rattle.c_inline.proofs.Known.{get_set_same, get_set_other}
 
 -- how many are not reached
@@ -33,7 +34,8 @@ pub no_calls_past : (cs : List (List Call)) (g : ℕ) → length cs ≤ g → ca
 no_calls_past cs g le = ap (λ (o : Option (List Call)). elim o as (λ _. List Call) [ Some x ↦ x | None ↦ [] ]) (slice_get_past cs g le)
 
 pub caller_within : (cs : List (List Call)) (g : ℕ) (c : Call) → Contains (calls_at cs g) c → g < length cs
-caller_within cs g c k = ⊎_elim (λ l. l) (λ le. absurd (let e : length (calls_at cs g) ≡ 0 = ap length (no_calls_past cs g le) in omega (arith, k.1))) (cases_lt g (length cs))
+caller_within cs g c k =
+    ⊎_elim (λ l. l) (λ le. absurd (let e : length (calls_at cs g) ≡ 0 = ap length (no_calls_past cs g le) in omega (arith, k.1))) (cases_lt g (length cs))
 
 leads_within : (cs : List (List Call)) (to g : ℕ) → to < length cs → Leads cs to g → g < length cs
 leads_within cs to g l Leads.there = l
@@ -46,7 +48,8 @@ reached_or_not (false ∷ xs) zero l not_false = absurd (not_false refl)
 reached_or_not (x ∷ xs) (suc g) l not_false = reached_or_not xs g (omega arith) not_false
 
 -- nothing waits: calls do not lead there
-pub not_led : (cs : List (List Call)) (to : ℕ) (reached : List Bool) → to < length cs → length reached ≡ length cs → ((g : ℕ) → slice_get reached g ≡ Some true → Done cs to reached g) →
+pub not_led : (cs : List (List Call)) (to : ℕ) (reached : List Bool) → to < length cs → length reached ≡ length cs →
+    ((g : ℕ) → slice_get reached g ≡ Some true → Done cs to reached g) →
     (g : ℕ) → slice_get reached g ≡ Some true → Leads cs to g → ⊥
 not_led cs to reached l covers done g r Leads.there = (done to r).0 refl
 not_led cs to reached l covers done g r (Leads.by_call _ c k rest) =
@@ -59,18 +62,23 @@ true_false x a b = false≢true (sym (same_Some x false b) ∙ same_Some x true 
 some_true_false : (o : Option Bool) → o ≡ Some true → o ≡ Some false → ⊥
 some_true_false o a b = false≢true (same_Some false true (sym b ∙ a))
 
-module _ (cs : List (List Call)) (to from : ℕ) (at_hand : ℕ → Type 0) (reached : List Bool) (waiting : List ℕ) (h : ℕ) (reached' : List Bool) (waiting' : List ℕ) where
+module _ (cs : List (List Call)) (to from : ℕ) (at_hand : ℕ → Type 0) (reached : List Bool) (waiting : List ℕ) (h : ℕ) (reached' : List Bool)
+    (waiting' : List ℕ) where
   -- a function is reached
-  pub searched_reached : Searched cs to from at_hand reached waiting → (h < length cs → Leads cs h from) → IsReached reached waiting h reached' waiting' → Searched cs to from at_hand reached' waiting'
+  pub searched_reached : Searched cs to from at_hand reached waiting → (h < length cs → Leads cs h from) → IsReached reached waiting h reached' waiting' →
+      Searched cs to from at_hand reached' waiting'
   searched_reached s led (inl (was_not, r, w)) =
       let within = slice_get_within reached h false was_not in
       let same : slice_get reached' h ≡ Some true = ap (λ (x : List Bool). slice_get x h) r ∙ get_set_same reached h true within in
-      let other : (g : ℕ) → (g ≡ h → ⊥) → slice_get reached' g ≡ slice_get reached g = λ g ne. ap (λ (x : List Bool). slice_get x g) r ∙ get_set_other reached h g true ne in
+      let other : (g : ℕ) → (g ≡ h → ⊥) → slice_get reached' g ≡ slice_get reached g =
+      λ g ne. ap (λ (x : List Bool). slice_get x g) r ∙ get_set_other reached h g true ne in
       let kept : (g : ℕ) → slice_get reached' g ≡ Some false → slice_get reached g ≡ Some false =
       λ g e. ⊎_elim (λ is. absurd (some_true_false (slice_get reached' g) (ap (slice_get reached') is ∙ same) e)) (λ ne. sym (other g ne) ∙ e) (cases_eq g h) in
       record {
         covers = ap length r ∙ length-set reached h true ∙ s.covers;
-        led = λ g k. ⊎_elim (s.led g) (λ is. subst (λ (x : ℕ). (x < length cs) × Leads cs x from) is (let l : h < length cs = omega (arith, within, s.covers) in (l, led l)))
+        led =
+            λ g k. ⊎_elim (s.led g) (λ is.
+            subst (λ (x : ℕ). (x < length cs) × Leads cs x from) is (let l : h < length cs = omega (arith, within, s.covers) in (l, led l)))
             (Contains-push_cases waiting h g (subst (λ (x : List ℕ). Contains x g) w k));
         state = λ g e. ⊎_elim
             (λ is. inl (subst (λ (x : List ℕ). Contains x g) (sym w) (subst (λ (x : ℕ). Contains (waiting ++ h ∷ []) x) (sym is) (Contains-push waiting h))))
@@ -86,12 +94,15 @@ module _ (cs : List (List Call)) (to from : ℕ) (at_hand : ℕ → Type 0) (rea
   -- and what was reached before stays so
   pub still_reached : IsReached reached waiting h reached' waiting' → (g : ℕ) → (slice_get reached g ≡ Some false → ⊥) → slice_get reached' g ≡ Some false → ⊥
   still_reached (inl (was_not, r, w)) g was e =
-      ⊎_elim (λ is. some_true_false (slice_get reached' g) (ap (slice_get reached') is ∙ ap (λ (x : List Bool). slice_get x h) r ∙ get_set_same reached h true (slice_get_within reached h false was_not)) e)
+      ⊎_elim (λ is. some_true_false (slice_get reached' g)
+      (ap (slice_get reached') is ∙ ap (λ (x : List Bool). slice_get x h) r ∙ get_set_same reached h true (slice_get_within reached h false was_not)) e)
       (λ ne. was (sym (get_set_other reached h g true ne) ∙ sym (ap (λ (x : List Bool). slice_get x g) r) ∙ e)) (cases_eq g h)
   still_reached (inr (other, r, w)) g was e = was (sym (ap (λ (x : List Bool). slice_get x g) r) ∙ e)
 
   pub now_reached : IsReached reached waiting h reached' waiting' → slice_get reached' h ≡ Some false → ⊥
-  now_reached (inl (was_not, r, w)) e = some_true_false (slice_get reached' h) (ap (λ (x : List Bool). slice_get x h) r ∙ get_set_same reached h true (slice_get_within reached h false was_not)) e
+  now_reached (inl (was_not, r, w)) e =
+      some_true_false (slice_get reached' h)
+      (ap (λ (x : List Bool). slice_get x h) r ∙ get_set_same reached h true (slice_get_within reached h false was_not)) e
   now_reached (inr (other, r, w)) e = other (sym (ap (λ (x : List Bool). slice_get x h) r) ∙ e)
 
   -- of what is left, a function that is reached counts twice, and one that waits once
@@ -115,7 +126,8 @@ module _ (cs : List (List Call)) (to from : ℕ) (reached : List Bool) where
   }
 
   -- one that waits is taken
-  pub searched_taken : (waiting rest : List ℕ) (f : ℕ) → waiting ≡ rest ++ f ∷ [] → Searched cs to from (λ g. ⊥) reached waiting → Searched cs to from (λ g. g ≡ f) reached rest
+  pub searched_taken : (waiting rest : List ℕ) (f : ℕ) → waiting ≡ rest ++ f ∷ [] → Searched cs to from (λ g. ⊥) reached waiting →
+      Searched cs to from (λ g. g ≡ f) reached rest
   searched_taken waiting rest f e s = record {
     covers = s.covers;
     led = λ g k. s.led g (subst (λ (x : List ℕ). Contains x g) (sym e) (Contains-append_left rest (f ∷ []) g k));
@@ -134,7 +146,8 @@ module _ (cs : List (List Call)) (to from : ℕ) (reached : List Bool) where
   }
 
   -- nothing waits
-  pub searched_all : (waiting : List ℕ) → waiting ≡ [] → to < length cs → (slice_get reached from ≡ Some false → ⊥) → Searched cs to from (λ g. ⊥) reached waiting → Leads cs to from → ⊥
+  pub searched_all : (waiting : List ℕ) → waiting ≡ [] → to < length cs → (slice_get reached from ≡ Some false → ⊥) →
+      Searched cs to from (λ g. ⊥) reached waiting → Leads cs to from → ⊥
   searched_all waiting e l begun s =
       λ leads. not_led cs to reached l s.covers
       (λ g r. ⊎_elim (λ k. absurd (omega (arith, k.1, ap length e))) (λ other. ⊎_elim (λ no_one. absurd no_one) (λ d. d) other) (s.state g r))

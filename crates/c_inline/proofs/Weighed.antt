@@ -10,8 +10,8 @@ use Rattle.c_tree.specs.Flats as f
 use Rattle.c_tree.specs.Inlining as i
 use Rattle.c_tree.specs.Prices.{nodes_of, statement_price, statements_price, arms_price, thread_price, assign_price}
 use Rattle.c_inline.specs.declared.weight.Weights.{Weights}
-use Rattle.c_inline.specs.Weights as v
-use Rattle.c_inline.specs.Weighing.{AreRight, IsUnknown}
+use Rattle.c_inline.specs.links.Weights as v
+use Rattle.c_inline.specs.links.Weighing.{AreRight, IsUnknown}
 use Rattle.c_inline.proofs.Near.{near_statements}
 use Rattle.c_inline.proofs.Known.{near_known}
 
@@ -57,15 +57,18 @@ module _ (w : Weights) where
   same_assign n (e.ToVariable place variable kind) value = refl
   same_assign n (e.ToElement place variable kind index) value = ap (λ (m : ℕ). v.node_weight w (m + value) + v.node_weight w 0) (same_nodes n index.expr)
 
-  passed_weight : (place : Place) (first n : ℕ) (ks : List Kind) (xs : List e.Placed) → made_statements (i.passed place first ks (map (i.shifted_placed n) xs)) ≡ v.arguments_weight w xs
+  passed_weight : (place : Place) (first n : ℕ) (ks : List Kind) (xs : List e.Placed) →
+      made_statements (i.passed place first ks (map (i.shifted_placed n) xs)) ≡ v.arguments_weight w xs
   passed_weight place first n ks [] = refl
   passed_weight place first n [] (x ∷ xs) = sum3 _ _ _ _ (ap (λ (m : ℕ). v.node_weight w m) (same_nodes n x.expr)) (passed_weight place (first + 1) n [] xs)
-  passed_weight place first n (k ∷ ks) (x ∷ xs) = sum3 _ _ _ _ (ap (λ (m : ℕ). v.node_weight w m) (same_nodes n x.expr)) (passed_weight place (first + 1) n ks xs)
+  passed_weight place first n (k ∷ ks) (x ∷ xs) =
+      sum3 _ _ _ _ (ap (λ (m : ℕ). v.node_weight w m) (same_nodes n x.expr)) (passed_weight place (first + 1) n ks xs)
 
   plus_zero : (a : ℕ) → a + 0 ≡ a
   plus_zero a = omega arith
 
-  assigned_weight : (place : Place) (first n : ℕ) (x : Option p.Returned) (target : Option e.Target) → made_statements (i.assigned place first x (option_map (i.shifted_target n) target)) ≡ v.result_weight w x target
+  assigned_weight : (place : Place) (first n : ℕ) (x : Option p.Returned) (target : Option e.Target) →
+      made_statements (i.assigned place first x (option_map (i.shifted_target n) target)) ≡ v.result_weight w x target
   assigned_weight place first n (Some x) (Some target) =
       plus_zero _ ∙ same_assign n target (nodes_of (i.shifted first x.value.expr)) ∙ ap (λ (m : ℕ). v.assign_weight w target m) (same_nodes first x.value.expr)
   assigned_weight place first n (Some x) None = refl
@@ -77,10 +80,14 @@ module _ (w : Weights) where
     called_made place name n ks function arguments result = at (slice_get fs function)
       where
         at : (o : Option p.Function) →
-            made_statements (elim o as (λ _. i.Made f.Statements) [ Some x ↦ i.called fs B place n ks x (B function ks) arguments result | None ↦ record { made = f.no_statement; kinds = ks } ]).made
+            made_statements (elim o as (λ _. i.Made f.Statements) [
+              | Some x ↦ i.called fs B place n ks x (B function ks) arguments result
+              | None ↦ record { made = f.no_statement; kinds = ks }
+            ]).made
             ≡ (elim o as (λ _. ℕ) [ Some x ↦ 0 + (v.arguments_weight w arguments + F function + v.result_weight w x.result result) | None ↦ 0 ])
         at (Some x) =
-            let a = made_and (i.passed place (length ks) x.locals (map (i.shifted_placed n) arguments)) (i.statements_and (B function ks).made (i.assigned place (length ks) x.result (option_map (i.shifted_target n) result))) in
+            let a = made_and (i.passed place (length ks) x.locals (map (i.shifted_placed n) arguments))
+            (i.statements_and (B function ks).made (i.assigned place (length ks) x.result (option_map (i.shifted_target n) result))) in
             let b = made_and (B function ks).made (i.assigned place (length ks) x.result (option_map (i.shifted_target n) result)) in
             let c = passed_weight place (length ks) n x.locals arguments in
             let d = assigned_weight place (length ks) n x.result result in
@@ -89,12 +96,15 @@ module _ (w : Weights) where
 
     mutual
       pub statement_made : (n : ℕ) (ks : List Kind) (x : p.Statement) → made_statements (i.statement fs B n ks x).made ≡ v.statement_weight w 0 fs F x
-      statement_made n ks (p.Assign place target value) = plus_zero _ ∙ same_assign n target (nodes_of (i.shifted n value.expr)) ∙ ap (λ (m : ℕ). v.assign_weight w target m) (same_nodes n value.expr)
+      statement_made n ks (p.Assign place target value) =
+          plus_zero _ ∙ same_assign n target (nodes_of (i.shifted n value.expr)) ∙ ap (λ (m : ℕ). v.assign_weight w target m) (same_nodes n value.expr)
       statement_made n ks (p.Call place name function arguments result) = called_made place name n ks function arguments result
       statement_made n ks (p.If place arms otherwise) =
           plus_zero _ ∙ sum3 _ _ w.branch w.branch (sum3 _ _ _ _ (arms_made n ks arms) (statements_made n (i.arms_of fs B n ks arms).kinds otherwise)) refl
-      statement_made n ks (p.While place condition body) = plus_zero _ ∙ sum3 _ _ _ _ (ap (λ (m : ℕ). v.node_weight w m) (same_nodes n condition.expr)) (statements_made n ks body)
-      statement_made n ks (p.Do place body condition) = plus_zero _ ∙ sum3 _ _ _ _ (ap (λ (m : ℕ). v.node_weight w m) (same_nodes n condition.expr)) (statements_made n ks body)
+      statement_made n ks (p.While place condition body) =
+          plus_zero _ ∙ sum3 _ _ _ _ (ap (λ (m : ℕ). v.node_weight w m) (same_nodes n condition.expr)) (statements_made n ks body)
+      statement_made n ks (p.Do place body condition) =
+          plus_zero _ ∙ sum3 _ _ _ _ (ap (λ (m : ℕ). v.node_weight w m) (same_nodes n condition.expr)) (statements_made n ks body)
       statement_made n ks (p.Lock place mutex) = plus_zero _
       statement_made n ks (p.Unlock place mutex) = plus_zero _
 
@@ -107,14 +117,18 @@ module _ (w : Weights) where
       pub arms_made : (n : ℕ) (ks : List Kind) (xs : p.Arms) → made_arms (i.arms_of fs B n ks xs).made ≡ v.arms_weight w 0 fs F xs
       arms_made n ks p.no_arm = refl
       arms_made n ks (p.arm_and condition body rest) =
-          sum3 _ _ _ _ (sum3 _ _ _ _ (ap (λ (m : ℕ). v.node_weight w m) (same_nodes n condition.expr)) (statements_made n ks body)) (arms_made n (i.statements fs B n ks body).kinds rest)
+          sum3 _ _ _ _ (sum3 _ _ _ _ (ap (λ (m : ℕ). v.node_weight w m) (same_nodes n condition.expr)) (statements_made n ks body))
+          (arms_made n (i.statements fs B n ks body).kinds rest)
 
   pub bodies_made : (fs : List p.Function) (d g : ℕ) (ks : List Kind) → made_statements (i.bodies_of fs d g ks).made ≡ v.function_weight w 0 fs d g
   bodies_made fs zero g ks = refl
   bodies_made fs (suc d) g ks = at (slice_get fs g) (λ j js. bodies_made fs d j js)
     where
       at : (o : Option p.Function) → ((j : ℕ) (js : List Kind) → made_statements (i.bodies_of fs d j js).made ≡ v.function_weight w 0 fs d j) →
-          made_statements (elim o as (λ _. i.Made f.Statements) [ Some x ↦ i.statements fs (i.bodies_of fs d) (length ks) (ks ++ x.locals) x.body | None ↦ record { made = f.no_statement; kinds = ks } ]).made
+          made_statements (elim o as (λ _. i.Made f.Statements) [
+            | Some x ↦ i.statements fs (i.bodies_of fs d) (length ks) (ks ++ x.locals) x.body
+            | None ↦ record { made = f.no_statement; kinds = ks }
+          ]).made
           ≡ (elim o as (λ _. ℕ) [ Some x ↦ v.statements_weight w 0 fs (v.function_weight w 0 fs d) x.body | None ↦ 0 ])
       at (Some x) less = statements_made fs (i.bodies_of fs d) (v.function_weight w 0 fs d) less (length ks) (ks ++ x.locals) x.body
       at None less = refl
@@ -148,7 +162,8 @@ pub price_known : (fs : List p.Function) (known : List (Option ℕ)) → AreRigh
     min (v.statements_weight v.price 0 fs (v.known_weight known) x.body + 96) (2 ^ 64 - 1) ≡ min (thread_price (i.flat_thread fs x)) (2 ^ 64 - 1)
 price_known fs known is_right all x =
     let F = v.function_weight v.price 0 fs (length fs) in
-    let a = near_statements v.price 0 fs (v.known_weight known) F (2 ^ 64 - 1) x.body (λ c k. near_known v.price fs known is_right c.function (all c.function)) in
+    let a = near_statements v.price 0 fs (v.known_weight known) F (2 ^ 64 - 1) x.body
+    (λ c k. near_known v.price fs known is_right c.function (all c.function)) in
     let b = statements_made v.price fs (i.bodies_of fs (length fs)) F (bodies_made v.price fs (length fs)) 0 x.locals x.body in
     let c = price_statements (i.statements fs (i.bodies_of fs (length fs)) 0 x.locals x.body).made in
     omega (arith, a, b, c)

@@ -1,9 +1,4 @@
-pub mod Calls
-pub mod Weights
-pub mod Weighing
-pub mod Reaching
-pub mod Making
 pub mod Inline
-pub mod Ranking
 pub mod CallLaws
 pub mod FormLaws
+pub mod links

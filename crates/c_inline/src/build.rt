@@ -7,8 +7,9 @@ ghost use Rattle.c_tree.specs.Programs as p;
 ghost use Rattle.c_tree.specs.Programs.{function_of, returned_of};
 ghost use Rattle.c_tree.specs.Flats as f;
 ghost use Rattle.c_tree.specs.Inlining as i;
-ghost use Rattle.c_inline.specs.Weights as v;
-ghost use Rattle.c_inline.specs.Making.{AreSized, IsTaken, whole, after, behind_of, begun_made, begun_if_any, all_made, and_any, work_if_any, all_work, function_work};
+ghost use Rattle.c_inline.specs.links.Weights as v;
+ghost use Rattle.c_inline.specs.links.Making.{AreSized, IsTaken, whole, after, behind_of, begun_made, begun_if_any};
+ghost use Rattle.c_inline.specs.links.Making.{all_made, and_any, work_if_any, all_work, function_work};
 
 use crate::shift::{shift, shift_placed, shift_target};
 use crate::weight::{SIZE, call_weight};
@@ -36,14 +37,14 @@ struct Begun {
     behind: Option<flat::Statement>,
 }
 
-// How many locals there are; beyond 2^32 - 1 there is no memory for so many.
+/// How many locals there are; beyond 2^32 - 1 there is no memory for so many.
 fn local_count(kinds: &[Kind]) -> Result<u32, AllocError>
     ensures { IfOk result (λ count. count ≡ length kinds.now) }
 {
     u32::try_from(kinds.len()).map_err(|_| AllocError)
 }
 
-// The kind of a local.
+/// The kind of a local.
 fn kind_of(locals: &[Kind], index: usize) -> Kind
     ensures { result ≡ slice_index_or locals.now index Kind.Int }
 {
@@ -53,7 +54,7 @@ fn kind_of(locals: &[Kind], index: usize) -> Kind
     }
 }
 
-// Parameters take the arguments.
+/// Parameters take the arguments.
 fn pass(
     alloc: Global,
     place: Place,
@@ -82,7 +83,7 @@ fn pass(
     Ok(())
 }
 
-// The assignment of a result, converted to its function's kind.
+/// The assignment of a result, converted to its function's kind.
 fn assign(
     alloc: Global,
     place: Place,
@@ -115,7 +116,7 @@ fn assign(
     }
 }
 
-// Begins the body of a call, unless nothing is left of the call.
+/// Begins the body of a call, unless nothing is left of the call.
 fn begin(
     alloc: Global,
     bodies: Bodies,
@@ -129,10 +130,12 @@ fn begin(
 ) -> Result<Option<Begun>, AllocError>
     requires { AreSized (map function_of bodies.functions.now) bodies.sizes.now }
     ensures made { IfOk result (λ begun. let fs = map function_of bodies.entry.functions.now in
-        after (f.statements_of made.old.items) (i.statement fs (whole fs) by kinds.old.items (p.Call place place function (map placed_of arguments.now) (option_map target_of target.now)))
+        after (f.statements_of made.old.items)
+        (i.statement fs (whole fs) by kinds.old.items (p.Call place place function (map placed_of arguments.now) (option_map target_of target.now)))
         ≡ after (f.statements_of made.new.items) (begun_if_any bodies.entry.functions.now begun kinds.new.items)) }
     ensures work { IfOk result (λ begun. let fs = map function_of bodies.entry.functions.now in
-        work_if_any bodies.entry.functions.now begun < v.called_weight v.size 2 fs (function_work fs) function (map placed_of arguments.now) (option_map target_of target.now)) }
+        work_if_any bodies.entry.functions.now begun
+        < v.called_weight v.size 2 fs (function_work fs) function (map placed_of arguments.now) (option_map target_of target.now)) }
 {
     if call_weight(
         SIZE,
@@ -160,7 +163,7 @@ fn begin(
     }))
 }
 
-// Takes the next statement of a body that has been begun.
+/// Takes the next statement of a body that has been begun.
 fn next<'a>(bodies: Bodies<'a>, begun: &mut Begun) -> Option<&'a Statement>
     ensures { IsTaken bodies.entry.functions.now begun.old (option_copied result) begun.new }
 {
@@ -170,7 +173,7 @@ fn next<'a>(bodies: Bodies<'a>, begun: &mut Begun) -> Option<&'a Statement>
     Some(statement)
 }
 
-// Appends a body that has been begun, if there is one.
+/// Appends a body that has been begun, if there is one.
 fn push_begun(waiting: &mut Vec<Begun>, begun: Option<Begun>) -> Result<(), AllocError>
     ensures { OnOk result (waiting.new.items ≡ and_any waiting.old.items begun) }
 {
@@ -180,7 +183,7 @@ fn push_begun(waiting: &mut Vec<Begun>, begun: Option<Begun>) -> Result<(), Allo
     Ok(())
 }
 
-// Appends what stands behind a body, if there is something.
+/// Appends what stands behind a body, if there is something.
 fn push_behind(
     made: &mut Vec<flat::Statement>,
     behind: Option<flat::Statement>,
@@ -193,7 +196,7 @@ fn push_behind(
     Ok(())
 }
 
-// One step of a body that has been begun: its next statement, or what stands behind it. What is left waits.
+/// One step of a body that has been begun: its next statement, or what stands behind it. What is left waits.
 #[cycle(build)]
 fn make_step(
     alloc: Global,
@@ -219,7 +222,7 @@ fn make_step(
     }
 }
 
-// Makes a body that has been begun, with all the bodies that it calls.
+/// Makes a body that has been begun, with all the bodies that it calls.
 #[cycle(build)]
 fn make_body(
     alloc: Global,
@@ -240,7 +243,7 @@ fn make_body(
     Ok(())
 }
 
-// Makes a statement that isn't a call, or begins the body of a call.
+/// Makes a statement that isn't a call, or begins the body of a call.
 #[cycle(build)]
 fn make_or_begin(
     alloc: Global,
@@ -340,7 +343,7 @@ fn make_or_begin(
     }
 }
 
-// Appends the flat form of a statement.
+/// Appends the flat form of a statement.
 #[cycle(build)]
 fn make_statement(
     alloc: Global,
@@ -372,7 +375,8 @@ pub fn make_statements(
 ) -> Result<Vec<flat::Statement>, AllocError>
     requires { AreSized (map function_of bodies.functions.now) bodies.sizes.now }
     ensures { IfOk result (λ made. let fs = map function_of bodies.entry.functions.now in
-        i.statements fs (whole fs) by kinds.old.items (p.statements_of statements.now) ≡ record { made = f.statements_of made.items; kinds = kinds.new.items }) }
+        i.statements fs (whole fs) by kinds.old.items (p.statements_of statements.now)
+        ≡ record { made = f.statements_of made.items; kinds = kinds.new.items }) }
 {
     let mut made = Vec::new(alloc);
     for statement in statements {
@@ -381,7 +385,7 @@ pub fn make_statements(
     Ok(made)
 }
 
-// The flat form of conditions with what is done where they hold.
+/// The flat form of conditions with what is done where they hold.
 #[cycle(build)]
 fn make_arms(
     alloc: Global,

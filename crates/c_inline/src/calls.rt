@@ -2,7 +2,7 @@
 ghost use Rattle.std.specs.Prelude.{◌≡◌, ◌++◌, map, IfOk, OnOk};
 ghost use Rattle.c_tree.specs.Inlining.{statement_calls, statements_calls, arms_calls};
 ghost use Rattle.c_tree.specs.Programs.{statement_of, statements_of, arms_list_of, function_of};
-ghost use Rattle.c_inline.specs.Calls.{calls_of, function_calls, lists_of};
+ghost use Rattle.c_inline.specs.links.Calls.{calls_of, function_calls, lists_of};
 
 use c_tree::program::{Arm, Function, Statement};
 use ido_base::place::Place;
@@ -15,7 +15,7 @@ pub struct Call {
     pub function: u32,
 }
 
-// Appends the calls in a statement.
+/// Appends the calls in a statement.
 #[cycle(calls)]
 fn add_statement(statement: &Statement, calls: &mut Vec<Call>) -> Result<(), AllocError>
     ensures { OnOk result (calls_of calls.new.items ≡ calls_of calls.old.items ++ statement_calls (statement_of statement.now)) }
@@ -42,7 +42,7 @@ fn add_statement(statement: &Statement, calls: &mut Vec<Call>) -> Result<(), All
     }
 }
 
-// Appends the calls in statements.
+/// Appends the calls in statements.
 #[cycle(calls)]
 fn add_statements(statements: &[Statement], calls: &mut Vec<Call>) -> Result<(), AllocError>
     ensures { OnOk result (calls_of calls.new.items ≡ calls_of calls.old.items ++ statements_calls (statements_of statements.now)) }
@@ -53,7 +53,7 @@ fn add_statements(statements: &[Statement], calls: &mut Vec<Call>) -> Result<(),
     Ok(())
 }
 
-// Appends the calls in what is done where conditions hold.
+/// Appends the calls in what is done where conditions hold.
 #[cycle(calls)]
 fn add_arms(arms: &[Arm], calls: &mut Vec<Call>) -> Result<(), AllocError>
     ensures { OnOk result (calls_of calls.new.items ≡ calls_of calls.old.items ++ arms_calls (arms_list_of arms.now)) }
@@ -64,7 +64,7 @@ fn add_arms(arms: &[Arm], calls: &mut Vec<Call>) -> Result<(), AllocError>
     Ok(())
 }
 
-// The calls in statements.
+/// The calls in statements.
 fn statements_calls(alloc: Global, statements: &[Statement]) -> Result<Vec<Call>, AllocError>
     ensures { IfOk result (λ calls. calls_of calls.items ≡ statements_calls (statements_of statements.now)) }
 {

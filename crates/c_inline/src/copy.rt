@@ -28,7 +28,7 @@ pub fn copy_names(alloc: Global, names: &[Name]) -> Result<Vec<Name>, AllocError
     Ok(copies)
 }
 
-// A copy of a variable.
+/// A copy of a variable.
 fn copy_variable(variable: &Variable) -> Result<Variable, AllocError>
     ensures { IfOk result (λ copy. variable_of copy ≡ variable_of variable.now) }
 {

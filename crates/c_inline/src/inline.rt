@@ -4,10 +4,11 @@ ghost use Rattle.c_tree.specs.Programs.{program_of, function_of, thread_of};
 ghost use Rattle.c_tree.specs.Flats as f;
 ghost use Rattle.c_tree.specs.Inlining.{flat_thread};
 ghost use Rattle.c_tree.specs.Prices.{thread_price};
-ghost use Rattle.c_inline.specs.Weights.{price};
-ghost use Rattle.c_inline.specs.Weighing.{AreRight, IsUnknown};
-ghost use Rattle.c_inline.specs.Making.{AreSized};
-ghost use Rattle.c_inline.specs.Inline.{IsInlining, fault_among};
+ghost use Rattle.c_inline.specs.links.Weights.{price};
+ghost use Rattle.c_inline.specs.links.Weighing.{AreRight, IsUnknown};
+ghost use Rattle.c_inline.specs.links.Making.{AreSized};
+ghost use Rattle.c_inline.specs.Inline.{IsInlining};
+ghost use Rattle.c_inline.specs.links.Faults.{fault_among};
 
 use crate::build::{Bodies, make_statements};
 use crate::calls::function_calls;
@@ -18,6 +19,7 @@ use crate::weigh::weigh;
 use crate::weight::{PRICE, SIZE, statements_weight};
 use c_tree::flat::{self, Flat};
 use c_tree::program::{Function, Program, Thread};
+use ido_base::limits::MOST_PRICE;
 use ido_base::place::Place;
 use std::alloc::{AllocError, Global};
 use thiserror::Error;
@@ -47,9 +49,7 @@ impl From<AllocError> for InlineError {
 }
 
 /// The greatest price of a thread.
-const MOST_PRICE: u64 = 65536;
-
-// The price of a thread, by those of functions.
+/// The price of a thread, by those of functions.
 fn thread_price(functions: &[Function], prices: &[Option<u64>], thread: &Thread) -> u64
     requires right { AreRight price (map function_of functions.now) prices.now }
     requires known { (g : ℕ) → ¬ (IsUnknown prices.now g) }
@@ -58,7 +58,7 @@ fn thread_price(functions: &[Function], prices: &[Option<u64>], thread: &Thread)
     statements_weight(PRICE, functions, prices, &thread.body).saturating_add(PRICE.node)
 }
 
-// The place of the name of the first thread whose price is too high.
+/// The place of the name of the first thread whose price is too high.
 fn price_fault(functions: &[Function], prices: &[Option<u64>], threads: &[Thread]) -> Option<Place>
     requires right { AreRight price (map function_of functions.now) prices.now }
     requires known { (g : ℕ) → ¬ (IsUnknown prices.now g) }
@@ -72,7 +72,7 @@ fn price_fault(functions: &[Function], prices: &[Option<u64>], threads: &[Thread
     None
 }
 
-// The flat form of a thread.
+/// The flat form of a thread.
 fn make_thread(alloc: Global, bodies: Bodies, thread: &Thread) -> Result<flat::Thread, AllocError>
     requires { AreSized (map function_of bodies.functions.now) bodies.sizes.now }
     ensures { IfOk result (λ t. f.thread_of t ≡ flat_thread (map function_of bodies.entry.functions.now) (thread_of thread.now)) }
@@ -88,7 +88,7 @@ fn make_thread(alloc: Global, bodies: Bodies, thread: &Thread) -> Result<flat::T
     })
 }
 
-// The flat form of threads.
+/// The flat form of threads.
 fn make_threads(
     alloc: Global,
     bodies: Bodies,

@@ -1,5 +1,6 @@
 //! Laws of calls and of the flat form: nothing is computed here.
-ghost use Rattle.c_inline.specs.CallLaws.{BodiesAreBodies, CallersAreKept, DepthIsEnough, KindsGrow, LocalsAreNew, NoneIsShared, ParametersHold, UnassignedAreKept};
+ghost use Rattle.c_inline.specs.CallLaws.{BodiesAreBodies, CallersAreKept, DepthIsEnough, KindsGrow};
+ghost use Rattle.c_inline.specs.CallLaws.{LocalsAreNew, NoneIsShared, ParametersHold, UnassignedAreKept};
 ghost use Rattle.c_inline.specs.FormLaws.{FlatIsFormed};
 
 /// Where no call leads back, calls are no deeper than there are functions: the flat form doesn't change

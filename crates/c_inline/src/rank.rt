@@ -1,8 +1,8 @@
 //! An order of functions: callees first, and where calls lead back to a function, those functions side by side.
 ghost use Rattle.std.specs.Prelude.{◌≡◌, ◌<◌, ◌≤◌, IfOk, MatchBool, Contains};
 ghost use Rattle.c_tree.specs.Inlining as i;
-ghost use Rattle.c_inline.specs.Calls.{calls_of, lists_of};
-ghost use Rattle.c_inline.specs.Ranking.{AreRanks, rank_at};
+ghost use Rattle.c_inline.specs.links.Calls.{calls_of, lists_of};
+ghost use Rattle.c_inline.specs.links.Ranking.{AreRanks, rank_at};
 
 use crate::calls::Call;
 use std::alloc::{AllocError, Global};
@@ -26,7 +26,7 @@ pub fn rank_of(ranks: &[Option<u32>], function: usize) -> u32
     }
 }
 
-// Whether no call leads to a function of a higher rank than this.
+/// Whether no call leads to a function of a higher rank than this.
 fn lead_no_higher(ranks: &[Option<u32>], rank: u32, calls: &[Call]) -> bool
     ensures { MatchBool result
         ((c : i.Call) → Contains (calls_of calls.now) c → rank_at ranks.now c.function ≤ rank)
@@ -40,7 +40,7 @@ fn lead_no_higher(ranks: &[Option<u32>], rank: u32, calls: &[Call]) -> bool
     true
 }
 
-// Whether each call leads to a function of no higher rank.
+/// Whether each call leads to a function of no higher rank.
 fn are_ranks(ranks: &[Option<u32>], calls: &[Vec<Call>]) -> bool
     ensures { MatchBool result (AreRanks (lists_of calls.now) ranks.now) (¬ (AreRanks (lists_of calls.now) ranks.now)) }
 {
@@ -81,7 +81,7 @@ struct Walk {
 }
 
 impl Walk {
-    // Nothing is visited.
+    /// Nothing is visited.
     fn new(alloc: Global, functions: usize) -> Result<Self, AllocError> {
         Ok(Walk {
             visited: vec![in alloc; None; functions]?,
@@ -95,7 +95,7 @@ impl Walk {
         })
     }
 
-    // The number of a function's visit.
+    /// The number of a function's visit.
     fn visit_of(&self, function: usize) -> Option<u32> {
         match self.visited.get(function) {
             Some(number) => *number,
@@ -103,7 +103,7 @@ impl Walk {
         }
     }
 
-    // Begins the visit of a function that exists.
+    /// Begins the visit of a function that exists.
     fn begin(&mut self, function: usize) -> Result<(), AllocError> {
         if function < self.visited.len() {
             self.visited[function] = Some(self.count);
@@ -118,7 +118,7 @@ impl Walk {
         Ok(())
     }
 
-    // A call leads back to the visit of this number: what was visited behind it is no root.
+    /// A call leads back to the visit of this number: what was visited behind it is no root.
     fn lead_back(&mut self, number: u32) -> Result<(), AllocError> {
         while let Some(root) = self.roots.pop() {
             if matches!(self.visit_of(root), Some(earlier) if earlier <= number) {
@@ -129,7 +129,7 @@ impl Walk {
         Ok(())
     }
 
-    // Follows a call.
+    /// Follows a call.
     fn follow(&mut self, function: usize) -> Result<(), AllocError> {
         match (self.visited.get(function), self.ranks.get(function)) {
             (Some(None), _) => self.begin(function),
@@ -141,7 +141,7 @@ impl Walk {
         }
     }
 
-    // Gives the next rank to a root and all that was visited behind it and has none.
+    /// Gives the next rank to a root and all that was visited behind it and has none.
     fn close(&mut self, root: usize) -> Result<(), AllocError> {
         while let Some(function) = self.open.pop() {
             if function < self.ranks.len() {
@@ -156,7 +156,7 @@ impl Walk {
         Ok(())
     }
 
-    // Behind the last call of a function: it is given its rank, if it is a root.
+    /// Behind the last call of a function: it is given its rank, if it is a root.
     fn leave(&mut self, function: usize) -> Result<(), AllocError> {
         match self.roots.pop() {
             Some(root) if root == function => self.close(root),
@@ -168,7 +168,7 @@ impl Walk {
         }
     }
 
-    // Goes on with a visit: along the next call, or back from the function.
+    /// Goes on with a visit: along the next call, or back from the function.
     fn go_on(&mut self, calls: &[Vec<Call>], visit: Visit) -> Result<(), AllocError> {
         match calls.get(visit.function) {
             Some(list) => match list.get(visit.followed) {
@@ -186,7 +186,7 @@ impl Walk {
     }
 }
 
-// How many steps it takes to visit all functions and to follow all calls.
+/// How many steps it takes to visit all functions and to follow all calls.
 fn walking_steps(calls: &[Vec<Call>]) -> usize {
     let mut steps = calls.len().saturating_mul(2);
     for list in calls {
@@ -195,7 +195,7 @@ fn walking_steps(calls: &[Vec<Call>]) -> usize {
     steps
 }
 
-// Visits all functions and follows every call once.
+/// Visits all functions and follows every call once.
 fn walk_all(alloc: Global, calls: &[Vec<Call>]) -> Result<Ranked, AllocError> {
     let mut walk = Walk::new(alloc, calls.len())?;
     let mut next = 0;

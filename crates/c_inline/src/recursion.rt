@@ -1,16 +1,17 @@
 //! Calls that lead back to the function that they stand in.
-ghost use Rattle.std.specs.Prelude.{◌≡◌, ◌<◌, ◌≤◌, ◌+◌, ℕ, List, ◌++◌, ◌∷◌, [], ◌⊎◌, ◌↔◌, IsTrue, true, false, length, IfOk, OnOk, MatchBool, MatchOption, IfSome, Contains, slice_get, slice_set, Some};
+ghost use Rattle.std.specs.Prelude.{◌≡◌, ◌<◌, ◌≤◌, ◌+◌, ℕ, List, ◌++◌, ◌∷◌, [], ◌⊎◌, ◌↔◌, IsTrue, true, false, length};
+ghost use Rattle.std.specs.Prelude.{IfOk, OnOk, MatchBool, MatchOption, IfSome, Contains, slice_get, slice_set, Some};
 ghost use Rattle.c_tree.specs.Inlining as i;
-ghost use Rattle.c_inline.specs.Calls.{call_of, lists_of, calls_at, Leads, LeadsBack, IsFirstBack};
-ghost use Rattle.c_inline.specs.Ranking.{AreRanks};
-ghost use Rattle.c_inline.specs.Reaching.{IsReached, IsBackBelow, IsBetter};
+ghost use Rattle.c_inline.specs.links.Calls.{call_of, lists_of, calls_at, Leads, LeadsBack, IsFirstBack};
+ghost use Rattle.c_inline.specs.links.Ranking.{AreRanks};
+ghost use Rattle.c_inline.specs.links.Reaching.{IsReached, IsBackBelow, IsBetter};
 
 use crate::calls::Call;
 use crate::rank::rank_of;
 use ido_base::place::Place;
 use std::alloc::{AllocError, Global};
 
-// Whether calls lead from the one function to the other, or they are one.
+/// Whether calls lead from the one function to the other, or they are one.
 fn leads(alloc: Global, calls: &[Vec<Call>], from: u32, to: usize) -> Result<bool, AllocError>
     requires { to < length calls.now }
     ensures { IfOk result (λ b. MatchBool b (Leads (lists_of calls.now) to from) (¬ (Leads (lists_of calls.now) to from))) }
@@ -29,7 +30,7 @@ fn leads(alloc: Global, calls: &[Vec<Call>], from: u32, to: usize) -> Result<boo
     Ok(false)
 }
 
-// A function that exists and wasn't reached yet is reached, and waits for its own calls to be followed.
+/// A function that exists and wasn't reached yet is reached, and waits for its own calls to be followed.
 fn reach(reached: &mut Vec<bool>, waiting: &mut Vec<u32>, function: u32) -> Result<(), AllocError>
     ensures { OnOk result (IsReached reached.old.items waiting.old.items function reached.new.items waiting.new.items) }
 {
@@ -41,7 +42,7 @@ fn reach(reached: &mut Vec<bool>, waiting: &mut Vec<u32>, function: u32) -> Resu
     Ok(())
 }
 
-// The place of a call in a function, where it leads back and comes before the best one; else the best one.
+/// The place of a call in a function, where it leads back and comes before the best one; else the best one.
 fn better(
     alloc: Global,
     calls: &[Vec<Call>],
@@ -66,7 +67,7 @@ fn better(
     Ok(best)
 }
 
-// The place of the first of a function's calls that leads back, or the best one where that comes first.
+/// The place of the first of a function's calls that leads back, or the best one where that comes first.
 fn first_back_in(
     alloc: Global,
     calls: &[Vec<Call>],
@@ -85,7 +86,7 @@ fn first_back_in(
     Ok(best)
 }
 
-// Whether a place comes before one, or there is none.
+/// Whether a place comes before one, or there is none.
 fn is_before(place: Place, best: Option<Place>) -> bool
     ensures { MatchOption best (result ≡ true) (λ b. MatchBool result (place.0 < b.0) (b.0 ≤ place.0)) }
 {

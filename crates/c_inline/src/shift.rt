@@ -6,7 +6,7 @@ ghost use Rattle.c_tree.specs.Inlining.{shifted, shifted_placed, shifted_target}
 use c_tree::expr::{Expr, Placed, Target};
 use std::alloc::{AllocError, Global};
 
-// A local's number; beyond 2^32 - 1 there is no memory for so many.
+/// A local's number; beyond 2^32 - 1 there is no memory for so many.
 fn shift_local(by: u32, local: u32) -> Result<u32, AllocError>
     ensures { IfOk result (λ number. number ≡ by + local) }
 {
@@ -102,7 +102,7 @@ pub fn shift(alloc: Global, by: u32, expr: &Expr) -> Result<Expr, AllocError>
     }
 }
 
-// The same in a box of its own.
+/// The same in a box of its own.
 #[cycle(shifts)]
 fn shift_boxed(alloc: Global, by: u32, expr: &Expr) -> Result<Box<Expr>, AllocError>
     ensures { IfOk result (λ x. expr_of x.value ≡ shifted by (expr_of expr.now)) }

@@ -2,22 +2,22 @@
 ghost use Rattle.std.specs.Prelude.{◌≡◌, ◌<◌, ◌+◌, ℕ, map, length, IfOk, MatchBool, Contains};
 ghost use Rattle.c_tree.specs.Inlining as i;
 ghost use Rattle.c_tree.specs.Programs.{function_of};
-ghost use Rattle.c_inline.specs.Calls.{calls_of, function_calls, lists_of};
-ghost use Rattle.c_inline.specs.Weighing.{AreRight, IsUnknown, CallsUnknown, IsClosed, found};
+ghost use Rattle.c_inline.specs.links.Calls.{calls_of, function_calls, lists_of};
+ghost use Rattle.c_inline.specs.links.Weighing.{AreRight, IsUnknown, CallsUnknown, IsClosed, found};
 
 use crate::calls::Call;
 use crate::weight::{Weights, statements_weight};
 use c_tree::program::Function;
 use std::alloc::{AllocError, Global};
 
-// Whether what is called exists and isn't known yet.
+/// Whether what is called exists and isn't known yet.
 fn is_unknown(known: &[Option<u64>], function: u32) -> bool
     ensures { MatchBool result (IsUnknown known.now function) (¬ (IsUnknown known.now function)) }
 {
     matches!(known.get(function as usize), Some(None))
 }
 
-// Whether all that is called is known.
+/// Whether all that is called is known.
 fn is_ready(known: &[Option<u64>], calls: &[Call]) -> bool
     ensures { MatchBool result
         ((c : i.Call) → Contains (calls_of calls.now) c → ¬ (IsUnknown known.now c.function))
@@ -31,7 +31,7 @@ fn is_ready(known: &[Option<u64>], calls: &[Call]) -> bool
     true
 }
 
-// Finds what a function weighs, where all that it calls is known. Answers whether it was found now.
+/// Finds what a function weighs, where all that it calls is known. Answers whether it was found now.
 fn weigh_function(
     weights: Weights,
     functions: &[Function],
@@ -58,7 +58,7 @@ fn weigh_function(
     true
 }
 
-// Finds what functions weigh, in this order.
+/// Finds what functions weigh, in this order.
 fn weigh_in_order(
     weights: Weights,
     functions: &[Function],
@@ -77,7 +77,7 @@ fn weigh_in_order(
     }
 }
 
-// Finds what functions weigh, once forwards and once backwards. Answers whether any was found.
+/// Finds what functions weigh, once forwards and once backwards. Answers whether any was found.
 fn weigh_both_ways(
     weights: Weights,
     functions: &[Function],

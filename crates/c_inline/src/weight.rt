@@ -3,7 +3,8 @@ ghost use Rattle.std.specs.Prelude.{◌≡◌, ◌+◌, map, min};
 ghost use Rattle.std.specs.Option.{option_map};
 ghost use Rattle.c_tree.specs.Prices.{nodes_of};
 ghost use Rattle.c_tree.specs.Exprs.{target_of, placed_of};
-ghost use Rattle.c_inline.specs.Weights.{node_weight, assign_weight, arguments_weight, result_weight, known_weight, called_weight, statement_weight, statements_weight, arms_weight};
+ghost use Rattle.c_inline.specs.links.Weights.{node_weight, assign_weight, arguments_weight, result_weight, known_weight};
+ghost use Rattle.c_inline.specs.links.Weights.{called_weight, statement_weight, statements_weight, arms_weight};
 ghost use Rattle.c_tree.specs.Programs.{statement_of, statements_of, arms_list_of, function_of, returned_of};
 
 use c_tree::expr::{Placed, Target};
@@ -35,7 +36,7 @@ pub const SIZE: Weights = Weights {
     branch: 1,
 };
 
-// A node with so many nodes of expressions.
+/// A node with so many nodes of expressions.
 fn node_weight(weights: Weights, nodes: u64) -> u64
     ensures { result ≡ min (node_weight weights nodes) u64.MAX }
 {
@@ -45,7 +46,7 @@ fn node_weight(weights: Weights, nodes: u64) -> u64
         .saturating_add(weights.node)
 }
 
-// An assignment of a value with so many nodes.
+/// An assignment of a value with so many nodes.
 fn assign_weight(weights: Weights, target: &Target, value: u64) -> u64
     ensures { result ≡ min (assign_weight weights (target_of target.now) value) u64.MAX }
 {
@@ -63,7 +64,7 @@ fn assign_weight(weights: Weights, target: &Target, value: u64) -> u64
     }
 }
 
-// The assignments of parameters.
+/// The assignments of parameters.
 fn arguments_weight(weights: Weights, arguments: &[Placed]) -> u64
     ensures { result ≡ min (arguments_weight weights (map placed_of arguments.now)) u64.MAX }
 {
@@ -74,7 +75,7 @@ fn arguments_weight(weights: Weights, arguments: &[Placed]) -> u64
     weight
 }
 
-// The assignment of a result.
+/// The assignment of a result.
 fn result_weight(weights: Weights, returned: &Option<Returned>, target: &Option<Target>) -> u64
     ensures { result ≡ min (result_weight weights (option_map returned_of returned.now) (option_map target_of target.now)) u64.MAX }
 {
@@ -86,7 +87,7 @@ fn result_weight(weights: Weights, returned: &Option<Returned>, target: &Option<
     }
 }
 
-// What a function weighs, as far as it is known.
+/// What a function weighs, as far as it is known.
 fn known_weight(known: &[Option<u64>], function: u32) -> u64
     ensures { result ≡ known_weight known.now function }
 {
@@ -105,7 +106,8 @@ pub fn call_weight(
     arguments: &[Placed],
     target: &Option<Target>,
 ) -> u64
-    ensures { result ≡ min (called_weight weights 0 (map function_of functions.now) (known_weight known.now) number (map placed_of arguments.now) (option_map target_of target.now)) u64.MAX }
+    ensures { result ≡ min (called_weight weights 0 (map function_of functions.now) (known_weight known.now) number (map placed_of arguments.now)
+        (option_map target_of target.now)) u64.MAX }
 {
     match functions.get(number as usize) {
         Some(function) => arguments_weight(weights, arguments)
@@ -115,7 +117,7 @@ pub fn call_weight(
     }
 }
 
-// A condition and what is done where it holds.
+/// A condition and what is done where it holds.
 #[cycle(weights)]
 fn test_weight(
     weights: Weights,
@@ -124,14 +126,15 @@ fn test_weight(
     body: &[Statement],
     condition: &Placed,
 ) -> u64
-    ensures { result ≡ min (node_weight weights (nodes_of (placed_of condition.now).expr) + statements_weight weights 0 (map function_of functions.now) (known_weight known.now) (statements_of body.now)) u64.MAX }
+    ensures { result ≡ min (node_weight weights (nodes_of (placed_of condition.now).expr)
+        + statements_weight weights 0 (map function_of functions.now) (known_weight known.now) (statements_of body.now)) u64.MAX }
 {
     node_weight(weights, nodes(&condition.expr)).saturating_add(statements_weight(
         weights, functions, known, body,
     ))
 }
 
-// A statement, where each call weighs what its function is known to.
+/// A statement, where each call weighs what its function is known to.
 #[cycle(weights)]
 fn statement_weight(
     weights: Weights,
@@ -189,7 +192,7 @@ pub fn statements_weight(
     weight
 }
 
-// Conditions with what is done where they hold.
+/// Conditions with what is done where they hold.
 #[cycle(weights)]
 fn arms_weight(weights: Weights, functions: &[Function], known: &[Option<u64>], arms: &[Arm]) -> u64
     ensures { result ≡ min (arms_weight weights 0 (map function_of functions.now) (known_weight known.now) (arms_list_of arms.now)) u64.MAX }

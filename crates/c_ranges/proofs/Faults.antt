@@ -1,10 +1,11 @@
 -- The first fault of a list of indexes.
-use Rattle.std.proofs.Common.{◌≡◌, refl, sym, ◌∙◌, ap, ℕ, ◌+◌, ◌<◌, ◌≤◌, List, [], ◌∷◌, ◌++◌, length, get_or, take, Option, Some, None, true, false, cond, leb, ⊎_elim, arith, append_assoc}
+use Rattle.std.proofs.Common.{◌≡◌, refl, sym, ◌∙◌, ap, ℕ, ◌+◌, ◌<◌, ◌≤◌, List, [], ◌∷◌, ◌++◌, length, get_or}
+use Rattle.std.proofs.Common.{take, Option, Some, None, true, false, cond, leb, ⊎_elim, arith, append_assoc}
 use Rattle.std.proofs.lemmas.List.{append-nil, take_more}
 use Rattle.std.proofs.lemmas.Bool.{cases_lt}
 use Rattle.c_tree.specs.Programs as p
 use Rattle.c_tree.specs.Ranges.{Index}
-use Rattle.c_ranges.specs.Faults.{earlier, fault_of, first_fault}
+use Rattle.c_ranges.specs.links.Firsts.{earlier, fault_of, first_fault}
 use Rattle.c_ranges.specs.declared.indexes.IndexError.{IndexError}
 
 -- ---- Of two answers
@@ -22,12 +23,15 @@ earlier_none (Some a) = refl
 earlier_some : (a b c : IndexError) → earlier (earlier (Some a) (Some b)) (Some c) ≡ earlier (Some a) (earlier (Some b) (Some c))
 earlier_some a b c = ⊎_elim
     (λ h. ⊎_elim
-    (λ k. ap (λ x. earlier x (Some c)) (earlier_second a b h) ∙ earlier_second b c k ∙ sym (earlier_second a c (omega arith)) ∙ ap (earlier (Some a)) (sym (earlier_second b c k)))
-    (λ k. ap (λ x. earlier x (Some c)) (earlier_second a b h) ∙ earlier_first b c k ∙ sym (earlier_second a b h) ∙ ap (earlier (Some a)) (sym (earlier_first b c k)))
+    (λ k. ap (λ x. earlier x (Some c)) (earlier_second a b h) ∙ earlier_second b c k ∙ sym (earlier_second a c (omega arith))
+    ∙ ap (earlier (Some a)) (sym (earlier_second b c k)))
+    (λ k. ap (λ x. earlier x (Some c)) (earlier_second a b h) ∙ earlier_first b c k ∙ sym (earlier_second a b h)
+    ∙ ap (earlier (Some a)) (sym (earlier_first b c k)))
     (cases_lt c.place.0 b.place.0))
     (λ h. ⊎_elim
     (λ k. ap (λ x. earlier x (Some c)) (earlier_first a b h) ∙ ap (earlier (Some a)) (sym (earlier_second b c k)))
-    (λ k. ap (λ x. earlier x (Some c)) (earlier_first a b h) ∙ earlier_first a c (omega arith) ∙ sym (earlier_first a b h) ∙ ap (earlier (Some a)) (sym (earlier_first b c k)))
+    (λ k. ap (λ x. earlier x (Some c)) (earlier_first a b h) ∙ earlier_first a c (omega arith) ∙ sym (earlier_first a b h)
+    ∙ ap (earlier (Some a)) (sym (earlier_first b c k)))
     (cases_lt c.place.0 b.place.0))
     (cases_lt b.place.0 a.place.0)
 
@@ -50,30 +54,41 @@ first_fault_more vs i rest = refl
 pub first_fault_append : (vs : List p.Variable) (xs ys : List Index) → first_fault vs (xs ++ ys) ≡ earlier (first_fault vs xs) (first_fault vs ys)
 unfolding first_fault
 first_fault_append vs [] ys = refl
-first_fault_append vs (i ∷ rest) ys = ap (earlier (fault_of vs i)) (first_fault_append vs rest ys) ∙ sym (earlier_assoc (fault_of vs i) (first_fault vs rest) (first_fault vs ys))
+first_fault_append vs (i ∷ rest) ys =
+    ap (earlier (fault_of vs i)) (first_fault_append vs rest ys) ∙ sym (earlier_assoc (fault_of vs i) (first_fault vs rest) (first_fault vs ys))
 
 -- what is found in one list and then in another
-pub joined : (vs : List p.Variable) (r a b : Option IndexError) (xs ys : List Index) → r ≡ earlier a b → a ≡ first_fault vs xs → b ≡ first_fault vs ys → r ≡ first_fault vs (xs ++ ys)
+pub joined : (vs : List p.Variable) (r a b : Option IndexError) (xs ys : List Index) → r ≡ earlier a b → a ≡ first_fault vs xs → b ≡ first_fault vs ys →
+    r ≡ first_fault vs (xs ++ ys)
 joined vs r a b xs ys h p q = h ∙ (λ i. earlier (p i) (q i)) ∙ sym (first_fault_append vs xs ys)
 
 -- what is found of one index and then in a list
-pub headed : (vs : List p.Variable) (r a b : Option IndexError) (i : Index) (rest : List Index) → r ≡ earlier a b → a ≡ fault_of vs i → b ≡ first_fault vs rest → r ≡ first_fault vs (i ∷ rest)
+pub headed : (vs : List p.Variable) (r a b : Option IndexError) (i : Index) (rest : List Index) → r ≡ earlier a b → a ≡ fault_of vs i →
+    b ≡ first_fault vs rest → r ≡ first_fault vs (i ∷ rest)
 headed vs r a b i rest h p q = h ∙ (λ t. earlier (p t) (q t)) ∙ sym (first_fault_more vs i rest)
 
 -- ---- A loop over what has indexes
 
-gathered : {A : Type 0} (g : A → List Index) (G : List A → List Index) → G [] ≡ [] → ((x : A) (rest : List A) → G (x ∷ rest) ≡ g x ++ G rest) → (xs : List A) (x : A) → G (xs ++ x ∷ []) ≡ G xs ++ g x
+gathered : {A : Type 0} (g : A → List Index) (G : List A → List Index) → G [] ≡ [] → ((x : A) (rest : List A) → G (x ∷ rest) ≡ g x ++ G rest) →
+    (xs : List A) (x : A) → G (xs ++ x ∷ []) ≡ G xs ++ g x
 gathered g G none more [] x = more x [] ∙ ap (λ ys. g x ++ ys) none ∙ append-nil (g x) ∙ ap (λ ys. ys ++ g x) (sym none)
 gathered g G none more (y ∷ rest) x =
-    more y (rest ++ x ∷ []) ∙ ap (λ ys. g y ++ ys) (gathered g G none more rest x) ∙ sym (append_assoc (g y) (G rest) (g x)) ∙ ap (λ ys. ys ++ g x) (sym (more y rest))
+    more y (rest ++ x ∷ []) ∙ ap (λ ys. g y ++ ys) (gathered g G none more rest x) ∙ sym (append_assoc (g y) (G rest) (g x))
+    ∙ ap (λ ys. ys ++ g x) (sym (more y rest))
 
 -- what was found before, and in one more
-pub one_more : {A : Type 0} (vs : List p.Variable) (g : A → List Index) (G : List A → List Index) → G [] ≡ [] → ((x : A) (rest : List A) → G (x ∷ rest) ≡ g x ++ G rest) → (xs : List A) (i : ℕ) (x : A) (r a b : Option IndexError) → i < length xs → x ≡ get_or xs i x → r ≡ earlier a b → a ≡ first_fault vs (G (take i xs)) → b ≡ first_fault vs (g x) → r ≡ first_fault vs (G (take (i + 1) xs))
+pub one_more : {A : Type 0} (vs : List p.Variable) (g : A → List Index) (G : List A → List Index) → G [] ≡ [] →
+    ((x : A) (rest : List A) → G (x ∷ rest) ≡ g x ++ G rest) → (xs : List A) (i : ℕ) (x : A) (r a b : Option IndexError) → i < length xs → x ≡ get_or xs i x →
+    r ≡ earlier a b → a ≡ first_fault vs (G (take i xs)) → b ≡ first_fault vs (g x) → r ≡ first_fault vs (G (take (i + 1) xs))
 one_more vs g G none more xs i x r a b h is e p q =
     let taken : take (i + 1) xs ≡ take i xs ++ x ∷ [] = take_more xs i x h ∙ ap (λ y. take i xs ++ y ∷ []) (sym is) in
     joined vs r a b (G (take i xs)) (g x) e p q ∙ ap (first_fault vs) (sym (ap G taken ∙ gathered g G none more (take i xs) x))
 
 -- what was found before, and in two parts of one more
-pub two_more : {A : Type 0} (vs : List p.Variable) (g h : A → List Index) (G : List A → List Index) → G [] ≡ [] → ((x : A) (rest : List A) → G (x ∷ rest) ≡ (g x ++ h x) ++ G rest) → (xs : List A) (i : ℕ) (x : A) (r a b c d : Option IndexError) → i < length xs → x ≡ get_or xs i x → r ≡ earlier d c → d ≡ earlier a b → a ≡ first_fault vs (G (take i xs)) → b ≡ first_fault vs (g x) → c ≡ first_fault vs (h x) → r ≡ first_fault vs (G (take (i + 1) xs))
+pub two_more : {A : Type 0} (vs : List p.Variable) (g h : A → List Index) (G : List A → List Index) → G [] ≡ [] →
+    ((x : A) (rest : List A) → G (x ∷ rest) ≡ (g x ++ h x) ++ G rest) → (xs : List A) (i : ℕ) (x : A) (r a b c d : Option IndexError) → i < length xs →
+    x ≡ get_or xs i x → r ≡ earlier d c → d ≡ earlier a b → a ≡ first_fault vs (G (take i xs)) → b ≡ first_fault vs (g x) → c ≡ first_fault vs (h x) →
+    r ≡ first_fault vs (G (take (i + 1) xs))
 two_more vs g h G none more xs i x r a b c d l is e f p q s =
-    one_more vs (λ x. g x ++ h x) G none more xs i x r a (earlier b c) l is (e ∙ ap (λ y. earlier y c) f ∙ earlier_assoc a b c) p (joined vs (earlier b c) b c (g x) (h x) refl q s)
+    one_more vs (λ x. g x ++ h x) G none more xs i x r a (earlier b c) l is (e ∙ ap (λ y. earlier y c) f ∙ earlier_assoc a b c) p
+    (joined vs (earlier b c) b c (g x) (h x) refl q s)

@@ -7,7 +7,8 @@ use Rattle.ido_base.specs.declared.place.Place.{Place}
 use Rattle.c_tree.specs.Programs as p
 use Rattle.c_tree.specs.Ranges.{Index, index_fits, program_indexes, AllFit, IsFirstUnfit}
 use Rattle.c_ranges.specs.Bounds.{interval_of}
-use Rattle.c_ranges.specs.Faults.{IsFaultOf, error_of, earlier, first_fault}
+use Rattle.c_ranges.specs.Faults.{IsFaultOf}
+use Rattle.c_ranges.specs.links.Firsts.{error_of, earlier, first_fault}
 use Rattle.c_ranges.specs.declared.indexes.IndexError.{IndexError}
 use Rattle.c_ranges.proofs.Faults.{earlier_first, earlier_second}
 
@@ -120,7 +121,8 @@ in_order a b h = ⊎_elim (λ l. inl l) (λ g. inr (same_place a b (omega arith)
 
 pub first_unfit : (x : p.Program) (e : IndexError) → first_fault x.variables (program_indexes x) ≡ Some e → IsFaultOf x e
 first_unfit x e h =
-    let f : FirstIn (index_fits x.variables) (error_of x.variables) (λ i. refl) (program_indexes x) e = subst (TellsOf x.variables (program_indexes x)) h (tells x.variables (program_indexes x)) in
+    let f : FirstIn (index_fits x.variables) (error_of x.variables) (λ i. refl) (program_indexes x) e =
+    subst (TellsOf x.variables (program_indexes x)) h (tells x.variables (program_indexes x)) in
     let unfit : IsFirstUnfit x f.index = record { found = f.found; unfit = f.unfit; first = λ j c u. in_order f.index.place j.place (f.first j c u) } in
     record {
       index = f.index;

@@ -15,12 +15,14 @@ int_le-false x y h = grind (arith, ints)
 -- what holds of both of two numbers holds of the lesser one, and of the greater one
 pub lesser_by : (P : ℤ → Type 0) (x y : ℤ) → (x ≤ℤ y → P x) → (y ≤ℤ x → P y) → P (lesser x y)
 lesser_by P x y p q =
-    let by : (b : Bool) → int_le x y ≡ b → P (cond b x y) = λ b. elim b as (λ b. int_le x y ≡ b → P (cond b x y)) [ true ↦ λ e. p (int_le-true x y e) | false ↦ λ e. q (int_le-false x y e) ] in
+    let by : (b : Bool) → int_le x y ≡ b → P (cond b x y) =
+    λ b. elim b as (λ b. int_le x y ≡ b → P (cond b x y)) [ true ↦ λ e. p (int_le-true x y e) | false ↦ λ e. q (int_le-false x y e) ] in
     by (int_le x y) refl
 
 pub greater_by : (P : ℤ → Type 0) (x y : ℤ) → (x ≤ℤ y → P y) → (y ≤ℤ x → P x) → P (greater x y)
 greater_by P x y p q =
-    let by : (b : Bool) → int_le x y ≡ b → P (cond b y x) = λ b. elim b as (λ b. int_le x y ≡ b → P (cond b y x)) [ true ↦ λ e. p (int_le-true x y e) | false ↦ λ e. q (int_le-false x y e) ] in
+    let by : (b : Bool) → int_le x y ≡ b → P (cond b y x) =
+    λ b. elim b as (λ b. int_le x y ≡ b → P (cond b y x)) [ true ↦ λ e. p (int_le-true x y e) | false ↦ λ e. q (int_le-false x y e) ] in
     by (int_le x y) refl
 
 pub lesser_left : (x y : ℤ) → lesser x y ≤ℤ x
@@ -48,7 +50,8 @@ lies_in-Inside k i h = record { from_least = grind (arith, ints); to_greatest = 
 -- what is fitted is the interval itself, where the kind holds it, or the whole range
 pub fitted_by : (P : Interval → Type 0) (k : Kind) (i : Interval) → (Inside k i → P i) → P (full k) → P (fitted k i)
 fitted_by P k i p q =
-    let by : (b : Bool) → lies_in i (full k) ≡ b → P (cond b i (full k)) = λ b. elim b as (λ b. lies_in i (full k) ≡ b → P (cond b i (full k))) [ true ↦ λ e. p (lies_in-Inside k i e) | false ↦ λ e. q ] in
+    let by : (b : Bool) → lies_in i (full k) ≡ b → P (cond b i (full k)) =
+    λ b. elim b as (λ b. lies_in i (full k) ≡ b → P (cond b i (full k))) [ true ↦ λ e. p (lies_in-Inside k i e) | false ↦ λ e. q ] in
     by (lies_in i (full k)) refl
 
 -- ---- What tests on intervals say

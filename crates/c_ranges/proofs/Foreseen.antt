@@ -16,7 +16,8 @@ use Rattle.c_tree.specs.Exprs as e
 use Rattle.c_tree.specs.Programs as p
 use Rattle.c_tree.specs.Values.{value}
 use Rattle.c_tree.specs.Typing.{kind_of}
-use Rattle.c_tree.specs.Ranges.{Interval, interval, Within, full, fitted, hull, sum, difference, product, unary_range, binary_range, range_of, Index, elements_of, program_indexes, AllFit, index_fits, lies_in}
+use Rattle.c_tree.specs.Ranges.{Interval, interval, Within, full, fitted, hull, sum, difference, product, unary_range}
+use Rattle.c_tree.specs.Ranges.{binary_range, range_of, Index, elements_of, program_indexes, AllFit, index_fits, lies_in}
 use Rattle.c_ranges.specs.Laws.{AllHeld, IsForeseen, NamesElement}
 use Rattle.c_ranges.specs.Keeping.{IsElement}
 use Rattle.c_ranges.proofs.Multiples.{Within_product}
@@ -63,12 +64,15 @@ module _ (j k : Kind) (left right : Interval) (a b : ℤ) (h : Within left a) (g
   sub_within = Within_fitted c (difference (fitted c left) (fitted c right)) _ (Within_difference _ _ _ _ x y)
 
   shift_right_within : Within (binary_range bin.ShiftRight j left k right) (binary_number bin.ShiftRight j a k b)
-  shift_right_within = Within_shifted (promoted j) (fitted (promoted j) left) right (reduced (promoted j) a) b (Inside_fitted (promoted j) left) (Within_fitted (promoted j) left a h) g
+  shift_right_within =
+      Within_shifted (promoted j) (fitted (promoted j) left) right (reduced (promoted j) a) b (Inside_fitted (promoted j) left)
+      (Within_fitted (promoted j) left a h) g
 
   and_within : Within (binary_range bin.And j left k right) (binary_number bin.And j a k b)
   and_within = Within_and c _ _ _ _ (Inside_fitted c left) (Inside_fitted c right) x y
 
-binary_within : (op : Binary) (j k : Kind) (left right : Interval) (a b : ℤ) → Within left a → Within right b → Within (binary_range op j left k right) (binary_number op j a k b)
+binary_within : (op : Binary) (j k : Kind) (left right : Interval) (a b : ℤ) → Within left a → Within right b →
+    Within (binary_range op j left k right) (binary_number op j a k b)
 binary_within bin.Mul j k l r a b h g = mul_within j k l r a b h g
 binary_within bin.Div j k l r a b h g = div_within j k l r a b h g
 binary_within bin.Rem j k l r a b h g = rem_within j k l r a b h g
@@ -94,7 +98,8 @@ held_within : (k : Kind) (z : ℤ) → Holds k z → Within (full k) z
 held_within k z h = record { from_low = h.from_least; to_high = h.to_greatest }
 
 -- the one that was chosen
-either_within : (k : Kind) (i j : Interval) (zero : Bool) (x y : Typed) → Within i x.number → Within j y.number → Within (hull (fitted k i) (fitted k j)) (reduced k (cond zero y x).number)
+either_within : (k : Kind) (i j : Interval) (zero : Bool) (x y : Typed) → Within i x.number → Within j y.number →
+    Within (hull (fitted k i) (fitted k j)) (reduced k (cond zero y x).number)
 either_within k i j false x y h g = Within_hull_left (fitted k i) (fitted k j) _ (Within_fitted k i x.number h)
 either_within k i j true x y h g = Within_hull_right (fitted k i) (fitted k j) _ (Within_fitted k j y.number g)
 
@@ -109,7 +114,8 @@ foreseen ls vs (e.Unary op operand) h =
     let a = (value ls vs operand).number in
     record {
       kind = ap (unary_kind op) f.kind;
-      within = subst (λ (k : Kind). Within (unary_range op (kind_of operand) i) (unary_number op k a)) (sym f.kind) (unary_within op (kind_of operand) i a f.within);
+      within =
+          subst (λ (k : Kind). Within (unary_range op (kind_of operand) i) (unary_number op k a)) (sym f.kind) (unary_within op (kind_of operand) i a f.within);
     }
 foreseen ls vs (e.Cast kind operand) h = record { kind = refl; within = Within_fitted kind (range_of operand) _ (foreseen ls vs operand h).within }
 foreseen ls vs (e.Converted kind operand) h = record { kind = refl; within = Within_fitted kind (range_of operand) _ (foreseen ls vs operand h).within }
@@ -127,7 +133,9 @@ foreseen ls vs (e.Binary op left right) h =
     }
 foreseen ls vs (e.Conditional kind condition chosen otherwise) h = record {
   kind = refl;
-  within = either_within kind (range_of chosen) (range_of otherwise) (is_zero (value ls vs condition).number) (value ls vs chosen) (value ls vs otherwise) (foreseen ls vs chosen h.1).within (foreseen ls vs otherwise h.2).within;
+  within =
+      either_within kind (range_of chosen) (range_of otherwise) (is_zero (value ls vs condition).number) (value ls vs chosen) (value ls vs otherwise)
+      (foreseen ls vs chosen h.1).within (foreseen ls vs otherwise h.2).within;
 }
 
 -- ---- Indexes
@@ -143,7 +151,8 @@ element_below : (z : ℤ) (n : ℕ) → pos 0 ≤ℤ z → z ≤ℤ (pos n -ℤ 
 element_below z n h k = omega (arith, ints)
 
 -- an index that fits
-pub fits_element : (vs : List p.Variable) (i : Index) → index_fits vs i ≡ true → (ls : List ℤ) (ns : List (List ℤ)) → AllHeld ls ns i.expr → IsElement vs ls ns i
+pub fits_element : (vs : List p.Variable) (i : Index) → index_fits vs i ≡ true → (ls : List ℤ) (ns : List (List ℤ)) → AllHeld ls ns i.expr →
+    IsElement vs ls ns i
 fits_element vs i fit ls ns h =
     let n = elements_of vs i.variable in
     let r = range_of i.expr in
@@ -153,5 +162,6 @@ fits_element vs i fit ls ns h =
     let low = le_trans (pos 0) r.lo z b.low w.from_low in
     record { from_zero = low; below = element_below z n low (le_trans z r.hi _ w.to_high b.high) }
 
-pub names_element : (x : p.Program) → AllFit x → (i : Index) → Contains (program_indexes x) i → (ls : List ℤ) (vs : List (List ℤ)) → AllHeld ls vs i.expr → NamesElement x ls vs i
+pub names_element : (x : p.Program) → AllFit x → (i : Index) → Contains (program_indexes x) i → (ls : List ℤ) (vs : List (List ℤ)) → AllHeld ls vs i.expr →
+    NamesElement x ls vs i
 names_element x fit i c ls vs h = let n = fits_element x.variables i (fit i c) ls vs h in record { from_zero = n.from_zero; below = n.below }

@@ -31,7 +31,11 @@ abbrev pub range : ℤ → ℤ → Range
 range l h = record { lo = l; hi = h }
 
 pub HeldBy_same : (k : Kind) (a b l h : ℤ) → a ≡ l → b ≡ h → HeldBy k (range l h) → HeldBy k (range a b)
-HeldBy_same k a b l h p q r = record { from_least = omega (arith, ints, p, r.from_least); ordered = omega (arith, ints, p, q, r.ordered); to_greatest = omega (arith, ints, q, r.to_greatest) }
+HeldBy_same k a b l h p q r = record {
+  from_least = omega (arith, ints, p, r.from_least);
+  ordered = omega (arith, ints, p, q, r.ordered);
+  to_greatest = omega (arith, ints, q, r.to_greatest);
+}
 
 -- a kind with negative numbers holds the negative of each number that it holds from 0 up
 pub negative_held : (k : Kind) (z : ℤ) → least_of k <ℤ pos 0 → z ≤ℤ greatest_of k → least_of k ≤ℤ neg_ℤ z
@@ -54,7 +58,11 @@ pub int_div_range : (k : Kind) (l h d : ℤ) → pos 0 ≤ℤ l → l ≤ℤ h �
 int_div_range k (pos a) (pos b) (pos d) p q r s =
     let zero = Holds-zero k in
     let le : a ≤ b = omega (arith, ints) in
-    record { from_least = omega (arith, ints, zero.from_least); ordered = omega (arith, ints, div_le_div a b d (omega (arith, ints)) le); to_greatest = omega (arith, ints, div-le_self b d) }
+    record {
+      from_least = omega (arith, ints, zero.from_least);
+      ordered = omega (arith, ints, div_le_div a b d (omega (arith, ints)) le);
+      to_greatest = omega (arith, ints, div-le_self b d);
+    }
 int_div_range k (negsuc a) h d p q r s = absurd (omega (arith, ints))
 int_div_range k (pos a) (negsuc b) d p q r s = absurd (omega (arith, ints))
 int_div_range k (pos a) (pos b) (negsuc d) p q r s = absurd (omega (arith, ints))
@@ -63,7 +71,11 @@ pub int_shr_range : (k : Kind) (l h : ℤ) (n : ℕ) → pos 0 ≤ℤ l → l �
 int_shr_range k (pos a) (pos b) n p q r =
     let zero = Holds-zero k in
     let le : a ≤ b = omega (arith, ints) in
-    record { from_least = omega (arith, ints, zero.from_least); ordered = omega (arith, ints, div_le_div a b (2 ^ n) (pow_pos n) le); to_greatest = omega (arith, ints, div-le_self b (2 ^ n)) }
+    record {
+      from_least = omega (arith, ints, zero.from_least);
+      ordered = omega (arith, ints, div_le_div a b (2 ^ n) (pow_pos n) le);
+      to_greatest = omega (arith, ints, div-le_self b (2 ^ n));
+    }
 int_shr_range k (negsuc a) h n p q r = absurd (omega (arith, ints))
 int_shr_range k (pos a) (negsuc b) n p q r = absurd (omega (arith, ints))
 

@@ -1,5 +1,6 @@
 -- Every run of a well formed flat form keeps what `IsStateOf` says.
-use Rattle.std.proofs.Common.{◌≡◌, refl, sym, ◌∙◌, ap, subst, ℕ, ◌<◌, List, [], ◌∷◌, ◌++◌, length, Bool, true, false, Option, Some, None, slice_index_or, slice_set}
+use Rattle.std.proofs.Common.{◌≡◌, refl, sym, ◌∙◌, ap, subst, ℕ, ◌<◌, List, [], ◌∷◌, ◌++◌, length}
+use Rattle.std.proofs.Common.{Bool, true, false, Option, Some, None, slice_index_or, slice_set}
 use Rattle.std.specs.Prelude.{ℤ, slice_get, if◌then◌else◌}
 use Rattle.std.specs.List.{AllByRecursion}
 use Rattle.std.proofs.lemmas.List.{length-set, length-replicate}
@@ -18,7 +19,8 @@ use Rattle.c_tree.specs.Values.{element_at}
 use Rattle.c_tree.specs.WellFormed.{IsVariable, IsFlatTarget, AreFlatStatements, IsWellFormed}
 use Rattle.c_ranges.specs.Keeping.{AreNumbersOf, IsStore, IsLeft, IsThreadOf, IsStateOf}
 use Rattle.c_ranges.proofs.Foreseen.{fits_element}
-use Rattle.c_ranges.proofs.Kept.{zip_at, zip_set, zip_found, zip_map, all_append, held_set, zeros_held, all_held, one_element, elements_is, left_opened_all, left_tested, left_while}
+use Rattle.c_ranges.proofs.Kept.{zip_at, zip_set, zip_found, zip_map, all_append, held_set, zeros_held}
+use Rattle.c_ranges.proofs.Kept.{all_held, one_element, elements_is, left_opened_all, left_tested, left_while}
 
 -- ---- The start
 
@@ -68,7 +70,8 @@ module _ (x : f.Flat) (s : m.State) (t : ℕ) (is : IsStateOf x s) (ft : f.Threa
   -- a store of a number into an element
   stored_numbers : (v : Variable) (numbers : List ℤ) (element : ℕ) (number : ℤ) → AreNumbersOf v numbers → Holds v.kind number →
       AreNumbersOf v (slice_set numbers element number)
-  stored_numbers v numbers element number h g = record { count = length-set numbers element number ∙ h.count; held = held_set v.kind numbers element number h.held g }
+  stored_numbers v numbers element number h g =
+      record { count = length-set numbers element number ∙ h.count; held = held_set v.kind numbers element number h.held g }
 
   by_store : (q : m.Pending) (next : m.State) → thread.pending ≡ Some q →
       Some (m.with_thread (m.stored s q) t (record thread { pending = None })) ≡ Some next → IsStateOf x next

@@ -47,7 +47,9 @@ multiples i a (pos n) h = between_up _ _ _ (times_pos i.lo a n h.from_low) (time
 multiples i a (negsuc n) h = between_down _ _ _ (times_neg a i.hi n h.to_high) (times_neg i.lo a n h.from_low)
 
 multiples_right : (j : Interval) (a c : ℤ) → Within j a → Within (hull (only (c *ℤ j.lo)) (only (c *ℤ j.hi))) (c *ℤ a)
-multiples_right j a c h = subst (λ (x : Interval). Within x (c *ℤ a)) (λ t. hull (only (mul_comm j.lo c t)) (only (mul_comm j.hi c t))) (subst (Within (hull (only (j.lo *ℤ c)) (only (j.hi *ℤ c)))) (mul_comm a c) (multiples j a c h))
+multiples_right j a c h =
+    subst (λ (x : Interval). Within x (c *ℤ a)) (λ t. hull (only (mul_comm j.lo c t)) (only (mul_comm j.hi c t)))
+    (subst (Within (hull (only (j.lo *ℤ c)) (only (j.hi *ℤ c)))) (mul_comm a c) (multiples j a c h))
 
 -- what lies between two numbers, each in its interval, lies in the least interval that holds both
 between_both : (i j : Interval) (p q z : ℤ) → Within i p → Within j q → Within (hull (only p) (only q)) z → Within (hull i j) z

@@ -12,7 +12,8 @@ use Rattle.ido_ints.specs.Kinds.{bits_of, least_of, greatest_of}
 use Rattle.ido_ints.specs.Operators.{is_zero, quotient, remainder, bitwise, places}
 use Rattle.ido_ints.specs.Reduction.{residue, reduced}
 use Rattle.ido_ints.proofs.Reduced.{Holds-zero}
-use Rattle.c_tree.specs.Ranges.{Interval, interval, Within, full, lesser, from_zero_up, is_positive_value, sum, difference, and_range, quotient_range, remainder_range, shifted_range}
+use Rattle.c_tree.specs.Ranges.{Interval, interval, Within, full, lesser, from_zero_up, is_positive_value}
+use Rattle.c_tree.specs.Ranges.{sum, difference, and_range, quotient_range, remainder_range, shifted_range}
 use Rattle.c_ranges.proofs.Fitting.{Inside, lesser_by, from_zero_up-true, from_zero_up-false, is_positive_value-true}
 use Rattle.c_ranges.proofs.HeldRanges.{div_le_div, int_div_range, int_shr_range, lesser_range, symmetric_range}
 use Rattle.c_ranges.proofs.Reductions.{cond_by, Within_kept, Within_full, Inside_HeldBy}
@@ -52,7 +53,8 @@ not_zero d h = grind (arith, ints)
 quotient_positive : (x d : ℤ) → pos 0 <ℤ d → quotient x d ≡ int_div x d
 quotient_positive x d h = ap (λ b. cond b (negsuc 0) (int_div x d)) (not_zero d h)
 
-quotient_kept : (k : Kind) (i : Interval) (d a : ℤ) → Inside k i → pos 0 ≤ℤ i.lo → pos 0 <ℤ d → Within i a → Within (interval (int_div i.lo d) (int_div i.hi d)) (reduced k (quotient a d))
+quotient_kept : (k : Kind) (i : Interval) (d a : ℤ) → Inside k i → pos 0 ≤ℤ i.lo → pos 0 <ℤ d → Within i a →
+    Within (interval (int_div i.lo d) (int_div i.hi d)) (reduced k (quotient a d))
 quotient_kept k i d a inside low p h =
     let r = interval (int_div i.lo d) (int_div i.hi d) in
     let w : Within r (int_div a d) = record {
@@ -105,7 +107,8 @@ int_rem_rest (negsuc a) (pos d) h =
     }
 int_rem_rest x (negsuc d) h = absurd (omega (arith, ints))
 
-remainder_kept : (k : Kind) (i : Interval) (d a : ℤ) → Inside k i → pos 0 <ℤ d → d ≤ℤ greatest_of k → Within i a → Within (cond (from_zero_up i) (interval (pos 0) (lesser i.hi (d -ℤ pos 1))) (interval (neg_ℤ (d -ℤ pos 1)) (d -ℤ pos 1))) (reduced k (remainder a d))
+remainder_kept : (k : Kind) (i : Interval) (d a : ℤ) → Inside k i → pos 0 <ℤ d → d ≤ℤ greatest_of k → Within i a →
+    Within (cond (from_zero_up i) (interval (pos 0) (lesser i.hi (d -ℤ pos 1))) (interval (neg_ℤ (d -ℤ pos 1)) (d -ℤ pos 1))) (reduced k (remainder a d))
 remainder_kept k i d a inside p most h =
     let r = int_rem_rest a d p in
     let P : Interval → Type 0 = λ v. Within v (reduced k (remainder a d)) in
@@ -127,7 +130,8 @@ remainder_kept k i d a inside p most h =
     let Q : ℤ → Type 0 = λ z. Within v (reduced k z) in
     subst Q (sym (remainder_positive a d p)) (Within_kept k v (int_rem a d) (Inside_HeldBy k _ _ held) w))
 
-pub Within_remainder : (k : Kind) (i j : Interval) (a b : ℤ) → Inside k i → Inside k j → Within i a → Within j b → Within (remainder_range k i j) (reduced k (remainder a b))
+pub Within_remainder : (k : Kind) (i j : Interval) (a b : ℤ) → Inside k i → Inside k j → Within i a → Within j b →
+    Within (remainder_range k i j) (reduced k (remainder a b))
 Within_remainder k i j a b inside inside' h w =
     let most = j.lo -ℤ pos 1 in
     let exact = cond (from_zero_up i) (interval (pos 0) (lesser i.hi most)) (interval (neg_ℤ most) most) in
@@ -158,18 +162,22 @@ and_kept k h z low high most =
     let zero = Holds-zero k in
     Within_kept k (interval (pos 0) h) z (record { from_least = zero.from_least; to_greatest = most }) (record { from_low = low; to_high = high })
 
-pub Within_and : (k : Kind) (i j : Interval) (a b : ℤ) → Inside k i → Inside k j → Within i a → Within j b → Within (and_range k i j) (reduced k (bitwise bit_and k a b))
+pub Within_and : (k : Kind) (i j : Interval) (a b : ℤ) → Inside k i → Inside k j → Within i a → Within j b →
+    Within (and_range k i j) (reduced k (bitwise bit_and k a b))
 Within_and k i j a b inside inside' h w =
     let z = bitwise bit_and k a b in
     let P : Interval → Type 0 = λ r. Within r (reduced k z) in
     let low : pos 0 ≤ℤ z = omega (arith, ints) in
-    let left : true ≡ from_zero_up i → z ≤ℤ i.hi = λ t. le_trans z a i.hi (and_le_left k a b (le_trans (pos 0) i.lo a (from_zero_up-true i t) h.from_low)) h.to_high in
-    let right : true ≡ from_zero_up j → z ≤ℤ j.hi = λ t. le_trans z b j.hi (and_le_right k a b (le_trans (pos 0) j.lo b (from_zero_up-true j t) w.from_low)) w.to_high in
+    let left : true ≡ from_zero_up i → z ≤ℤ i.hi =
+    λ t. le_trans z a i.hi (and_le_left k a b (le_trans (pos 0) i.lo a (from_zero_up-true i t) h.from_low)) h.to_high in
+    let right : true ≡ from_zero_up j → z ≤ℤ j.hi =
+    λ t. le_trans z b j.hi (and_le_right k a b (le_trans (pos 0) j.lo b (from_zero_up-true j t) w.from_low)) w.to_high in
     cond_by P (from_zero_up i)
     (cond (from_zero_up j) (interval (pos 0) (lesser i.hi j.hi)) (interval (pos 0) i.hi))
     (cond (from_zero_up j) (interval (pos 0) j.hi) (full k))
     (λ t. cond_by P (from_zero_up j) (interval (pos 0) (lesser i.hi j.hi)) (interval (pos 0) i.hi)
-    (λ u. and_kept k (lesser i.hi j.hi) z low (lesser_by (λ y. z ≤ℤ y) i.hi j.hi (λ e. left t) (λ e. right u)) (lesser_by (λ y. y ≤ℤ greatest_of k) i.hi j.hi (λ e. inside.to_greatest) (λ e. inside'.to_greatest)))
+    (λ u. and_kept k (lesser i.hi j.hi) z low (lesser_by (λ y. z ≤ℤ y) i.hi j.hi (λ e. left t) (λ e. right u))
+    (lesser_by (λ y. y ≤ℤ greatest_of k) i.hi j.hi (λ e. inside.to_greatest) (λ e. inside'.to_greatest)))
     (λ u. and_kept k i.hi z low (left t) inside.to_greatest))
     (λ t. cond_by P (from_zero_up j) (interval (pos 0) j.hi) (full k)
     (λ u. and_kept k j.hi z low (right u) inside'.to_greatest)
@@ -182,7 +190,8 @@ int_shr_le (pos a) (pos b) n h k = omega (arith, ints, div_le_div a b (2 ^ n) (p
 int_shr_le (negsuc a) y n h k = absurd (omega (arith, ints))
 int_shr_le (pos a) (negsuc b) n h k = absurd (omega (arith, ints))
 
-shifted_kept : (k : Kind) (i : Interval) (a : ℤ) (n : ℕ) → Inside k i → pos 0 ≤ℤ i.lo → Within i a → Within (interval (int_shr i.lo n) (int_shr i.hi n)) (reduced k (int_shr a n))
+shifted_kept : (k : Kind) (i : Interval) (a : ℤ) (n : ℕ) → Inside k i → pos 0 ≤ℤ i.lo → Within i a →
+    Within (interval (int_shr i.lo n) (int_shr i.hi n)) (reduced k (int_shr a n))
 shifted_kept k i a n inside low h =
     let r = interval (int_shr i.lo n) (int_shr i.hi n) in
     let w : Within r (int_shr a n) = record {
@@ -195,7 +204,8 @@ shifted_kept k i a n inside low h =
 int_eq-true : (x y : ℤ) → true ≡ int_eq x y → x ≡ y
 int_eq-true x y h = grind (arith, ints)
 
-pub Within_shifted : (k : Kind) (i j : Interval) (a b : ℤ) → Inside k i → Within i a → Within j b → Within (shifted_range k i j) (reduced k (int_shr a (places k b)))
+pub Within_shifted : (k : Kind) (i j : Interval) (a b : ℤ) → Inside k i → Within i a → Within j b →
+    Within (shifted_range k i j) (reduced k (int_shr a (places k b)))
 Within_shifted k i j a b inside h w =
     let P : Interval → Type 0 = λ r. Within r (reduced k (int_shr a (places k b))) in
     let exact = interval (int_shr i.lo (places k j.lo)) (int_shr i.hi (places k j.lo)) in

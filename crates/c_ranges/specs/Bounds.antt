@@ -1,6 +1,5 @@
 -- What a `Range` stands for, and the bounds that it keeps.
-use Rattle.std.specs.Prelude.{◌⊎◌, ℤ, ◌≤ℤ◌, ◌*ℤ◌, FitsSigned}
-use Rattle.std.specs.Int.{w128}
+use Rattle.std.specs.Prelude.{◌≤ℤ◌}
 use Rattle.ido_ints.specs.declared.kinds.Kind.{Kind}
 use Rattle.ido_ints.specs.Kinds.{least_of, greatest_of}
 use Rattle.c_tree.specs.Ranges.{Interval, interval}
@@ -14,11 +13,3 @@ pub record HeldBy (k : Kind) (r : Range) : Type 0 where
   pub from_least : least_of k ≤ℤ r.lo
   pub ordered : r.lo ≤ℤ r.hi
   pub to_greatest : r.hi ≤ℤ greatest_of k
-
--- 128 bits don't hold the number
-abbrev pub IsWide : ℤ → Type 0
-IsWide z = ¬ FitsSigned w128 z
-
--- nor a product of ends
-abbrev pub HasWideCorner : Interval → Interval → Type 0
-HasWideCorner i j = (IsWide (i.lo *ℤ j.lo) ⊎ IsWide (i.lo *ℤ j.hi)) ⊎ (IsWide (i.hi *ℤ j.lo) ⊎ IsWide (i.hi *ℤ j.hi))

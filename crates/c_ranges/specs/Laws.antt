@@ -35,4 +35,6 @@ pub record NamesElement (x : p.Program) (ls : List ℤ) (vs : List (List ℤ)) (
 
 -- where all indexes of a program fit, each names an element, whatever locals and variables hold
 abbrev pub IndexesNameElements : Type 0
-IndexesNameElements = (x : p.Program) → AllFit x → (i : Index) → Contains (program_indexes x) i → (ls : List ℤ) (vs : List (List ℤ)) → AllHeld ls vs i.expr → NamesElement x ls vs i
+IndexesNameElements =
+    (x : p.Program) → AllFit x → (i : Index) → Contains (program_indexes x) i → (ls : List ℤ) (vs : List (List ℤ)) → AllHeld ls vs i.expr →
+    NamesElement x ls vs i

@@ -2,3 +2,4 @@ pub mod Bounds
 pub mod Faults
 pub mod Laws
 pub mod Keeping
+pub mod links

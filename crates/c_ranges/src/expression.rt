@@ -20,7 +20,7 @@ pub fn range(expr: &Expr) -> Range
     found(expr).range
 }
 
-// The kind of the expression, and its range.
+/// The kind of the expression, and its range.
 fn found(expr: &Expr) -> Found
     ensures kind { result.kind ≡ kind_of (expr_of expr.now) }
     ensures range { interval_of result.range ≡ range_of (expr_of expr.now) }
@@ -52,7 +52,7 @@ fn found(expr: &Expr) -> Found
     }
 }
 
-// All values of a kind.
+/// All values of a kind.
 fn full(kind: Kind) -> Found
     ensures kind { result.kind ≡ kind }
     ensures range { interval_of result.range ≡ full kind }
@@ -64,7 +64,7 @@ fn full(kind: Kind) -> Found
     }
 }
 
-// A conversion to a kind.
+/// A conversion to a kind.
 fn converted(kind: Kind, range: Range) -> Found
     requires { range.lo ≤ℤ range.hi }
     ensures kind { result.kind ≡ kind }
@@ -77,7 +77,7 @@ fn converted(kind: Kind, range: Range) -> Found
     }
 }
 
-// A choice of two, converted to a kind.
+/// A choice of two, converted to a kind.
 fn either(kind: Kind, then: Range, otherwise: Range) -> Found
     requires then { then.lo ≤ℤ then.hi }
     requires otherwise { otherwise.lo ≤ℤ otherwise.hi }

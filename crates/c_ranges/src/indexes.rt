@@ -3,8 +3,10 @@ ghost use Rattle.std.specs.Prelude.{◌≡◌, map, flat_map, MatchResult};
 ghost use Rattle.std.specs.Option.{option_map};
 ghost use Rattle.c_tree.specs.Exprs.{expr_of, placed_of, target_of};
 ghost use Rattle.c_tree.specs.Programs.{program_of, statement_of, statements_of, arms_list_of, returned_of};
-ghost use Rattle.c_tree.specs.Ranges.{elements_of, expr_indexes, placed_indexes, target_indexes, statement_indexes, statements_indexes, arms_indexes, result_indexes, returned_indexes, AllFit};
-ghost use Rattle.c_ranges.specs.Faults.{IsFaultOf, functions_indexes, threads_indexes, variables_of, index_of, fault_of, earlier, first_fault};
+ghost use Rattle.c_tree.specs.Ranges.{elements_of, expr_indexes, placed_indexes, target_indexes, statement_indexes};
+ghost use Rattle.c_tree.specs.Ranges.{statements_indexes, arms_indexes, result_indexes, returned_indexes, AllFit};
+ghost use Rattle.c_ranges.specs.Faults.{IsFaultOf};
+ghost use Rattle.c_ranges.specs.links.Firsts.{functions_indexes, threads_indexes, variables_of, index_of, fault_of, earlier, first_fault};
 
 use crate::expression::range;
 use crate::interval::Range;
@@ -38,7 +40,7 @@ pub fn check(program: &Program) -> Result<(), IndexError>
     }
 }
 
-// Of two answers, the one of the lesser place.
+/// Of two answers, the one of the lesser place.
 fn earlier(first: Option<IndexError>, second: Option<IndexError>) -> Option<IndexError>
     ensures { result ≡ earlier first second }
 {
@@ -55,7 +57,7 @@ fn earlier(first: Option<IndexError>, second: Option<IndexError>) -> Option<Inde
     }
 }
 
-// The first fault of functions.
+/// The first fault of functions.
 fn of_functions(variables: &[Variable], functions: &[Function]) -> Option<IndexError>
     ensures { result ≡ first_fault (variables_of variables.now) (functions_indexes functions.now) }
 {
@@ -67,7 +69,7 @@ fn of_functions(variables: &[Variable], functions: &[Function]) -> Option<IndexE
     first
 }
 
-// The first fault of a function's result.
+/// The first fault of a function's result.
 fn of_returned(variables: &[Variable], returned: &Option<Returned>) -> Option<IndexError>
     ensures { result ≡ first_fault (variables_of variables.now) (returned_indexes (option_map returned_of returned.now)) }
 {
@@ -77,7 +79,7 @@ fn of_returned(variables: &[Variable], returned: &Option<Returned>) -> Option<In
     }
 }
 
-// The first fault of threads.
+/// The first fault of threads.
 fn of_threads(variables: &[Variable], threads: &[Thread]) -> Option<IndexError>
     ensures { result ≡ first_fault (variables_of variables.now) (threads_indexes threads.now) }
 {
@@ -88,7 +90,7 @@ fn of_threads(variables: &[Variable], threads: &[Thread]) -> Option<IndexError>
     first
 }
 
-// The first fault of statements.
+/// The first fault of statements.
 #[cycle(statements)]
 fn of_statements(variables: &[Variable], statements: &[Statement]) -> Option<IndexError>
     ensures { result ≡ first_fault (variables_of variables.now) (statements_indexes (statements_of statements.now)) }
@@ -100,7 +102,7 @@ fn of_statements(variables: &[Variable], statements: &[Statement]) -> Option<Ind
     first
 }
 
-// The first fault of a statement.
+/// The first fault of a statement.
 #[cycle(statements)]
 fn of_statement(variables: &[Variable], statement: &Statement) -> Option<IndexError>
     ensures { result ≡ first_fault (variables_of variables.now) (statement_indexes (statement_of statement.now)) }
@@ -145,7 +147,7 @@ fn of_statement(variables: &[Variable], statement: &Statement) -> Option<IndexEr
     }
 }
 
-// The first fault of arms.
+/// The first fault of arms.
 #[cycle(statements)]
 fn of_arms(variables: &[Variable], arms: &[Arm]) -> Option<IndexError>
     ensures { result ≡ first_fault (variables_of variables.now) (arms_indexes (arms_list_of arms.now)) }
@@ -158,7 +160,7 @@ fn of_arms(variables: &[Variable], arms: &[Arm]) -> Option<IndexError>
     first
 }
 
-// The first fault of a call's arguments.
+/// The first fault of a call's arguments.
 fn of_arguments(variables: &[Variable], arguments: &[Placed]) -> Option<IndexError>
     ensures { result ≡ first_fault (variables_of variables.now) (flat_map placed_indexes (map placed_of arguments.now)) }
 {
@@ -169,7 +171,7 @@ fn of_arguments(variables: &[Variable], arguments: &[Placed]) -> Option<IndexErr
     first
 }
 
-// The first fault of the target of a call's result.
+/// The first fault of the target of a call's result.
 fn of_assigned(variables: &[Variable], target: &Option<Target>) -> Option<IndexError>
     ensures { result ≡ first_fault (variables_of variables.now) (result_indexes (option_map target_of target.now)) }
 {
@@ -179,7 +181,7 @@ fn of_assigned(variables: &[Variable], target: &Option<Target>) -> Option<IndexE
     }
 }
 
-// The first fault of a target.
+/// The first fault of a target.
 fn of_target(variables: &[Variable], target: &Target) -> Option<IndexError>
     ensures { result ≡ first_fault (variables_of variables.now) (target_indexes (target_of target.now)) }
 {
@@ -196,14 +198,14 @@ fn of_target(variables: &[Variable], target: &Target) -> Option<IndexError>
     }
 }
 
-// The first fault of an expression with its place.
+/// The first fault of an expression with its place.
 fn of_placed(variables: &[Variable], placed: &Placed) -> Option<IndexError>
     ensures { result ≡ first_fault (variables_of variables.now) (placed_indexes (placed_of placed.now)) }
 {
     of_expr(variables, &placed.expr)
 }
 
-// The first fault of an expression.
+/// The first fault of an expression.
 fn of_expr(variables: &[Variable], expr: &Expr) -> Option<IndexError>
     ensures { result ≡ first_fault (variables_of variables.now) (expr_indexes (expr_of expr.now)) }
 {
@@ -236,7 +238,7 @@ fn of_expr(variables: &[Variable], expr: &Expr) -> Option<IndexError>
     }
 }
 
-// The fault of an index, if it has one.
+/// The fault of an index, if it has one.
 fn of_index(variables: &[Variable], variable: u32, place: Place, index: &Expr) -> Option<IndexError>
     ensures { result ≡ fault_of (variables_of variables.now) (index_of variable place (expr_of index.now)) }
 {
@@ -257,7 +259,7 @@ fn of_index(variables: &[Variable], variable: u32, place: Place, index: &Expr) -
     }
 }
 
-// How many elements a variable has for an index.
+/// How many elements a variable has for an index.
 fn elements(variables: &[Variable], variable: u32) -> u32
     ensures { result ≡ elements_of (variables_of variables.now) variable }
 {

@@ -3,8 +3,10 @@ ghost use Rattle.std.specs.Prelude.{◌≡◌, ◌<◌, ◌⊎◌, neg_ℤ, ◌*
 ghost use Rattle.ido_ints.specs.declared.kinds.Kind.TheVariants.{Int};
 ghost use Rattle.ido_ints.specs.Kinds.{promoted, common_of};
 ghost use Rattle.ido_ints.specs.Operators.{places, unary_kind, binary_kind};
-ghost use Rattle.c_tree.specs.Ranges.{interval, only, full, hull, lesser, truth_range, fitted, sum, difference, product, and_range, quotient_range, remainder_range, shifted_range, unary_range, binary_range};
-ghost use Rattle.c_ranges.specs.Bounds.{interval_of, HeldBy, IsWide, HasWideCorner};
+ghost use Rattle.c_tree.specs.Ranges.{interval, only, full, hull, lesser, truth_range, fitted, sum, difference, product};
+ghost use Rattle.c_tree.specs.Ranges.{and_range, quotient_range, remainder_range, shifted_range, unary_range, binary_range};
+ghost use Rattle.c_ranges.specs.Bounds.{interval_of, HeldBy};
+ghost use Rattle.c_ranges.specs.links.Corners.{IsWide, HasWideCorner};
 
 use crate::interval::Range;
 use ido_ints::{Binary, Kind, Unary, common, promote};
@@ -94,7 +96,7 @@ pub(crate) fn binary(operator: Binary, left: Found, right: Found) -> Found
     }
 }
 
-// What a comparison gives.
+/// What a comparison gives.
 fn truth() -> Found
     ensures kind { result.kind ≡ Int }
     ensures range { interval_of result.range ≡ truth_range }
@@ -106,7 +108,7 @@ fn truth() -> Found
     }
 }
 
-// The negatives.
+/// The negatives.
 fn negative(kind: Kind, x: Range) -> Range
     requires { HeldBy kind x }
     ensures value { interval_of result ≡ fitted kind (interval (neg_ℤ x.hi) (neg_ℤ x.lo)) }
@@ -119,7 +121,7 @@ fn negative(kind: Kind, x: Range) -> Range
     exact.fitted(kind)
 }
 
-// The sums.
+/// The sums.
 fn sum(kind: Kind, x: Range, y: Range) -> Range
     requires x { HeldBy kind x }
     requires y { HeldBy kind y }
@@ -133,7 +135,7 @@ fn sum(kind: Kind, x: Range, y: Range) -> Range
     exact.fitted(kind)
 }
 
-// The differences.
+/// The differences.
 fn difference(kind: Kind, x: Range, y: Range) -> Range
     requires x { HeldBy kind x }
     requires y { HeldBy kind y }
@@ -147,7 +149,7 @@ fn difference(kind: Kind, x: Range, y: Range) -> Range
     exact.fitted(kind)
 }
 
-// The products. Where 128 bits don't hold one, no kind does.
+/// The products. Where 128 bits don't hold one, no kind does.
 fn product(kind: Kind, x: Range, y: Range) -> Range
     requires x { HeldBy kind x }
     requires y { HeldBy kind y }
@@ -160,7 +162,7 @@ fn product(kind: Kind, x: Range, y: Range) -> Range
     }
 }
 
-// The least range that holds all products, where 128 bits hold its ends.
+/// The least range that holds all products, where 128 bits hold its ends.
 fn exact_product(x: Range, y: Range) -> Option<Range>
     ensures { MatchOption result (HasWideCorner (interval_of x) (interval_of y)) (λ r. interval_of r ≡ product (interval_of x) (interval_of y)) }
 {
@@ -169,16 +171,17 @@ fn exact_product(x: Range, y: Range) -> Option<Range>
     Some(low.hull(high))
 }
 
-// The least range that holds the products of a number and the ends of a range.
+/// The least range that holds the products of a number and the ends of a range.
 fn corners(factor: i128, y: Range) -> Option<Range>
-    ensures { MatchOption result (IsWide (factor *ℤ y.lo) ⊎ IsWide (factor *ℤ y.hi)) (λ r. interval_of r ≡ hull (only (factor *ℤ y.lo)) (only (factor *ℤ y.hi))) }
+    ensures { MatchOption result (IsWide (factor *ℤ y.lo) ⊎ IsWide (factor *ℤ y.hi))
+        (λ r. interval_of r ≡ hull (only (factor *ℤ y.lo)) (only (factor *ℤ y.hi))) }
 {
     let low = factor.checked_mul(y.lo)?;
     let high = factor.checked_mul(y.hi)?;
     Some(Range::only(low).hull(Range::only(high)))
 }
 
-// The quotients.
+/// The quotients.
 fn quotient(kind: Kind, x: Range, y: Range) -> Range
     requires x { HeldBy kind x }
     requires y { HeldBy kind y }
@@ -195,7 +198,7 @@ fn quotient(kind: Kind, x: Range, y: Range) -> Range
     }
 }
 
-// The remainders.
+/// The remainders.
 fn remainder(kind: Kind, x: Range, y: Range) -> Range
     requires x { HeldBy kind x }
     requires y { HeldBy kind y }
@@ -219,7 +222,7 @@ fn remainder(kind: Kind, x: Range, y: Range) -> Range
     }
 }
 
-// What `&` gives.
+/// What `&` gives.
 fn bit_and(kind: Kind, x: Range, y: Range) -> Range
     requires x { HeldBy kind x }
     requires y { HeldBy kind y }
@@ -237,14 +240,14 @@ fn bit_and(kind: Kind, x: Range, y: Range) -> Range
     }
 }
 
-// The lesser of two numbers.
+/// The lesser of two numbers.
 fn lesser(x: i128, y: i128) -> i128
     ensures { result ≡ lesser x y }
 {
     if x <= y { x } else { y }
 }
 
-// What `<<` gives.
+/// What `<<` gives.
 fn shifted_left(left: Found) -> Found
     ensures kind { result.kind ≡ promoted left.kind }
     ensures range { interval_of result.range ≡ full (promoted left.kind) }
@@ -257,7 +260,7 @@ fn shifted_left(left: Found) -> Found
     }
 }
 
-// What `>>` gives.
+/// What `>>` gives.
 fn shifted_right(left: Found, count: Range) -> Found
     requires { HeldBy left.kind left.range }
     ensures kind { result.kind ≡ promoted left.kind }
@@ -283,7 +286,7 @@ fn shifted_right(left: Found, count: Range) -> Found
     }
 }
 
-// By how many places a count shifts a number of the kind.
+/// By how many places a count shifts a number of the kind.
 fn places(kind: Kind, count: i128) -> u32
     ensures value { result ≡ places kind count }
     ensures below { result < 64 }

@@ -8,7 +8,7 @@ use Rattle.c_tree.specs.declared.token.Punctuator.TheVariants as p
 use Rattle.c_tree.specs.Trees as t
 use Rattle.c_tree.specs.Languages.{mark, ◌⋅◌, first_place}
 use Rattle.c_tree.specs.Grammar.{expression, index, target, changed, assignment}
-use Rattle.c_reader.specs.Parsing.{head_of, update_in, parse_target, change_by, parse_change, assignment_by, parse_assignment}
+use Rattle.c_reader.specs.links.Parsing.{head_of, update_in, parse_target, change_by, parse_change, assignment_by, parse_assignment}
 use Rattle.c_reader.proofs.Good.{Language, Good, ◌▷◌, ◌▹◌, found_in, Anything, good_to, good_map, good_head, good_then, good_taking}
 use Rattle.c_reader.proofs.Tokens.{some_same, marked, named, good_mark, good_name}
 use Rattle.c_reader.proofs.Expressions.{OperandEnd, not_mark}
@@ -19,7 +19,8 @@ use Rattle.c_reader.proofs.Operands.{ExpressionEnd, good_index, good_expression}
 pub good_target : (fuel fuel' b : ℕ) → b ≤ fuel → b ≤ fuel' → Good b target target OperandEnd (parse_target fuel) (parse_target fuel')
 good_target fuel fuel' b h h' =
     good_to {U = named ▷ (λ n. index ▹ made n)} {K = named ▷ (λ n. index ▹ made n)} {F = OperandEnd}
-    (good_then {M = λ n. index ▹ made n} {F = Anything} {G = OperandEnd} good_name (λ n. good_map (made n) (good_index {c = b} (omega arith) (good_expression fuel fuel' b h h'))) (λ n y us rest m f. tt))
+    (good_then {M = λ n. index ▹ made n} {F = Anything} {G = OperandEnd} good_name
+    (λ n. good_map (made n) (good_index {c = b} (omega arith) (good_expression fuel fuel' b h h'))) (λ n y us rest m f. tt))
     (λ y us (n, us₁, us₂, e, l, (i, m, q)). subst (λ y. target y us) q (us₁, us₂, e, l, m))
     (λ y us (us₁, us₂, e, l, m). (y.name, us₁, us₂, e, l, (y.index, m, refl)))
     (λ h f. f)
@@ -58,10 +59,12 @@ set_up y us (o, us₁, us₂, e, l, (x, m, q)) = subst (λ y. ChangeLanguage y u
 update_up : (y : t.Change) (us : List Token) → UpdateLanguage y us → ChangeLanguage y us
 update_up y us (o, us₁, us₂, e, l, (x, m, q)) = subst (λ y. ChangeLanguage y us) q (us₁, us₂, e, update_is o us₁ l, m)
 
-change_good : (fuel fuel' b : ℕ) → b ≤ fuel → b ≤ fuel' → (h : Option Lexeme) → Good b ChangeLanguage (change_language h) ExpressionEnd (change_by fuel h) (change_by fuel' h)
+change_good : (fuel fuel' b : ℕ) → b ≤ fuel → b ≤ fuel' → (h : Option Lexeme)
+    → Good b ChangeLanguage (change_language h) ExpressionEnd (change_by fuel h) (change_by fuel' h)
 change_good fuel fuel' b h h' (Some (Punctuator p.Assign)) =
     good_to {U = marked p.Assign ▷ (λ o. expression ▹ t.Set)} {K = marked p.Assign ▷ (λ o. expression ▹ t.Set)} {F = ExpressionEnd}
-    (good_then {M = λ o. expression ▹ t.Set} {F = Anything} {G = ExpressionEnd} (good_mark p.Assign) (λ o. good_map t.Set (good_expression fuel fuel' b h h')) (λ o y us rest m f. tt))
+    (good_then {M = λ o. expression ▹ t.Set} {F = Anything} {G = ExpressionEnd} (good_mark p.Assign) (λ o. good_map t.Set (good_expression fuel fuel' b h h'))
+    (λ o y us rest m f. tt))
     set_up (λ y us u. u) (λ h f. f)
 change_good fuel fuel' b h h' (Some (Punctuator p.Increment)) =
     good_to (good_map (λ o. t.Increment) (good_mark p.Increment)) (λ y us (o, l, q). subst (λ y. ChangeLanguage y us) q (o, l)) (λ y us u. u) (λ h f. tt)
@@ -69,14 +72,24 @@ change_good fuel fuel' b h h' (Some (Punctuator p.Decrement)) =
     good_to (good_map (λ o. t.Decrement) (good_mark p.Decrement)) (λ y us (o, l, q). subst (λ y. ChangeLanguage y us) q (o, l)) (λ y us u. u) (λ h f. tt)
 change_good fuel fuel' b h h' _ =
     good_to {U = UpdateLanguage} {K = UpdateLanguage} {F = ExpressionEnd}
-    (good_then {M = λ o. expression ▹ t.Update o} {F = Anything} {G = ExpressionEnd} (good_taking update_in (record { place = record { 0 = 0 }; lexeme = Punctuator (p.Update binary.Add) }) binary.Add refl)
+    (good_then {M = λ o. expression ▹ t.Update o} {F = Anything} {G = ExpressionEnd}
+    (good_taking update_in (record { place = record { 0 = 0 }; lexeme = Punctuator (p.Update binary.Add) }) binary.Add refl)
     (λ o. good_map (t.Update o) (good_expression fuel fuel' b h h')) (λ o y us rest m f. tt))
     update_up (λ y us u. u) (λ h f. f)
 
 change_out : (y : t.Change) (us rest : List Token) → ChangeLanguage y us → change_language (head_of (us ++ rest)) y us
-change_out (t.Set value) us rest (us₁, us₂, e, (o, l), m) = rw (e, l) (o, record { place = o; lexeme = Punctuator p.Assign } ∷ [], us₂, refl, refl, (value, m, refl))
+change_out (t.Set value) us rest (us₁, us₂, e, (o, l), m) =
+    rw (e, l) (o, record { place = o; lexeme = Punctuator p.Assign } ∷ [], us₂, refl, refl, (value, m, refl))
 change_out (t.Update operator value) us rest (us₁, us₂, e, (o, l), m) =
-    rw (e, l) (operator, record { place = o; lexeme = Punctuator (p.Update operator) } ∷ [], us₂, refl, (record { place = o; lexeme = Punctuator (p.Update operator) }, refl, refl), (value, m, refl))
+    rw (e, l) (
+      operator,
+      record { place = o; lexeme = Punctuator (p.Update operator) } ∷
+          [],
+      us₂,
+      refl,
+      (record { place = o; lexeme = Punctuator (p.Update operator) }, refl, refl),
+      (value, m, refl),
+    )
 change_out t.Increment us rest (o, l) = rw l (o, refl, refl)
 change_out t.Decrement us rest (o, l) = rw l (o, refl, refl)
 
@@ -122,41 +135,55 @@ pub plain_up : (y : t.Assignment) (us : List Token) → PlainLanguage y us → a
 plain_up y us (x, us₁, us₂, e, u, (c, m, q)) = subst (λ y. assignment y us) q (rw e (target_first x us₁ us₂ u, changed_up x c us₁ us₂ u m))
 
 increment_up : (y : t.Assignment) (us : List Token) → (marked p.Increment ▷ (λ place. target ▹ before t.Increment place)) y us → assignment y us
-increment_up y us (o, us₁, us₂, e, l, (x, m, q)) = subst (λ y. assignment y us) q (rw (e, l) (refl, inr (record { place = o; lexeme = Punctuator p.Increment } ∷ [], us₂, refl, (o, refl), m)))
+increment_up y us (o, us₁, us₂, e, l, (x, m, q)) =
+    subst (λ y. assignment y us) q (rw (e, l) (refl, inr (record { place = o; lexeme = Punctuator p.Increment } ∷ [], us₂, refl, (o, refl), m)))
 
 decrement_up : (y : t.Assignment) (us : List Token) → (marked p.Decrement ▷ (λ place. target ▹ before t.Decrement place)) y us → assignment y us
-decrement_up y us (o, us₁, us₂, e, l, (x, m, q)) = subst (λ y. assignment y us) q (rw (e, l) (refl, inr (record { place = o; lexeme = Punctuator p.Decrement } ∷ [], us₂, refl, (o, refl), m)))
+decrement_up y us (o, us₁, us₂, e, l, (x, m, q)) =
+    subst (λ y. assignment y us) q (rw (e, l) (refl, inr (record { place = o; lexeme = Punctuator p.Decrement } ∷ [], us₂, refl, (o, refl), m)))
 
-assignment_good : (fuel fuel' b : ℕ) → b ≤ fuel → b ≤ fuel' → (h : Option Lexeme) → Good b assignment (assignment_language h) ExpressionEnd (assignment_by fuel h) (assignment_by fuel' h)
+assignment_good : (fuel fuel' b : ℕ) → b ≤ fuel → b ≤ fuel' → (h : Option Lexeme)
+    → Good b assignment (assignment_language h) ExpressionEnd (assignment_by fuel h) (assignment_by fuel' h)
 assignment_good fuel fuel' b h h' (Some (Punctuator p.Increment)) =
-    good_to {U = marked p.Increment ▷ (λ place. target ▹ before t.Increment place)} {K = marked p.Increment ▷ (λ place. target ▹ before t.Increment place)} {F = OperandEnd}
-    (good_then {M = λ place. target ▹ before t.Increment place} {F = Anything} {G = OperandEnd} (good_mark p.Increment) (λ place. good_map (before t.Increment place) (good_target fuel fuel' b h h')) (λ o y us rest m f. tt))
+    good_to {U = marked p.Increment ▷ (λ place. target ▹ before t.Increment place)} {K = marked p.Increment ▷ (λ place. target ▹ before t.Increment place)}
+    {F = OperandEnd}
+    (good_then {M = λ place. target ▹ before t.Increment place} {F = Anything} {G = OperandEnd} (good_mark p.Increment)
+    (λ place. good_map (before t.Increment place) (good_target fuel fuel' b h h')) (λ o y us rest m f. tt))
     increment_up (λ y us u. u) (λ h f. f.0.0)
 assignment_good fuel fuel' b h h' (Some (Punctuator p.Decrement)) =
-    good_to {U = marked p.Decrement ▷ (λ place. target ▹ before t.Decrement place)} {K = marked p.Decrement ▷ (λ place. target ▹ before t.Decrement place)} {F = OperandEnd}
-    (good_then {M = λ place. target ▹ before t.Decrement place} {F = Anything} {G = OperandEnd} (good_mark p.Decrement) (λ place. good_map (before t.Decrement place) (good_target fuel fuel' b h h')) (λ o y us rest m f. tt))
+    good_to {U = marked p.Decrement ▷ (λ place. target ▹ before t.Decrement place)} {K = marked p.Decrement ▷ (λ place. target ▹ before t.Decrement place)}
+    {F = OperandEnd}
+    (good_then {M = λ place. target ▹ before t.Decrement place} {F = Anything} {G = OperandEnd} (good_mark p.Decrement)
+    (λ place. good_map (before t.Decrement place) (good_target fuel fuel' b h h')) (λ o y us rest m f. tt))
     decrement_up (λ y us u. u) (λ h f. f.0.0)
 assignment_good fuel fuel' b h h' _ =
     good_to {U = PlainLanguage} {K = PlainLanguage} {F = ExpressionEnd}
-    (good_then {M = λ x. ChangeLanguage ▹ made_of x} {F = OperandEnd} {G = ExpressionEnd} (good_target fuel fuel' b h h') (λ x. good_map (made_of x) (good_change fuel fuel' b h h'))
+    (good_then {M = λ x. ChangeLanguage ▹ made_of x} {F = OperandEnd} {G = ExpressionEnd} (good_target fuel fuel' b h h')
+    (λ x. good_map (made_of x) (good_change fuel fuel' b h h'))
     (λ x y us rest (c, m, q) f. change_ends c us rest m))
     plain_up (λ y us u. u) (λ h f. f)
 
 -- an assignment whose target comes first
-pub plain_down : (place : Place) (x : t.Target) (c : t.Change) (us us₁ us₂ : List Token) → us ≡ us₁ ++ us₂ → first_place us ≡ Some place → target x us₁ → ChangeLanguage c us₂ → PlainLanguage (record { place = place; target = x; change = c }) us
+pub plain_down : (place : Place) (x : t.Target) (c : t.Change) (us us₁ us₂ : List Token) → us ≡ us₁ ++ us₂ → first_place us ≡ Some place → target x us₁
+    → ChangeLanguage c us₂ → PlainLanguage (record { place = place; target = x; change = c }) us
 plain_down place x c us us₁ us₂ e f u m =
     let s : x.name.place ≡ place = some_same x.name.place place (sym (target_first x us₁ us₂ u) ∙ ap first_place (sym e) ∙ f) in
     (x, us₁, us₂, e, u, (c, m, ap (λ place. record { place = place; target = x; change = c }) s))
 
-assignment_out : (place : Place) (x : t.Target) (c : t.Change) (us rest : List Token) → assignment (record { place = place; target = x; change = c }) us → assignment_language (head_of (us ++ rest)) (record { place = place; target = x; change = c }) us
+assignment_out : (place : Place) (x : t.Target) (c : t.Change) (us rest : List Token) → assignment (record { place = place; target = x; change = c }) us
+    → assignment_language (head_of (us ++ rest)) (record { place = place; target = x; change = c }) us
 assignment_out place x (t.Set value) us rest (f, (us₁, us₂, e, u, m)) =
-    let q : head_of (us ++ rest) ≡ Some (Name x.name.text) = rw (e, append_assoc us₁ us₂ rest) (target_head x us₁ (us₂ ++ rest) u) in rw q (plain_down place x (t.Set value) us us₁ us₂ e f u m)
+    let q : head_of (us ++ rest) ≡ Some (Name x.name.text) = rw (e, append_assoc us₁ us₂ rest) (target_head x us₁ (us₂ ++ rest) u) in
+    rw q (plain_down place x (t.Set value) us us₁ us₂ e f u m)
 assignment_out place x (t.Update operator value) us rest (f, (us₁, us₂, e, u, m)) =
-    let q : head_of (us ++ rest) ≡ Some (Name x.name.text) = rw (e, append_assoc us₁ us₂ rest) (target_head x us₁ (us₂ ++ rest) u) in rw q (plain_down place x (t.Update operator value) us us₁ us₂ e f u m)
+    let q : head_of (us ++ rest) ≡ Some (Name x.name.text) = rw (e, append_assoc us₁ us₂ rest) (target_head x us₁ (us₂ ++ rest) u) in
+    rw q (plain_down place x (t.Update operator value) us us₁ us₂ e f u m)
 assignment_out place x t.Increment us rest (f, inl (us₁, us₂, e, u, m)) =
-    let q : head_of (us ++ rest) ≡ Some (Name x.name.text) = rw (e, append_assoc us₁ us₂ rest) (target_head x us₁ (us₂ ++ rest) u) in rw q (plain_down place x t.Increment us us₁ us₂ e f u m)
+    let q : head_of (us ++ rest) ≡ Some (Name x.name.text) = rw (e, append_assoc us₁ us₂ rest) (target_head x us₁ (us₂ ++ rest) u) in
+    rw q (plain_down place x t.Increment us us₁ us₂ e f u m)
 assignment_out place x t.Decrement us rest (f, inl (us₁, us₂, e, u, m)) =
-    let q : head_of (us ++ rest) ≡ Some (Name x.name.text) = rw (e, append_assoc us₁ us₂ rest) (target_head x us₁ (us₂ ++ rest) u) in rw q (plain_down place x t.Decrement us us₁ us₂ e f u m)
+    let q : head_of (us ++ rest) ≡ Some (Name x.name.text) = rw (e, append_assoc us₁ us₂ rest) (target_head x us₁ (us₂ ++ rest) u) in
+    rw q (plain_down place x t.Decrement us us₁ us₂ e f u m)
 assignment_out place x t.Increment us rest (f, inr (us₁, us₂, e, (o, l), u)) =
     let s : o ≡ place = some_same o place (sym (ap first_place (e ∙ ap (λ l. l ++ us₂) l)) ∙ f) in
     let q : head_of (us ++ rest) ≡ Some (Punctuator p.Increment) = rw (e, l) refl in
@@ -167,4 +194,5 @@ assignment_out place x t.Decrement us rest (f, inr (us₁, us₂, e, (o, l), u))
     rw q (o, us₁, us₂, e, l, (x, u, ap (λ o. before t.Decrement o x) s))
 
 pub good_assignment : (fuel fuel' b : ℕ) → b ≤ fuel → b ≤ fuel' → Good b assignment assignment ExpressionEnd (parse_assignment fuel) (parse_assignment fuel')
-good_assignment fuel fuel' b h h' = good_head {K = assignment_language} (assignment_good fuel fuel' b h h') (λ y us rest u f. assignment_out y.place y.target y.change us rest u)
+good_assignment fuel fuel' b h h' =
+    good_head {K = assignment_language} (assignment_good fuel fuel' b h h') (λ y us rest u f. assignment_out y.place y.target y.change us rest u)

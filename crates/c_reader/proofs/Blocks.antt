@@ -10,30 +10,40 @@ use Rattle.c_tree.specs.Trees as t
 use Rattle.c_tree.specs.Views as v
 use Rattle.c_tree.specs.declared.tree.Statement as s
 use Rattle.c_tree.specs.declared.tree.Arm as arm
-use Rattle.c_reader.specs.Parsing.{Parsed, Parser, Read, Wrong, give, follow, ◌>>=◌, ◌>>◌, head_of, by_head, where_head, head_is, is_word, begins_statement, parse_word, parse_condition, parse_statement, parse_statements, parse_block, statements_over, statement_by, statement_over, arms_after, with_arm, if_of}
-use Rattle.c_reader.specs.Rows.{arms_in}
-use Rattle.c_reader.specs.Steps.{statement_by_word, statement_by_mark, parse_named_statement, parse_declaration_statement, parse_assignment_statement, parse_lock, parse_unlock, parse_if, parse_while, parse_do, parse_for, parse_arm, then_statements, then_arms, more_statements, more_arms}
+use Rattle.c_reader.specs.links.Parsing.{Parsed, Parser, Read, Wrong, give, follow, ◌>>=◌, ◌>>◌, head_of, by_head, where_head}
+use Rattle.c_reader.specs.links.Parsing.{head_is, is_word, begins_statement, parse_word, parse_condition}
+use Rattle.c_reader.specs.links.Parsing.{parse_statement, parse_statements, parse_block, statements_over}
+use Rattle.c_reader.specs.links.Parsing.{statement_by, statement_over, arms_after, with_arm, if_of}
+use Rattle.c_reader.specs.links.Steps.{statement_by_word, statement_by_mark, parse_named_statement, parse_declaration_statement}
+use Rattle.c_reader.specs.links.Steps.{parse_assignment_statement, parse_lock}
+use Rattle.c_reader.specs.links.Steps.{parse_unlock, parse_if, parse_while, parse_do, parse_for}
+use Rattle.c_reader.specs.links.Steps.{parse_arm, then_statements, then_arms, more_statements, more_arms}
 use Rattle.c_reader.proofs.Steps.{where_followed}
 
 -- ---- Ways to go on
 
 -- what follows on an answer goes through to the last part
-pub through : {A B C : Type 0} (r : Parsed A) (f : A → Parser B) (g : B → Parser C) (h : A → Parser C) → ((x : A) (rest : List Token) → follow (f x rest) g ≡ h x rest) → follow (follow r f) g ≡ follow r h
+pub through : {A B C : Type 0} (r : Parsed A) (f : A → Parser B) (g : B → Parser C) (h : A → Parser C)
+    → ((x : A) (rest : List Token) → follow (f x rest) g ≡ h x rest) → follow (follow r f) g ≡ follow r h
 through (Read x rest) f g h e = e x rest
 through (Wrong rest) f g h e = refl
 
-pub by_same : {A : Type 0} (test : Option Lexeme → Bool) (then then' otherwise otherwise' : Parser A) (ts : List Token) → then ts ≡ then' ts → otherwise ts ≡ otherwise' ts
+pub by_same : {A : Type 0} (test : Option Lexeme → Bool) (then then' otherwise otherwise' : Parser A) (ts : List Token) → then ts ≡ then' ts
+    → otherwise ts ≡ otherwise' ts
     → where_head test then otherwise ts ≡ where_head test then' otherwise' ts
 by_same {A = A} test then then' otherwise otherwise' ts e e' = go (test (head_of ts))
   where
-    go : (b : Bool) → elim b as (λ p. Parsed A) [ true ↦ then ts | false ↦ otherwise ts ] ≡ elim b as (λ p. Parsed A) [ true ↦ then' ts | false ↦ otherwise' ts ]
+    go : (b : Bool) → elim b as (λ p. Parsed A) [ true ↦ then ts | false ↦ otherwise ts ]
+        ≡ elim b as (λ p. Parsed A) [ true ↦ then' ts | false ↦ otherwise' ts ]
     go true = e
     go false = e'
 
 -- what follows on a choice goes through to its branches
 pub through_where : {A B : Type 0} (test : Option Lexeme → Bool) (then otherwise : Parser A) (g : A → Parser B) (then' otherwise' : Parser B) (ts : List Token)
-    → follow (then ts) g ≡ then' ts → follow (otherwise ts) g ≡ otherwise' ts → follow (where_head test then otherwise ts) g ≡ where_head test then' otherwise' ts
-through_where test then otherwise g then' otherwise' ts e e' = where_followed test then otherwise g ts ∙ by_same test (then >>= g) then' (otherwise >>= g) otherwise' ts e e'
+    → follow (then ts) g ≡ then' ts → follow (otherwise ts) g ≡ otherwise' ts
+    → follow (where_head test then otherwise ts) g ≡ where_head test then' otherwise' ts
+through_where test then otherwise g then' otherwise' ts e e' =
+    where_followed test then otherwise g ts ∙ by_same test (then >>= g) then' (otherwise >>= g) otherwise' ts e e'
 
 -- ---- Rows
 
@@ -41,11 +51,13 @@ pub then_no_statement : (xs : t.Statements) → then_statements xs t.no_statemen
 then_no_statement t.no_statement = refl
 then_no_statement (t.statement_and x rest) = ap (t.statement_and x) (then_no_statement rest)
 
-pub then_one_statement : (xs : t.Statements) (x : t.Statement) (more : t.Statements) → then_statements xs (t.statement_and x more) ≡ then_statements (then_statements xs (t.statement_and x t.no_statement)) more
+pub then_one_statement : (xs : t.Statements) (x : t.Statement) (more : t.Statements)
+    → then_statements xs (t.statement_and x more) ≡ then_statements (then_statements xs (t.statement_and x t.no_statement)) more
 then_one_statement t.no_statement x more = refl
 then_one_statement (t.statement_and y rest) x more = ap (t.statement_and y) (then_one_statement rest x more)
 
-pub push_statement : (xs : List s.Statement) (x : s.Statement) → v.statements_of (xs ++ x ∷ []) ≡ then_statements (v.statements_of xs) (t.statement_and (v.statement_of x) t.no_statement)
+pub push_statement : (xs : List s.Statement) (x : s.Statement)
+    → v.statements_of (xs ++ x ∷ []) ≡ then_statements (v.statements_of xs) (t.statement_and (v.statement_of x) t.no_statement)
 push_statement [] x = refl
 push_statement (y ∷ ys) x = ap (t.statement_and (v.statement_of y)) (push_statement ys x)
 
@@ -53,11 +65,13 @@ pub then_no_arm : (xs : t.Arms) → then_arms xs t.no_arm ≡ xs
 then_no_arm t.no_arm = refl
 then_no_arm (t.arm_and x b rest) = ap (t.arm_and x b) (then_no_arm rest)
 
-pub then_one_arm : (xs : t.Arms) (x : t.Expression) (b : t.Block) (more : t.Arms) → then_arms xs (t.arm_and x b more) ≡ then_arms (then_arms xs (t.arm_and x b t.no_arm)) more
+pub then_one_arm : (xs : t.Arms) (x : t.Expression) (b : t.Block) (more : t.Arms)
+    → then_arms xs (t.arm_and x b more) ≡ then_arms (then_arms xs (t.arm_and x b t.no_arm)) more
 then_one_arm t.no_arm x b more = refl
 then_one_arm (t.arm_and y c rest) x b more = ap (t.arm_and y c) (then_one_arm rest x b more)
 
-pub push_arm : (xs : List arm.Arm) (x : arm.Arm) → arms_in (xs ++ x ∷ []) ≡ then_arms (arms_in xs) (t.arm_and (v.expression_of x.condition) (v.block_of x.block) t.no_arm)
+pub push_arm : (xs : List arm.Arm) (x : arm.Arm) → v.arms_list_of (xs ++ x ∷ [])
+    ≡ then_arms (v.arms_list_of xs) (t.arm_and (v.expression_of x.condition) (v.block_of x.block) t.no_arm)
 push_arm [] x = refl
 push_arm (y ∷ ys) x = ap (t.arm_and (v.expression_of y.condition) (v.block_of y.block)) (push_arm ys x)
 
@@ -74,7 +88,8 @@ unfolding parse_statement
 statement_none fuel ts none = ap (λ n. parse_statement n ts) none
 
 pub statement_some : (fuel : ℕ) (ts : List Token) → 0 < fuel → parse_statement fuel ts ≡ by_head (statement_by_head fuel) ts
-unfolding parse_statement parse_named_statement parse_declaration_statement parse_assignment_statement parse_lock parse_unlock parse_if parse_while parse_do parse_for
+unfolding parse_statement parse_named_statement parse_declaration_statement parse_assignment_statement parse_lock parse_unlock parse_if parse_while parse_do
+    parse_for
 statement_some fuel ts some =
     let e : fuel ≡ suc (fuel - 1) = omega arith in
     ap (λ (n : ℕ). parse_statement n ts) e ∙ ap (λ (n : ℕ). statement_over (parse_block (fuel - 1)) n ts) (sym e) ∙ by_lexeme (head_of ts)
@@ -105,7 +120,8 @@ statement_some fuel ts some =
 -- ---- More statements
 
 statements_suc : (fuel count : ℕ) (found : t.Statements) (ts : List Token) → more_statements fuel (suc count) found ts
-    ≡ where_head (head_is begins_statement) (do x ← parse_statement fuel; more_statements fuel count (then_statements found (t.statement_and x t.no_statement))) (give found) ts
+    ≡ where_head (head_is begins_statement) (do x ← parse_statement fuel; more_statements fuel count (then_statements found (t.statement_and x t.no_statement)))
+    (give found) ts
 unfolding more_statements
 statements_suc fuel count found ts =
     through_where (head_is begins_statement)
@@ -125,7 +141,9 @@ unfolding more_statements
 statements_end fuel at found ts done = let e : fuel - at ≡ 0 = omega arith in ap (λ n. more_statements fuel n found ts) e
 
 pub statements_some : (fuel at : ℕ) (found : t.Statements) (ts : List Token) → at < fuel → more_statements fuel (fuel - at) found ts
-    ≡ where_head (head_is begins_statement) (do x ← parse_statement fuel; more_statements fuel (fuel - (at + 1)) (then_statements found (t.statement_and x t.no_statement))) (give found) ts
+    ≡ where_head (head_is begins_statement) (do
+      x ← parse_statement fuel
+      more_statements fuel (fuel - (at + 1)) (then_statements found (t.statement_and x t.no_statement))) (give found) ts
 statements_some fuel at found ts below =
     let e : fuel - at ≡ suc (fuel - (at + 1)) = omega arith in ap (λ n. more_statements fuel n found ts) e ∙ statements_suc fuel (fuel - (at + 1)) found ts
 
@@ -156,28 +174,33 @@ behind_block place found x b (Read rest ts) = ap (λ (l : t.Arms). Read (t.If pl
 behind_block place found x b (Wrong ts) = refl
 
 behind_if : (fuel count : ℕ) (place : Place) (found : t.Arms) (ts : List Token)
-    → follow ((do x ← parse_condition (suc count); b ← parse_block fuel; rest ← arms_after (parse_block fuel) count; give (with_arm x b rest)) ts) (λ rest. give (t.If place (then_arms found rest.0) rest.1))
+    → follow ((do x ← parse_condition (suc count); b ← parse_block fuel; rest ← arms_after (parse_block fuel) count; give (with_arm x b rest)) ts)
+    (λ rest. give (t.If place (then_arms found rest.0) rest.1))
     ≡ (do a ← parse_arm (suc count) fuel; more_arms fuel count place (then_arms found (t.arm_and a.0 a.1 t.no_arm))) ts
 unfolding more_arms
 behind_if fuel count place found ts = at_condition (parse_condition (suc count) ts)
   where
     at_block : (x : t.Expression) (r : Parsed t.Block)
-        → follow (follow r (λ b. arms_after (parse_block fuel) count >>= λ rest. give (with_arm x b rest))) (λ rest. give (t.If place (then_arms found rest.0) rest.1))
+        → follow (follow r (λ b. arms_after (parse_block fuel) count >>= λ rest. give (with_arm x b rest)))
+        (λ rest. give (t.If place (then_arms found rest.0) rest.1))
         ≡ follow (follow r (λ b. give (in_arm x b))) (λ a. more_arms fuel count place (then_arms found (t.arm_and a.0 a.1 t.no_arm)))
     at_block x (Read b rest) = behind_block place found x b (arms_after (parse_block fuel) count rest)
     at_block x (Wrong rest) = refl
 
     at_condition : (r : Parsed t.Expression)
-        → follow (follow r (λ x. parse_block fuel >>= λ b. arms_after (parse_block fuel) count >>= λ rest. give (with_arm x b rest))) (λ rest. give (t.If place (then_arms found rest.0) rest.1))
+        → follow (follow r (λ x. parse_block fuel >>= λ b. arms_after (parse_block fuel) count >>= λ rest. give (with_arm x b rest)))
+        (λ rest. give (t.If place (then_arms found rest.0) rest.1))
         ≡ follow (follow r (λ x. parse_block fuel >>= λ b. give (in_arm x b))) (λ a. more_arms fuel count place (then_arms found (t.arm_and a.0 a.1 t.no_arm)))
     at_condition (Read x rest) = at_block x (parse_block fuel rest)
     at_condition (Wrong rest) = refl
 
 behind_else : (fuel : ℕ) (place : Place) (found : t.Arms) (ts : List Token)
-    → follow ((do b ← parse_block fuel; give (last_block b)) ts) (λ rest. give (t.If place (then_arms found rest.0) rest.1)) ≡ (do b ← parse_block fuel; give (t.If place found (t.Else b))) ts
+    → follow ((do b ← parse_block fuel; give (last_block b)) ts) (λ rest. give (t.If place (then_arms found rest.0) rest.1))
+    ≡ (do b ← parse_block fuel; give (t.If place found (t.Else b))) ts
 behind_else fuel place found ts = go (parse_block fuel ts)
   where
-    go : (r : Parsed t.Block) → follow (follow r (λ b. give (last_block b))) (λ rest. give (t.If place (then_arms found rest.0) rest.1)) ≡ follow r (λ b. give (t.If place found (t.Else b)))
+    go : (r : Parsed t.Block) → follow (follow r (λ b. give (last_block b))) (λ rest. give (t.If place (then_arms found rest.0) rest.1))
+        ≡ follow r (λ b. give (t.If place found (t.Else b)))
     go (Read b rest) = ap (λ (l : t.Arms). Read (t.If place l (t.Else b)) rest) (then_no_arm found)
     go (Wrong rest) = refl
 
@@ -240,7 +263,8 @@ arms_some fuel total at place found ts below =
           (do b ← parse_block fuel; give (t.If place found (t.Else b))))
     (give (t.If place found t.Nothing)) ts) (sym e)
 
-pub if_start : (fuel : ℕ) (ts : List Token) → parse_if fuel ts ≡ (do place ← parse_word k.If; a ← parse_arm fuel (fuel - 1); more_arms (fuel - 1) (fuel - 0) place (t.arm_and a.0 a.1 t.no_arm)) ts
+pub if_start : (fuel : ℕ) (ts : List Token) → parse_if fuel ts
+    ≡ (do place ← parse_word k.If; a ← parse_arm fuel (fuel - 1); more_arms (fuel - 1) (fuel - 0) place (t.arm_and a.0 a.1 t.no_arm)) ts
 unfolding parse_if more_arms
 if_start fuel ts = at_word (parse_word k.If ts)
   where
@@ -257,7 +281,8 @@ if_start fuel ts = at_word (parse_word k.If ts)
     at_condition place (Wrong rest) = refl
 
     at_word : (r : Parsed Place)
-        → follow r (λ place. parse_condition fuel >>= λ x. parse_block (fuel - 1) >>= λ b. arms_after (parse_block (fuel - 1)) fuel >>= λ rest. give (if_of place (with_arm x b rest)))
+        → follow r (λ place. parse_condition fuel >>= λ x. parse_block (fuel - 1) >>= λ b. arms_after (parse_block (fuel - 1)) fuel
+        >>= λ rest. give (if_of place (with_arm x b rest)))
         ≡ follow r (λ place. parse_arm fuel (fuel - 1) >>= λ a. more_arms (fuel - 1) (fuel - 0) place (t.arm_and a.0 a.1 t.no_arm))
     at_word (Read place rest) = at_condition place (parse_condition fuel rest)
     at_word (Wrong rest) = refl

@@ -1,5 +1,6 @@
 -- The end of a comment, byte after byte.
-use Rattle.std.proofs.Common.{◌≡◌, ℕ, ◌+◌, ◌<◌, ◌≤◌, Bool, true, false, ◌&&◌, cond, Option, Some, None, List, [], ◌∷◌, length, drop, get_or, refl, ap, sym, ◌∙◌, arith}
+use Rattle.std.proofs.Common.{◌≡◌, ℕ, ◌+◌, ◌<◌, ◌≤◌, Bool, true, false, ◌&&◌, cond, Option, Some}
+use Rattle.std.proofs.Common.{None, List, [], ◌∷◌, length, drop, get_or, refl, ap, sym, ◌∙◌, arith}
 use Rattle.std.specs.Prelude.{◌==◌, if◌then◌else◌}
 use Rattle.std.specs.Option.{option_map}
 use Rattle.std.proofs.lemmas.List.{at_drop_more, at_drop_all}
@@ -18,7 +19,8 @@ shift_none : (x : Option ℕ) → option_map (λ n. n + 0) x ≡ x
 shift_none (Some n) = let e : n + 0 ≡ n = omega arith in ap Some e
 shift_none None = refl
 
-by_end : (b : Bool) (i : ℕ) (x y : Option ℕ) → option_map (λ n. n + (i + 1)) x ≡ y → option_map (λ n. n + i) (cond b (Some 2) (option_map (λ n. n + 1) x)) ≡ cond b (Some (i + 1 + 1)) y
+by_end : (b : Bool) (i : ℕ) (x y : Option ℕ) → option_map (λ n. n + (i + 1)) x ≡ y
+    → option_map (λ n. n + i) (cond b (Some 2) (option_map (λ n. n + 1) x)) ≡ cond b (Some (i + 1 + 1)) y
 by_end true i x y e = let e : 2 + i ≡ i + 1 + 1 = omega arith in ap Some e
 by_end false i x y e = shift_more i x ∙ e
 
@@ -34,7 +36,8 @@ through_start text = sym (through_from 0 text) ∙ shift_none (through_comment t
 pub through_stop : (i : ℕ) (star : Bool) (text : List ℕ) → i < length text → star ≡ true → get_or text i 0 ≡ 47 → through_at i star (drop i text) ≡ Some (i + 1)
 through_stop i star text within s e = at_drop_more (through_at i star) text i 0 within ∙ rw (s, e) refl
 
-pub through_more : (i : ℕ) (star : Bool) (text : List ℕ) → i < length text → (star && get_or text i 0 == 47) ≡ false → through_at i star (drop i text) ≡ through_at (i + 1) (get_or text i 0 == 42) (drop (i + 1) text)
+pub through_more : (i : ℕ) (star : Bool) (text : List ℕ) → i < length text → (star && get_or text i 0 == 47) ≡ false
+    → through_at i star (drop i text) ≡ through_at (i + 1) (get_or text i 0 == 42) (drop (i + 1) text)
 through_more i star text within e = at_drop_more (through_at i star) text i 0 within ∙ rw e refl
 
 pub through_end : (i : ℕ) (star : Bool) (text : List ℕ) → length text ≤ i → through_at i star (drop i text) ≡ None

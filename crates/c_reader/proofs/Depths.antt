@@ -1,5 +1,6 @@
 -- Tokens that don't nest too high spell a tree whose blocks aren't deep, and whose expressions aren't high.
-use Rattle.std.proofs.Common.{◌≡◌, ℕ, zero, suc, ◌+◌, ◌≤◌, Bool, true, false, ◌||◌, List, [], ◌∷◌, ◌++◌, Option, Some, None, Result, Ok, Err, IfOk, refl, sym, ap, ◌∙◌, subst, arith, ⊎_elim}
+use Rattle.std.proofs.Common.{◌≡◌, ℕ, zero, suc, ◌+◌, ◌≤◌, Bool, true, false, ◌||◌, List, [], ◌∷◌, ◌++◌, Option}
+use Rattle.std.proofs.Common.{Some, None, Result, Ok, Err, IfOk, refl, sym, ap, ◌∙◌, subst, arith, ⊎_elim}
 use Rattle.std.specs.Prelude.{nat_lt}
 use Rattle.std.specs.List.{AllByRecursion}
 use Rattle.std.proofs.lemmas.Bool.Decides.{nat_tests}
@@ -16,10 +17,11 @@ use Rattle.c_tree.specs.Grammar as g
 use Rattle.c_tree.specs.Scanning.{Scanned, scanned}
 use Rattle.c_tree.specs.Views.{items_of}
 use Rattle.c_tree.specs.declared.tree.Tree.{Tree}
-use Rattle.c_reader.specs.declared.reader.ReadError.{ReadError}
+use Rattle.c_tree.specs.declared.refusal.SourceError.{SourceError}
 use Rattle.c_tree.specs.Reading.{Nesting, outside, within_lexeme, within_mark, is_high, is_high_from, nests_high, IsRead}
-use Rattle.c_reader.specs.Depths.{height, IsLow, IsLowIf, IsLowChange, IsLowAssignment, IsLowLast, IsLowCall, IsLowInitial, IsLowFirst, IsFlat, IsFlatBlock, AreFlat, AreFlatArms, IsFlatOtherwise, IsLowReturn, IsFlatBody, IsFlatItem, IsShallow}
-use Rattle.c_reader.proofs.Nestings.{nesting_after, is_high_from-front}
+use Rattle.c_reader.specs.Depths.{height, IsLow, IsLowIf, IsLowChange, IsLowAssignment, IsLowLast, IsLowCall, IsLowInitial, IsLowFirst, IsFlat}
+use Rattle.c_reader.specs.Depths.{IsFlatBlock, AreFlat, AreFlatArms, IsFlatOtherwise, IsLowReturn, IsFlatBody, IsFlatItem, IsShallow}
+use Rattle.c_reader.proofs.Nestings.{nesting_after, is_high_from-prefix}
 
 -- ---- Nesting behind two lists of tokens
 
@@ -216,7 +218,7 @@ module _ (A B : ℕ → Type 0) (P Q : List Token → Type 0) where
   holds_both a b = record {
     go = λ ts (us, vs, e, x, y) n room free low.
         let all : is_high_from n (us ++ vs) ≡ false = subst (λ (zs : List Token). is_high_from n zs ≡ false) e low in
-        let f = a.go us x n room free (is_high_from-front n us vs all) in
+        let f = a.go us x n room free (is_high_from-prefix n us vs all) in
         let s = b.go vs y (nesting_after n us) room (ap (λ m. m + room) f.0 ∙ free) (low_behind n us vs all) in
         (ap (λ (zs : List Token). (nesting_after n zs).braces) e ∙ ap (λ (m : Nesting). m.braces) (after_both n us vs) ∙ s.0 ∙ f.0, (f.1, s.1));
   }
@@ -225,7 +227,7 @@ module _ (A B : ℕ → Type 0) (P Q : List Token → Type 0) where
   closes_both a b = record {
     go = λ ts (us, vs, e, x, y) n braces room one free low.
         let all : is_high_from n (us ++ vs) ≡ false = subst (λ (zs : List Token). is_high_from n zs ≡ false) e low in
-        let f = a.go us x n room free (is_high_from-front n us vs all) in
+        let f = a.go us x n room free (is_high_from-prefix n us vs all) in
         let s = b.go vs y (nesting_after n us) braces room (f.0 ∙ one) (ap (λ m. m + room) f.0 ∙ free) (low_behind n us vs all) in
         (ap (λ (zs : List Token). (nesting_after n zs).braces) e ∙ ap (λ (m : Nesting). m.braces) (after_both n us vs) ∙ s.0, (f.1, s.1));
   }
@@ -506,7 +508,7 @@ pub shallow : (text : List ℕ) (xs : List t.Item) → IsRead text xs → IsShal
 shallow text xs x = ((program xs).go (scanned text).tokens x.spelled outside 128 refl (low_from (scanned text).tokens x.low)).1
 
 -- as the reader tells it
-pub shallow_told : (text : List ℕ) (s : Scanned) (r : Result Tree ReadError) → s ≡ scanned text
+pub shallow_told : (text : List ℕ) (s : Scanned) (r : Result Tree SourceError) → s ≡ scanned text
     → IfOk r (λ tree. (given : List ℕ) → s ≡ scanned given → IsRead given (items_of tree)) → IfOk r (λ tree. IsShallow 128 129 (items_of tree))
 shallow_told text s (Ok tree) e told = shallow text (items_of tree) (told text e)
 shallow_told text s (Err x) e told = tt

@@ -1,5 +1,6 @@
 -- The parser of expressions keeps their language.
-use Rattle.std.proofs.Common.{◌≡◌, ℕ, zero, suc, ◌+◌, ◌-◌, ◌<◌, ◌≤◌, List, [], ◌∷◌, ◌++◌, Option, Some, None, Bool, true, false, sym, refl, ap, ◌∙◌, subst, inl, inr, append_assoc, append-nil, arith, lit≤}
+use Rattle.std.proofs.Common.{◌≡◌, ℕ, zero, suc, ◌+◌, ◌-◌, ◌<◌, ◌≤◌, List, [], ◌∷◌, ◌++◌, Option, Some, None, Bool, true}
+use Rattle.std.proofs.Common.{false, sym, refl, ap, ◌∙◌, subst, inl, inr, append_assoc, append-nil, arith, lit≤}
 use Rattle.std.specs.Prelude.{◌⊎◌, nat_eq}
 use Rattle.std.proofs.lemmas.Bool.{eqb-true, eq-eqb}
 use Rattle.ido_ints.specs.declared.operators.Binary as bo
@@ -8,8 +9,10 @@ use Rattle.c_tree.specs.Tokens.{Token, Lexeme, Punctuator}
 use Rattle.c_tree.specs.declared.token.Punctuator.TheVariants as p
 use Rattle.c_tree.specs.Trees as t
 use Rattle.c_tree.specs.Grammar.{expression_from, strength}
-use Rattle.c_reader.specs.Parsing.{Parser, head_of, head_is, is_mark, operator_at, operator_in, is_operator_at, operators_at, operators_after, ◌>>=◌, taking}
-use Rattle.c_reader.proofs.Good.{Language, Good, ◌▷◌, just, found_in, Anything, Strict, good_give, good_to, good_less, good_where, good_then, good_then_less, good_small, good_taking}
+use Rattle.c_reader.specs.links.Parsing.{Parser, head_of, head_is, is_mark, operator_at, operator_in}
+use Rattle.c_reader.specs.links.Parsing.{is_operator_at, operators_at, operators_after, ◌>>=◌, taking}
+use Rattle.c_reader.proofs.Good.{Language, Good, ◌▷◌, just, found_in, Anything, Strict, good_give, good_to}
+use Rattle.c_reader.proofs.Good.{good_less, good_where, good_then, good_then_less, good_small, good_taking}
 use Rattle.c_reader.proofs.Tokens.{is_mark-true, some_same}
 
 -- ---- What may follow
@@ -92,7 +95,8 @@ chain_ends' n left y us rest (suc many, (o, us₁, us₂, e, (t, e', e''), c)) f
     rw (e, e', q.0) (not_mark p.OpenBracket (Punctuator (p.Binary o)) (λ q. cc))
 
 chain_out : (n : ℕ) (left y : t.Expression) (us rest : List Token) → Chain n left y us → End n (head_of rest) →
-    (Longer n left y us × (head_is (is_operator_at n) (head_of (us ++ rest)) ≡ true)) ⊎ (just left y us × (head_is (is_operator_at n) (head_of (us ++ rest)) ≡ false))
+    (Longer n left y us × (head_is (is_operator_at n) (head_of (us ++ rest)) ≡ true))
+    ⊎ (just left y us × (head_is (is_operator_at n) (head_of (us ++ rest)) ≡ false))
 chain_out n left y us rest (zero, (q, e)) f = inr ((q, e), rw e (f.1 n (omega arith)))
 chain_out n left y us rest (suc many, (o, us₁, us₂, e, (t, e', e''), c)) f =
     inl (longer_down n left y us many (o, us₁, us₂, e, (t, e', e''), c), rw (e, e') (rw (e'', is_operator_at) refl))
@@ -111,21 +115,26 @@ operator_with (suc (suc (suc (suc (suc (suc (suc (suc zero)))))))) h = (binary.L
 operator_with (suc (suc (suc (suc (suc (suc (suc (suc (suc zero))))))))) h = (binary.LogicalOr, refl)
 operator_with (suc (suc (suc (suc (suc (suc (suc (suc (suc (suc n)))))))))) h = let z : ⊥ = omega (arith, h) in absurd z
 
-good_operator : {b : ℕ} (n : ℕ) (o : bo.Binary) → strength o ≡ n → Good b (operator_in_language n) (operator_in_language n) Anything (taking (operator_in n)) (taking (operator_in n))
+good_operator : {b : ℕ} (n : ℕ) (o : bo.Binary) → strength o ≡ n
+    → Good b (operator_in_language n) (operator_in_language n) Anything (taking (operator_in n)) (taking (operator_in n))
 good_operator n o e = good_taking (operator_in n) (record { place = record { 0 = 0 }; lexeme = Punctuator (p.Binary o) }) o (is_operator n o e)
 
 -- a chain, where its right operands are read
-longer_good : {b c : ℕ} (n : ℕ) (o : bo.Binary) → strength o ≡ n → b ≤ suc c → c ≤ b → (right right' : Parser t.Expression) → Good b (from (n + 1)) (from (n + 1)) (End (n + 1)) right right' →
+longer_good : {b c : ℕ} (n : ℕ) (o : bo.Binary) → strength o ≡ n → b ≤ suc c → c ≤ b → (right right' : Parser t.Expression)
+    → Good b (from (n + 1)) (from (n + 1)) (End (n + 1)) right right' →
     (loop loop' : t.Expression → Parser t.Expression) → ((left : t.Expression) → Good c (Chain n left) (Chain n left) (End n) (loop left) (loop' left)) →
-    (left : t.Expression) → Good b (Chain n left) (Longer n left) (End n) (do o ← taking (operator_in n); y ← right; loop (t.Binary o left y)) (do o ← taking (operator_in n); y ← right'; loop' (t.Binary o left y))
+    (left : t.Expression) → Good b (Chain n left) (Longer n left) (End n) (do o ← taking (operator_in n); y ← right; loop (t.Binary o left y))
+    (do o ← taking (operator_in n); y ← right'; loop' (t.Binary o left y))
 longer_good n o e bc cb right right' g loop loop' h left =
     good_to {U' = Chain n left} {K' = Longer n left}
     (good_then_less {M = λ o. from (n + 1) ▷ (λ r. Chain n (t.Binary o left r))} bc (operator_strict n) (good_operator n o e)
-    (λ o. good_then {M = λ r. Chain n (t.Binary o left r)} (good_less g cb) (λ r. h (t.Binary o left r)) (λ r y us rest. chain_ends n (t.Binary o left r) y us rest))
+    (λ o. good_then {M = λ r. Chain n (t.Binary o left r)} (good_less g cb) (λ r. h (t.Binary o left r))
+    (λ r y us rest. chain_ends n (t.Binary o left r) y us rest))
     (λ o y us rest m f. tt))
     (longer_up n left) (λ y us u. u) (λ h f. f)
 
-operators_step : {b c : ℕ} (n : ℕ) (o : bo.Binary) → strength o ≡ n → b ≤ suc c → c ≤ b → (right right' : Parser t.Expression) → Good b (from (n + 1)) (from (n + 1)) (End (n + 1)) right right' → (fuel fuel' : ℕ) →
+operators_step : {b c : ℕ} (n : ℕ) (o : bo.Binary) → strength o ≡ n → b ≤ suc c → c ≤ b → (right right' : Parser t.Expression)
+    → Good b (from (n + 1)) (from (n + 1)) (End (n + 1)) right right' → (fuel fuel' : ℕ) →
     ((left : t.Expression) → Good c (Chain n left) (Chain n left) (End n) (operators_at n right fuel left) (operators_at n right' fuel' left)) →
     (left : t.Expression) → Good b (Chain n left) (Chain n left) (End n) (operators_at n right (suc fuel) left) (operators_at n right' (suc fuel') left)
 operators_step n o e bc cb right right' g fuel fuel' h left =
@@ -139,9 +148,11 @@ operators_good : (n : ℕ) (o : bo.Binary) → strength o ≡ n → (right right
     (left : t.Expression) → Good b (Chain n left) (Chain n left) (End n) (operators_at n right fuel left) (operators_at n right' fuel' left)
 operators_good n o e right right' zero fuel' b h h' g g₀ left = good_small h (λ ts. ([], refl, [], left, (0, (refl, refl))))
 operators_good n o e right right' (suc fuel) zero b h h' g g₀ left =
-    good_small h' (operators_step {b = 0} {c = 0} n o e (omega arith) (omega arith) right right g₀ fuel fuel (operators_good n o e right right fuel fuel 0 (omega arith) (omega arith) g₀ g₀) left).sure
+    good_small h' (operators_step {b = 0} {c = 0} n o e (omega arith) (omega arith) right right g₀ fuel fuel
+    (operators_good n o e right right fuel fuel 0 (omega arith) (omega arith) g₀ g₀) left).sure
 operators_good n o e right right' (suc fuel) (suc fuel') b h h' g g₀ left =
-    operators_step {b = b} {c = b - 1} n o e (omega arith) (omega arith) right right' g fuel fuel' (operators_good n o e right right' fuel fuel' (b - 1) (omega (arith, h)) (omega (arith, h')) (good_less g (omega arith)) g₀) left
+    operators_step {b = b} {c = b - 1} n o e (omega arith) (omega arith) right right' g fuel fuel'
+    (operators_good n o e right right' fuel fuel' (b - 1) (omega (arith, h)) (omega (arith, h')) (good_less g (omega arith)) g₀) left
 
 -- ---- The ladder of strengths
 
@@ -151,21 +162,31 @@ Ladder zero left = just left
 Ladder (suc levels) left = Ladder levels left ▷ Chain (10 - levels)
 
 -- a chain and one more of its operators
-chain_more : (n : ℕ) (many : ℕ) (left x y : t.Expression) (o : bo.Binary) (us vs : List Token) → chain n many left x us → (operator_in_language n ▷ (λ o. from (n + 1) ▷ (λ r. just (t.Binary o x r)))) y vs → chain n (suc many) left y (us ++ vs)
+chain_more : (n : ℕ) (many : ℕ) (left x y : t.Expression) (o : bo.Binary) (us vs : List Token) → chain n many left x us
+    → (operator_in_language n ▷ (λ o. from (n + 1) ▷ (λ r. just (t.Binary o x r)))) y vs → chain n (suc many) left y (us ++ vs)
 chain_more n zero left x y o us vs (q, e) m = rw (e, q) m
-chain_more n (suc many) left x y o us vs (o', us₁, us₂, e, l, (r, us₃, us₄, e', h, c)) m =
-    (o', us₁, us₂ ++ vs, ap (λ l. l ++ vs) e ∙ append_assoc us₁ us₂ vs, l, (r, us₃, us₄ ++ vs, ap (λ l. l ++ vs) e' ∙ append_assoc us₃ us₄ vs, h, chain_more n many (t.Binary o' left r) x y o us₄ vs c m))
+chain_more n (suc many) left x y o us vs (o', us₁, us₂, e, l, (r, us₃, us₄, e', h, c)) m = (
+  o',
+  us₁,
+  us₂ ++ vs,
+  ap (λ l. l ++ vs) e ∙ append_assoc us₁ us₂ vs,
+  l,
+  (r, us₃, us₄ ++ vs, ap (λ l. l ++ vs) e' ∙ append_assoc us₃ us₄ vs, h, chain_more n many (t.Binary o' left r) x y o us₄ vs c m),
+)
 
-pub ladder_ends : (levels : ℕ) (left y : t.Expression) (us rest : List Token) → Ladder levels left y us → OperandEnd (head_of rest) → OperandEnd (head_of (us ++ rest))
+pub ladder_ends : (levels : ℕ) (left y : t.Expression) (us rest : List Token) → Ladder levels left y us → OperandEnd (head_of rest)
+    → OperandEnd (head_of (us ++ rest))
 ladder_ends zero left y us rest (q, e) f = rw e f
 ladder_ends (suc levels) left y us rest (x, us₁, us₂, e, l, c) f =
     rw (e, append_assoc us₁ us₂ rest) (ladder_ends levels left x us₁ (us₂ ++ rest) l (chain_ends' (10 - levels) x y us₂ rest c f))
 
 -- the same by a test that no operator passes
-pub ladder_head : (test : Option Lexeme → Bool) → ((o : bo.Binary) → test (Some (Punctuator (p.Binary o))) ≡ false) → (levels : ℕ) (left y : t.Expression) (us rest : List Token) →
+pub ladder_head : (test : Option Lexeme → Bool) → ((o : bo.Binary) → test (Some (Punctuator (p.Binary o))) ≡ false)
+    → (levels : ℕ) (left y : t.Expression) (us rest : List Token) →
     Ladder levels left y us → test (head_of rest) ≡ false → test (head_of (us ++ rest)) ≡ false
 ladder_head test no_one zero left y us rest (q, e) f = rw e f
-ladder_head test no_one (suc levels) left y us rest (x, us₁, us₂, e, l, c) f = rw (e, append_assoc us₁ us₂ rest) (ladder_head test no_one levels left x us₁ (us₂ ++ rest) l (go c))
+ladder_head test no_one (suc levels) left y us rest (x, us₁, us₂, e, l, c) f =
+    rw (e, append_assoc us₁ us₂ rest) (ladder_head test no_one levels left x us₁ (us₂ ++ rest) l (go c))
   where
     go : Chain (10 - levels) x y us₂ → test (head_of (us₂ ++ rest)) ≡ false
     go (zero, (q, e)) = rw e f
@@ -182,10 +203,12 @@ ladder_step levels left y us l = (y, us, [], sym (append-nil us), l, (0, (refl, 
 
 ladder_more : (more levels : ℕ) (left y : t.Expression) (us : List Token) → Ladder levels left y us → Ladder (more + levels) left y us
 ladder_more zero levels left y us l = let e : zero + levels ≡ levels = omega arith in rw e l
-ladder_more (suc more) levels left y us l = let e : suc more + levels ≡ suc (more + levels) = omega arith in rw e (ladder_step (more + levels) left y us (ladder_more more levels left y us l))
+ladder_more (suc more) levels left y us l =
+    let e : suc more + levels ≡ suc (more + levels) = omega arith in rw e (ladder_step (more + levels) left y us (ladder_more more levels left y us l))
 
 ladder_up : (levels levels' : ℕ) (left y : t.Expression) (us : List Token) → levels ≤ levels' → Ladder levels left y us → Ladder levels' left y us
-ladder_up levels levels' left y us h l = let e : (levels' - levels) + levels ≡ levels' = omega (arith, h) in rw e at (ladder_more (levels' - levels) levels left y us l)
+ladder_up levels levels' left y us h l =
+    let e : (levels' - levels) + levels ≡ levels' = omega (arith, h) in rw e at (ladder_more (levels' - levels) levels left y us l)
 
 -- what binds tighter is also from a weaker strength on
 pub from_weaker : (n m : ℕ) (x : t.Expression) (us : List Token) → n ≤ m → 1 ≤ m → from m x us → from n x us
@@ -208,12 +231,14 @@ chain_join n (suc many) left y us vs h u (o, us₁, us₂, e, (a, e', e''), (r, 
     rw (e, e₂) (rw (append_assoc us (us₁ ++ us₃) us₄, append_assoc us₁ us₃ us₄) at (chain_join n many (t.Binary o left r) y (us ++ (us₁ ++ us₃)) us₄ h mine c))
 
 -- an operand and a ladder behind it are an expression
-pub ladder_join : (levels : ℕ) (left y : t.Expression) (us vs : List Token) → levels ≤ 10 → from 11 left us → Ladder levels left y vs → from (11 - levels) y (us ++ vs)
+pub ladder_join : (levels : ℕ) (left y : t.Expression) (us vs : List Token) → levels ≤ 10 → from 11 left us → Ladder levels left y vs
+    → from (11 - levels) y (us ++ vs)
 ladder_join zero left y us vs h u (q, e) = rw (← q, e, append-nil us) u
 ladder_join (suc levels) left y us vs h u (x, us₁, us₂, e, l, (many, c)) =
     let below : from (11 - levels) x (us ++ us₁) = ladder_join levels left x us us₁ (omega (arith, h)) u l in
     let s : 11 - suc levels ≡ 10 - levels = omega (arith, h) in
-    rw (e, s) (rw (append_assoc us us₁ us₂) at (chain_join (10 - levels) many x y (us ++ us₁) us₂ (omega (arith, h)) (from_weaker (10 - levels) (11 - levels) x (us ++ us₁) (omega (arith, h)) (omega (arith, h)) below) c))
+    rw (e, s) (rw (append_assoc us us₁ us₂) at (chain_join (10 - levels) many x y (us ++ us₁) us₂ (omega (arith, h))
+    (from_weaker (10 - levels) (11 - levels) x (us ++ us₁) (omega (arith, h)) (omega (arith, h)) below) c))
 
 -- each strength is between 1 and 10
 pub strength_low : (o : bo.Binary) → 1 ≤ strength o
@@ -261,8 +286,10 @@ pub ladder_split : (levels : ℕ) (y : t.Expression) (us : List Token) → level
 ladder_split levels (t.Number place value) us h u = (t.Number place value, us, [], sym (append-nil us), u, ladder_none levels (t.Number place value))
 ladder_split levels (t.Named x) us h u = (t.Named x, us, [], sym (append-nil us), u, ladder_none levels (t.Named x))
 ladder_split levels (t.Element array index) us h u = (t.Element array index, us, [], sym (append-nil us), u, ladder_none levels (t.Element array index))
-ladder_split levels (t.Parenthesised place inner) us h u = (t.Parenthesised place inner, us, [], sym (append-nil us), u, ladder_none levels (t.Parenthesised place inner))
-ladder_split levels (t.Unary place operator operand) us h u = (t.Unary place operator operand, us, [], sym (append-nil us), u, ladder_none levels (t.Unary place operator operand))
+ladder_split levels (t.Parenthesised place inner) us h u =
+    (t.Parenthesised place inner, us, [], sym (append-nil us), u, ladder_none levels (t.Parenthesised place inner))
+ladder_split levels (t.Unary place operator operand) us h u =
+    (t.Unary place operator operand, us, [], sym (append-nil us), u, ladder_none levels (t.Unary place operator operand))
 ladder_split levels (t.Cast place x operand) us h u = (t.Cast place x operand, us, [], sym (append-nil us), u, ladder_none levels (t.Cast place x operand))
 ladder_split levels (t.Conditional condition then otherwise) us h (q, u) = let z : ⊥ = omega (arith, h, q) in absurd z
 ladder_split levels (t.Binary o a r) us h (q, (us₁, us₂, e, ha, (us₃, us₄, e', (place, m), hr))) =
@@ -273,21 +300,43 @@ ladder_split levels (t.Binary o a r) us h (q, (us₁, us₂, e, ha, (us₃, us�
     let deep : (from 11 ▷ Ladder (11 - strength o)) a us₁ = ladder_split (11 - strength o) a us₁ (omega (arith, low)) (rw s ha) in
     go low high d deep
   where
-    go : 1 ≤ strength o → strength o ≤ 10 → 10 - (10 - strength o) ≡ strength o → (from 11 ▷ Ladder (11 - strength o)) a us₁ → (from 11 ▷ Ladder levels) (t.Binary o a r) us
+    go : 1 ≤ strength o → strength o ≤ 10 → 10 - (10 - strength o) ≡ strength o → (from 11 ▷ Ladder (11 - strength o)) a us₁
+        → (from 11 ▷ Ladder levels) (t.Binary o a r) us
     go low high d (left, vs₁, vs₂, f, hl, l) =
         let b : 11 - strength o ≡ suc (10 - strength o) = omega (arith, high) in
         let l' : Ladder (suc (10 - strength o)) left a vs₂ = rw b at l in
         let (x, ws₁, ws₂, g, hx, (many, c)) = l' in
-        let last : (operator_in_language (10 - (10 - strength o)) ▷ (λ o'. from (10 - (10 - strength o) + 1) ▷ (λ r'. just (t.Binary o' a r')))) (t.Binary o a r) us₂ =
-        rw d (o, us₃, us₄, e', (record { place = place; lexeme = Punctuator (p.Binary o) }, m, is_operator (strength o) o refl), (r, us₄, [], sym (append-nil us₄), hr, (refl, refl))) in
-        let whole : Ladder (suc (10 - strength o)) left (t.Binary o a r) (vs₂ ++ us₂) =
-        (x, ws₁, ws₂ ++ us₂, ap (λ l. l ++ us₂) g ∙ append_assoc ws₁ ws₂ us₂, hx, (suc many, chain_more (10 - (10 - strength o)) many x a (t.Binary o a r) o ws₂ us₂ c last)) in
-        (left, vs₁, vs₂ ++ us₂, e ∙ ap (λ l. l ++ us₂) f ∙ append_assoc vs₁ vs₂ us₂, hl, ladder_up (suc (10 - strength o)) levels left (t.Binary o a r) (vs₂ ++ us₂) (omega (arith, h, q, low, high)) whole)
+        let last : (operator_in_language (10 - (10 - strength o)) ▷ (λ o'. from (10 - (10 - strength o) + 1) ▷ (λ r'. just (t.Binary o' a r'))))
+        (t.Binary o a r) us₂ =
+        rw d (
+          o,
+          us₃,
+          us₄,
+          e',
+          (record { place = place; lexeme = Punctuator (p.Binary o) }, m, is_operator (strength o) o refl),
+          (r, us₄, [], sym (append-nil us₄), hr, (refl, refl)),
+        ) in
+        let whole : Ladder (suc (10 - strength o)) left (t.Binary o a r) (vs₂ ++ us₂) = (
+          x,
+          ws₁,
+          ws₂ ++ us₂,
+          ap (λ l. l ++ us₂) g ∙ append_assoc ws₁ ws₂ us₂,
+          hx,
+          (suc many, chain_more (10 - (10 - strength o)) many x a (t.Binary o a r) o ws₂ us₂ c last),
+        ) in (
+          left,
+          vs₁,
+          vs₂ ++ us₂,
+          e ∙ ap (λ l. l ++ us₂) f ∙ append_assoc vs₁ vs₂ us₂,
+          hl,
+          ladder_up (suc (10 - strength o)) levels left (t.Binary o a r) (vs₂ ++ us₂) (omega (arith, h, q, low, high)) whole,
+        )
 
 -- ---- The parsers of the ladder
 
 right_operand : {b : ℕ} (levels : ℕ) → levels ≤ 9 → {operand operand' : Parser t.Expression} {after after' : t.Expression → Parser t.Expression} →
-    Good b (from 11) (from 11) OperandEnd operand operand' → ((left : t.Expression) → Good b (Ladder levels left) (Ladder levels left) (End (11 - levels)) (after left) (after' left)) →
+    Good b (from 11) (from 11) OperandEnd operand operand' → ((left : t.Expression)
+    → Good b (Ladder levels left) (Ladder levels left) (End (11 - levels)) (after left) (after' left)) →
     Good b (from (10 - levels + 1)) (from (10 - levels + 1)) (End (10 - levels + 1)) (do y ← operand; after y) (do y ← operand'; after' y)
 right_operand levels h g a =
     let s : 11 - levels ≡ 10 - levels + 1 = omega (arith, h) in
@@ -300,27 +349,37 @@ right_operand levels h g a =
 -- the parser of a ladder, with so many levels
 abbrev pub AfterGood : (b : ℕ) → (operand operand' : Parser t.Expression) → (fuel fuel' levels : ℕ) → Type 0
 AfterGood b operand operand' fuel fuel' levels =
-    (left : t.Expression) → Good b (Ladder levels left) (Ladder levels left) (End (11 - levels)) (operators_after operand fuel levels left) (operators_after operand' fuel' levels left)
+    (left : t.Expression) → Good b (Ladder levels left) (Ladder levels left) (End (11 - levels)) (operators_after operand fuel levels left)
+    (operators_after operand' fuel' levels left)
 
-operators_more : {b : ℕ} (fuel fuel' : ℕ) → b ≤ fuel → b ≤ fuel' → (operand operand' : Parser t.Expression) → Good b (from 11) (from 11) OperandEnd operand operand' → Good 0 (from 11) (from 11) OperandEnd operand operand →
-    (levels : ℕ) → levels ≤ 9 → AfterGood b operand operand' fuel fuel' levels → AfterGood 0 operand operand fuel fuel levels → AfterGood b operand operand' fuel fuel' (suc levels)
+operators_more : {b : ℕ} (fuel fuel' : ℕ) → b ≤ fuel → b ≤ fuel' → (operand operand' : Parser t.Expression)
+    → Good b (from 11) (from 11) OperandEnd operand operand' → Good 0 (from 11) (from 11) OperandEnd operand operand →
+    (levels : ℕ) → levels ≤ 9 → AfterGood b operand operand' fuel fuel' levels → AfterGood 0 operand operand fuel fuel levels
+    → AfterGood b operand operand' fuel fuel' (suc levels)
 operators_more {b = b} fuel fuel' h h' operand operand' g g₀ levels l below below₀ left =
     let oq : (o : bo.Binary) × (strength o ≡ 10 - levels) = operator_with levels l in
     good_to {U = Ladder levels left ▷ Chain (10 - levels)} {K = Ladder levels left ▷ Chain (10 - levels)} {F = End (10 - levels)}
     (good_then {M = Chain (10 - levels)} {F = End (11 - levels)} {G = End (10 - levels)} (below left)
-    (λ x. operators_good (10 - levels) oq.0 oq.1 (do y ← operand; operators_after operand fuel levels y) (do y ← operand'; operators_after operand' fuel' levels y) fuel fuel' b h h' (right_operand levels l g below) (right_operand levels l g₀ below₀) x)
+    (λ x. operators_good (10 - levels) oq.0 oq.1 (do y ← operand; operators_after operand fuel levels y)
+    (do y ← operand'; operators_after operand' fuel' levels y) fuel fuel' b h h' (right_operand levels l g below) (right_operand levels l g₀ below₀) x)
     after)
     (λ y us u. u) (λ y us u. u) over
   where
-    after : (x y : t.Expression) (us rest : List Token) → Chain (10 - levels) x y us → End (10 - levels) (head_of rest) → End (11 - levels) (head_of (us ++ rest))
+    after : (x y : t.Expression) (us rest : List Token) → Chain (10 - levels) x y us → End (10 - levels) (head_of rest)
+        → End (11 - levels) (head_of (us ++ rest))
     after x y us rest c f = let s : 11 - levels ≡ 10 - levels + 1 = omega (arith, l) in rw s (chain_ends (10 - levels) x y us rest c f)
 
     over : (x : Option Lexeme) → End (11 - suc levels) x → End (10 - levels) x
     over x f = let s : 11 - suc levels ≡ 10 - levels = omega (arith, l) in rw s at f
 
-pub operators_after_good : (fuel fuel' b : ℕ) → b ≤ fuel → b ≤ fuel' → (operand operand' : Parser t.Expression) → Good b (from 11) (from 11) OperandEnd operand operand' → Good 0 (from 11) (from 11) OperandEnd operand operand →
+pub operators_after_good : (fuel fuel' b : ℕ) → b ≤ fuel → b ≤ fuel' → (operand operand' : Parser t.Expression)
+    → Good b (from 11) (from 11) OperandEnd operand operand' → Good 0 (from 11) (from 11) OperandEnd operand operand →
     (levels : ℕ) → levels ≤ 10 → AfterGood b operand operand' fuel fuel' levels × AfterGood 0 operand operand fuel fuel levels
-operators_after_good fuel fuel' b h h' operand operand' g g₀ zero l = (λ left. good_to (good_give left) (λ y us u. u) (λ y us u. u) (λ x f. tt), λ left. good_to (good_give left) (λ y us u. u) (λ y us u. u) (λ x f. tt))
+operators_after_good fuel fuel' b h h' operand operand' g g₀ zero l =
+    (λ left. good_to (good_give left) (λ y us u. u) (λ y us u. u) (λ x f. tt), λ left. good_to (good_give left) (λ y us u. u) (λ y us u. u) (λ x f. tt))
 operators_after_good fuel fuel' b h h' operand operand' g g₀ (suc levels) l =
-    let below : AfterGood b operand operand' fuel fuel' levels × AfterGood 0 operand operand fuel fuel levels = operators_after_good fuel fuel' b h h' operand operand' g g₀ levels (omega (arith, l)) in
-    (operators_more fuel fuel' h h' operand operand' g g₀ levels (omega (arith, l)) below.0 below.1, operators_more {b = 0} fuel fuel (omega arith) (omega arith) operand operand g₀ g₀ levels (omega (arith, l)) below.1 below.1)
+    let below : AfterGood b operand operand' fuel fuel' levels × AfterGood 0 operand operand fuel fuel levels =
+    operators_after_good fuel fuel' b h h' operand operand' g g₀ levels (omega (arith, l)) in (
+      operators_more fuel fuel' h h' operand operand' g g₀ levels (omega (arith, l)) below.0 below.1,
+      operators_more {b = 0} fuel fuel (omega arith) (omega arith) operand operand g₀ g₀ levels (omega (arith, l)) below.1 below.1,
+    )

@@ -1,8 +1,9 @@
 -- What a parser owes to the language that it reads, and how the ways to join parsers keep it.
-use Rattle.std.proofs.Common.{◌≡◌, ℕ, suc, ◌+◌, ◌<◌, ◌≤◌, List, [], ◌∷◌, ◌++◌, length, Option, Some, None, Bool, true, false, sym, refl, ap, ◌∙◌, inl, inr, append_assoc, length-append, arith, le_trans, le_refl}
+use Rattle.std.proofs.Common.{◌≡◌, ℕ, suc, ◌+◌, ◌<◌, ◌≤◌, List, [], ◌∷◌, ◌++◌, length, Option, Some, None, Bool, true, false}
+use Rattle.std.proofs.Common.{sym, refl, ap, ◌∙◌, inl, inr, append_assoc, length-append, arith, le_trans, le_refl}
 use Rattle.std.specs.Prelude.{◌⊎◌}
 use Rattle.c_tree.specs.Tokens.{Token, Lexeme}
-use Rattle.c_reader.specs.Parsing.{Parsed, Read, Wrong, Parser, give, wrong, follow, ◌>>=◌, head_of, by_head, taking, where_head}
+use Rattle.c_reader.specs.links.Parsing.{Parsed, Read, Wrong, Parser, give, wrong, follow, ◌>>=◌, head_of, by_head, taking, where_head}
 
 -- ---- Languages with trees
 
@@ -54,17 +55,20 @@ Anything h = Unit {0}
 
 -- ---- Small facts
 
-pub shorter : (us v rest : List Token) (t : Token) (w : List Token) (first : List Token) → us ++ t ∷ w ≡ first ++ rest → rest ≡ v ++ t ∷ w → length us ≡ length first + length v
+pub shorter : (us v rest : List Token) (t : Token) (w : List Token) (first : List Token) → us ++ t ∷ w ≡ first ++ rest → rest ≡ v ++ t ∷ w
+    → length us ≡ length first + length v
 shorter us v rest t w first e e' =
     let a : length us + length (t ∷ w) ≡ length first + (length v + length (t ∷ w)) =
-    sym (length-append us (t ∷ w)) ∙ ap length e ∙ length-append first rest ∙ ap (λ r. length first + length r) e' ∙ ap (λ n. length first + n) (length-append v (t ∷ w)) in
+    sym (length-append us (t ∷ w)) ∙ ap length e ∙ length-append first rest ∙ ap (λ r. length first + length r) e'
+    ∙ ap (λ n. length first + n) (length-append v (t ∷ w)) in
     omega (arith, a)
 
 pub rest_within : (ts us rest : List Token) (n : ℕ) → ts ≡ us ++ rest → length ts ≤ n → length rest ≤ n
 rest_within ts us rest n e h = let a : length ts ≡ length us + length rest = ap length e ∙ length-append us rest in omega (arith, a, h)
 
 -- an answer whose tokens went past t is alike with any
-pub past : {A : Type 0} (L : Language A) (ts : List Token) (t : Token) (w w' : List Token) (r r' : Parsed A) → Meets L ts r → length ts ≤ length w → Alike t w w' r r'
+pub past : {A : Type 0} (L : Language A) (ts : List Token) (t : Token) (w w' : List Token) (r r' : Parsed A) → Meets L ts r → length ts ≤ length w
+    → Alike t w w' r r'
 past L ts t w w' (Read x rest) r' m h = inl (rest_within ts m.0 rest (length w) m.1 h)
 past L ts t w w' (Wrong rest) r' m h = inl (rest_within ts m.0 rest (length w) m.1 h)
 
@@ -93,7 +97,8 @@ taking_sure {A = A} f t₀ x₀ e (t ∷ ts) = go (f t) refl
     go (Some x) h = (t ∷ [], refl, (t, refl, h))
     go None h = ([], refl, t₀ ∷ [], x₀, (t₀, refl, e))
 
-taking_alike : {A : Type 0} (f : Token → Option A) (us : List Token) (t : Token) (w w' : List Token) → Alike t w w' (taking f (us ++ t ∷ w)) (taking f (us ++ t ∷ w'))
+taking_alike : {A : Type 0} (f : Token → Option A) (us : List Token) (t : Token) (w w' : List Token)
+    → Alike t w w' (taking f (us ++ t ∷ w)) (taking f (us ++ t ∷ w'))
 taking_alike {A = A} f [] t w w' = go (f t)
   where
     go : (o : Option A) → Alike t w w' (elim o [ Some x ↦ Read x w | None ↦ Wrong (t ∷ w) ]) (elim o [ Some x ↦ Read x w' | None ↦ Wrong (t ∷ w') ])
@@ -101,14 +106,16 @@ taking_alike {A = A} f [] t w w' = go (f t)
     go None = inr ([], refl, refl)
 taking_alike {A = A} f (u ∷ us) t w w' = go (f u)
   where
-    go : (o : Option A) → Alike t w w' (elim o [ Some x ↦ Read x (us ++ t ∷ w) | None ↦ Wrong (u ∷ us ++ t ∷ w) ]) (elim o [ Some x ↦ Read x (us ++ t ∷ w') | None ↦ Wrong (u ∷ us ++ t ∷ w') ])
+    go : (o : Option A) → Alike t w w' (elim o [ Some x ↦ Read x (us ++ t ∷ w) | None ↦ Wrong (u ∷ us ++ t ∷ w) ])
+        (elim o [ Some x ↦ Read x (us ++ t ∷ w') | None ↦ Wrong (u ∷ us ++ t ∷ w') ])
     go (Some x) = inr (us, refl, refl)
     go None = inr (u ∷ us, refl, refl)
 
 taking_whole : {A : Type 0} (f : Token → Option A) (x : A) (us rest : List Token) → found_in f x us → taking f (us ++ rest) ≡ Read x rest
 taking_whole f x us rest (t, e, h) = rw e (rw h refl)
 
-pub good_taking : {A : Type 0} {b : ℕ} (f : Token → Option A) (t₀ : Token) (x₀ : A) → f t₀ ≡ Some x₀ → Good b (found_in f) (found_in f) Anything (taking f) (taking f)
+pub good_taking : {A : Type 0} {b : ℕ} (f : Token → Option A) (t₀ : Token) (x₀ : A) → f t₀ ≡ Some x₀
+    → Good b (found_in f) (found_in f) Anything (taking f) (taking f)
 good_taking f t₀ x₀ e = record {
   sure = taking_sure f t₀ x₀ e;
   alike = λ us t w w' h. taking_alike f us t w w';
@@ -116,7 +123,8 @@ good_taking f t₀ x₀ e = record {
 }
 
 pub good_to : {A : Type 0} {b : ℕ} {U K U' K' : Language A} {F F' : Option Lexeme → Type 0} {P P' : Parser A} →
-    Good b U K F P P' → ((x : A) (us : List Token) → U x us → U' x us) → ((x : A) (us : List Token) → K' x us → K x us) → ((h : Option Lexeme) → F' h → F h) → Good b U' K' F' P P'
+    Good b U K F P P' → ((x : A) (us : List Token) → U x us → U' x us) → ((x : A) (us : List Token) → K' x us → K x us) → ((h : Option Lexeme) → F' h → F h)
+    → Good b U' K' F' P P'
 good_to {A = A} {U = U} {U' = U'} {P = P} g up down over = record {
   sure = λ ts. go ts (P ts) (g.sure ts);
   alike = g.alike;
@@ -134,7 +142,8 @@ good_less g h = record {
   whole = λ x us rest k e f. g.whole x us rest k (le_trans e h) f;
 }
 
-pub good_map : {A B : Type 0} {b : ℕ} {U K : Language A} {F : Option Lexeme → Type 0} {P P' : Parser A} (f : A → B) → Good b U K F P P' → Good b (U ▹ f) (K ▹ f) F (P >>= λ x. give (f x)) (P' >>= λ x. give (f x))
+pub good_map : {A B : Type 0} {b : ℕ} {U K : Language A} {F : Option Lexeme → Type 0} {P P' : Parser A} (f : A → B) → Good b U K F P P'
+    → Good b (U ▹ f) (K ▹ f) F (P >>= λ x. give (f x)) (P' >>= λ x. give (f x))
 good_map {A = A} {B = B} {U = U} {P = P} {P' = P'} f g = record {
   sure = λ ts. go ts (P ts) (g.sure ts);
   alike = λ us t w w' h. go' t w w' (P (us ++ t ∷ w)) (P' (us ++ t ∷ w')) (g.alike us t w w' h);
@@ -161,7 +170,8 @@ then_sure {A = A} {B = B} L M Q s ts (Read x rest) (us, e, u) = go (Q x rest) (s
   where
     go : (r : Parsed B) → Meets (M x) rest r → Meets (L ▷ M) ts r
     go (Read y rest') (vs, e', m) = (us ++ vs, e ∙ ap (λ l. us ++ l) e' ∙ sym (append_assoc us vs rest'), (x, us, vs, refl, u, m))
-    go (Wrong rest') (vs, e', more, y, m) = (us ++ vs, e ∙ ap (λ l. us ++ l) e' ∙ sym (append_assoc us vs rest'), more, y, (x, us, vs ++ more, append_assoc us vs more, u, m))
+    go (Wrong rest') (vs, e', more, y, m) =
+        (us ++ vs, e ∙ ap (λ l. us ++ l) e' ∙ sym (append_assoc us vs rest'), more, y, (x, us, vs ++ more, append_assoc us vs more, u, m))
 then_sure {A = A} {B = B} L M Q s ts (Wrong rest) (us, e, more, x, u) = go (Q x []) (s x [])
   where
     go : (r : Parsed B) → Meets (M x) [] r → Meets (L ▷ M) ts (Wrong rest)
@@ -170,10 +180,10 @@ then_sure {A = A} {B = B} L M Q s ts (Wrong rest) (us, e, more, x, u) = go (Q x 
 
 then_alike : {A B : Type 0} (L : Language A) (M : A → Language B) (Q Q' : A → Parser B) (us : List Token) (t : Token) (w w' : List Token) →
     ((x : A) (ts : List Token) → Meets (M x) ts (Q x ts)) →
-    ((x : A) (front v : List Token) → L x front → length us ≡ length front + length v → Alike t w w' (Q x (v ++ t ∷ w)) (Q' x (v ++ t ∷ w'))) →
+    ((x : A) (prefix v : List Token) → L x prefix → length us ≡ length prefix + length v → Alike t w w' (Q x (v ++ t ∷ w)) (Q' x (v ++ t ∷ w'))) →
     (r r' : Parsed A) → Meets L (us ++ t ∷ w) r → Alike t w w' r r' → Alike t w w' (follow r Q) (follow r' Q')
 then_alike L M Q Q' us t w w' s a (Read x rest) r' m (inl h) = past (M x) rest t w w' (Q x rest) (follow r' Q') (s x rest) h
-then_alike L M Q Q' us t w w' s a (Read x rest) r' (front, e₀, u) (inr (v, e, e')) = rw (e, e') (a x front v u (shorter us v rest t w front e₀ e))
+then_alike L M Q Q' us t w w' s a (Read x rest) r' (prefix, e₀, u) (inr (v, e, e')) = rw (e, e') (a x prefix v u (shorter us v rest t w prefix e₀ e))
 then_alike L M Q Q' us t w w' s a (Wrong rest) r' m (inl h) = inl h
 then_alike L M Q Q' us t w w' s a (Wrong rest) r' m (inr (v, e, e')) = inr (v, e, rw e' refl)
 
@@ -183,7 +193,8 @@ pub good_then : {A B : Type 0} {b : ℕ} {L : Language A} {M : A → Language B}
     Good b (L ▷ M) (L ▷ M) G (P >>= Q) (P' >>= Q')
 good_then {A = A} {B = B} {b = b} {L = L} {M = M} {P = P} {P' = P'} {Q = Q} {Q' = Q'} g h after = record {
   sure = λ ts. then_sure L M Q (λ x. (h x).sure) ts (P ts) (g.sure ts);
-  alike = λ us t w w' e. then_alike L M Q Q' us t w w' (λ x. (h x).sure) (λ x front v u n. (h x).alike v t w w' (omega (arith, e, n))) (P (us ++ t ∷ w)) (P' (us ++ t ∷ w')) (g.sure (us ++ t ∷ w)) (g.alike us t w w' e);
+  alike = λ us t w w' e. then_alike L M Q Q' us t w w' (λ x. (h x).sure) (λ x prefix v u n. (h x).alike v t w w' (omega (arith, e, n))) (P (us ++ t ∷ w))
+      (P' (us ++ t ∷ w')) (g.sure (us ++ t ∷ w)) (g.alike us t w w' e);
   whole = λ y ts rest k n f. let (x, us, vs, e, l, m) = k in
       let a : length ts ≡ length us + length vs = ap length e ∙ length-append us vs in
       let e₁ : ts ++ rest ≡ us ++ (vs ++ rest) = ap (λ l. l ++ rest) e ∙ append_assoc us vs rest in
@@ -197,7 +208,10 @@ pub good_then_less : {A B : Type 0} {b c : ℕ} {L : Language A} {M : A → Lang
     Good b (L ▷ M) (L ▷ M) G (P >>= Q) (P' >>= Q')
 good_then_less {A = A} {B = B} {b = b} {L = L} {M = M} {P = P} {P' = P'} {Q = Q} {Q' = Q'} bc strict g h after = record {
   sure = λ ts. then_sure L M Q (λ x. (h x).sure) ts (P ts) (g.sure ts);
-  alike = λ us t w w' e. then_alike L M Q Q' us t w w' (λ x. (h x).sure) (λ x front v u n. let s : 0 < length front = strict x front u in (h x).alike v t w w' (omega (arith, e, n, s, bc))) (P (us ++ t ∷ w)) (P' (us ++ t ∷ w')) (g.sure (us ++ t ∷ w)) (g.alike us t w w' e);
+  alike = λ us t w w' e. then_alike L M Q Q' us t w w' (λ x. (h x).sure)
+      (λ x prefix v u n. let s : 0 < length prefix = strict x prefix u in (h x).alike v t w w' (omega (arith, e, n, s, bc))) (P (us ++ t ∷ w))
+      (P' (us ++ t ∷ w'))
+      (g.sure (us ++ t ∷ w)) (g.alike us t w w' e);
   whole = λ y ts rest k n f. let (x, us, vs, e, l, m) = k in
       let a : length ts ≡ length us + length vs = ap length e ∙ length-append us vs in
       let s : 0 < length us = strict x us l in
@@ -206,7 +220,8 @@ good_then_less {A = A} {B = B} {b = b} {L = L} {M = M} {P = P} {P' = P'} {Q = Q}
 }
 
 -- no list is asked about: only the answers count
-pub good_small : {A : Type 0} {b : ℕ} {U K : Language A} {F : Option Lexeme → Type 0} {P P' : Parser A} → b ≤ 0 → ((ts : List Token) → Meets U ts (P ts)) → Good b U K F P P'
+pub good_small : {A : Type 0} {b : ℕ} {U K : Language A} {F : Option Lexeme → Type 0} {P P' : Parser A} → b ≤ 0 → ((ts : List Token) → Meets U ts (P ts))
+    → Good b U K F P P'
 good_small h s = record {
   sure = s;
   alike = λ us t w w' n. let z : ⊥ = omega (arith, h, n) in absurd z;
@@ -231,7 +246,8 @@ good_head {A = A} {b = b} {f = f} {f' = f'} g out = record {
 -- by a test of the next token
 pub good_where : {A : Type 0} {b : ℕ} {U K₁ K₂ : Language A} {F : Option Lexeme → Type 0} {P P' Q Q' : Parser A} (test : Option Lexeme → Bool) →
     Good b U K₁ F P P' → Good b U K₂ F Q Q' →
-    ((x : A) (us rest : List Token) → U x us → F (head_of rest) → (K₁ x us × (test (head_of (us ++ rest)) ≡ true)) ⊎ (K₂ x us × (test (head_of (us ++ rest)) ≡ false))) →
+    ((x : A) (us rest : List Token) → U x us → F (head_of rest)
+    → (K₁ x us × (test (head_of (us ++ rest)) ≡ true)) ⊎ (K₂ x us × (test (head_of (us ++ rest)) ≡ false))) →
     Good b U U F (where_head test P Q) (where_head test P' Q')
 good_where {A = A} {b = b} {U = U} {K₁ = K₁} {K₂ = K₂} {F = F} {P = P} {P' = P'} {Q = Q} {Q' = Q'} test g h out = record {
   sure = λ ts. on (λ r. Meets U ts r) (test (head_of ts)) (P ts) (Q ts) (g.sure ts) (h.sure ts);
@@ -243,14 +259,18 @@ good_where {A = A} {b = b} {U = U} {K₁ = K₁} {K₂ = K₂} {F = F} {P = P} {
     on S true r s a c = a
     on S false r s a c = c
 
-    on2 : (S : Parsed A → Parsed A → Type 0) (t : Bool) (r r' s s' : Parsed A) → S r r' → S s s' → S (elim t [ true ↦ r | false ↦ s ]) (elim t [ true ↦ r' | false ↦ s' ])
+    on2 : (S : Parsed A → Parsed A → Type 0) (t : Bool) (r r' s s' : Parsed A) → S r r' → S s s'
+        → S (elim t [ true ↦ r | false ↦ s ]) (elim t [ true ↦ r' | false ↦ s' ])
     on2 S true r r' s s' a c = a
     on2 S false r r' s s' a c = c
 
-    go : (us : List Token) (t : Token) (w w' : List Token) → length us < b → Alike t w w' (where_head test P Q (us ++ t ∷ w)) (where_head test P' Q' (us ++ t ∷ w'))
+    go : (us : List Token) (t : Token) (w w' : List Token) → length us < b
+        → Alike t w w' (where_head test P Q (us ++ t ∷ w)) (where_head test P' Q' (us ++ t ∷ w'))
     go [] t w w' n = on2 (Alike t w w') (test (Some t.lexeme)) (P (t ∷ w)) (P' (t ∷ w')) (Q (t ∷ w)) (Q' (t ∷ w')) (g.alike [] t w w' n) (h.alike [] t w w' n)
-    go (u ∷ us) t w w' n = on2 (Alike t w w') (test (Some u.lexeme)) (P (u ∷ us ++ t ∷ w)) (P' (u ∷ us ++ t ∷ w')) (Q (u ∷ us ++ t ∷ w)) (Q' (u ∷ us ++ t ∷ w')) (g.alike (u ∷ us) t w w' n) (h.alike (u ∷ us) t w w' n)
+    go (u ∷ us) t w w' n = on2 (Alike t w w') (test (Some u.lexeme)) (P (u ∷ us ++ t ∷ w)) (P' (u ∷ us ++ t ∷ w')) (Q (u ∷ us ++ t ∷ w)) (Q' (u ∷ us ++ t ∷ w'))
+        (g.alike (u ∷ us) t w w' n) (h.alike (u ∷ us) t w w' n)
 
-    two : (x : A) (us rest : List Token) → length us < b → F (head_of rest) → (K₁ x us × (test (head_of (us ++ rest)) ≡ true)) ⊎ (K₂ x us × (test (head_of (us ++ rest)) ≡ false)) → where_head test P Q (us ++ rest) ≡ Read x rest
+    two : (x : A) (us rest : List Token) → length us < b → F (head_of rest)
+        → (K₁ x us × (test (head_of (us ++ rest)) ≡ true)) ⊎ (K₂ x us × (test (head_of (us ++ rest)) ≡ false)) → where_head test P Q (us ++ rest) ≡ Read x rest
     two x us rest n e (inl (k, c)) = rw (c, where_head) (g.whole x us rest k n e)
     two x us rest n e (inr (k, c)) = rw (c, where_head) (h.whole x us rest k n e)

@@ -3,7 +3,7 @@ use Rattle.std.proofs.Common.{◌≡◌, ℕ, ◌<◌, List, [], ◌∷◌, ◌+
 use Rattle.ido_base.specs.declared.place.Place.{Place}
 use Rattle.c_tree.specs.Tokens.{Token, Lexeme}
 use Rattle.c_tree.specs.Languages.{first_place}
-use Rattle.c_reader.specs.Parsing.{Parsed, Read, Wrong, Parser, here, ◌>>=◌, head_of}
+use Rattle.c_reader.specs.links.Parsing.{Parsed, Read, Wrong, Parser, here, ◌>>=◌, head_of}
 use Rattle.c_reader.proofs.Good.{Language, Good, Meets, Alike, Strict}
 use Rattle.c_reader.proofs.Tokens.{some_same}
 
@@ -15,9 +15,9 @@ abbrev first_or : Token → List Token → Token
 first_or d [] = d
 first_or d (t ∷ ts) = t
 
-front_place : (t : Token) (ts us rest : List Token) → t ∷ ts ≡ us ++ rest → 0 < length us → first_place us ≡ Some t.place
-front_place t ts [] rest e h = let z : ⊥ = omega (arith, h) in absurd z
-front_place t ts (u ∷ us) rest e h = ap (λ x. Some (first_or t x).place) (sym e)
+prefix_place : (t : Token) (ts us rest : List Token) → t ∷ ts ≡ us ++ rest → 0 < length us → first_place us ≡ Some t.place
+prefix_place t ts [] rest e h = let z : ⊥ = omega (arith, h) in absurd z
+prefix_place t ts (u ∷ us) rest e h = ap (λ x. Some (first_or t x).place) (sym e)
 
 has_first : (us : List Token) → 0 < length us → (place : Place) × (first_place us ≡ Some place)
 has_first [] h = let z : ⊥ = omega (arith, h) in absurd z
@@ -35,7 +35,7 @@ good_here {B = B} {b = b} {F = F} M {P = P} {P' = P'} strict shape g = record { 
         (y', (first, f, m'))
 
     at : (t : Token) (ts : List Token) (r : Parsed B) → Meets (M t.place) (t ∷ ts) r → Meets (At M) (t ∷ ts) r
-    at t ts (Read y rest) (us, e, m) = (us, e, (t.place, front_place t ts us rest e (strict t.place y us m), m))
+    at t ts (Read y rest) (us, e, m) = (us, e, (t.place, prefix_place t ts us rest e (strict t.place y us m), m))
     at t ts (Wrong rest) (us, e, more, y, m) = let (y', a) = some_of_it t.place y (us ++ more) m in (us, e, more, y', a)
 
     sure : (ts : List Token) → Meets (At M) ts ((here >>= P) ts)
@@ -52,4 +52,5 @@ good_here {B = B} {b = b} {F = F} M {P = P} {P' = P'} strict shape g = record { 
 
     whole : (y : B) (us rest : List Token) → At M y us → length us < b → F (head_of rest) → (here >>= P) (us ++ rest) ≡ Read y rest
     whole y [] rest (place, f, m) h e = let s : 0 < 0 = strict place y [] m in let z : ⊥ = omega (arith, s) in absurd z
-    whole y (u ∷ us) rest (place, f, m) h e = subst (λ z. P z (u ∷ us ++ rest) ≡ Read y rest) (sym (some_same u.place place f)) ((g place).whole y (u ∷ us) rest m h e)
+    whole y (u ∷ us) rest (place, f, m) h e =
+        subst (λ z. P z (u ∷ us ++ rest) ≡ Read y rest) (sym (some_same u.place place f)) ((g place).whole y (u ∷ us) rest m h e)

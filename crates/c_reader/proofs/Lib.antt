@@ -17,12 +17,11 @@ pub mod Single
 mod Worked
 pub mod Blocks
 pub mod Comments
-pub mod Fronts
+pub mod Prefixes
 pub mod Answers
 pub mod ItemSteps
 pub mod Nestings
 pub mod Numbers
-pub mod Rows
 pub mod Scans
 pub mod Sizes
 pub mod Steps

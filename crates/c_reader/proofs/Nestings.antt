@@ -4,7 +4,7 @@ use Rattle.std.proofs.lemmas.List.{take_more, map-append}
 use Rattle.c_tree.specs.Tokens as t
 use Rattle.c_tree.specs.Reading.{Nesting, outside, within_lexeme, is_high, is_high_from, nests_high}
 use Rattle.c_reader.specs.declared.token.Token.{Token}
-use Rattle.c_reader.specs.Tokens.{lexeme_of, token_of, tokens_of}
+use Rattle.c_reader.specs.links.Tokens.{lexeme_of, token_of, tokens_of}
 
 -- the nesting behind tokens
 abbrev pub nesting_after : Nesting → List t.Token → Nesting
@@ -23,7 +23,8 @@ or_assoc : (a b c : Bool) → (a || (b || c)) ≡ ((a || b) || c)
 or_assoc true b c = refl
 or_assoc false b c = refl
 
-is_high_from-push : (n : Nesting) (xs : List t.Token) (x : t.Token) → is_high_from n (xs ++ x ∷ []) ≡ (is_high_from n xs || is_high (within_lexeme x.lexeme (nesting_after n xs)))
+is_high_from-push : (n : Nesting) (xs : List t.Token) (x : t.Token)
+    → is_high_from n (xs ++ x ∷ []) ≡ (is_high_from n xs || is_high (within_lexeme x.lexeme (nesting_after n xs)))
 is_high_from-push n [] x = or_false (is_high (within_lexeme x.lexeme n))
 is_high_from-push n (y ∷ ys) x =
     let m : Nesting = within_lexeme y.lexeme n in
@@ -32,11 +33,13 @@ is_high_from-push n (y ∷ ys) x =
 more : (xs : List Token) (i : ℕ) (d : Token) → i < length xs → tokens_of (take (i + 1) xs) ≡ tokens_of (take i xs) ++ token_of (get_or xs i d) ∷ []
 more xs i d within = ap tokens_of (take_more xs i d within) ∙ map-append token_of (take i xs) (get_or xs i d ∷ [])
 
-nesting_after_more : (xs : List Token) (i : ℕ) (d : Token) → i < length xs → nesting_after outside (tokens_of (take (i + 1) xs)) ≡ within_lexeme (token_of (get_or xs i d)).lexeme (nesting_after outside (tokens_of (take i xs)))
+nesting_after_more : (xs : List Token) (i : ℕ) (d : Token) → i < length xs
+    → nesting_after outside (tokens_of (take (i + 1) xs)) ≡ within_lexeme (token_of (get_or xs i d)).lexeme (nesting_after outside (tokens_of (take i xs)))
 nesting_after_more xs i d within =
     ap (nesting_after outside) (more xs i d within) ∙ nesting_after-push outside (tokens_of (take i xs)) (token_of (get_or xs i d))
 
-nests_high_more : (xs : List Token) (i : ℕ) (d : Token) → i < length xs → nests_high (tokens_of (take i xs)) ≡ false → nests_high (tokens_of (take (i + 1) xs)) ≡ is_high (nesting_after outside (tokens_of (take (i + 1) xs)))
+nests_high_more : (xs : List Token) (i : ℕ) (d : Token) → i < length xs → nests_high (tokens_of (take i xs)) ≡ false
+    → nests_high (tokens_of (take (i + 1) xs)) ≡ is_high (nesting_after outside (tokens_of (take (i + 1) xs)))
 unfolding nests_high
 nests_high_more xs i d within low =
     ap (is_high_from outside) (more xs i d within)
@@ -50,9 +53,12 @@ pub record IsNesting (xs : List Token) (i : ℕ) (n : Nesting) : Type 0 where
   pub low : nests_high (tokens_of (take i xs)) ≡ false
 
 -- one more token
-pub nesting_more : (xs : List Token) (i : ℕ) (d : Token) (n m : Nesting) → IsNesting xs i n → i < length xs → m ≡ within_lexeme (lexeme_of (get_or xs i d).lexeme) n → (m ≡ nesting_after outside (tokens_of (take (i + 1) xs))) × (nests_high (tokens_of (take (i + 1) xs)) ≡ is_high m)
+pub nesting_more : (xs : List Token) (i : ℕ) (d : Token) (n m : Nesting) → IsNesting xs i n → i < length xs
+    → m ≡ within_lexeme (lexeme_of (get_or xs i d).lexeme) n
+    → (m ≡ nesting_after outside (tokens_of (take (i + 1) xs))) × (nests_high (tokens_of (take (i + 1) xs)) ≡ is_high m)
 nesting_more xs i d n m h within e =
-    let same : m ≡ nesting_after outside (tokens_of (take (i + 1) xs)) = e ∙ ap (within_lexeme (lexeme_of (get_or xs i d).lexeme)) h.nesting ∙ sym (nesting_after_more xs i d within) in
+    let same : m ≡ nesting_after outside (tokens_of (take (i + 1) xs)) = e ∙ ap (within_lexeme (lexeme_of (get_or xs i d).lexeme)) h.nesting
+    ∙ sym (nesting_after_more xs i d within) in
     (same, nests_high_more xs i d within h.low ∙ ap is_high (sym same))
 
 pub nests_high_none : nests_high [] ≡ false
@@ -61,17 +67,17 @@ nests_high_none = refl
 
 -- ---- Fronts of tokens
 
-or_front : (b r s : Bool) → (r ≡ false → s ≡ false) → (b || r) ≡ false → (b || s) ≡ false
-or_front true r s f e = e
-or_front false r s f e = f e
+or_prefix : (b r s : Bool) → (r ≡ false → s ≡ false) → (b || r) ≡ false → (b || s) ≡ false
+or_prefix true r s f e = e
+or_prefix false r s f e = f e
 
-pub is_high_from-front : (n : Nesting) (xs ys : List t.Token) → is_high_from n (xs ++ ys) ≡ false → is_high_from n xs ≡ false
-is_high_from-front n [] ys e = refl
-is_high_from-front n (x ∷ xs) ys e =
+pub is_high_from-prefix : (n : Nesting) (xs ys : List t.Token) → is_high_from n (xs ++ ys) ≡ false → is_high_from n xs ≡ false
+is_high_from-prefix n [] ys e = refl
+is_high_from-prefix n (x ∷ xs) ys e =
     let m : Nesting = within_lexeme x.lexeme n in
-    or_front (is_high m) (is_high_from m (xs ++ ys)) (is_high_from m xs) (is_high_from-front m xs ys) e
+    or_prefix (is_high m) (is_high_from m (xs ++ ys)) (is_high_from m xs) (is_high_from-prefix m xs ys) e
 
 -- tokens that don't nest too high have no front that does
-pub nests_high-front : (xs ys : List t.Token) → nests_high (xs ++ ys) ≡ false → nests_high xs ≡ false
+pub nests_high-prefix : (xs ys : List t.Token) → nests_high (xs ++ ys) ≡ false → nests_high xs ≡ false
 unfolding nests_high
-nests_high-front xs ys e = is_high_from-front outside xs ys e
+nests_high-prefix xs ys e = is_high_from-prefix outside xs ys e

@@ -1,5 +1,6 @@
 -- What a text is read as, from its tokens and what they were parsed as.
-use Rattle.std.proofs.Common.{◌≡◌, ℕ, ◌+◌, ◌<◌, ◌≤◌, List, [], ◌∷◌, ◌++◌, length, take, drop, get_or, slice_get, Option, Some, None, IfSome, IfNone, Result, Ok, Err, IfErr, true, false, refl, sym, ◌∙◌, ap, subst, arith, length-append, length-drop}
+use Rattle.std.proofs.Common.{◌≡◌, ℕ, ◌+◌, ◌<◌, ◌≤◌, List, [], ◌∷◌, ◌++◌, length, take, drop, get_or, slice_get, Option, Some, None, IfSome}
+use Rattle.std.proofs.Common.{IfNone, Result, Ok, Err, IfErr, true, false, refl, sym, ◌∙◌, ap, subst, arith, length-append, length-drop}
 use Rattle.std.proofs.lemmas.Grind.{common_steps}
 use Rattle.std.proofs.lemmas.List.{take_all, drop_more, length-map, take-map}
 use Rattle.std.proofs.lemmas.Option.{slice_get-get_or}
@@ -10,16 +11,17 @@ use Rattle.c_tree.specs.Tokens.{Token}
 use Rattle.c_tree.specs.Grammar.{program}
 use Rattle.c_tree.specs.Scanning.{Fault, Scanned, scanned}
 use Rattle.c_tree.specs.Reading.{Begins, IsWhole, IsWrong, IsRefused, no_token, wrong_token, too_high, wrong_end, IsRead, nests_high}
-use Rattle.c_reader.specs.Parsing.{Read, Wrong, parse_program}
-use Rattle.c_reader.specs.Readings.{IsFirstHigh, IsParsed, Parses, fault_of, reach, behind_of}
+use Rattle.c_reader.specs.links.Parsing.{Read, Wrong, parse_program}
+use Rattle.c_tree.specs.Refusals.{fault_in}
+use Rattle.c_reader.specs.links.Readings.{IsFirstHigh, IsParsed, Parses, reach, behind_of}
 use Rattle.c_reader.specs.declared.parser.Outcome.TheVariants as outcome
 use Rattle.c_tree.specs.declared.tree.Tree.{Tree}
-use Rattle.c_reader.specs.Tokens.{token_of, tokens_of}
+use Rattle.c_reader.specs.links.Tokens.{token_of, tokens_of}
 use Rattle.c_reader.specs.declared.token.Token.{Token as Own}
 use Rattle.c_reader.specs.declared.parser.Outcome.{Outcome}
-use Rattle.c_reader.specs.declared.reader.ReadError.{ReadError}
-use Rattle.c_reader.specs.declared.reader.ReadError.TheVariants as error
-use Rattle.c_reader.proofs.Nestings.{nests_high-front}
+use Rattle.c_tree.specs.declared.refusal.SourceError.{SourceError}
+use Rattle.c_tree.specs.declared.refusal.SourceError.TheVariants as error
+use Rattle.c_reader.proofs.Nestings.{nests_high-prefix}
 use Rattle.c_reader.proofs.Whole.{program_read, program_begins, program_wrong, program_ends}
 
 -- ---- Tokens that are looked at
@@ -33,13 +35,14 @@ one_more ts i d within = grind (arith, common_steps)
 get_there : (ts : List Token) (i : ℕ) (d : Token) → i < length ts → slice_get ts i ≡ Some (get_or ts i d)
 get_there ts i d within = slice_get-get_or ts i d within
 
-abbrev fault_in : Option Fault → Fault → Fault
-fault_in None d = d
-fault_in (Some f) d = f
+abbrev fault_or : Option Fault → Fault → Fault
+fault_or None d = d
+fault_or (Some f) d = f
 
 -- ---- What stands behind them
 
-behind_no_token : (text : List ℕ) (s : Scanned) (f : Fault) → s ≡ scanned text → nests_high s.tokens ≡ false → Begins (take (length s.tokens) s.tokens) → s.fault ≡ Some f → IsRefused text f.rule f.place
+behind_no_token : (text : List ℕ) (s : Scanned) (f : Fault) → s ≡ scanned text → nests_high s.tokens ≡ false → Begins (take (length s.tokens) s.tokens)
+    → s.fault ≡ Some f → IsRefused text f.rule f.place
 behind_no_token text s f e low begun fault =
     let all : take (length s.tokens) s.tokens ≡ s.tokens = take_all (length s.tokens) s.tokens (omega arith) in
     let P : List Token → Type 0 = Begins in
@@ -47,15 +50,18 @@ behind_no_token text s f e low begun fault =
     let parts : Q (scanned text) = subst Q e (fault, subst P all begun, low) in
     no_token parts.0 parts.1 parts.2
 
-behind_high : (text : List ℕ) (s : Scanned) (i : ℕ) (d : Token) → s ≡ scanned text → IsFirstHigh s.tokens (Some i) → Begins (take (i + 1) s.tokens) → IsRefused text rule.High (get_or s.tokens i d).place
+behind_high : (text : List ℕ) (s : Scanned) (i : ℕ) (d : Token) → s ≡ scanned text → IsFirstHigh s.tokens (Some i) → Begins (take (i + 1) s.tokens)
+    → IsRefused text rule.High (get_or s.tokens i d).place
 behind_high text s i d e high begun =
     let ts = s.tokens in
     let t = get_or ts i d in
     let more : take (i + 1) ts ≡ take i ts ++ t ∷ [] = one_more ts i d high.0 in
     let P : List Token → Type 0 = Begins in
-    too_high (take i ts) t (drop (i + 1) ts) (sym (ap (λ (x : Scanned). x.tokens) e) ∙ cut_at ts i d high.0) high.1 (subst P more begun) (sym (ap nests_high more) ∙ high.2) refl refl
+    too_high (take i ts) t (drop (i + 1) ts) (sym (ap (λ (x : Scanned). x.tokens) e) ∙ cut_at ts i d high.0) high.1 (subst P more begun)
+    (sym (ap nests_high more) ∙ high.2) refl refl
 
-pub refused_behind : (text : List ℕ) (s : Scanned) (high : Option ℕ) (f : Fault) → s ≡ scanned text → IsFirstHigh s.tokens high → Begins (take (reach high (length s.tokens)) s.tokens) → behind_of s high ≡ Some f → IsRefused text f.rule f.place
+pub refused_behind : (text : List ℕ) (s : Scanned) (high : Option ℕ) (f : Fault) → s ≡ scanned text → IsFirstHigh s.tokens high
+    → Begins (take (reach high (length s.tokens)) s.tokens) → behind_of s high ≡ Some f → IsRefused text f.rule f.place
 refused_behind text s None f e high begun behind = behind_no_token text s f e high begun behind
 refused_behind text s (Some i) f e high begun behind = by_tokens s.tokens refl
   where
@@ -64,7 +70,7 @@ refused_behind text s (Some i) f e high begun behind = by_tokens s.tokens refl
     by_tokens (d ∷ ds) some =
         let there = get_there s.tokens i d high.0 in
         let told : record { rule = rule.High; place = (get_or s.tokens i d).place } ≡ f =
-        ap (λ o. fault_in o f) (sym (ap (option_map (λ (t : Token). record { rule = rule.High; place = t.place })) there) ∙ behind) in
+        ap (λ o. fault_or o f) (sym (ap (option_map (λ (t : Token). record { rule = rule.High; place = t.place })) there) ∙ behind) in
         let P : Fault → Type 0 = λ x. IsRefused text x.rule x.place in
         subst P told (behind_high text s i d e high begun)
 
@@ -81,7 +87,8 @@ none_behind s (Some i) high behind = by_tokens s.tokens refl
 
 -- ---- The tokens that are looked at are whole, or too few
 
-pub whole_read : (text : List ℕ) (s : Scanned) (high : Option ℕ) (xs : List Item) → s ≡ scanned text → IsFirstHigh s.tokens high → parse_program (take (reach high (length s.tokens)) s.tokens) ≡ Read xs [] → behind_of s high ≡ None → IsRead text xs
+pub whole_read : (text : List ℕ) (s : Scanned) (high : Option ℕ) (xs : List Item) → s ≡ scanned text → IsFirstHigh s.tokens high
+    → parse_program (take (reach high (length s.tokens)) s.tokens) ≡ Read xs [] → behind_of s high ≡ None → IsRead text xs
 whole_read text s None xs e high parsed behind =
     let all : take (length s.tokens) s.tokens ≡ s.tokens = take_all (length s.tokens) s.tokens (omega arith) in
     let P : List Token → Type 0 = program xs in
@@ -91,13 +98,17 @@ whole_read text s None xs e high parsed behind =
     record { scanned_whole = parts.0; low = parts.1; spelled = parts.2 }
 whole_read text s (Some i) xs e high parsed behind = let parts = none_behind s (Some i) high behind in absurd (cc (parts.0))
 
-pub whole_begins : (s : Scanned) (high : Option ℕ) (xs : List Item) → parse_program (take (reach high (length s.tokens)) s.tokens) ≡ Read xs [] → Begins (take (reach high (length s.tokens)) s.tokens)
+pub whole_begins : (s : Scanned) (high : Option ℕ) (xs : List Item) → parse_program (take (reach high (length s.tokens)) s.tokens) ≡ Read xs []
+    → Begins (take (reach high (length s.tokens)) s.tokens)
 whole_begins s high xs parsed = let ts = take (reach high (length s.tokens)) s.tokens in program_begins xs ts (program_read ts xs [] parsed).1
 
-pub short_begins : (s : Scanned) (high : Option ℕ) → parse_program (take (reach high (length s.tokens)) s.tokens) ≡ Wrong [] → Begins (take (reach high (length s.tokens)) s.tokens)
+pub short_begins : (s : Scanned) (high : Option ℕ) → parse_program (take (reach high (length s.tokens)) s.tokens) ≡ Wrong []
+    → Begins (take (reach high (length s.tokens)) s.tokens)
 short_begins s high parsed = (program_ends (take (reach high (length s.tokens)) s.tokens) parsed).0
 
-pub short_end : (text : List ℕ) (s : Scanned) (high : Option ℕ) (end : ℕ) → s ≡ scanned text → IsFirstHigh s.tokens high → parse_program (take (reach high (length s.tokens)) s.tokens) ≡ Wrong [] → behind_of s high ≡ None → end ≡ length text → IsRefused text rule.Syntax (record { 0 = end })
+pub short_end : (text : List ℕ) (s : Scanned) (high : Option ℕ) (end : ℕ) → s ≡ scanned text → IsFirstHigh s.tokens high
+    → parse_program (take (reach high (length s.tokens)) s.tokens) ≡ Wrong [] → behind_of s high ≡ None → end ≡ length text
+    → IsRefused text rule.Syntax (record { 0 = end })
 short_end text s None end e high parsed behind at =
     let all : take (length s.tokens) s.tokens ≡ s.tokens = take_all (length s.tokens) s.tokens (omega arith) in
     let ends = program_ends (take (length s.tokens) s.tokens) parsed in
@@ -110,15 +121,15 @@ short_end text s (Some i) end e high parsed behind at = let parts = none_behind 
 
 -- ---- One of them is wrong
 
-front_of : (before rest : List Token) → take (length before) (before ++ rest) ≡ before
-front_of [] rest = refl
-front_of (t ∷ ts) rest = ap (λ us. t ∷ us) (front_of ts rest)
+prefix_of : (before rest : List Token) → take (length before) (before ++ rest) ≡ before
+prefix_of [] rest = refl
+prefix_of (t ∷ ts) rest = ap (λ us. t ∷ us) (prefix_of ts rest)
 
 take_twice : (ts : List Token) (i k : ℕ) → i ≤ k → take i (take k ts) ≡ take i ts
 take_twice ts i k h = grind (arith, common_steps)
 
-get_in_front : (ts : List Token) (i k : ℕ) (d : Token) → i < k → get_or (take k ts) i d ≡ get_or ts i d
-get_in_front ts i k d h = grind (arith, common_steps)
+get_in_prefix : (ts : List Token) (i k : ℕ) (d : Token) → i < k → get_or (take k ts) i d ≡ get_or ts i d
+get_in_prefix ts i k d h = grind (arith, common_steps)
 
 drop_there : (ts : List Token) (i : ℕ) (d : Token) → i < length ts → drop i ts ≡ get_or ts i d ∷ drop (i + 1) ts
 drop_there ts i d within = drop_more ts i d within
@@ -127,28 +138,30 @@ parted : (ts : List Token) (i : ℕ) → ts ≡ take i ts ++ drop i ts
 parted ts i = grind (arith, common_steps)
 
 low_before : (ts : List Token) (high : Option ℕ) (i : ℕ) → IsFirstHigh ts high → i < reach high (length ts) → nests_high (take i ts) ≡ false
-low_before ts None i high within = nests_high-front (take i ts) (drop i ts) (sym (ap nests_high (parted ts i)) ∙ high)
+low_before ts None i high within = nests_high-prefix (take i ts) (drop i ts) (sym (ap nests_high (parted ts i)) ∙ high)
 low_before ts (Some j) i high within =
-    let front : take i (take j ts) ≡ take i ts = take_twice ts i j (omega (arith, within)) in
-    sym (ap nests_high front) ∙ nests_high-front (take i (take j ts)) (drop i (take j ts)) (sym (ap nests_high (parted (take j ts) i)) ∙ high.1)
+    let prefix : take i (take j ts) ≡ take i ts = take_twice ts i j (omega (arith, within)) in
+    sym (ap nests_high prefix) ∙ nests_high-prefix (take i (take j ts)) (drop i (take j ts)) (sym (ap nests_high (parted (take j ts) i)) ∙ high.1)
 
 reach_fits : (ts : List Token) (high : Option ℕ) → IsFirstHigh ts high → reach high (length ts) ≤ length ts
 reach_fits ts None high = omega arith
 reach_fits ts (Some i) high = omega (arith, high.0)
 
-wrong_front : (us : List Token) (i : ℕ) (d : Token) → i < length us → parse_program us ≡ Wrong (drop i us) → IsWrong (take i us) (get_or us i d)
-wrong_front us i d within parsed =
+wrong_prefix : (us : List Token) (i : ℕ) (d : Token) → i < length us → parse_program us ≡ Wrong (drop i us) → IsWrong (take i us) (get_or us i d)
+wrong_prefix us i d within parsed =
     let t = get_or us i d in
     let w = drop (i + 1) us in
     let found = program_wrong us t w (parsed ∙ ap Wrong (drop_there us i d within)) in
     let whole : length us ≡ length found.0 + length (t ∷ w) = ap length found.1 ∙ length-append found.0 (t ∷ w) in
     let reached : length found.0 ≡ i = omega (arith, whole, length-drop (i + 1) us, within) in
-    let same : found.0 ≡ take i us = sym (front_of found.0 (t ∷ w)) ∙ ap (λ n. take n (found.0 ++ t ∷ w)) reached ∙ sym (ap (take i) found.1) in
+    let same : found.0 ≡ take i us = sym (prefix_of found.0 (t ∷ w)) ∙ ap (λ n. take n (found.0 ++ t ∷ w)) reached ∙ sym (ap (take i) found.1) in
     let P : List Token → Type 0 = λ before. IsWrong before t in
     subst P same found.2
 
-pub wrong_at : (text : List ℕ) (s : Scanned) (high : Option ℕ) (i : ℕ) (d : Token) → s ≡ scanned text → IsFirstHigh s.tokens high → i < length (take (reach high (length s.tokens)) s.tokens)
-    → parse_program (take (reach high (length s.tokens)) s.tokens) ≡ Wrong (drop i (take (reach high (length s.tokens)) s.tokens)) → IsRefused text rule.Syntax (get_or s.tokens i d).place
+pub wrong_at : (text : List ℕ) (s : Scanned) (high : Option ℕ) (i : ℕ) (d : Token) → s ≡ scanned text → IsFirstHigh s.tokens high
+    → i < length (take (reach high (length s.tokens)) s.tokens)
+    → parse_program (take (reach high (length s.tokens)) s.tokens) ≡ Wrong (drop i (take (reach high (length s.tokens)) s.tokens))
+    → IsRefused text rule.Syntax (get_or s.tokens i d).place
 wrong_at text s high i d e first within parsed =
     let ts = s.tokens in
     let k = reach high (length ts) in
@@ -156,51 +169,56 @@ wrong_at text s high i d e first within parsed =
     let taken : length (take k ts) ≡ k = length-take-of k ts fits in
     let near : i < k = omega (arith, within, taken) in
     let inside : i < length ts = omega (arith, near, fits) in
-    let wrong = wrong_front (take k ts) i d within parsed in
+    let wrong = wrong_prefix (take k ts) i d within parsed in
     let P : List Token → Type 0 = λ before. IsWrong before (get_or (take k ts) i d) in
     let Q : Token → Type 0 = IsWrong (take i ts) in
-    let own = subst Q (get_in_front ts i k d near) (subst P (take_twice ts i k (omega (arith, near))) wrong) in
-    wrong_token (take i ts) (get_or ts i d) (drop (i + 1) ts) (sym (ap (λ (x : Scanned). x.tokens) e) ∙ cut_at ts i d inside) (low_before ts high i first near) own refl refl
+    let own = subst Q (get_in_prefix ts i k d near) (subst P (take_twice ts i k (omega (arith, near))) wrong) in
+    wrong_token (take i ts) (get_or ts i d) (drop (i + 1) ts) (sym (ap (λ (x : Scanned). x.tokens) e) ∙ cut_at ts i d inside)
+    (low_before ts high i first near) own refl refl
   where
     length-take-of : (n : ℕ) (xs : List Token) → n ≤ length xs → length (take n xs) ≡ n
     length-take-of n xs h = grind (arith, common_steps)
 
 -- ---- As the reader tells it
 
-pub told_behind : (s : Scanned) (high : Option ℕ) (end : ℕ) (o : Option Fault) → IsFirstHigh s.tokens high → Begins (take (reach high (length s.tokens)) s.tokens) → behind_of s high ≡ o
+pub told_behind : (s : Scanned) (high : Option ℕ) (end : ℕ) (o : Option Fault) → IsFirstHigh s.tokens high
+    → Begins (take (reach high (length s.tokens)) s.tokens) → behind_of s high ≡ o
     → IfSome o (λ f. (text : List ℕ) → s ≡ scanned text → end ≡ length text → IsRefused text f.rule f.place)
 told_behind s high end (Some f) first begun behind = λ text e at. refused_behind text s high f e first begun behind
 told_behind s high end None first begun behind = tt
 
-pub told_wrong : (text : List ℕ) (s : Scanned) (high : Option ℕ) (i : ℕ) (t : Token) → s ≡ scanned text → IsFirstHigh s.tokens high → IsParsed s high (outcome.WrongAt i) → get_or s.tokens i t ≡ t → IsRefused text rule.Syntax t.place
+pub told_wrong : (text : List ℕ) (s : Scanned) (high : Option ℕ) (i : ℕ) (t : Token) → s ≡ scanned text → IsFirstHigh s.tokens high
+    → IsParsed s high (outcome.WrongAt i) → get_or s.tokens i t ≡ t → IsRefused text rule.Syntax t.place
 told_wrong text s high i t e first parsed here =
     let P : Token → Type 0 = λ u. IsRefused text rule.Syntax u.place in
     subst P here (wrong_at text s high i t e first parsed.0 parsed.1)
 
 -- ---- From the code's tokens
 
-front_tokens : (xs : List Own) (i : ℕ) → tokens_of (take i xs) ≡ take i (tokens_of xs)
-front_tokens xs i = sym (take-map token_of i xs)
+prefix_tokens : (xs : List Own) (i : ℕ) → tokens_of (take i xs) ≡ take i (tokens_of xs)
+prefix_tokens xs i = sym (take-map token_of i xs)
 
 all_tokens : (xs : List Own) → length (tokens_of xs) ≡ length xs
 all_tokens xs = length-map xs token_of
 
 pub first_high_told : (xs : List Own) (high : Option ℕ) → IfNone high (nests_high (tokens_of xs) ≡ false) → IfSome high (λ i. i < length xs)
-    → IfSome high (λ i. nests_high (tokens_of (take i xs)) ≡ false) → IfSome high (λ i. nests_high (tokens_of (take (i + 1) xs)) ≡ true) → IsFirstHigh (tokens_of xs) high
+    → IfSome high (λ i. nests_high (tokens_of (take i xs)) ≡ false) → IfSome high (λ i. nests_high (tokens_of (take (i + 1) xs)) ≡ true)
+    → IsFirstHigh (tokens_of xs) high
 first_high_told xs None none within before high = none
 first_high_told xs (Some i) none within before high =
-    (omega (arith, within, all_tokens xs), sym (ap nests_high (front_tokens xs i)) ∙ before, sym (ap nests_high (front_tokens xs (i + 1))) ∙ high)
+    (omega (arith, within, all_tokens xs), sym (ap nests_high (prefix_tokens xs i)) ∙ before, sym (ap nests_high (prefix_tokens xs (i + 1))) ∙ high)
 
-pub looked_told : (xs looked : List Own) (high : Option ℕ) (o : Outcome) → looked ≡ take (reach high (length xs)) xs → Parses (tokens_of looked) o → Parses (take (reach high (length (tokens_of xs))) (tokens_of xs)) o
+pub looked_told : (xs looked : List Own) (high : Option ℕ) (o : Outcome) → looked ≡ take (reach high (length xs)) xs → Parses (tokens_of looked) o
+    → Parses (take (reach high (length (tokens_of xs))) (tokens_of xs)) o
 looked_told xs looked high o e parsed =
     let same : tokens_of looked ≡ take (reach high (length (tokens_of xs))) (tokens_of xs) =
-    ap tokens_of e ∙ front_tokens xs (reach high (length xs)) ∙ ap (λ n. take (reach high n) (tokens_of xs)) (sym (all_tokens xs)) in
+    ap tokens_of e ∙ prefix_tokens xs (reach high (length xs)) ∙ ap (λ n. take (reach high n) (tokens_of xs)) (sym (all_tokens xs)) in
     let P : List Token → Type 0 = λ ts. Parses ts o in
     subst P same parsed
 
-pub refused_told : (text : List ℕ) (s : Scanned) (end : ℕ) (r : Result Tree ReadError) → s ≡ scanned text → end ≡ length text
-    → IfErr r (λ e. IfSome (fault_of e) (λ f. (given : List ℕ) → s ≡ scanned given → end ≡ length given → IsRefused given f.rule f.place))
-    → IfErr r (λ e. IfSome (fault_of e) (λ f. IsRefused text f.rule f.place))
+pub refused_told : (text : List ℕ) (s : Scanned) (end : ℕ) (r : Result Tree SourceError) → s ≡ scanned text → end ≡ length text
+    → IfErr r (λ e. IfSome (fault_in e) (λ f. (given : List ℕ) → s ≡ scanned given → end ≡ length given → IsRefused given f.rule f.place))
+    → IfErr r (λ e. IfSome (fault_in e) (λ f. IsRefused text f.rule f.place))
 refused_told text s end (Ok x) e at told = tt
 refused_told text s end (Err error.Memory) e at told = tt
-refused_told text s end (Err (error.Refused rule place)) e at told = told text e at
+refused_told text s end (Err (error.Refused refusal)) e at told = told text e at

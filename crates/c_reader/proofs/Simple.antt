@@ -1,5 +1,6 @@
 -- The parsers of declarations, conditions and statements without blocks keep their languages.
-use Rattle.std.proofs.Common.{◌≡◌, ℕ, ◌+◌, ◌<◌, ◌≤◌, List, [], ◌∷◌, ◌++◌, length, length-append, Option, Some, None, Bool, true, false, sym, refl, ap, ◌∙◌, subst, inl, inr, append_assoc, arith, true≢false, zero-lt-suc}
+use Rattle.std.proofs.Common.{◌≡◌, ℕ, ◌+◌, ◌<◌, ◌≤◌, List, [], ◌∷◌, ◌++◌, length, length-append, Option, Some, None, Bool, true}
+use Rattle.std.proofs.Common.{false, sym, refl, ap, ◌∙◌, subst, inl, inr, append_assoc, arith, true≢false, zero-lt-suc}
 use Rattle.std.specs.Prelude.{◌⊎◌}
 use Rattle.ido_base.specs.declared.place.Place.{Place}
 use Rattle.ido_ints.specs.declared.kinds.Kind.{Kind}
@@ -9,7 +10,8 @@ use Rattle.c_tree.specs.declared.token.Punctuator.TheVariants as p
 use Rattle.c_tree.specs.Trees as t
 use Rattle.c_tree.specs.Languages.{mark, ◌⋅◌, name, starting_at}
 use Rattle.c_tree.specs.Grammar.{expression, index, type, initial, initial_of_first, first, condition, assignment, changed, target}
-use Rattle.c_reader.specs.Parsing.{Parser, head_of, head_is, is_mark, begins_type, parse_initial, parse_initial_of_first, declaration_over, parse_first, parse_condition, parse_name_in_parentheses, assigned_from, statement_after_target, statement_after_name}
+use Rattle.c_reader.specs.links.Parsing.{Parser, head_of, head_is, is_mark, begins_type, parse_initial, parse_initial_of_first, declaration_over, parse_first}
+use Rattle.c_reader.specs.links.Parsing.{parse_condition, parse_name_in_parentheses, assigned_from, statement_after_target, statement_after_name}
 use Rattle.c_reader.proofs.Good.{Language, Good, ◌▷◌, ◌▹◌, just, Anything, Strict, good_give, good_to, good_map, good_where, good_then}
 use Rattle.c_reader.proofs.Tokens.{marked, named, good_mark, good_name}
 use Rattle.c_reader.proofs.Types.{TypeEnd, good_type, type_begins}
@@ -39,11 +41,15 @@ absent_up y us (q, e) = subst (λ y. initial y us) q e
 pub good_initial : (fuel fuel' b : ℕ) → b ≤ fuel → b ≤ fuel' → Good b initial initial InitialEnd (parse_initial fuel) (parse_initial fuel')
 good_initial fuel fuel' b h h' =
     good_where {K₁ = AssignedRight} {K₂ = just t.Absent} (head_is (is_mark p.Assign))
-    (good_to {U = AssignedRight} {K = AssignedRight} {F = RightEnd} (good_then {M = λ o. RightLanguage} {F = Anything} {G = RightEnd} (good_mark p.Assign) (λ o. good_right fuel fuel' b h h') (λ o y us rest m f. tt)) right_up (λ y us u. u) (λ h f. f.0))
+    (good_to {U = AssignedRight} {K = AssignedRight} {F = RightEnd}
+    (good_then {M = λ o. RightLanguage} {F = Anything} {G = RightEnd} (good_mark p.Assign) (λ o. good_right fuel fuel' b h h') (λ o y us rest m f. tt)) right_up
+    (λ y us u. u) (λ h f. f.0))
     (good_to {U' = initial} {K' = just t.Absent} (good_give t.Absent) absent_up (λ y us u. u) (λ h f. tt))
     out
   where
-    out : (y : t.Initial) (us rest : List Token) → initial y us → InitialEnd (head_of rest) → (AssignedRight y us × (head_is (is_mark p.Assign) (head_of (us ++ rest)) ≡ true)) ⊎ (just t.Absent y us × (head_is (is_mark p.Assign) (head_of (us ++ rest)) ≡ false))
+    out : (y : t.Initial) (us rest : List Token) → initial y us → InitialEnd (head_of rest)
+        → (AssignedRight y us × (head_is (is_mark p.Assign) (head_of (us ++ rest)) ≡ true))
+        ⊎ (just t.Absent y us × (head_is (is_mark p.Assign) (head_of (us ++ rest)) ≡ false))
     out t.Absent us rest u f = inr ((refl, u), rw u f.1)
     out (t.Value x) us rest (us₁, us₂, e, (o, l), m) f = inl ((o, us₁, us₂, e, l, m), rw (e, l) refl)
     out (t.Result c) us rest (us₁, us₂, e, (o, l), m) f = inl ((o, us₁, us₂, e, l, m), rw (e, l) refl)
@@ -51,15 +57,21 @@ good_initial fuel fuel' b h h' =
 abbrev AssignedValue : Language t.Initial
 AssignedValue = marked p.Assign ▷ (λ o. expression ▹ t.Value)
 
-good_initial_of_first : (fuel fuel' b : ℕ) → b ≤ fuel → b ≤ fuel' → Good b initial_of_first initial_of_first (Unless (is_mark p.Assign) ExpressionEnd) (parse_initial_of_first fuel) (parse_initial_of_first fuel')
+good_initial_of_first : (fuel fuel' b : ℕ) → b ≤ fuel → b ≤ fuel'
+    → Good b initial_of_first initial_of_first (Unless (is_mark p.Assign) ExpressionEnd) (parse_initial_of_first fuel) (parse_initial_of_first fuel')
 good_initial_of_first fuel fuel' b h h' =
     good_where {K₁ = AssignedValue} {K₂ = just t.Absent} (head_is (is_mark p.Assign))
-    (good_to {U = AssignedValue} {K = AssignedValue} {F = ExpressionEnd} (good_then {M = λ o. expression ▹ t.Value} {F = Anything} {G = ExpressionEnd} (good_mark p.Assign) (λ o. good_map t.Value (good_expression fuel fuel' b h h')) (λ o y us rest m f. tt))
+    (good_to {U = AssignedValue} {K = AssignedValue} {F = ExpressionEnd}
+    (good_then {M = λ o. expression ▹ t.Value} {F = Anything} {G = ExpressionEnd} (good_mark p.Assign)
+    (λ o. good_map t.Value (good_expression fuel fuel' b h h')) (λ o y us rest m f. tt))
     (λ y us (o, us₁, us₂, e, l, (x, m, q)). subst (λ y. initial_of_first y us) q (us₁, us₂, e, (o, l), m)) (λ y us u. u) (λ h f. f.0))
-    (good_to {U' = initial_of_first} {K' = just t.Absent} (good_give t.Absent) (λ y us (q, e). subst (λ y. initial_of_first y us) q e) (λ y us u. u) (λ h f. tt))
+    (good_to {U' = initial_of_first} {K' = just t.Absent} (good_give t.Absent) (λ y us (q, e). subst (λ y. initial_of_first y us) q e) (λ y us u. u)
+    (λ h f. tt))
     out
   where
-    out : (y : t.Initial) (us rest : List Token) → initial_of_first y us → Unless (is_mark p.Assign) ExpressionEnd (head_of rest) → (AssignedValue y us × (head_is (is_mark p.Assign) (head_of (us ++ rest)) ≡ true)) ⊎ (just t.Absent y us × (head_is (is_mark p.Assign) (head_of (us ++ rest)) ≡ false))
+    out : (y : t.Initial) (us rest : List Token) → initial_of_first y us → Unless (is_mark p.Assign) ExpressionEnd (head_of rest)
+        → (AssignedValue y us × (head_is (is_mark p.Assign) (head_of (us ++ rest)) ≡ true))
+        ⊎ (just t.Absent y us × (head_is (is_mark p.Assign) (head_of (us ++ rest)) ≡ false))
     out t.Absent us rest u f = inr ((refl, u), rw u f.1)
     out (t.Value x) us rest (us₁, us₂, e, (o, l), m) f = inl ((o, us₁, us₂, e, l, (x, m, refl)), rw (e, l) refl)
     out (t.Result c) us rest u f = absurd u
@@ -71,7 +83,8 @@ type-strict x [] u = let q : false ≡ true = type_begins x [] [] u in absurd (t
 type-strict x (u ∷ us) m = zero-lt-suc (length us)
 
 first_strict : {A B : Type 0} (L : Language A) (M : A → Language B) → Strict L → Strict (L ▷ M)
-first_strict L M s y us (x, us₁, us₂, e, l, m) = let a : length us ≡ length us₁ + length us₂ = ap length e ∙ length-append us₁ us₂ in let b : 0 < length us₁ = s x us₁ l in omega (arith, a, b)
+first_strict L M s y us (x, us₁, us₂, e, l, m) =
+    let a : length us ≡ length us₁ + length us₂ = ap length e ∙ length-append us₁ us₂ in let b : 0 < length us₁ = s x us₁ l in omega (arith, a, b)
 
 abbrev made : Place → Kind → t.Name → t.Initial → t.Declaration
 made place x n i = record { place = place; kind = x; name = n; initial = i }
@@ -83,7 +96,8 @@ Declared L place = type ▷ (λ x. named ▷ (λ n. L ▹ made place x n))
 abbrev pub DeclarationLanguage : Language t.Initial → Language t.Declaration
 DeclarationLanguage L y = starting_at y.place (type y.kind ⋅ name y.name ⋅ L y.initial)
 
-pub good_declaration : {b : ℕ} (L : Language t.Initial) (F : Option Lexeme → Type 0) {P P' : Parser t.Initial} → Good b L L F P P' → Good b (DeclarationLanguage L) (DeclarationLanguage L) F (declaration_over P) (declaration_over P')
+pub good_declaration : {b : ℕ} (L : Language t.Initial) (F : Option Lexeme → Type 0) {P P' : Parser t.Initial} → Good b L L F P P'
+    → Good b (DeclarationLanguage L) (DeclarationLanguage L) F (declaration_over P) (declaration_over P')
 good_declaration L F g =
     good_to {U = At (Declared L)} {K = At (Declared L)} {F = F}
     (good_here (Declared L) (λ place. first_strict type (λ x. named ▷ (λ n. L ▹ made place x n)) type-strict)
@@ -91,7 +105,8 @@ good_declaration L F g =
     (λ place. good_then {M = λ x. named ▷ (λ n. L ▹ made place x n)} {F = TypeEnd} {G = F} good_type
     (λ x. good_then {M = λ n. L ▹ made place x n} {F = Anything} {G = F} good_name (λ n. good_map (made place x n) g) (λ n y us rest m f. tt))
     (λ x y us rest (n, us₁, us₂, e, l, m) f. rw (e, l) (refl, refl, refl, refl))))
-    (λ y us (place, f, (x, us₁, us₂, e, l, (n, us₃, us₄, e', m, (i, v, q)))). subst (λ y. DeclarationLanguage L y us) q (f, (us₁, us₂, e, l, (us₃, us₄, e', m, v))))
+    (λ y us (place, f, (x, us₁, us₂, e, l, (n, us₃, us₄, e', m, (i, v, q)))). subst (λ y. DeclarationLanguage L y us) q
+    (f, (us₁, us₂, e, l, (us₃, us₄, e', m, v))))
     (λ y us (f, (us₁, us₂, e, l, (us₃, us₄, e', m, v))). (y.place, f, (y.kind, us₁, us₂, e, l, (y.name, us₃, us₄, e', m, (y.initial, v, refl)))))
     (λ h f. f)
 
@@ -101,7 +116,8 @@ pub good_condition : (fuel fuel' b : ℕ) → b ≤ fuel → b ≤ fuel' → Goo
 good_condition fuel fuel' b h h' =
     good_to {U = Inside} {K = Inside} {F = Anything}
     (good_then {M = λ o. expression ▷ (λ x. marked p.CloseParenthesis ▹ (λ c. x))} {F = Anything} {G = Anything} (good_mark p.OpenParenthesis)
-    (λ o. good_then {M = λ x. marked p.CloseParenthesis ▹ (λ c. x)} {F = ExpressionEnd} {G = Anything} (good_expression fuel fuel' b h h') (λ x. good_map (λ c. x) (good_mark p.CloseParenthesis)) (λ x y us rest (c, m, q) f. rw m ((refl, λ n h. refl), refl)))
+    (λ o. good_then {M = λ x. marked p.CloseParenthesis ▹ (λ c. x)} {F = ExpressionEnd} {G = Anything} (good_expression fuel fuel' b h h')
+    (λ x. good_map (λ c. x) (good_mark p.CloseParenthesis)) (λ x y us rest (c, m, q) f. rw m ((refl, λ n h. refl), refl)))
     (λ o y us rest m f. tt))
     (λ y us (o, us₁, us₂, e, l, (x, us₃, us₄, e', m, (c, n, q))). subst (λ y. condition y us) q (us₁, us₂, e, (o, l), (us₃, us₄, e', m, (c, n))))
     (λ y us (us₁, us₂, e, (o, l), (us₃, us₄, e', m, (c, n))). (o, us₁, us₂, e, l, (y, us₃, us₄, e', m, (c, n, refl))))
@@ -118,7 +134,8 @@ pub good_name_inside : {b : ℕ} → Good b NameInside NameInside Anything parse
 good_name_inside =
     good_to {U = Inside} {K = Inside} {F = Anything}
     (good_then {M = λ o. named ▷ (λ x. marked p.CloseParenthesis ▹ (λ c. x))} {F = Anything} {G = Anything} (good_mark p.OpenParenthesis)
-    (λ o. good_then {M = λ x. marked p.CloseParenthesis ▹ (λ c. x)} {F = Anything} {G = Anything} good_name (λ x. good_map (λ c. x) (good_mark p.CloseParenthesis)) (λ x y us rest m f. tt))
+    (λ o. good_then {M = λ x. marked p.CloseParenthesis ▹ (λ c. x)} {F = Anything} {G = Anything} good_name
+    (λ x. good_map (λ c. x) (good_mark p.CloseParenthesis)) (λ x y us rest m f. tt))
     (λ o y us rest m f. tt))
     (λ y us (o, us₁, us₂, e, l, (x, us₃, us₄, e', m, (c, n, q))). subst (λ y. NameInside y us) q (us₁, us₂, e, (o, l), (us₃, us₄, e', m, (c, n))))
     (λ y us (us₁, us₂, e, (o, l), (us₃, us₄, e', m, (c, n))). (o, us₁, us₂, e, l, (y, us₃, us₄, e', m, (c, n, refl))))
@@ -133,7 +150,8 @@ abbrev pub FirstEnd : Option Lexeme → Type 0
 FirstEnd h = (head_is (is_mark p.Semicolon) h ≡ true) × Unless (is_mark p.Assign) ExpressionEnd h
 
 -- a test with one answer for all first tokens of assignments
-pub assignment_first : (test : Option Lexeme → Bool) (answer : Bool) → ((bytes : List ℕ) → test (Some (Name bytes)) ≡ answer) → test (Some (Punctuator p.Increment)) ≡ answer → test (Some (Punctuator p.Decrement)) ≡ answer →
+pub assignment_first : (test : Option Lexeme → Bool) (answer : Bool) → ((bytes : List ℕ) → test (Some (Name bytes)) ≡ answer)
+    → test (Some (Punctuator p.Increment)) ≡ answer → test (Some (Punctuator p.Decrement)) ≡ answer →
     (x : t.Assignment) (us rest : List Token) → assignment x us → test (head_of (us ++ rest)) ≡ answer
 assignment_first test answer a b c x us rest (f, u) = go x.change u
   where
@@ -149,7 +167,9 @@ assignment_first test answer a b c x us rest (f, u) = go x.change u
     go t.Decrement (inr (vs, ws, e, (o, l), r)) = rw (e, l) c
 
 -- a test with one answer for all first words of types
-begins_type-answer : (test : Option Lexeme → Bool) (answer : Bool) → test (Some (Keyword k.Char)) ≡ answer → test (Some (Keyword k.Short)) ≡ answer → test (Some (Keyword k.Int)) ≡ answer → test (Some (Keyword k.Long)) ≡ answer → test (Some (Keyword k.Signed)) ≡ answer → test (Some (Keyword k.Unsigned)) ≡ answer →
+begins_type-answer : (test : Option Lexeme → Bool) (answer : Bool) → test (Some (Keyword k.Char)) ≡ answer → test (Some (Keyword k.Short)) ≡ answer
+    → test (Some (Keyword k.Int)) ≡ answer → test (Some (Keyword k.Long)) ≡ answer → test (Some (Keyword k.Signed)) ≡ answer
+    → test (Some (Keyword k.Unsigned)) ≡ answer →
     (h : Option Lexeme) → head_is begins_type h ≡ true → test h ≡ answer
 begins_type-answer test answer a b c d e f (Some (Keyword k.Char)) q = a
 begins_type-answer test answer a b c d e f (Some (Keyword k.Short)) q = b
@@ -159,7 +179,9 @@ begins_type-answer test answer a b c d e f (Some (Keyword k.Signed)) q = e
 begins_type-answer test answer a b c d e f (Some (Keyword k.Unsigned)) q = f
 begins_type-answer test answer a b c d e f _ q = absurd (true≢false (sym q))
 
-pub type_first : (test : Option Lexeme → Bool) (answer : Bool) → test (Some (Keyword k.Char)) ≡ answer → test (Some (Keyword k.Short)) ≡ answer → test (Some (Keyword k.Int)) ≡ answer → test (Some (Keyword k.Long)) ≡ answer → test (Some (Keyword k.Signed)) ≡ answer → test (Some (Keyword k.Unsigned)) ≡ answer →
+pub type_first : (test : Option Lexeme → Bool) (answer : Bool) → test (Some (Keyword k.Char)) ≡ answer → test (Some (Keyword k.Short)) ≡ answer
+    → test (Some (Keyword k.Int)) ≡ answer → test (Some (Keyword k.Long)) ≡ answer → test (Some (Keyword k.Signed)) ≡ answer
+    → test (Some (Keyword k.Unsigned)) ≡ answer →
     (x : Kind) (us rest : List Token) → type x us → test (head_of (us ++ rest)) ≡ answer
 type_first test answer a b c d e f x us rest u = begins_type-answer test answer a b c d e f (head_of (us ++ rest)) (type_begins x us rest u)
 
@@ -167,9 +189,13 @@ pub good_first : (fuel fuel' b : ℕ) → b ≤ fuel → b ≤ fuel' → Good b 
 good_first fuel fuel' b h h' =
     good_where {K₁ = just t.NoFirst} {K₂ = Present} (head_is (is_mark p.Semicolon))
     (good_to {U' = first} {K' = just t.NoFirst} (good_give t.NoFirst) (λ y us (q, e). subst (λ y. first y us) q e) (λ y us u. u) (λ h f. tt))
-    (good_to (good_where {U = Present} {K₁ = DeclarationLanguage initial_of_first ▹ t.Declared} {K₂ = assignment ▹ t.Assigned} {F = FirstEnd} (head_is begins_type)
-    (good_to {F = Unless (is_mark p.Assign) ExpressionEnd} (good_map t.Declared (good_declaration initial_of_first (Unless (is_mark p.Assign) ExpressionEnd) (good_initial_of_first fuel fuel' b h h'))) (λ y us (x, u, q). subst (λ y. Present y us) q u) (λ y us u. u) (λ h f. f.1))
-    (good_to {F = ExpressionEnd} (good_map t.Assigned (good_assignment fuel fuel' b h h')) (λ y us (x, u, q). subst (λ y. Present y us) q u) (λ y us u. u) (λ h f. f.1.0))
+    (good_to (good_where {U = Present} {K₁ = DeclarationLanguage initial_of_first ▹ t.Declared} {K₂ = assignment ▹ t.Assigned} {F = FirstEnd}
+    (head_is begins_type)
+    (good_to {F = Unless (is_mark p.Assign) ExpressionEnd} (good_map t.Declared
+    (good_declaration initial_of_first (Unless (is_mark p.Assign) ExpressionEnd) (good_initial_of_first fuel fuel' b h h')))
+    (λ y us (x, u, q). subst (λ y. Present y us) q u) (λ y us u. u) (λ h f. f.1))
+    (good_to {F = ExpressionEnd} (good_map t.Assigned (good_assignment fuel fuel' b h h')) (λ y us (x, u, q). subst (λ y. Present y us) q u) (λ y us u. u)
+    (λ h f. f.1.0))
     inner)
     present_up (λ y us u. u) (λ h f. f))
     out
@@ -185,15 +211,23 @@ good_first fuel fuel' b h h' =
     present_up (t.Assigned x) us u = u
 
     inner : (y : t.First) (us rest : List Token) → Present y us → FirstEnd (head_of rest) →
-        ((DeclarationLanguage initial_of_first ▹ t.Declared) y us × (head_is begins_type (head_of (us ++ rest)) ≡ true)) ⊎ ((assignment ▹ t.Assigned) y us × (head_is begins_type (head_of (us ++ rest)) ≡ false))
+        ((DeclarationLanguage initial_of_first ▹ t.Declared) y us × (head_is begins_type (head_of (us ++ rest)) ≡ true))
+        ⊎ ((assignment ▹ t.Assigned) y us × (head_is begins_type (head_of (us ++ rest)) ≡ false))
     inner t.NoFirst us rest u f = absurd u
-    inner (t.Declared x) us rest (g, (us₁, us₂, e, l, m)) f = inl ((x, (g, (us₁, us₂, e, l, m)), refl), rw (e, append_assoc us₁ us₂ rest) (type_begins x.kind us₁ (us₂ ++ rest) l))
+    inner (t.Declared x) us rest (g, (us₁, us₂, e, l, m)) f =
+        inl ((x, (g, (us₁, us₂, e, l, m)), refl), rw (e, append_assoc us₁ us₂ rest) (type_begins x.kind us₁ (us₂ ++ rest) l))
     inner (t.Assigned x) us rest u f = inr ((x, u, refl), assignment_first (head_is begins_type) false (λ bytes. refl) refl refl x us rest u)
 
     out : (y : t.First) (us rest : List Token) → first y us → FirstEnd (head_of rest) →
-        (just t.NoFirst y us × (head_is (is_mark p.Semicolon) (head_of (us ++ rest)) ≡ true)) ⊎ (Present y us × (head_is (is_mark p.Semicolon) (head_of (us ++ rest)) ≡ false))
+        (just t.NoFirst y us × (head_is (is_mark p.Semicolon) (head_of (us ++ rest)) ≡ true))
+        ⊎ (Present y us × (head_is (is_mark p.Semicolon) (head_of (us ++ rest)) ≡ false))
     out t.NoFirst us rest u f = inl ((refl, u), rw u f.0)
-    out (t.Declared x) us rest (g, (us₁, us₂, e, l, m)) f = inr ((g, (us₁, us₂, e, l, m)), rw (e, append_assoc us₁ us₂ rest) (type_first (head_is (is_mark p.Semicolon)) false refl refl refl refl refl refl x.kind us₁ (us₂ ++ rest) l))
+    out (t.Declared x) us rest (g, (us₁, us₂, e, l, m)) f =
+        inr (
+          (g, (us₁, us₂, e, l, m)),
+          rw (e, append_assoc us₁ us₂ rest)
+              (type_first (head_is (is_mark p.Semicolon)) false refl refl refl refl refl refl x.kind us₁ (us₂ ++ rest) l),
+        )
     out (t.Assigned x) us rest u f = inr (u, assignment_first (head_is (is_mark p.Semicolon)) false (λ bytes. refl) refl refl x us rest u)
 
 -- ---- Statements that begin with a name, before their semicolon
@@ -230,16 +264,20 @@ other_head (t.Update operator value) us rest o (us₁, us₂, e, (place, l), m) 
 other_head t.Increment us rest o (place, l) = rw l refl
 other_head t.Decrement us rest o (place, l) = rw l refl
 
-behind_target_good : (fuel fuel' b : ℕ) → b ≤ fuel → b ≤ fuel' → (x : t.Target) → Good b (BehindTarget x) (BehindTarget x) RightEnd (statement_after_target fuel x) (statement_after_target fuel' x)
+behind_target_good : (fuel fuel' b : ℕ) → b ≤ fuel → b ≤ fuel' → (x : t.Target)
+    → Good b (BehindTarget x) (BehindTarget x) RightEnd (statement_after_target fuel x) (statement_after_target fuel' x)
 behind_target_good fuel fuel' b h h' x =
     good_where {K₁ = FromRight x} {K₂ = FromChange x} (head_is (is_mark p.Assign))
-    (good_to {U = FromRight x} {K = FromRight x} {F = RightEnd} (good_then {M = λ o. RightLanguage ▹ assigned_from x} {F = Anything} {G = RightEnd} (good_mark p.Assign) (λ o. good_map (assigned_from x) (good_right fuel fuel' b h h')) (λ o y us rest m f. tt))
+    (good_to {U = FromRight x} {K = FromRight x} {F = RightEnd}
+    (good_then {M = λ o. RightLanguage ▹ assigned_from x} {F = Anything} {G = RightEnd} (good_mark p.Assign)
+    (λ o. good_map (assigned_from x) (good_right fuel fuel' b h h')) (λ o y us rest m f. tt))
     (λ y us u. inl u) (λ y us u. u) (λ h f. f))
     (good_to {K' = FromChange x} (good_map (assign_of x) (good_change fuel fuel' b h h')) (change_split x) (λ y us (c, o, m, q). (c, m, q)) (λ h f. f.0))
     out
   where
     out : (y : t.Statement) (us rest : List Token) → BehindTarget x y us → RightEnd (head_of rest) →
-        (FromRight x y us × (head_is (is_mark p.Assign) (head_of (us ++ rest)) ≡ true)) ⊎ (FromChange x y us × (head_is (is_mark p.Assign) (head_of (us ++ rest)) ≡ false))
+        (FromRight x y us × (head_is (is_mark p.Assign) (head_of (us ++ rest)) ≡ true))
+        ⊎ (FromChange x y us × (head_is (is_mark p.Assign) (head_of (us ++ rest)) ≡ false))
     out y us rest (inl (o, us₁, us₂, e, l, m)) f = inl ((o, us₁, us₂, e, l, m), rw (e, l) refl)
     out y us rest (inr (c, o, m, q)) f = inr ((c, o, m, q), other_head c us rest o m)
 
@@ -253,7 +291,8 @@ FromTarget n = index ▷ (λ i. BehindTarget (at_index n i))
 abbrev pub BehindName : t.Name → Language t.Statement
 BehindName n y us = (CallLanguage n ▹ t.CallOnly) y us ⊎ FromTarget n y us
 
-behind_target_head : (test : Option Lexeme → Bool) → test (Some (Punctuator p.Assign)) ≡ false → test (Some (Punctuator p.Increment)) ≡ false → test (Some (Punctuator p.Decrement)) ≡ false → ((o : _) → test (Some (Punctuator (p.Update o))) ≡ false) →
+behind_target_head : (test : Option Lexeme → Bool) → test (Some (Punctuator p.Assign)) ≡ false → test (Some (Punctuator p.Increment)) ≡ false
+    → test (Some (Punctuator p.Decrement)) ≡ false → ((o : _) → test (Some (Punctuator (p.Update o))) ≡ false) →
     (x : t.Target) (y : t.Statement) (us rest : List Token) → BehindTarget x y us → test (head_of (us ++ rest)) ≡ false
 behind_target_head test a b c d x y us rest (inl (o, us₁, us₂, e, l, m)) = rw (e, l) a
 behind_target_head test a b c d x y us rest (inr (t.Set value, o, m, q)) = absurd o
@@ -261,22 +300,32 @@ behind_target_head test a b c d x y us rest (inr (t.Update operator value, o, (u
 behind_target_head test a b c d x y us rest (inr (t.Increment, o, (place, l), q)) = rw l b
 behind_target_head test a b c d x y us rest (inr (t.Decrement, o, (place, l), q)) = rw l c
 
-pub behind_name_good : (fuel fuel' b : ℕ) → b ≤ fuel → b ≤ fuel' → (n : t.Name) → Good b (BehindName n) (BehindName n) RightEnd (statement_after_name fuel n) (statement_after_name fuel' n)
+pub behind_name_good : (fuel fuel' b : ℕ) → b ≤ fuel → b ≤ fuel' → (n : t.Name)
+    → Good b (BehindName n) (BehindName n) RightEnd (statement_after_name fuel n) (statement_after_name fuel' n)
 behind_name_good fuel fuel' b h h' n =
     good_where {K₁ = CallLanguage n ▹ t.CallOnly} {K₂ = FromTarget n} (head_is (is_mark p.OpenParenthesis))
     (good_to (good_map t.CallOnly (call_good fuel fuel' b h h' n)) (λ y us u. inl u) (λ y us u. u) (λ h f. tt))
     (good_to {U = FromTarget n} {K = FromTarget n} {F = RightEnd}
-    (good_then {M = λ i. BehindTarget (at_index n i)} {F = OperandEnd} {G = RightEnd} (good_index {c = b} (omega arith) (good_expression fuel fuel' b h h')) (λ i. behind_target_good fuel fuel' b h h' (at_index n i))
-    (λ i y us rest m f. behind_target_head (head_is (is_mark p.OpenBracket)) refl refl refl (λ o. not_mark p.OpenBracket (Punctuator (p.Update o)) (λ q. cc)) (at_index n i) y us rest m))
+    (good_then {M = λ i. BehindTarget (at_index n i)} {F = OperandEnd} {G = RightEnd} (good_index {c = b} (omega arith) (good_expression fuel fuel' b h h'))
+    (λ i. behind_target_good fuel fuel' b h h' (at_index n i))
+    (λ i y us rest m f. behind_target_head (head_is (is_mark p.OpenBracket)) refl refl refl (λ o. not_mark p.OpenBracket (Punctuator (p.Update o)) (λ q. cc))
+    (at_index n i) y us rest m))
     (λ y us u. inr u) (λ y us u. u) (λ h f. f))
     out
   where
-    index_head : (i : Option t.Expression) (us rest : List Token) → index i us → head_is (is_mark p.OpenParenthesis) (head_of rest) ≡ false → head_is (is_mark p.OpenParenthesis) (head_of (us ++ rest)) ≡ false
+    index_head : (i : Option t.Expression) (us rest : List Token) → index i us → head_is (is_mark p.OpenParenthesis) (head_of rest) ≡ false
+        → head_is (is_mark p.OpenParenthesis) (head_of (us ++ rest)) ≡ false
     index_head None us rest u g = rw u g
     index_head (Some i) us rest (vs₁, vs₂, e, (o, l), m) g = rw (e, l) refl
 
     out : (y : t.Statement) (us rest : List Token) → BehindName n y us → RightEnd (head_of rest) →
-        ((CallLanguage n ▹ t.CallOnly) y us × (head_is (is_mark p.OpenParenthesis) (head_of (us ++ rest)) ≡ true)) ⊎ (FromTarget n y us × (head_is (is_mark p.OpenParenthesis) (head_of (us ++ rest)) ≡ false))
+        ((CallLanguage n ▹ t.CallOnly) y us × (head_is (is_mark p.OpenParenthesis) (head_of (us ++ rest)) ≡ true))
+        ⊎ (FromTarget n y us × (head_is (is_mark p.OpenParenthesis) (head_of (us ++ rest)) ≡ false))
     out y us rest (inl (c, m, q)) f = inl ((c, m, q), rw (call_head n c us rest m) refl)
     out y us rest (inr (i, us₁, us₂, e, l, m)) f =
-        inr ((i, us₁, us₂, e, l, m), rw (e, append_assoc us₁ us₂ rest) (index_head i us₁ (us₂ ++ rest) l (behind_target_head (head_is (is_mark p.OpenParenthesis)) refl refl refl (λ o. not_mark p.OpenParenthesis (Punctuator (p.Update o)) (λ q. cc)) (at_index n i) y us₂ rest m)))
+        inr (
+          (i, us₁, us₂, e, l, m),
+          rw (e, append_assoc us₁ us₂ rest)
+              (index_head i us₁ (us₂ ++ rest) l (behind_target_head (head_is (is_mark p.OpenParenthesis)) refl refl refl
+              (λ o. not_mark p.OpenParenthesis (Punctuator (p.Update o)) (λ q. cc)) (at_index n i) y us₂ rest m)),
+        )

@@ -8,7 +8,7 @@ use Rattle.c_tree.specs.Tokens.{Token}
 use Rattle.c_tree.specs.Grammar.{program}
 use Rattle.c_tree.specs.Scanning.{Fault, scanned}
 use Rattle.c_tree.specs.Reading.{Begins, IsRead, IsRefused, no_token, wrong_token, too_high, wrong_end, nests_high}
-use Rattle.c_reader.proofs.Nestings.{nests_high-front}
+use Rattle.c_reader.proofs.Nestings.{nests_high-prefix}
 use Rattle.c_reader.proofs.Whole.{program_unique, program_begins}
 
 pub one_tree : (text : List ℕ) (xs ys : List Item) → IsRead text xs → IsRead text ys → xs ≡ ys
@@ -42,8 +42,8 @@ apart (x ∷ us) t after (v ∷ vs) u past e =
 abbrev IsSound : List Token → Type 0
 IsSound ts = Begins ts × (nests_high ts ≡ false)
 
-sound_front : (us vs : List Token) → IsSound (us ++ vs) → IsSound us
-sound_front us vs ((more, xs, u), low) = ((vs ++ more, xs, subst (λ l. program xs l) (append_assoc us vs more) u), nests_high-front us vs low)
+sound_prefix : (us vs : List Token) → IsSound (us ++ vs) → IsSound us
+sound_prefix us vs ((more, xs, u), low) = ((vs ++ more, xs, subst (λ l. program xs l) (append_assoc us vs more) u), nests_high-prefix us vs low)
 
 -- a token that is refused behind sound ones, and the rule
 data IsBad (ts : List Token) (t : Token) (found : r.Rule) : Type 0 where
@@ -62,7 +62,8 @@ one_bad ts t found other (high begun h e) (high more k f) = e ∙ sym f
 
 -- no token behind these is sound too
 bad_before : (ts : List Token) (t : Token) (found : r.Rule) (more : List Token) → IsBad ts t found → IsSound (ts ++ t ∷ more) → ⊥
-bad_before ts t found more bad sound = bad_not_sound ts t found bad (sound_front (ts ++ t ∷ []) more (subst IsSound (sym (append_assoc ts (t ∷ []) more)) sound))
+bad_before ts t found more bad sound =
+    bad_not_sound ts t found bad (sound_prefix (ts ++ t ∷ []) more (subst IsSound (sym (append_assoc ts (t ∷ []) more)) sound))
 
 -- what is refused behind all tokens
 data IsAtEnd (text : List ℕ) (found : r.Rule) (place : Place) : Type 0 where
@@ -77,7 +78,8 @@ abbrev place_in : Option Fault → Place → Place
 place_in None d = d
 place_in (Some x) d = x.place
 
-one_end : (text : List ℕ) (found other : r.Rule) (place elsewhere : Place) → IsAtEnd text found place → IsAtEnd text other elsewhere → (found ≡ other) × (place ≡ elsewhere)
+one_end : (text : List ℕ) (found other : r.Rule) (place elsewhere : Place) → IsAtEnd text found place → IsAtEnd text other elsewhere
+    → (found ≡ other) × (place ≡ elsewhere)
 one_end text found other place elsewhere (unlexed e) (unlexed f) = let both = sym e ∙ f in (ap (λ o. rule_in o found) both, ap (λ o. place_in o place) both)
 one_end text found other place elsewhere (unlexed e) (short f p g) = let both = sym e ∙ f in absurd (cc both)
 one_end text found other place elsewhere (short e p g) (unlexed f) = let both = sym e ∙ f in absurd (cc both)
@@ -85,27 +87,37 @@ one_end text found other place elsewhere (short e p g) (short f q h) = (g ∙ sy
 
 -- a refusal, by the first token that isn't sound, or behind all
 data Refusal (text : List ℕ) (found : r.Rule) (place : Place) : Type 0 where
-  at_token : (ts : List Token) (t : Token) (after : List Token) → (scanned text).tokens ≡ ts ++ t ∷ after → IsSound ts → IsBad ts t found → t.place ≡ place → Refusal text found place
+  at_token : (ts : List Token) (t : Token) (after : List Token) → (scanned text).tokens ≡ ts ++ t ∷ after → IsSound ts → IsBad ts t found → t.place ≡ place
+      → Refusal text found place
   at_end : IsSound (scanned text).tokens → IsAtEnd text found place → Refusal text found place
 
 refusal : (text : List ℕ) (found : r.Rule) (place : Place) → IsRefused text found place → Refusal text found place
 refusal text found place (no_token fault begun low) = at_end (begun, low) (unlexed fault)
 refusal text found place (wrong_token ts t after e low is at rule_is) = at_token ts t after e (is.begun, low) (wrong is.wrong rule_is) at
-refusal text found place (too_high ts t after e low begun h at rule_is) = at_token ts t after e ((t ∷ begun.0, begun.1, subst (λ l. program begun.1 l) (append_assoc ts (t ∷ []) begun.0) begun.2), low) (high begun h rule_is) at
+refusal text found place (too_high ts t after e low begun h at rule_is) =
+    at_token ts t after e ((t ∷ begun.0, begun.1, subst (λ l. program begun.1 l) (append_assoc ts (t ∷ []) begun.0) begun.2), low) (high begun h rule_is) at
 refusal text found place (wrong_end fault low begun is at rule_is) = at_end (begun, low) (short fault at rule_is)
 
-one_of : (text : List ℕ) (found other : r.Rule) (place elsewhere : Place) → Refusal text found place → Refusal text other elsewhere → (found ≡ other) × (place ≡ elsewhere)
-one_of text found other place elsewhere (at_token ts t after e sound bad at) (at_token us u past f fine worse there) = go (apart ts t after us u past (sym e ∙ f))
+one_of : (text : List ℕ) (found other : r.Rule) (place elsewhere : Place) → Refusal text found place → Refusal text other elsewhere
+    → (found ≡ other) × (place ≡ elsewhere)
+one_of text found other place elsewhere (at_token ts t after e sound bad at) (at_token us u past f fine worse there) =
+    go (apart ts t after us u past (sym e ∙ f))
   where
     go : Apart ts t us u → (found ≡ other) × (place ≡ elsewhere)
-    go (same a b) = (one_bad ts t found other bad (subst (λ (x : Token). IsBad ts x other) (sym b) (subst (λ l. IsBad l u other) (sym a) worse)), sym at ∙ ap (λ (x : Token). x.place) b ∙ there)
+    go (same a b) = (
+      one_bad ts t found other bad (subst (λ (x : Token). IsBad ts x other) (sym b) (subst (λ l. IsBad l u other) (sym a) worse)),
+      sym at
+          ∙ ap (λ (x : Token). x.place) b ∙ there,
+    )
     go (before more a) = absurd (bad_before ts t found more bad (subst IsSound a fine))
     go (behind more a) = absurd (bad_before us u other more worse (subst IsSound a sound))
 one_of text found other place elsewhere (at_token ts t after e sound bad at) (at_end fine end) = absurd (bad_before ts t found after bad (subst IsSound e fine))
-one_of text found other place elsewhere (at_end sound end) (at_token us u past f fine worse there) = absurd (bad_before us u other past worse (subst IsSound f sound))
+one_of text found other place elsewhere (at_end sound end) (at_token us u past f fine worse there) =
+    absurd (bad_before us u other past worse (subst IsSound f sound))
 one_of text found other place elsewhere (at_end sound end) (at_end fine more) = one_end text found other place elsewhere end more
 
-pub one_refusal : (text : List ℕ) (found other : r.Rule) (place elsewhere : Place) → IsRefused text found place → IsRefused text other elsewhere → (found ≡ other) × (place ≡ elsewhere)
+pub one_refusal : (text : List ℕ) (found other : r.Rule) (place elsewhere : Place) → IsRefused text found place → IsRefused text other elsewhere
+    → (found ≡ other) × (place ≡ elsewhere)
 one_refusal text found other place elsewhere x y = one_of text found other place elsewhere (refusal text found place x) (refusal text other elsewhere y)
 
 -- ---- What has a tree isn't refused
@@ -115,6 +127,8 @@ read_sound text xs x = (program_begins xs (scanned text).tokens x.spelled, x.low
 
 pub not_both : (text : List ℕ) (xs : List Item) (found : r.Rule) (place : Place) → IsRead text xs → IsRefused text found place → ⊥
 not_both text xs found place x (no_token fault begun low) = let both = sym x.scanned_whole ∙ fault in cc both
-not_both text xs found place x (wrong_token ts t after e low is at rule_is) = bad_before ts t found after (wrong is.wrong rule_is) (subst IsSound e (read_sound text xs x))
-not_both text xs found place x (too_high ts t after e low begun h at rule_is) = bad_before ts t found after (high begun h rule_is) (subst IsSound e (read_sound text xs x))
+not_both text xs found place x (wrong_token ts t after e low is at rule_is) =
+    bad_before ts t found after (wrong is.wrong rule_is) (subst IsSound e (read_sound text xs x))
+not_both text xs found place x (too_high ts t after e low begun h at rule_is) =
+    bad_before ts t found after (high begun h rule_is) (subst IsSound e (read_sound text xs x))
 not_both text xs found place x (wrong_end fault low begun is at rule_is) = is (xs, x.spelled)

@@ -1,5 +1,6 @@
 -- What stands at the front of a text is some of it.
-use Rattle.std.proofs.Common.{◌≡◌, ℕ, ◌+◌, ◌<◌, ◌≤◌, Bool, true, false, not, ◌&&◌, ◌||◌, cond, Option, Some, None, List, [], ◌∷◌, length, take, drop, refl, ap, sym, ◌∙◌, arith, length-drop}
+use Rattle.std.proofs.Common.{◌≡◌, ℕ, ◌+◌, ◌<◌, ◌≤◌, Bool, true, false, not, ◌&&◌, ◌||◌, cond, Option, Some}
+use Rattle.std.proofs.Common.{None, List, [], ◌∷◌, length, take, drop, refl, ap, sym, ◌∙◌, arith, length-drop}
 use Rattle.std.specs.Prelude.{find, nat_eq, nat_le, ◌==◌, codes}
 use Rattle.std.specs.List.{prefix_len, starts_with, list_all}
 use Rattle.std.specs.Option.{option_map}
@@ -11,10 +12,11 @@ use Rattle.ido_ints.specs.Typed.{Typed}
 use Rattle.c_tree.specs.declared.token.Punctuator as pn
 use Rattle.c_tree.specs.declared.rule.Rule.TheVariants as rule
 use Rattle.c_tree.specs.Tokens.{Number, Punctuator}
-use Rattle.c_tree.specs.Scanning.{Front, Blank, Lexed, Broken, End, front, front_from, is_blank, is_letter, is_decimal, is_word_byte, through_comment, line_comment, closed_comment, word_front, number_of, number_front, punctuators, punctuator_front}
+use Rattle.c_tree.specs.Scanning.{Prefix, Blank, Lexed, Broken, End, prefix, prefix_from, is_blank, is_letter, is_decimal, is_word_byte, through_comment}
+use Rattle.c_tree.specs.Scanning.{line_comment, closed_comment, word_prefix, number_of, number_prefix, punctuators, punctuator_prefix}
 
 -- as many bytes as are told stand in the text, at least one
-abbrev pub IsPart : (text : List ℕ) → Front → Type 0
+abbrev pub IsPart : (text : List ℕ) → Prefix → Type 0
 IsPart text (Blank bytes) = (0 < bytes) × (bytes ≤ length text)
 IsPart text (Lexed lexeme bytes) = (0 < bytes) × (bytes ≤ length text)
 IsPart text (Broken rule) = Unit {0}
@@ -22,7 +24,8 @@ IsPart text End = Unit {0}
 
 -- ---- Runs of bytes
 
-run_some : (p : ℕ → Bool) (c : ℕ) (cs : List ℕ) → p c ≡ true → (0 < length (take (prefix_len p (c ∷ cs)) (c ∷ cs))) × (length (take (prefix_len p (c ∷ cs)) (c ∷ cs)) ≤ length (c ∷ cs))
+run_some : (p : ℕ → Bool) (c : ℕ) (cs : List ℕ) → p c ≡ true
+    → (0 < length (take (prefix_len p (c ∷ cs)) (c ∷ cs))) × (length (take (prefix_len p (c ∷ cs)) (c ∷ cs)) ≤ length (c ∷ cs))
 run_some p c cs e =
     let all : length (take (prefix_len p (c ∷ cs)) (c ∷ cs)) ≡ prefix_len p (c ∷ cs) = length-prefix_len p (c ∷ cs) in
     let some : prefix_len p (c ∷ cs) ≡ 1 + prefix_len p cs = rw e refl in
@@ -48,7 +51,8 @@ through_within [] n e = cc
 through_within (c ∷ []) n e = cc
 through_within (c ∷ d ∷ ds) n e = by (c == 42 && d == 47) (through_comment (d ∷ ds)) (through_within (d ∷ ds)) e
   where
-    by : (b : Bool) (x : Option ℕ) → ((m : ℕ) → x ≡ Some m → m ≤ length (d ∷ ds)) → cond b (Some 2) (option_map (λ m. m + 1) x) ≡ Some n → n ≤ length (c ∷ d ∷ ds)
+    by : (b : Bool) (x : Option ℕ) → ((m : ℕ) → x ≡ Some m → m ≤ length (d ∷ ds)) → cond b (Some 2) (option_map (λ m. m + 1) x) ≡ Some n
+        → n ≤ length (c ∷ d ∷ ds)
     by true x h q = let two : 2 ≡ n = cc in omega arith
     by false (Some m) h q =
         let more : m + 1 ≡ n = cc in
@@ -84,13 +88,17 @@ decimal_goes_on c e = rw e (or_true (is_letter c))
     or_true true = refl
     or_true false = refl
 
-word_some : (c : ℕ) (cs : List ℕ) → is_letter c ≡ true → IsPart (c ∷ cs) (word_front (c ∷ cs))
+word_some : (c : ℕ) (cs : List ℕ) → is_letter c ≡ true → IsPart (c ∷ cs) (word_prefix (c ∷ cs))
 word_some c cs e = run_some is_word_byte c cs (letter_goes_on c e)
 
-number_some : (c : ℕ) (cs : List ℕ) → is_decimal c ≡ true → IsPart (c ∷ cs) (number_front (c ∷ cs))
+number_some : (c : ℕ) (cs : List ℕ) → is_decimal c ≡ true → IsPart (c ∷ cs) (number_prefix (c ∷ cs))
 number_some c cs e = by (number_of (take (prefix_len is_word_byte (c ∷ cs)) (c ∷ cs)))
   where
-    by : (x : Option Typed) → IsPart (c ∷ cs) (elim x [ Some value ↦ Lexed (Number value) (length (take (prefix_len is_word_byte (c ∷ cs)) (c ∷ cs))) | None ↦ Broken rule.Number ])
+    by : (x : Option Typed) → IsPart (c ∷ cs) (elim x [
+      | Some value ↦ Lexed (Number value)
+          (length (take (prefix_len is_word_byte (c ∷ cs)) (c ∷ cs)))
+      | None ↦ Broken rule.Number
+    ])
     by (Some v) = run_some is_word_byte c cs (decimal_goes_on c e)
     by None = tt
 
@@ -113,11 +121,12 @@ all_long : list_all is_long punctuators ≡ true
 unfolding is_long
 all_long = refl
 
-punctuator_some : (text : List ℕ) → IsPart text (punctuator_front text)
+punctuator_some : (text : List ℕ) → IsPart text (punctuator_prefix text)
 unfolding is_long
 punctuator_some text = by (find (λ e. begins text e.0) punctuators) refl
   where
-    by : (x : Option (List ℕ × pn.Punctuator)) → find (λ e. begins text e.0) punctuators ≡ x → IsPart text (elim x [ Some entry ↦ Lexed (Punctuator entry.1) (length entry.0) | None ↦ Broken rule.Byte ])
+    by : (x : Option (List ℕ × pn.Punctuator)) → find (λ e. begins text e.0) punctuators ≡ x
+        → IsPart text (elim x [ Some entry ↦ Lexed (Punctuator entry.1) (length entry.0) | None ↦ Broken rule.Byte ])
     by (Some e) h =
         let passes = found_passes (λ e. begins text e.0) is_long punctuators e all_long h in
         (grind (arith, nat_tests, passes.1), begins_length text e.0 passes.0)
@@ -129,21 +138,21 @@ choose : {A : Type 0} (P : A → Type 0) (b : Bool) (x y : A) → (b ≡ true �
 choose P true x y f g = f refl
 choose P false x y f g = g refl
 
-from_some : (c : ℕ) (cs : List ℕ) → IsPart (c ∷ cs) (front_from c (c ∷ cs))
+from_some : (c : ℕ) (cs : List ℕ) → IsPart (c ∷ cs) (prefix_from c (c ∷ cs))
 from_some c cs =
     let text : List ℕ = c ∷ cs in
-    let P : Front → Type 0 = IsPart text in
-    let number : Front = cond (is_decimal c) (number_front text) (punctuator_front text) in
-    let word : Front = cond (is_letter c) (word_front text) number in
-    let closed : Front = cond (begins text (codes "/*")) (closed_comment text) word in
-    let line : Front = cond (begins text (codes "//")) (line_comment text) closed in
+    let P : Prefix → Type 0 = IsPart text in
+    let number : Prefix = cond (is_decimal c) (number_prefix text) (punctuator_prefix text) in
+    let word : Prefix = cond (is_letter c) (word_prefix text) number in
+    let closed : Prefix = cond (begins text (codes "/*")) (closed_comment text) word in
+    let line : Prefix = cond (begins text (codes "//")) (line_comment text) closed in
     choose P (is_blank c) (Blank 1) line (λ _. (omega arith, omega arith))
     (λ _. choose P (begins text (codes "//")) (line_comment text) closed (line_some c cs)
     (λ _. choose P (begins text (codes "/*")) (closed_comment text) word (closed_some text)
-    (λ _. choose P (is_letter c) (word_front text) number (word_some c cs)
-    (λ _. choose P (is_decimal c) (number_front text) (punctuator_front text) (number_some c cs) (λ _. punctuator_some text)))))
+    (λ _. choose P (is_letter c) (word_prefix text) number (word_some c cs)
+    (λ _. choose P (is_decimal c) (number_prefix text) (punctuator_prefix text) (number_some c cs) (λ _. punctuator_some text)))))
 
-pub front-IsPart : (text : List ℕ) → IsPart text (front text)
-unfolding front
-front-IsPart [] = tt
-front-IsPart (c ∷ cs) = from_some c cs
+pub prefix-IsPart : (text : List ℕ) → IsPart text (prefix text)
+unfolding prefix
+prefix-IsPart [] = tt
+prefix-IsPart (c ∷ cs) = from_some c cs

@@ -1,11 +1,16 @@
 -- The parser's steps, one equation for each.
-use Rattle.std.proofs.Common.{◌≡◌, ℕ, suc, ◌+◌, ◌-◌, ◌<◌, ◌≤◌, List, [], ◌∷◌, ◌++◌, Option, Some, Bool, true, false, refl, ap, sym, subst, ◌∙◌, append_assoc, append-nil, arith}
+use Rattle.std.proofs.Common.{◌≡◌, ℕ, suc, ◌+◌, ◌-◌, ◌<◌, ◌≤◌, List, [], ◌∷◌, ◌++◌, Option, Some, Bool}
+use Rattle.std.proofs.Common.{true, false, refl, ap, sym, subst, ◌∙◌, append_assoc, append-nil, arith}
 use Rattle.ido_base.specs.declared.place.Place.{Place}
 use Rattle.c_tree.specs.Tokens.{Token, Lexeme, Name}
 use Rattle.c_tree.specs.declared.token.Punctuator.TheVariants as p
 use Rattle.c_tree.specs.Trees as t
-use Rattle.c_reader.specs.Parsing.{Parsed, Parser, Read, Wrong, give, follow, ◌>>=◌, ◌>>◌, head_of, by_head, where_head, taking, head_is, is_mark, is_operator_at, operator_in, operand_over, operand_after_name, conditional_after, parse_operand, parse_expression, parse_index, parse_name, parse_mark, parse_change, parse_more_of, parse_some_of, declaration_over, call_after, assigned_from}
-use Rattle.c_reader.specs.Steps.{operators_behind, operators_from, right_operand, more_of, expression_behind_name, right_behind_name, right_side, maybe_initial, statement_behind_target, statement_behind_name, parse_named_statement, parse_declaration_statement}
+use Rattle.c_reader.specs.links.Parsing.{Parsed, Parser, Read, Wrong, give, follow, ◌>>=◌, ◌>>◌, head_of, by_head, where_head, taking, head_is}
+use Rattle.c_reader.specs.links.Parsing.{is_mark, is_operator_at, operator_in, operand_over, operand_after_name, conditional_after}
+use Rattle.c_reader.specs.links.Parsing.{parse_operand, parse_expression, parse_index, parse_name, parse_mark, parse_change}
+use Rattle.c_reader.specs.links.Parsing.{parse_more_of, parse_some_of, declaration_over, call_after, assigned_from}
+use Rattle.c_reader.specs.links.Steps.{operators_behind, operators_from, right_operand, more_of, expression_behind_name, right_behind_name, right_side}
+use Rattle.c_reader.specs.links.Steps.{maybe_initial, statement_behind_target, statement_behind_name, parse_named_statement, parse_declaration_statement}
 
 -- fuel that is there
 pub burnt : {X : Type 0} (f : ℕ → X) (fuel : ℕ) → 0 < fuel → f fuel ≡ f (suc (fuel - 1))
@@ -24,21 +29,25 @@ unfolding parse_expression
 expression_at_none fuel ts none = ap (λ n. parse_expression n ts) none
 
 pub expression_at_suc : (fuel : ℕ) (ts : List Token)
-    → parse_expression (suc fuel) ts ≡ follow (parse_operand (suc fuel) ts) (λ x rest. follow (operators_behind (suc fuel) 10 x rest) (λ y. conditional_after (parse_expression fuel) y))
+    → parse_expression (suc fuel) ts ≡ follow (parse_operand (suc fuel) ts)
+    (λ x rest. follow (operators_behind (suc fuel) 10 x rest) (λ y. conditional_after (parse_expression fuel) y))
 unfolding parse_expression operators_behind
 expression_at_suc fuel ts = refl
 
 pub expression_at : (fuel : ℕ) (ts : List Token) → 0 < fuel
-    → parse_expression fuel ts ≡ follow (parse_operand fuel ts) (λ x rest. follow (operators_behind fuel 10 x rest) (λ y. conditional_after (parse_expression (fuel - 1)) y))
+    → parse_expression fuel ts ≡ follow (parse_operand fuel ts)
+    (λ x rest. follow (operators_behind fuel 10 x rest) (λ y. conditional_after (parse_expression (fuel - 1)) y))
 expression_at fuel ts some =
     let e : fuel ≡ suc (fuel - 1) = omega arith in
     subst
-    (λ (n : ℕ). parse_expression n ts ≡ follow (parse_operand n ts) (λ x rest. follow (operators_behind n 10 x rest) (λ y. conditional_after (parse_expression (fuel - 1)) y)))
+    (λ (n : ℕ). parse_expression n ts ≡ follow (parse_operand n ts)
+    (λ x rest. follow (operators_behind n 10 x rest) (λ y. conditional_after (parse_expression (fuel - 1)) y)))
     (sym e)
     (expression_at_suc (fuel - 1) ts)
 
 pub behind_name_is : (fuel : ℕ) (x : t.Name) (ts : List Token)
-    → expression_behind_name fuel x ts ≡ follow (operand_after_name (parse_expression fuel) x ts) (λ y rest. follow (operators_behind fuel 10 y rest) (λ z. conditional_after (parse_expression fuel) z))
+    → expression_behind_name fuel x ts ≡ follow (operand_after_name (parse_expression fuel) x ts)
+    (λ y rest. follow (operators_behind fuel 10 y rest) (λ z. conditional_after (parse_expression fuel) z))
 unfolding expression_behind_name operators_behind
 behind_name_is fuel x ts = refl
 
@@ -62,12 +71,14 @@ unfolding operators_from
 from_end fuel levels at left ts done = let e : fuel - at ≡ 0 = omega arith in ap (λ n. operators_from fuel levels n left ts) e
 
 from_suc : (fuel levels count : ℕ) (left : t.Expression) (ts : List Token) → operators_from fuel levels (suc count) left ts
-    ≡ where_head (head_is (is_operator_at (10 - levels))) (do o ← taking (operator_in (10 - levels)); y ← right_operand fuel levels; operators_from fuel levels count (t.Binary o left y)) (give left) ts
+    ≡ where_head (head_is (is_operator_at (10 - levels)))
+    (do o ← taking (operator_in (10 - levels)); y ← right_operand fuel levels; operators_from fuel levels count (t.Binary o left y)) (give left) ts
 unfolding operators_from
 from_suc fuel levels count left ts = refl
 
 pub from_some : (fuel levels at : ℕ) (left : t.Expression) (ts : List Token) → at < fuel → operators_from fuel levels (fuel - at) left ts
-    ≡ where_head (head_is (is_operator_at (10 - levels))) (do o ← taking (operator_in (10 - levels)); y ← right_operand fuel levels; operators_from fuel levels (fuel - (at + 1)) (t.Binary o left y)) (give left) ts
+    ≡ where_head (head_is (is_operator_at (10 - levels)))
+    (do o ← taking (operator_in (10 - levels)); y ← right_operand fuel levels; operators_from fuel levels (fuel - (at + 1)) (t.Binary o left y)) (give left) ts
 from_some fuel levels at left ts below =
     let e : fuel - at ≡ suc (fuel - (at + 1)) = omega arith in ap (λ n. operators_from fuel levels n left ts) e ∙ from_suc fuel levels (fuel - (at + 1)) left ts
 
@@ -83,41 +94,50 @@ pub where_followed : {A B : Type 0} (test : Option Lexeme → Bool) (then otherw
     → follow (where_head test then otherwise ts) g ≡ where_head test (then >>= g) (otherwise >>= g) ts
 where_followed {A = A} {B = B} test then otherwise g ts = go (test (head_of ts))
   where
-    go : (b : Bool) → follow (elim b as (λ p. Parsed A) [ true ↦ then ts | false ↦ otherwise ts ]) g ≡ elim b as (λ p. Parsed B) [ true ↦ (then >>= g) ts | false ↦ (otherwise >>= g) ts ]
+    go : (b : Bool) → follow (elim b as (λ p. Parsed A) [ true ↦ then ts | false ↦ otherwise ts ]) g
+        ≡ elim b as (λ p. Parsed B) [ true ↦ (then >>= g) ts | false ↦ (otherwise >>= g) ts ]
     go true = refl
     go false = refl
 
 -- answers where the branches of a choice agree
-pub where_same : {A : Type 0} (test : Option Lexeme → Bool) (then then' otherwise : Parser A) (ts : List Token) → then ts ≡ then' ts → where_head test then otherwise ts ≡ where_head test then' otherwise ts
+pub where_same : {A : Type 0} (test : Option Lexeme → Bool) (then then' otherwise : Parser A) (ts : List Token) → then ts ≡ then' ts
+    → where_head test then otherwise ts ≡ where_head test then' otherwise ts
 where_same {A = A} test then then' otherwise ts e = ap (λ (r : Parsed A). elim (test (head_of ts)) as (λ p. Parsed A) [ true ↦ r | false ↦ otherwise ts ]) e
 
 -- one more in front of what follows
-pub one_more : {A : Type 0} (found : List A) (x : A) (r : Parsed (List A)) → follow (follow r (λ xs. give (x ∷ xs))) (λ xs. give (found ++ xs)) ≡ follow r (λ xs. give (found ++ x ∷ [] ++ xs))
+pub one_more : {A : Type 0} (found : List A) (x : A) (r : Parsed (List A))
+    → follow (follow r (λ xs. give (x ∷ xs))) (λ xs. give (found ++ xs)) ≡ follow r (λ xs. give (found ++ x ∷ [] ++ xs))
 one_more found x (Read xs rest) = ap (λ l. Read l rest) (sym (append_assoc found (x ∷ []) xs))
 one_more found x (Wrong rest) = refl
 
 then_more : {A : Type 0} (part : Parser A) (count : ℕ) (found : List A) (ts : List Token)
-    → follow ((do x ← part; xs ← parse_more_of count part; give (x ∷ xs)) ts) (λ xs. give (found ++ xs)) ≡ (do x ← part; more_of part count (found ++ x ∷ [])) ts
+    → follow ((do x ← part; xs ← parse_more_of count part; give (x ∷ xs)) ts) (λ xs. give (found ++ xs))
+    ≡ (do x ← part; more_of part count (found ++ x ∷ [])) ts
 unfolding more_of
 then_more {A = A} part count found ts = go (part ts)
   where
-    go : (r : Parsed A) → follow (follow r (λ x. parse_more_of count part >>= λ xs. give (x ∷ xs))) (λ xs. give (found ++ xs)) ≡ follow r (λ x. more_of part count (found ++ x ∷ []))
+    go : (r : Parsed A) → follow (follow r (λ x. parse_more_of count part >>= λ xs. give (x ∷ xs))) (λ xs. give (found ++ xs))
+        ≡ follow r (λ x. more_of part count (found ++ x ∷ []))
     go (Read x rest) = one_more found x (parse_more_of count part rest)
     go (Wrong rest) = refl
 
 comma_more : {A : Type 0} (part : Parser A) (count : ℕ) (found : List A) (ts : List Token)
-    → follow ((do parse_mark p.Comma; x ← part; xs ← parse_more_of count part; give (x ∷ xs)) ts) (λ xs. give (found ++ xs)) ≡ (do parse_mark p.Comma; x ← part; more_of part count (found ++ x ∷ [])) ts
+    → follow ((do parse_mark p.Comma; x ← part; xs ← parse_more_of count part; give (x ∷ xs)) ts) (λ xs. give (found ++ xs))
+    ≡ (do parse_mark p.Comma; x ← part; more_of part count (found ++ x ∷ [])) ts
 comma_more {A = A} part count found ts = go (parse_mark p.Comma ts)
   where
-    go : (r : Parsed Place) → follow (follow r (λ c. part >>= λ x. parse_more_of count part >>= λ xs. give (x ∷ xs))) (λ xs. give (found ++ xs)) ≡ follow r (λ c. part >>= λ x. more_of part count (found ++ x ∷ []))
+    go : (r : Parsed Place) → follow (follow r (λ c. part >>= λ x. parse_more_of count part >>= λ xs. give (x ∷ xs))) (λ xs. give (found ++ xs))
+        ≡ follow r (λ c. part >>= λ x. more_of part count (found ++ x ∷ []))
     go (Read c rest) = then_more part count found rest
     go (Wrong rest) = refl
 
 more_suc : {A : Type 0} (part : Parser A) (count : ℕ) (found : List A) (ts : List Token)
-    → more_of part (suc count) found ts ≡ where_head (head_is (is_mark p.Comma)) (do parse_mark p.Comma; x ← part; more_of part count (found ++ x ∷ [])) (give found) ts
+    → more_of part (suc count) found ts ≡ where_head (head_is (is_mark p.Comma)) (do parse_mark p.Comma; x ← part; more_of part count (found ++ x ∷ []))
+    (give found) ts
 unfolding more_of
 more_suc part count found ts =
-    where_followed (head_is (is_mark p.Comma)) (do parse_mark p.Comma; x ← part; xs ← parse_more_of count part; give (x ∷ xs)) (give []) (λ xs. give (found ++ xs)) ts
+    where_followed (head_is (is_mark p.Comma)) (do parse_mark p.Comma; x ← part; xs ← parse_more_of count part; give (x ∷ xs)) (give [])
+    (λ xs. give (found ++ xs)) ts
     ∙ where_same (head_is (is_mark p.Comma)) ((do parse_mark p.Comma; x ← part; xs ← parse_more_of count part; give (x ∷ xs)) >>= λ xs. give (found ++ xs))
     (do parse_mark p.Comma; x ← part; more_of part count (found ++ x ∷ [])) (give (found ++ [])) ts (comma_more part count found ts)
     ∙ ap (λ l. where_head (head_is (is_mark p.Comma)) (do parse_mark p.Comma; x ← part; more_of part count (found ++ x ∷ [])) (give l) ts) (append-nil found)
@@ -127,7 +147,8 @@ unfolding more_of
 more_end part fuel at found ts done = let e : fuel - at ≡ 0 = omega arith in ap (λ n. more_of part n found ts) e
 
 pub more_some : {A : Type 0} (part : Parser A) (fuel at : ℕ) (found : List A) (ts : List Token) → at < fuel
-    → more_of part (fuel - at) found ts ≡ where_head (head_is (is_mark p.Comma)) (do parse_mark p.Comma; x ← part; more_of part (fuel - (at + 1)) (found ++ x ∷ [])) (give found) ts
+    → more_of part (fuel - at) found ts ≡ where_head (head_is (is_mark p.Comma))
+    (do parse_mark p.Comma; x ← part; more_of part (fuel - (at + 1)) (found ++ x ∷ [])) (give found) ts
 more_some part fuel at found ts below =
     let e : fuel - at ≡ suc (fuel - (at + 1)) = omega arith in ap (λ n. more_of part n found ts) e ∙ more_suc part (fuel - (at + 1)) found ts
 
@@ -150,7 +171,8 @@ pub right_side_is : (fuel : ℕ) (ts : List Token) → right_side fuel ts ≡ by
 unfolding right_side right_behind_name
 right_side_is fuel ts = refl
 
-pub maybe_initial_is : (fuel : ℕ) (ts : List Token) → maybe_initial fuel ts ≡ where_head (head_is (is_mark p.Assign)) (do parse_mark p.Assign; right_side fuel) (give t.Absent) ts
+pub maybe_initial_is : (fuel : ℕ) (ts : List Token) → maybe_initial fuel ts
+    ≡ where_head (head_is (is_mark p.Assign)) (do parse_mark p.Assign; right_side fuel) (give t.Absent) ts
 unfolding maybe_initial right_side
 maybe_initial_is fuel ts = refl
 
@@ -170,10 +192,12 @@ pub statement_behind_name_is : (fuel : ℕ) (x : t.Name) (ts : List Token) → s
 unfolding statement_behind_name statement_behind_target
 statement_behind_name_is fuel x ts = refl
 
-pub named_statement_is : (fuel : ℕ) (ts : List Token) → parse_named_statement fuel ts ≡ (do s ← (do x ← parse_name; statement_behind_name fuel x); parse_mark p.Semicolon; give s) ts
+pub named_statement_is : (fuel : ℕ) (ts : List Token) → parse_named_statement fuel ts
+    ≡ (do s ← (do x ← parse_name; statement_behind_name fuel x); parse_mark p.Semicolon; give s) ts
 unfolding parse_named_statement statement_behind_name
 named_statement_is fuel ts = refl
 
-pub declaration_statement_is : (fuel : ℕ) (ts : List Token) → parse_declaration_statement fuel ts ≡ (do x ← (do x ← declaration_over (maybe_initial fuel); give (t.Declare x)); parse_mark p.Semicolon; give x) ts
+pub declaration_statement_is : (fuel : ℕ) (ts : List Token)
+    → parse_declaration_statement fuel ts ≡ (do x ← (do x ← declaration_over (maybe_initial fuel); give (t.Declare x)); parse_mark p.Semicolon; give x) ts
 unfolding parse_declaration_statement maybe_initial
 declaration_statement_is fuel ts = refl

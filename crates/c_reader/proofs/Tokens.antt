@@ -12,7 +12,8 @@ use Rattle.c_tree.specs.declared.token.Punctuator as pn
 use Rattle.c_tree.specs.declared.token.Punctuator.TheVariants as p
 use Rattle.c_tree.specs.Trees as t
 use Rattle.c_tree.specs.Languages.{word_at, mark_at, number_at, name}
-use Rattle.c_reader.specs.Parsing.{is_mark, is_word, number_of_mark, number_of_word, number_of_operator, parse_mark, parse_word, parse_name, parse_number, parse_lexeme, name_in, number_in}
+use Rattle.c_reader.specs.links.Parsing.{is_mark, is_word, number_of_mark, number_of_word, number_of_operator, parse_mark}
+use Rattle.c_reader.specs.links.Parsing.{parse_word, parse_name, parse_number, parse_lexeme, name_in, number_in}
 use Rattle.c_reader.proofs.Good.{Language, Good, found_in, Anything, Strict, good_taking, good_to}
 
 -- ---- Numbers of marks and words stand for them
@@ -26,16 +27,21 @@ all_marks : List pn.Punctuator
 all_marks =
     p.OpenParenthesis ∷ p.CloseParenthesis ∷ p.OpenBracket ∷ p.CloseBracket ∷ p.OpenBrace ∷ p.CloseBrace ∷ p.Semicolon ∷ p.Comma ∷ p.Question ∷ p.Colon ∷
     p.Complement ∷ p.Not ∷ p.Assign ∷ p.Increment ∷ p.Decrement ∷ p.Not ∷ p.Not ∷ p.Not ∷ p.Not ∷ p.Not ∷
-    p.Binary binary.Mul ∷ p.Binary binary.Div ∷ p.Binary binary.Rem ∷ p.Binary binary.Add ∷ p.Binary binary.Sub ∷ p.Binary binary.ShiftLeft ∷ p.Binary binary.ShiftRight ∷
-    p.Binary binary.Less ∷ p.Binary binary.Greater ∷ p.Binary binary.LessEqual ∷ p.Binary binary.GreaterEqual ∷ p.Binary binary.Equal ∷ p.Binary binary.NotEqual ∷
+    p.Binary binary.Mul ∷ p.Binary binary.Div ∷ p.Binary binary.Rem ∷ p.Binary binary.Add ∷ p.Binary binary.Sub ∷ p.Binary binary.ShiftLeft ∷
+    p.Binary binary.ShiftRight ∷
+    p.Binary binary.Less ∷ p.Binary binary.Greater ∷ p.Binary binary.LessEqual ∷ p.Binary binary.GreaterEqual ∷ p.Binary binary.Equal ∷
+    p.Binary binary.NotEqual ∷
     p.Binary binary.And ∷ p.Binary binary.Xor ∷ p.Binary binary.Or ∷ p.Binary binary.LogicalAnd ∷ p.Binary binary.LogicalOr ∷ p.Not ∷ p.Not ∷
-    p.Update binary.Mul ∷ p.Update binary.Div ∷ p.Update binary.Rem ∷ p.Update binary.Add ∷ p.Update binary.Sub ∷ p.Update binary.ShiftLeft ∷ p.Update binary.ShiftRight ∷
-    p.Update binary.Less ∷ p.Update binary.Greater ∷ p.Update binary.LessEqual ∷ p.Update binary.GreaterEqual ∷ p.Update binary.Equal ∷ p.Update binary.NotEqual ∷
+    p.Update binary.Mul ∷ p.Update binary.Div ∷ p.Update binary.Rem ∷ p.Update binary.Add ∷ p.Update binary.Sub ∷ p.Update binary.ShiftLeft ∷
+    p.Update binary.ShiftRight ∷
+    p.Update binary.Less ∷ p.Update binary.Greater ∷ p.Update binary.LessEqual ∷ p.Update binary.GreaterEqual ∷ p.Update binary.Equal ∷
+    p.Update binary.NotEqual ∷
     p.Update binary.And ∷ p.Update binary.Xor ∷ p.Update binary.Or ∷ p.Update binary.LogicalAnd ∷ p.Update binary.LogicalOr ∷ []
 
 all_words : List kw.Keyword
 all_words =
-    k.Mutex ∷ k.Persistent ∷ k.Thread ∷ k.Lock ∷ k.Unlock ∷ k.Void ∷ k.Char ∷ k.Short ∷ k.Int ∷ k.Long ∷ k.Signed ∷ k.Unsigned ∷ k.If ∷ k.Else ∷ k.While ∷ k.Do ∷ k.For ∷ k.Return ∷ []
+    k.Mutex ∷ k.Persistent ∷ k.Thread ∷ k.Lock ∷ k.Unlock ∷ k.Void ∷ k.Char ∷ k.Short ∷ k.Int ∷ k.Long ∷ k.Signed ∷ k.Unsigned ∷ k.If ∷ k.Else ∷ k.While ∷
+    k.Do ∷ k.For ∷ k.Return ∷ []
 
 mark_back : (x : pn.Punctuator) → nth all_marks (number_of_mark x) ≡ Some x
 unfolding nth all_marks
@@ -168,21 +174,26 @@ numbered x = number_at x.0 x.1
 abbrev place_where : (Lexeme → Bool) → Token → Option Place
 place_where test t = elim (test t.lexeme) [ true ↦ Some t.place | false ↦ None ]
 
-lexeme_found : (test : Lexeme → Bool) (x : Lexeme) → ((l : Lexeme) → test l ≡ true → l ≡ x) → (place : Place) (us : List Token) → found_in (place_where test) place us → us ≡ record { place = place; lexeme = x } ∷ []
+lexeme_found : (test : Lexeme → Bool) (x : Lexeme) → ((l : Lexeme) → test l ≡ true → l ≡ x) → (place : Place) (us : List Token)
+    → found_in (place_where test) place us → us ≡ record { place = place; lexeme = x } ∷ []
 lexeme_found test x only place us (t, e, f) = go (test t.lexeme) refl f
   where
-    go : (b : Bool) → test t.lexeme ≡ b → elim b as (λ b. Option Place) [ true ↦ Some t.place | false ↦ None ] ≡ Some place → us ≡ record { place = place; lexeme = x } ∷ []
+    go : (b : Bool) → test t.lexeme ≡ b → elim b as (λ b. Option Place) [ true ↦ Some t.place | false ↦ None ] ≡ Some place
+        → us ≡ record { place = place; lexeme = x } ∷ []
     go true q f = rw (e, ← only t.lexeme q, ← some_same t.place place f) refl
     go false q f = cc
 
-lexeme_finds : (test : Lexeme → Bool) (x : Lexeme) → test x ≡ true → (place : Place) (us : List Token) → us ≡ record { place = place; lexeme = x } ∷ [] → found_in (place_where test) place us
+lexeme_finds : (test : Lexeme → Bool) (x : Lexeme) → test x ≡ true → (place : Place) (us : List Token) → us ≡ record { place = place; lexeme = x } ∷ []
+    → found_in (place_where test) place us
 lexeme_finds test x passes place us e = (record { place = place; lexeme = x }, e, rw (passes, place_where) refl)
 
 good_lexeme : {b : ℕ} (test : Lexeme → Bool) (x : Lexeme) → ((l : Lexeme) → test l ≡ true → l ≡ x) → test x ≡ true →
-    Good b (λ place ts. ts ≡ record { place = place; lexeme = x } ∷ []) (λ place ts. ts ≡ record { place = place; lexeme = x } ∷ []) Anything (parse_lexeme test) (parse_lexeme test)
+    Good b (λ place ts. ts ≡ record { place = place; lexeme = x } ∷ []) (λ place ts. ts ≡ record { place = place; lexeme = x } ∷ []) Anything
+    (parse_lexeme test) (parse_lexeme test)
 good_lexeme test x only passes =
     let z : Place = record { 0 = 0 } in
-    good_to (good_taking (place_where test) (record { place = z; lexeme = x }) z (rw (passes, place_where) refl)) (lexeme_found test x only) (lexeme_finds test x passes) (λ h f. f)
+    good_to (good_taking (place_where test) (record { place = z; lexeme = x }) z (rw (passes, place_where) refl)) (lexeme_found test x only)
+    (lexeme_finds test x passes) (λ h f. f)
 
 pub good_mark : {b : ℕ} (x : pn.Punctuator) → Good b (marked x) (marked x) Anything (parse_mark x) (parse_mark x)
 good_mark x = good_lexeme (is_mark x) (Punctuator x) (is_mark-true x) (is_mark-same x)
@@ -199,8 +210,10 @@ worded-strict x place us e = rw e (zero-lt-suc 0)
 name_found : (x : t.Name) (us : List Token) → found_in name_in x us → name x us
 name_found x us (o, e, f) = go o.lexeme refl f
   where
-    go : (l : Lexeme) → o.lexeme ≡ l → elim l as (λ l. Option t.Name) [ Name bytes ↦ Some (record { text = bytes; place = o.place }) | _ ↦ None ] ≡ Some x → name x us
-    go (Name bytes) q f = let s : record { text = bytes; place = o.place } ≡ x = some_same (record { text = bytes; place = o.place }) x f in rw (e, ← s, ← q) refl
+    go : (l : Lexeme) → o.lexeme ≡ l → elim l as (λ l. Option t.Name) [ Name bytes ↦ Some (record { text = bytes; place = o.place }) | _ ↦ None ] ≡ Some x
+        → name x us
+    go (Name bytes) q f =
+        let s : record { text = bytes; place = o.place } ≡ x = some_same (record { text = bytes; place = o.place }) x f in rw (e, ← s, ← q) refl
     go (Keyword y) q f = cc
     go (Number y) q f = cc
     go (Punctuator y) q f = cc
@@ -208,7 +221,8 @@ name_found x us (o, e, f) = go o.lexeme refl f
 pub good_name : {b : ℕ} → Good b named named Anything parse_name parse_name
 good_name =
     let z : Place = record { 0 = 0 } in
-    good_to (good_taking name_in (record { place = z; lexeme = Name [] }) (record { text = []; place = z }) refl) name_found (λ x us e. (record { place = x.place; lexeme = Name x.text }, e, refl)) (λ h f. f)
+    good_to (good_taking name_in (record { place = z; lexeme = Name [] }) (record { text = []; place = z }) refl) name_found
+    (λ x us e. (record { place = x.place; lexeme = Name x.text }, e, refl)) (λ h f. f)
 
 pub named-strict : Strict named
 named-strict x us e = rw e (zero-lt-suc 0)
@@ -225,7 +239,8 @@ number_found x us (o, e, f) = go o.lexeme refl f
 pub good_number : {b : ℕ} → (z : Typed) → Good b numbered numbered Anything parse_number parse_number
 good_number z =
     let o : Place = record { 0 = 0 } in
-    good_to (good_taking number_in (record { place = o; lexeme = Number z }) (o, z) refl) number_found (λ x us e. (record { place = x.0; lexeme = Number x.1 }, e, refl)) (λ h f. f)
+    good_to (good_taking number_in (record { place = o; lexeme = Number z }) (o, z) refl) number_found
+    (λ x us e. (record { place = x.0; lexeme = Number x.1 }, e, refl)) (λ h f. f)
 
 pub numbered-strict : Strict numbered
 numbered-strict x us e = rw e (zero-lt-suc 0)

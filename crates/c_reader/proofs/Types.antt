@@ -1,5 +1,6 @@
 -- The parser of types keeps their language.
-use Rattle.std.proofs.Common.{◌≡◌, ℕ, zero, suc, List, [], ◌∷◌, ◌++◌, Option, Some, None, true, false, sym, refl, ap, subst, inl, inr, arith, lit<, le_of_suc-le-suc, true≢false}
+use Rattle.std.proofs.Common.{◌≡◌, ℕ, zero, suc, List, [], ◌∷◌, ◌++◌, Option, Some, None, true, false}
+use Rattle.std.proofs.Common.{sym, refl, ap, subst, inl, inr, arith, lit<, le_of_suc-le-suc, true≢false}
 use Rattle.std.specs.Prelude.{◌⊎◌, Contains}
 use Rattle.ido_base.specs.declared.place.Place.{Place}
 use Rattle.ido_ints.specs.declared.kinds.Kind.{Kind}
@@ -9,7 +10,8 @@ use Rattle.c_tree.specs.declared.token.Keyword as kw
 use Rattle.c_tree.specs.declared.token.Keyword.TheVariants as k
 use Rattle.c_tree.specs.Languages.{maybe, words}
 use Rattle.c_tree.specs.Grammar.{type, spellings}
-use Rattle.c_reader.specs.Parsing.{give, by_head, head_of, head_is, is_word, parse_word, parse_int, signed_by, unsigned_by, type_by, parse_type, begins_type, ◌>>◌}
+use Rattle.c_reader.specs.links.Parsing.{give, by_head, head_of, head_is, is_word, parse_word, parse_int}
+use Rattle.c_reader.specs.links.Parsing.{signed_by, unsigned_by, type_by, parse_type, begins_type, ◌>>◌}
 use Rattle.c_reader.proofs.Good.{Language, Good, ◌▷◌, ◌▹◌, just, nothing, Anything, good_give, good_to, good_map, good_head, good_then, good_wrong}
 use Rattle.c_reader.proofs.Tokens.{worded, good_word}
 use Rattle.c_reader.proofs.Parts.{Unless, good_maybe}
@@ -53,7 +55,8 @@ type-one_of x us (ks, c, w) = one_of (spellings x) ks us c w
 
 -- the words of a type, by kind and spelling: what the first word may be
 abbrev pub TypeEnd : Option Lexeme → Type 0
-TypeEnd h = (head_is (is_word k.Char) h ≡ false) × (head_is (is_word k.Short) h ≡ false) × (head_is (is_word k.Int) h ≡ false) × (head_is (is_word k.Long) h ≡ false)
+TypeEnd h =
+    (head_is (is_word k.Char) h ≡ false) × (head_is (is_word k.Short) h ≡ false) × (head_is (is_word k.Int) h ≡ false) × (head_is (is_word k.Long) h ≡ false)
 
 int_part : {b : ℕ} → Good b (maybe (worded k.Int)) (maybe (worded k.Int)) (Unless (is_word k.Int) Anything) parse_int parse_int
 int_part = good_maybe (is_word k.Int) (good_word k.Int) (λ x us rest u. rw u refl)
@@ -66,12 +69,14 @@ Alone w x = worded w ▹ (λ p. x)
 abbrev WithInt : kw.Keyword → Kind → Language Kind
 WithInt w x = worded w ▷ (λ p. maybe (worded k.Int) ▹ (λ i. x))
 
-alone : {b : ℕ} {U : Language Kind} (w : kw.Keyword) (x : Kind) → ((y : Kind) (us : List Token) → Alone w x y us → U y us) → Good b U (Alone w x) TypeEnd (do parse_word w; give x) (do parse_word w; give x)
+alone : {b : ℕ} {U : Language Kind} (w : kw.Keyword) (x : Kind) → ((y : Kind) (us : List Token) → Alone w x y us → U y us)
+    → Good b U (Alone w x) TypeEnd (do parse_word w; give x) (do parse_word w; give x)
 alone w x up = good_to (good_map (λ p. x) (good_word w)) up (λ y us u. u) (λ h f. tt)
 
 with_int : {b : ℕ} {U : Language Kind} (w : kw.Keyword) (x : Kind) → ((y : Kind) (us : List Token) → WithInt w x y us → U y us) →
     Good b U (WithInt w x) TypeEnd (do parse_word w; parse_int; give x) (do parse_word w; parse_int; give x)
-with_int w x up = good_to {F = Unless (is_word k.Int) Anything} (good_then (good_word w) (λ p. good_map (λ i. x) int_part) (λ p y us rest m f. tt)) up (λ y us u. u) (λ h f. (tt, f.2))
+with_int w x up = good_to {F = Unless (is_word k.Int) Anything} (good_then (good_word w) (λ p. good_map (λ i. x) int_part) (λ p y us rest m f. tt)) up
+    (λ y us u. u) (λ h f. (tt, f.2))
 
 -- ---- Behind `signed`, and behind `unsigned`
 
@@ -93,21 +98,24 @@ one_word x w c place = (w ∷ [], c, refl)
 two_words : (x : Kind) (w v : kw.Keyword) → Contains (spellings x) (w ∷ v ∷ []) → (place place' : Place) → type x (token place w ∷ token place' v ∷ [])
 two_words x w v c place place' = (w ∷ v ∷ [], c, refl)
 
-three_words : (x : Kind) (w v u : kw.Keyword) → Contains (spellings x) (w ∷ v ∷ u ∷ []) → (place place' place'' : Place) → type x (token place w ∷ token place' v ∷ token place'' u ∷ [])
+three_words : (x : Kind) (w v u : kw.Keyword) → Contains (spellings x) (w ∷ v ∷ u ∷ []) → (place place' place'' : Place)
+    → type x (token place w ∷ token place' v ∷ token place'' u ∷ [])
 three_words x w v u c place place' place'' = (w ∷ v ∷ u ∷ [], c, refl)
 
 -- the kinds of a word alone, and with `int`
 alone_up : (w : kw.Keyword) (x : Kind) → Contains (spellings x) (w ∷ []) → (y : Kind) (us : List Token) → Alone w x y us → type y us
 alone_up w x c y us (p, e, q) = rw (e, ← q) (one_word x w c p)
 
-int_up : (w : kw.Keyword) (x : Kind) → Contains (spellings x) (w ∷ []) → Contains (spellings x) (w ∷ k.Int ∷ []) → (y : Kind) (us : List Token) → WithInt w x y us → type y us
+int_up : (w : kw.Keyword) (x : Kind) → Contains (spellings x) (w ∷ []) → Contains (spellings x) (w ∷ k.Int ∷ []) → (y : Kind) (us : List Token)
+    → WithInt w x y us → type y us
 int_up w x c d y us (p, us', vs, e, l, (None, m, q)) = rw (e, l, m, ← q) (one_word x w c p)
 int_up w x c d y us (p, us', vs, e, l, (Some i, m, q)) = rw (e, l, m, ← q) (two_words x w k.Int d p i)
 
 behind_alone_up : (v w : kw.Keyword) (x : Kind) → Contains (spellings x) (v ∷ w ∷ []) → (y : Kind) (us : List Token) → Alone w x y us → Behind v y us
 behind_alone_up v w x c y us (p, e, q) place = rw (e, ← q) (two_words x v w c place p)
 
-behind_int_up : (v w : kw.Keyword) (x : Kind) → Contains (spellings x) (v ∷ w ∷ []) → Contains (spellings x) (v ∷ w ∷ k.Int ∷ []) → (y : Kind) (us : List Token) → WithInt w x y us → Behind v y us
+behind_int_up : (v w : kw.Keyword) (x : Kind) → Contains (spellings x) (v ∷ w ∷ []) → Contains (spellings x) (v ∷ w ∷ k.Int ∷ []) → (y : Kind) (us : List Token)
+    → WithInt w x y us → Behind v y us
 behind_int_up v w x c d y us (p, us', vs, e, l, (None, m, q)) place = rw (e, l, m, ← q) (two_words x v w c place p)
 behind_int_up v w x c d y us (p, us', vs, e, l, (Some i, m, q)) place = rw (e, l, m, ← q) (three_words x v w k.Int d place p i)
 
@@ -141,7 +149,8 @@ signed_other (Some (Keyword k.Int)) f = absurd (true≢false f.2)
 signed_other (Some (Keyword k.Long)) f = absurd (true≢false f.3)
 signed_other _ f = (refl, refl)
 
-signed_out : (x : Kind) (us rest : List Token) → OneOf (spellings x) (token at_0 k.Signed ∷ us) → TypeEnd (head_of rest) → signed_language (head_of (us ++ rest)) x us
+signed_out : (x : Kind) (us rest : List Token) → OneOf (spellings x) (token at_0 k.Signed ∷ us) → TypeEnd (head_of rest)
+    → signed_language (head_of (us ++ rest)) x us
 signed_out kind.Char us rest (inl (p0, v0, e0, e1)) f = let q : Keyword k.Signed ≡ Keyword k.Char = same_first at_0 p0 us v0 e0 in cc
 signed_out kind.Char us rest (inr z) f = elim z [ ]
 signed_out kind.UnsignedChar us rest (inl (p0, v0, e0, (p1, v1, e1, e2))) f = let q : Keyword k.Signed ≡ Keyword k.Unsigned = same_first at_0 p0 us v0 e0 in cc
@@ -150,26 +159,33 @@ signed_out kind.SignedChar us rest (inl (p0, v0, e0, (p1, v1, e1, e2))) f = let 
 signed_out kind.SignedChar us rest (inr z) f = elim z [ ]
 signed_out kind.Short us rest (inl (p0, v0, e0, e1)) f = let q : Keyword k.Signed ≡ Keyword k.Short = same_first at_0 p0 us v0 e0 in cc
 signed_out kind.Short us rest (inr (inl (p0, v0, e0, (p1, v1, e1, e2)))) f = let q : Keyword k.Signed ≡ Keyword k.Short = same_first at_0 p0 us v0 e0 in cc
-signed_out kind.Short us rest (inr (inr (inl (p0, v0, e0, (p1, v1, e1, e2))))) f = let r : us ≡ v0 = ap rest_of e0 in rw (r, e1, e2) ((p1, token p1 k.Short ∷ [], [], refl, refl, (None, refl, refl)))
-signed_out kind.Short us rest (inr (inr (inr (inl (p0, v0, e0, (p1, v1, e1, (p2, v2, e2, e3))))))) f = let r : us ≡ v0 = ap rest_of e0 in rw (r, e1, e2, e3) ((p1, token p1 k.Short ∷ [], token p2 k.Int ∷ [], refl, refl, (Some p2, refl, refl)))
+signed_out kind.Short us rest (inr (inr (inl (p0, v0, e0, (p1, v1, e1, e2))))) f =
+    let r : us ≡ v0 = ap rest_of e0 in rw (r, e1, e2) ((p1, token p1 k.Short ∷ [], [], refl, refl, (None, refl, refl)))
+signed_out kind.Short us rest (inr (inr (inr (inl (p0, v0, e0, (p1, v1, e1, (p2, v2, e2, e3))))))) f =
+    let r : us ≡ v0 = ap rest_of e0 in rw (r, e1, e2, e3) ((p1, token p1 k.Short ∷ [], token p2 k.Int ∷ [], refl, refl, (Some p2, refl, refl)))
 signed_out kind.Short us rest (inr (inr (inr (inr z)))) f = elim z [ ]
 signed_out kind.UnsignedShort us rest (inl (p0, v0, e0, (p1, v1, e1, e2))) f = let q : Keyword k.Signed ≡ Keyword k.Unsigned = same_first at_0 p0 us v0 e0 in cc
-signed_out kind.UnsignedShort us rest (inr (inl (p0, v0, e0, (p1, v1, e1, (p2, v2, e2, e3))))) f = let q : Keyword k.Signed ≡ Keyword k.Unsigned = same_first at_0 p0 us v0 e0 in cc
+signed_out kind.UnsignedShort us rest (inr (inl (p0, v0, e0, (p1, v1, e1, (p2, v2, e2, e3))))) f =
+    let q : Keyword k.Signed ≡ Keyword k.Unsigned = same_first at_0 p0 us v0 e0 in cc
 signed_out kind.UnsignedShort us rest (inr (inr z)) f = elim z [ ]
 signed_out kind.Int us rest (inl (p0, v0, e0, e1)) f = let q : Keyword k.Signed ≡ Keyword k.Int = same_first at_0 p0 us v0 e0 in cc
 signed_out kind.Int us rest (inr (inl (p0, v0, e0, e1))) f = let r : us ≡ v0 = ap rest_of e0 in rw (r, e1) (signed_other (head_of rest) f)
 signed_out kind.Int us rest (inr (inr (inl (p0, v0, e0, (p1, v1, e1, e2))))) f = let r : us ≡ v0 = ap rest_of e0 in rw (r, e1, e2) ((p1, refl, refl))
 signed_out kind.Int us rest (inr (inr (inr z))) f = elim z [ ]
 signed_out kind.UnsignedInt us rest (inl (p0, v0, e0, e1)) f = let q : Keyword k.Signed ≡ Keyword k.Unsigned = same_first at_0 p0 us v0 e0 in cc
-signed_out kind.UnsignedInt us rest (inr (inl (p0, v0, e0, (p1, v1, e1, e2)))) f = let q : Keyword k.Signed ≡ Keyword k.Unsigned = same_first at_0 p0 us v0 e0 in cc
+signed_out kind.UnsignedInt us rest (inr (inl (p0, v0, e0, (p1, v1, e1, e2)))) f =
+    let q : Keyword k.Signed ≡ Keyword k.Unsigned = same_first at_0 p0 us v0 e0 in cc
 signed_out kind.UnsignedInt us rest (inr (inr z)) f = elim z [ ]
 signed_out kind.Long us rest (inl (p0, v0, e0, e1)) f = let q : Keyword k.Signed ≡ Keyword k.Long = same_first at_0 p0 us v0 e0 in cc
 signed_out kind.Long us rest (inr (inl (p0, v0, e0, (p1, v1, e1, e2)))) f = let q : Keyword k.Signed ≡ Keyword k.Long = same_first at_0 p0 us v0 e0 in cc
-signed_out kind.Long us rest (inr (inr (inl (p0, v0, e0, (p1, v1, e1, e2))))) f = let r : us ≡ v0 = ap rest_of e0 in rw (r, e1, e2) ((p1, token p1 k.Long ∷ [], [], refl, refl, (None, refl, refl)))
-signed_out kind.Long us rest (inr (inr (inr (inl (p0, v0, e0, (p1, v1, e1, (p2, v2, e2, e3))))))) f = let r : us ≡ v0 = ap rest_of e0 in rw (r, e1, e2, e3) ((p1, token p1 k.Long ∷ [], token p2 k.Int ∷ [], refl, refl, (Some p2, refl, refl)))
+signed_out kind.Long us rest (inr (inr (inl (p0, v0, e0, (p1, v1, e1, e2))))) f =
+    let r : us ≡ v0 = ap rest_of e0 in rw (r, e1, e2) ((p1, token p1 k.Long ∷ [], [], refl, refl, (None, refl, refl)))
+signed_out kind.Long us rest (inr (inr (inr (inl (p0, v0, e0, (p1, v1, e1, (p2, v2, e2, e3))))))) f =
+    let r : us ≡ v0 = ap rest_of e0 in rw (r, e1, e2, e3) ((p1, token p1 k.Long ∷ [], token p2 k.Int ∷ [], refl, refl, (Some p2, refl, refl)))
 signed_out kind.Long us rest (inr (inr (inr (inr z)))) f = elim z [ ]
 signed_out kind.UnsignedLong us rest (inl (p0, v0, e0, (p1, v1, e1, e2))) f = let q : Keyword k.Signed ≡ Keyword k.Unsigned = same_first at_0 p0 us v0 e0 in cc
-signed_out kind.UnsignedLong us rest (inr (inl (p0, v0, e0, (p1, v1, e1, (p2, v2, e2, e3))))) f = let q : Keyword k.Signed ≡ Keyword k.Unsigned = same_first at_0 p0 us v0 e0 in cc
+signed_out kind.UnsignedLong us rest (inr (inl (p0, v0, e0, (p1, v1, e1, (p2, v2, e2, e3))))) f =
+    let q : Keyword k.Signed ≡ Keyword k.Unsigned = same_first at_0 p0 us v0 e0 in cc
 signed_out kind.UnsignedLong us rest (inr (inr z)) f = elim z [ ]
 
 abbrev unsigned_language : Option Lexeme → Language Kind
@@ -181,9 +197,11 @@ unsigned_language _ = just kind.UnsignedInt
 
 unsigned_good : {b : ℕ} (h : Option Lexeme) → Good b (Behind k.Unsigned) (unsigned_language h) TypeEnd (unsigned_by h) (unsigned_by h)
 unsigned_good (Some (Keyword k.Char)) = alone k.Char kind.UnsignedChar (behind_alone_up k.Unsigned k.Char kind.UnsignedChar (0, lit< tt, refl))
-unsigned_good (Some (Keyword k.Short)) = with_int k.Short kind.UnsignedShort (behind_int_up k.Unsigned k.Short kind.UnsignedShort (0, lit< tt, refl) (1, lit< tt, refl))
+unsigned_good (Some (Keyword k.Short)) =
+    with_int k.Short kind.UnsignedShort (behind_int_up k.Unsigned k.Short kind.UnsignedShort (0, lit< tt, refl) (1, lit< tt, refl))
 unsigned_good (Some (Keyword k.Int)) = alone k.Int kind.UnsignedInt (behind_alone_up k.Unsigned k.Int kind.UnsignedInt (1, lit< tt, refl))
-unsigned_good (Some (Keyword k.Long)) = with_int k.Long kind.UnsignedLong (behind_int_up k.Unsigned k.Long kind.UnsignedLong (0, lit< tt, refl) (1, lit< tt, refl))
+unsigned_good (Some (Keyword k.Long)) =
+    with_int k.Long kind.UnsignedLong (behind_int_up k.Unsigned k.Long kind.UnsignedLong (0, lit< tt, refl) (1, lit< tt, refl))
 unsigned_good _ = behind_none k.Unsigned kind.UnsignedInt (0, lit< tt, refl)
 
 unsigned_other : (h : Option Lexeme) → TypeEnd h → unsigned_language h kind.UnsignedInt []
@@ -193,7 +211,8 @@ unsigned_other (Some (Keyword k.Int)) f = absurd (true≢false f.2)
 unsigned_other (Some (Keyword k.Long)) f = absurd (true≢false f.3)
 unsigned_other _ f = (refl, refl)
 
-unsigned_out : (x : Kind) (us rest : List Token) → OneOf (spellings x) (token at_0 k.Unsigned ∷ us) → TypeEnd (head_of rest) → unsigned_language (head_of (us ++ rest)) x us
+unsigned_out : (x : Kind) (us rest : List Token) → OneOf (spellings x) (token at_0 k.Unsigned ∷ us) → TypeEnd (head_of rest)
+    → unsigned_language (head_of (us ++ rest)) x us
 unsigned_out kind.Char us rest (inl (p0, v0, e0, e1)) f = let q : Keyword k.Unsigned ≡ Keyword k.Char = same_first at_0 p0 us v0 e0 in cc
 unsigned_out kind.Char us rest (inr z) f = elim z [ ]
 unsigned_out kind.UnsignedChar us rest (inl (p0, v0, e0, (p1, v1, e1, e2))) f = let r : us ≡ v0 = ap rest_of e0 in rw (r, e1, e2) ((p1, refl, refl))
@@ -202,26 +221,35 @@ unsigned_out kind.SignedChar us rest (inl (p0, v0, e0, (p1, v1, e1, e2))) f = le
 unsigned_out kind.SignedChar us rest (inr z) f = elim z [ ]
 unsigned_out kind.Short us rest (inl (p0, v0, e0, e1)) f = let q : Keyword k.Unsigned ≡ Keyword k.Short = same_first at_0 p0 us v0 e0 in cc
 unsigned_out kind.Short us rest (inr (inl (p0, v0, e0, (p1, v1, e1, e2)))) f = let q : Keyword k.Unsigned ≡ Keyword k.Short = same_first at_0 p0 us v0 e0 in cc
-unsigned_out kind.Short us rest (inr (inr (inl (p0, v0, e0, (p1, v1, e1, e2))))) f = let q : Keyword k.Unsigned ≡ Keyword k.Signed = same_first at_0 p0 us v0 e0 in cc
-unsigned_out kind.Short us rest (inr (inr (inr (inl (p0, v0, e0, (p1, v1, e1, (p2, v2, e2, e3))))))) f = let q : Keyword k.Unsigned ≡ Keyword k.Signed = same_first at_0 p0 us v0 e0 in cc
+unsigned_out kind.Short us rest (inr (inr (inl (p0, v0, e0, (p1, v1, e1, e2))))) f =
+    let q : Keyword k.Unsigned ≡ Keyword k.Signed = same_first at_0 p0 us v0 e0 in cc
+unsigned_out kind.Short us rest (inr (inr (inr (inl (p0, v0, e0, (p1, v1, e1, (p2, v2, e2, e3))))))) f =
+    let q : Keyword k.Unsigned ≡ Keyword k.Signed = same_first at_0 p0 us v0 e0 in cc
 unsigned_out kind.Short us rest (inr (inr (inr (inr z)))) f = elim z [ ]
-unsigned_out kind.UnsignedShort us rest (inl (p0, v0, e0, (p1, v1, e1, e2))) f = let r : us ≡ v0 = ap rest_of e0 in rw (r, e1, e2) ((p1, token p1 k.Short ∷ [], [], refl, refl, (None, refl, refl)))
-unsigned_out kind.UnsignedShort us rest (inr (inl (p0, v0, e0, (p1, v1, e1, (p2, v2, e2, e3))))) f = let r : us ≡ v0 = ap rest_of e0 in rw (r, e1, e2, e3) ((p1, token p1 k.Short ∷ [], token p2 k.Int ∷ [], refl, refl, (Some p2, refl, refl)))
+unsigned_out kind.UnsignedShort us rest (inl (p0, v0, e0, (p1, v1, e1, e2))) f =
+    let r : us ≡ v0 = ap rest_of e0 in rw (r, e1, e2) ((p1, token p1 k.Short ∷ [], [], refl, refl, (None, refl, refl)))
+unsigned_out kind.UnsignedShort us rest (inr (inl (p0, v0, e0, (p1, v1, e1, (p2, v2, e2, e3))))) f =
+    let r : us ≡ v0 = ap rest_of e0 in rw (r, e1, e2, e3) ((p1, token p1 k.Short ∷ [], token p2 k.Int ∷ [], refl, refl, (Some p2, refl, refl)))
 unsigned_out kind.UnsignedShort us rest (inr (inr z)) f = elim z [ ]
 unsigned_out kind.Int us rest (inl (p0, v0, e0, e1)) f = let q : Keyword k.Unsigned ≡ Keyword k.Int = same_first at_0 p0 us v0 e0 in cc
 unsigned_out kind.Int us rest (inr (inl (p0, v0, e0, e1))) f = let q : Keyword k.Unsigned ≡ Keyword k.Signed = same_first at_0 p0 us v0 e0 in cc
-unsigned_out kind.Int us rest (inr (inr (inl (p0, v0, e0, (p1, v1, e1, e2))))) f = let q : Keyword k.Unsigned ≡ Keyword k.Signed = same_first at_0 p0 us v0 e0 in cc
+unsigned_out kind.Int us rest (inr (inr (inl (p0, v0, e0, (p1, v1, e1, e2))))) f =
+    let q : Keyword k.Unsigned ≡ Keyword k.Signed = same_first at_0 p0 us v0 e0 in cc
 unsigned_out kind.Int us rest (inr (inr (inr z))) f = elim z [ ]
 unsigned_out kind.UnsignedInt us rest (inl (p0, v0, e0, e1)) f = let r : us ≡ v0 = ap rest_of e0 in rw (r, e1) (unsigned_other (head_of rest) f)
 unsigned_out kind.UnsignedInt us rest (inr (inl (p0, v0, e0, (p1, v1, e1, e2)))) f = let r : us ≡ v0 = ap rest_of e0 in rw (r, e1, e2) ((p1, refl, refl))
 unsigned_out kind.UnsignedInt us rest (inr (inr z)) f = elim z [ ]
 unsigned_out kind.Long us rest (inl (p0, v0, e0, e1)) f = let q : Keyword k.Unsigned ≡ Keyword k.Long = same_first at_0 p0 us v0 e0 in cc
 unsigned_out kind.Long us rest (inr (inl (p0, v0, e0, (p1, v1, e1, e2)))) f = let q : Keyword k.Unsigned ≡ Keyword k.Long = same_first at_0 p0 us v0 e0 in cc
-unsigned_out kind.Long us rest (inr (inr (inl (p0, v0, e0, (p1, v1, e1, e2))))) f = let q : Keyword k.Unsigned ≡ Keyword k.Signed = same_first at_0 p0 us v0 e0 in cc
-unsigned_out kind.Long us rest (inr (inr (inr (inl (p0, v0, e0, (p1, v1, e1, (p2, v2, e2, e3))))))) f = let q : Keyword k.Unsigned ≡ Keyword k.Signed = same_first at_0 p0 us v0 e0 in cc
+unsigned_out kind.Long us rest (inr (inr (inl (p0, v0, e0, (p1, v1, e1, e2))))) f =
+    let q : Keyword k.Unsigned ≡ Keyword k.Signed = same_first at_0 p0 us v0 e0 in cc
+unsigned_out kind.Long us rest (inr (inr (inr (inl (p0, v0, e0, (p1, v1, e1, (p2, v2, e2, e3))))))) f =
+    let q : Keyword k.Unsigned ≡ Keyword k.Signed = same_first at_0 p0 us v0 e0 in cc
 unsigned_out kind.Long us rest (inr (inr (inr (inr z)))) f = elim z [ ]
-unsigned_out kind.UnsignedLong us rest (inl (p0, v0, e0, (p1, v1, e1, e2))) f = let r : us ≡ v0 = ap rest_of e0 in rw (r, e1, e2) ((p1, token p1 k.Long ∷ [], [], refl, refl, (None, refl, refl)))
-unsigned_out kind.UnsignedLong us rest (inr (inl (p0, v0, e0, (p1, v1, e1, (p2, v2, e2, e3))))) f = let r : us ≡ v0 = ap rest_of e0 in rw (r, e1, e2, e3) ((p1, token p1 k.Long ∷ [], token p2 k.Int ∷ [], refl, refl, (Some p2, refl, refl)))
+unsigned_out kind.UnsignedLong us rest (inl (p0, v0, e0, (p1, v1, e1, e2))) f =
+    let r : us ≡ v0 = ap rest_of e0 in rw (r, e1, e2) ((p1, token p1 k.Long ∷ [], [], refl, refl, (None, refl, refl)))
+unsigned_out kind.UnsignedLong us rest (inr (inl (p0, v0, e0, (p1, v1, e1, (p2, v2, e2, e3))))) f =
+    let r : us ≡ v0 = ap rest_of e0 in rw (r, e1, e2, e3) ((p1, token p1 k.Long ∷ [], token p2 k.Int ∷ [], refl, refl, (Some p2, refl, refl)))
 unsigned_out kind.UnsignedLong us rest (inr (inr z)) f = elim z [ ]
 
 -- ---- Types
@@ -242,46 +270,105 @@ behind_signed : {b : ℕ} → Good b (Behind k.Signed) (Behind k.Signed) TypeEnd
 behind_signed = good_head {K = signed_language} signed_good (λ x us rest u f. signed_out x us rest (type-one_of x (token at_0 k.Signed ∷ us) (u at_0)) f)
 
 behind_unsigned : {b : ℕ} → Good b (Behind k.Unsigned) (Behind k.Unsigned) TypeEnd (by_head unsigned_by) (by_head unsigned_by)
-behind_unsigned = good_head {K = unsigned_language} unsigned_good (λ x us rest u f. unsigned_out x us rest (type-one_of x (token at_0 k.Unsigned ∷ us) (u at_0)) f)
+behind_unsigned =
+    good_head {K = unsigned_language} unsigned_good (λ x us rest u f. unsigned_out x us rest (type-one_of x (token at_0 k.Unsigned ∷ us) (u at_0)) f)
 
 type_good : {b : ℕ} (h : Option Lexeme) → Good b type (type_language h) TypeEnd (type_by h) (type_by h)
 type_good (Some (Keyword k.Char)) = alone k.Char kind.Char (alone_up k.Char kind.Char (0, lit< tt, refl))
 type_good (Some (Keyword k.Short)) = with_int k.Short kind.Short (int_up k.Short kind.Short (0, lit< tt, refl) (1, lit< tt, refl))
 type_good (Some (Keyword k.Int)) = alone k.Int kind.Int (alone_up k.Int kind.Int (0, lit< tt, refl))
 type_good (Some (Keyword k.Long)) = with_int k.Long kind.Long (int_up k.Long kind.Long (0, lit< tt, refl) (1, lit< tt, refl))
-type_good (Some (Keyword k.Signed)) = good_to (good_then (good_word k.Signed) (λ p. behind_signed) (λ p y us rest m f. tt)) (behind_up k.Signed) (λ y us u. u) (λ h f. f)
-type_good (Some (Keyword k.Unsigned)) = good_to (good_then (good_word k.Unsigned) (λ p. behind_unsigned) (λ p y us rest m f. tt)) (behind_up k.Unsigned) (λ y us u. u) (λ h f. f)
+type_good (Some (Keyword k.Signed)) =
+    good_to (good_then (good_word k.Signed) (λ p. behind_signed) (λ p y us rest m f. tt)) (behind_up k.Signed) (λ y us u. u) (λ h f. f)
+type_good (Some (Keyword k.Unsigned)) =
+    good_to (good_then (good_word k.Unsigned) (λ p. behind_unsigned) (λ p y us rest m f. tt)) (behind_up k.Unsigned) (λ y us u. u) (λ h f. f)
 type_good _ = good_wrong kind.Int (token at_0 k.Int ∷ []) (one_word kind.Int k.Int (0, lit< tt, refl) at_0)
 
 type_out : (x : Kind) (us rest : List Token) → OneOf (spellings x) us → type_language (head_of (us ++ rest)) x us
 type_out kind.Char us rest (inl (p0, v0, e0, e1)) = rw (e0, e1) (p0, refl, refl)
 type_out kind.Char us rest (inr z) = elim z [ ]
-type_out kind.UnsignedChar us rest (inl (p0, v0, e0, (p1, v1, e1, e2))) = rw (e0, e1, e2) (p0, token p0 k.Unsigned ∷ [], token p1 k.Char ∷ [], refl, refl, λ p. two_words kind.UnsignedChar k.Unsigned k.Char (0, lit< tt, refl) p p1)
+type_out kind.UnsignedChar us rest (inl (p0, v0, e0, (p1, v1, e1, e2))) =
+    rw (e0, e1, e2) (p0, token p0 k.Unsigned ∷ [], token p1 k.Char ∷ [], refl, refl, λ p. two_words kind.UnsignedChar k.Unsigned k.Char (0, lit< tt, refl) p p1)
 type_out kind.UnsignedChar us rest (inr z) = elim z [ ]
-type_out kind.SignedChar us rest (inl (p0, v0, e0, (p1, v1, e1, e2))) = rw (e0, e1, e2) (p0, token p0 k.Signed ∷ [], token p1 k.Char ∷ [], refl, refl, λ p. two_words kind.SignedChar k.Signed k.Char (0, lit< tt, refl) p p1)
+type_out kind.SignedChar us rest (inl (p0, v0, e0, (p1, v1, e1, e2))) =
+    rw (e0, e1, e2) (p0, token p0 k.Signed ∷ [], token p1 k.Char ∷ [], refl, refl, λ p. two_words kind.SignedChar k.Signed k.Char (0, lit< tt, refl) p p1)
 type_out kind.SignedChar us rest (inr z) = elim z [ ]
 type_out kind.Short us rest (inl (p0, v0, e0, e1)) = rw (e0, e1) (p0, token p0 k.Short ∷ [], [], refl, refl, (None, refl, refl))
-type_out kind.Short us rest (inr (inl (p0, v0, e0, (p1, v1, e1, e2)))) = rw (e0, e1, e2) (p0, token p0 k.Short ∷ [], token p1 k.Int ∷ [], refl, refl, (Some p1, refl, refl))
-type_out kind.Short us rest (inr (inr (inl (p0, v0, e0, (p1, v1, e1, e2))))) = rw (e0, e1, e2) (p0, token p0 k.Signed ∷ [], token p1 k.Short ∷ [], refl, refl, λ p. two_words kind.Short k.Signed k.Short (2, lit< tt, refl) p p1)
-type_out kind.Short us rest (inr (inr (inr (inl (p0, v0, e0, (p1, v1, e1, (p2, v2, e2, e3))))))) = rw (e0, e1, e2, e3) (p0, token p0 k.Signed ∷ [], token p1 k.Short ∷ token p2 k.Int ∷ [], refl, refl, λ p. three_words kind.Short k.Signed k.Short k.Int (3, lit< tt, refl) p p1 p2)
+type_out kind.Short us rest (inr (inl (p0, v0, e0, (p1, v1, e1, e2)))) =
+    rw (e0, e1, e2) (p0, token p0 k.Short ∷ [], token p1 k.Int ∷ [], refl, refl, (Some p1, refl, refl))
+type_out kind.Short us rest (inr (inr (inl (p0, v0, e0, (p1, v1, e1, e2))))) =
+    rw (e0, e1, e2) (p0, token p0 k.Signed ∷ [], token p1 k.Short ∷ [], refl, refl, λ p. two_words kind.Short k.Signed k.Short (2, lit< tt, refl) p p1)
+type_out kind.Short us rest (inr (inr (inr (inl (p0, v0, e0, (p1, v1, e1, (p2, v2, e2, e3))))))) =
+    rw (e0, e1, e2, e3) (
+      p0,
+      token p0 k.Signed ∷ [],
+      token p1 k.Short ∷ token p2 k.Int ∷
+          [],
+      refl,
+      refl,
+      λ p. three_words kind.Short k.Signed k.Short k.Int (3, lit< tt, refl) p p1 p2,
+    )
 type_out kind.Short us rest (inr (inr (inr (inr z)))) = elim z [ ]
-type_out kind.UnsignedShort us rest (inl (p0, v0, e0, (p1, v1, e1, e2))) = rw (e0, e1, e2) (p0, token p0 k.Unsigned ∷ [], token p1 k.Short ∷ [], refl, refl, λ p. two_words kind.UnsignedShort k.Unsigned k.Short (0, lit< tt, refl) p p1)
-type_out kind.UnsignedShort us rest (inr (inl (p0, v0, e0, (p1, v1, e1, (p2, v2, e2, e3))))) = rw (e0, e1, e2, e3) (p0, token p0 k.Unsigned ∷ [], token p1 k.Short ∷ token p2 k.Int ∷ [], refl, refl, λ p. three_words kind.UnsignedShort k.Unsigned k.Short k.Int (1, lit< tt, refl) p p1 p2)
+type_out kind.UnsignedShort us rest (inl (p0, v0, e0, (p1, v1, e1, e2))) =
+    rw (e0, e1, e2) (
+      p0,
+      token p0 k.Unsigned ∷ [],
+      token p1 k.Short ∷
+          [],
+      refl,
+      refl,
+      λ p. two_words kind.UnsignedShort k.Unsigned k.Short (0, lit< tt, refl) p p1,
+    )
+type_out kind.UnsignedShort us rest (inr (inl (p0, v0, e0, (p1, v1, e1, (p2, v2, e2, e3))))) =
+    rw (e0, e1, e2, e3) (
+      p0,
+      token p0 k.Unsigned ∷ [],
+      token p1 k.Short ∷ token p2 k.Int ∷
+          [],
+      refl,
+      refl,
+      λ p. three_words kind.UnsignedShort k.Unsigned k.Short k.Int (1, lit< tt, refl) p p1 p2,
+    )
 type_out kind.UnsignedShort us rest (inr (inr z)) = elim z [ ]
 type_out kind.Int us rest (inl (p0, v0, e0, e1)) = rw (e0, e1) (p0, refl, refl)
-type_out kind.Int us rest (inr (inl (p0, v0, e0, e1))) = rw (e0, e1) (p0, token p0 k.Signed ∷ [], [], refl, refl, λ p. one_word kind.Int k.Signed (1, lit< tt, refl) p)
-type_out kind.Int us rest (inr (inr (inl (p0, v0, e0, (p1, v1, e1, e2))))) = rw (e0, e1, e2) (p0, token p0 k.Signed ∷ [], token p1 k.Int ∷ [], refl, refl, λ p. two_words kind.Int k.Signed k.Int (2, lit< tt, refl) p p1)
+type_out kind.Int us rest (inr (inl (p0, v0, e0, e1))) =
+    rw (e0, e1) (p0, token p0 k.Signed ∷ [], [], refl, refl, λ p. one_word kind.Int k.Signed (1, lit< tt, refl) p)
+type_out kind.Int us rest (inr (inr (inl (p0, v0, e0, (p1, v1, e1, e2))))) =
+    rw (e0, e1, e2) (p0, token p0 k.Signed ∷ [], token p1 k.Int ∷ [], refl, refl, λ p. two_words kind.Int k.Signed k.Int (2, lit< tt, refl) p p1)
 type_out kind.Int us rest (inr (inr (inr z))) = elim z [ ]
-type_out kind.UnsignedInt us rest (inl (p0, v0, e0, e1)) = rw (e0, e1) (p0, token p0 k.Unsigned ∷ [], [], refl, refl, λ p. one_word kind.UnsignedInt k.Unsigned (0, lit< tt, refl) p)
-type_out kind.UnsignedInt us rest (inr (inl (p0, v0, e0, (p1, v1, e1, e2)))) = rw (e0, e1, e2) (p0, token p0 k.Unsigned ∷ [], token p1 k.Int ∷ [], refl, refl, λ p. two_words kind.UnsignedInt k.Unsigned k.Int (1, lit< tt, refl) p p1)
+type_out kind.UnsignedInt us rest (inl (p0, v0, e0, e1)) =
+    rw (e0, e1) (p0, token p0 k.Unsigned ∷ [], [], refl, refl, λ p. one_word kind.UnsignedInt k.Unsigned (0, lit< tt, refl) p)
+type_out kind.UnsignedInt us rest (inr (inl (p0, v0, e0, (p1, v1, e1, e2)))) =
+    rw (e0, e1, e2) (p0, token p0 k.Unsigned ∷ [], token p1 k.Int ∷ [], refl, refl, λ p. two_words kind.UnsignedInt k.Unsigned k.Int (1, lit< tt, refl) p p1)
 type_out kind.UnsignedInt us rest (inr (inr z)) = elim z [ ]
 type_out kind.Long us rest (inl (p0, v0, e0, e1)) = rw (e0, e1) (p0, token p0 k.Long ∷ [], [], refl, refl, (None, refl, refl))
-type_out kind.Long us rest (inr (inl (p0, v0, e0, (p1, v1, e1, e2)))) = rw (e0, e1, e2) (p0, token p0 k.Long ∷ [], token p1 k.Int ∷ [], refl, refl, (Some p1, refl, refl))
-type_out kind.Long us rest (inr (inr (inl (p0, v0, e0, (p1, v1, e1, e2))))) = rw (e0, e1, e2) (p0, token p0 k.Signed ∷ [], token p1 k.Long ∷ [], refl, refl, λ p. two_words kind.Long k.Signed k.Long (2, lit< tt, refl) p p1)
-type_out kind.Long us rest (inr (inr (inr (inl (p0, v0, e0, (p1, v1, e1, (p2, v2, e2, e3))))))) = rw (e0, e1, e2, e3) (p0, token p0 k.Signed ∷ [], token p1 k.Long ∷ token p2 k.Int ∷ [], refl, refl, λ p. three_words kind.Long k.Signed k.Long k.Int (3, lit< tt, refl) p p1 p2)
+type_out kind.Long us rest (inr (inl (p0, v0, e0, (p1, v1, e1, e2)))) =
+    rw (e0, e1, e2) (p0, token p0 k.Long ∷ [], token p1 k.Int ∷ [], refl, refl, (Some p1, refl, refl))
+type_out kind.Long us rest (inr (inr (inl (p0, v0, e0, (p1, v1, e1, e2))))) =
+    rw (e0, e1, e2) (p0, token p0 k.Signed ∷ [], token p1 k.Long ∷ [], refl, refl, λ p. two_words kind.Long k.Signed k.Long (2, lit< tt, refl) p p1)
+type_out kind.Long us rest (inr (inr (inr (inl (p0, v0, e0, (p1, v1, e1, (p2, v2, e2, e3))))))) =
+    rw (e0, e1, e2, e3) (
+      p0,
+      token p0 k.Signed ∷ [],
+      token p1 k.Long ∷ token p2 k.Int ∷
+          [],
+      refl,
+      refl,
+      λ p. three_words kind.Long k.Signed k.Long k.Int (3, lit< tt, refl) p p1 p2,
+    )
 type_out kind.Long us rest (inr (inr (inr (inr z)))) = elim z [ ]
-type_out kind.UnsignedLong us rest (inl (p0, v0, e0, (p1, v1, e1, e2))) = rw (e0, e1, e2) (p0, token p0 k.Unsigned ∷ [], token p1 k.Long ∷ [], refl, refl, λ p. two_words kind.UnsignedLong k.Unsigned k.Long (0, lit< tt, refl) p p1)
-type_out kind.UnsignedLong us rest (inr (inl (p0, v0, e0, (p1, v1, e1, (p2, v2, e2, e3))))) = rw (e0, e1, e2, e3) (p0, token p0 k.Unsigned ∷ [], token p1 k.Long ∷ token p2 k.Int ∷ [], refl, refl, λ p. three_words kind.UnsignedLong k.Unsigned k.Long k.Int (1, lit< tt, refl) p p1 p2)
+type_out kind.UnsignedLong us rest (inl (p0, v0, e0, (p1, v1, e1, e2))) =
+    rw (e0, e1, e2) (p0, token p0 k.Unsigned ∷ [], token p1 k.Long ∷ [], refl, refl, λ p. two_words kind.UnsignedLong k.Unsigned k.Long (0, lit< tt, refl) p p1)
+type_out kind.UnsignedLong us rest (inr (inl (p0, v0, e0, (p1, v1, e1, (p2, v2, e2, e3))))) =
+    rw (e0, e1, e2, e3) (
+      p0,
+      token p0 k.Unsigned ∷ [],
+      token p1 k.Long ∷ token p2 k.Int ∷
+          [],
+      refl,
+      refl,
+      λ p. three_words kind.UnsignedLong k.Unsigned k.Long k.Int (1, lit< tt, refl) p p1 p2,
+    )
 type_out kind.UnsignedLong us rest (inr (inr z)) = elim z [ ]
 
 pub good_type : {b : ℕ} → Good b type type TypeEnd parse_type parse_type

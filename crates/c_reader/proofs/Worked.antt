@@ -9,7 +9,7 @@ use Rattle.c_tree.specs.Tokens.{Token, Lexeme, Name, Keyword, Number, Punctuator
 use Rattle.c_tree.specs.declared.token.Keyword.TheVariants as k
 use Rattle.c_tree.specs.declared.token.Punctuator.TheVariants as p
 use Rattle.c_tree.specs.Trees as t
-use Rattle.c_reader.specs.Parsing.{Read, Wrong, parse_expression, parse_statement, parse_program}
+use Rattle.c_reader.specs.links.Parsing.{Read, Wrong, parse_expression, parse_statement, parse_program}
 
 abbrev at : ℕ → Place
 at n = record { 0 = n }
@@ -36,27 +36,31 @@ minus = Punctuator (p.Binary b.Sub)
 -- `1 - 2 - 3;` is `(1 - 2) - 3`
 left_to_right :
     parse_expression 7 (tokens_from 0 (digit 1 ∷ minus ∷ digit 2 ∷ minus ∷ digit 3 ∷ Punctuator p.Semicolon ∷ [])) ≡
-    Read (t.Binary b.Sub (t.Binary b.Sub (t.Number (at 0) (number 1)) (t.Number (at 2) (number 2))) (t.Number (at 4) (number 3))) (tokens_from 5 (Punctuator p.Semicolon ∷ []))
+    Read (t.Binary b.Sub (t.Binary b.Sub (t.Number (at 0) (number 1)) (t.Number (at 2) (number 2))) (t.Number (at 4) (number 3)))
+    (tokens_from 5 (Punctuator p.Semicolon ∷ []))
 unfolding parse_expression
 left_to_right = refl
 
 -- `1 - 2 * 3 - 4`
 stronger_first :
     parse_expression 8 (tokens_from 0 (digit 1 ∷ minus ∷ digit 2 ∷ Punctuator (p.Binary b.Mul) ∷ digit 3 ∷ minus ∷ digit 4 ∷ [])) ≡
-    Read (t.Binary b.Sub (t.Binary b.Sub (t.Number (at 0) (number 1)) (t.Binary b.Mul (t.Number (at 2) (number 2)) (t.Number (at 4) (number 3)))) (t.Number (at 6) (number 4))) []
+    Read (t.Binary b.Sub (t.Binary b.Sub (t.Number (at 0) (number 1)) (t.Binary b.Mul (t.Number (at 2) (number 2)) (t.Number (at 4) (number 3))))
+    (t.Number (at 6) (number 4))) []
 unfolding parse_expression
 stronger_first = refl
 
 -- `a ? b : c ? d : e` is `a ? b : (c ? d : e)`
 to_the_right :
-    parse_expression 10 (tokens_from 0 (letter 97 ∷ Punctuator p.Question ∷ letter 98 ∷ Punctuator p.Colon ∷ letter 99 ∷ Punctuator p.Question ∷ letter 100 ∷ Punctuator p.Colon ∷ letter 101 ∷ [])) ≡
+    parse_expression 10 (tokens_from 0 (letter 97 ∷ Punctuator p.Question ∷ letter 98 ∷ Punctuator p.Colon ∷ letter 99 ∷ Punctuator p.Question ∷ letter 100 ∷
+    Punctuator p.Colon ∷ letter 101 ∷ [])) ≡
     Read (t.Conditional (t.Named (named 97 0)) (t.Named (named 98 2)) (t.Conditional (t.Named (named 99 4)) (t.Named (named 100 6)) (t.Named (named 101 8)))) []
 unfolding parse_expression
 to_the_right = refl
 
 -- `(short int) - a` is a cast
 cast :
-    parse_expression 8 (tokens_from 0 (Punctuator p.OpenParenthesis ∷ Keyword k.Short ∷ Keyword k.Int ∷ Punctuator p.CloseParenthesis ∷ minus ∷ letter 97 ∷ [])) ≡
+    parse_expression 8 (tokens_from 0 (Punctuator p.OpenParenthesis ∷ Keyword k.Short ∷ Keyword k.Int ∷ Punctuator p.CloseParenthesis ∷ minus ∷ letter 97 ∷ []))
+    ≡
     Read (t.Cast (at 0) kind.Short (t.Unary (at 4) unary.Minus (t.Named (named 97 5)))) []
 unfolding parse_expression
 cast = refl
@@ -70,34 +74,45 @@ parenthesised = refl
 
 -- `if (a) { if (b) {} else ;`: behind `else` the `;` is wrong
 else_needs_block :
-    parse_statement 14 (tokens_from 0 (Keyword k.If ∷ Punctuator p.OpenParenthesis ∷ letter 97 ∷ Punctuator p.CloseParenthesis ∷ Punctuator p.OpenBrace ∷ Keyword k.If ∷ Punctuator p.OpenParenthesis ∷ letter 98 ∷ Punctuator p.CloseParenthesis ∷ Punctuator p.OpenBrace ∷ Punctuator p.CloseBrace ∷ Keyword k.Else ∷ Punctuator p.Semicolon ∷ [])) ≡
+    parse_statement 14 (tokens_from 0 (Keyword k.If ∷ Punctuator p.OpenParenthesis ∷ letter 97 ∷ Punctuator p.CloseParenthesis ∷ Punctuator p.OpenBrace ∷
+    Keyword k.If ∷ Punctuator p.OpenParenthesis ∷ letter 98 ∷ Punctuator p.CloseParenthesis ∷ Punctuator p.OpenBrace ∷ Punctuator p.CloseBrace ∷
+    Keyword k.Else ∷ Punctuator p.Semicolon ∷ [])) ≡
     Wrong (tokens_from 12 (Punctuator p.Semicolon ∷ []))
 unfolding parse_expression parse_statement
 else_needs_block = refl
 
 -- `if (a) {} else if (b) {} else {}` has two arms and a last block
 else_if :
-    parse_statement 17 (tokens_from 0 (Keyword k.If ∷ Punctuator p.OpenParenthesis ∷ letter 97 ∷ Punctuator p.CloseParenthesis ∷ Punctuator p.OpenBrace ∷ Punctuator p.CloseBrace ∷ Keyword k.Else ∷ Keyword k.If ∷ Punctuator p.OpenParenthesis ∷ letter 98 ∷ Punctuator p.CloseParenthesis ∷ Punctuator p.OpenBrace ∷ Punctuator p.CloseBrace ∷ Keyword k.Else ∷ Punctuator p.OpenBrace ∷ Punctuator p.CloseBrace ∷ [])) ≡
-    Read (t.If (at 0) (t.arm_and (t.Named (named 97 2)) (t.Braced (at 4) t.no_statement (at 5)) (t.arm_and (t.Named (named 98 9)) (t.Braced (at 11) t.no_statement (at 12)) t.no_arm)) (t.Else (t.Braced (at 14) t.no_statement (at 15)))) []
+    parse_statement 17 (tokens_from 0 (Keyword k.If ∷ Punctuator p.OpenParenthesis ∷ letter 97 ∷ Punctuator p.CloseParenthesis ∷ Punctuator p.OpenBrace ∷
+    Punctuator p.CloseBrace ∷ Keyword k.Else ∷ Keyword k.If ∷ Punctuator p.OpenParenthesis ∷ letter 98 ∷ Punctuator p.CloseParenthesis ∷
+    Punctuator p.OpenBrace ∷ Punctuator p.CloseBrace ∷ Keyword k.Else ∷ Punctuator p.OpenBrace ∷ Punctuator p.CloseBrace ∷ [])) ≡
+    Read (t.If (at 0) (t.arm_and (t.Named (named 97 2)) (t.Braced (at 4) t.no_statement (at 5))
+    (t.arm_and (t.Named (named 98 9)) (t.Braced (at 11) t.no_statement (at 12)) t.no_arm)) (t.Else (t.Braced (at 14) t.no_statement (at 15)))) []
 unfolding parse_expression parse_statement
 else_if = refl
 
 -- `x = f (;`: the token behind the parenthesis is wrong
-wrong_argument : parse_statement 6 (tokens_from 0 (letter 120 ∷ Punctuator p.Assign ∷ letter 102 ∷ Punctuator p.OpenParenthesis ∷ Punctuator p.Semicolon ∷ [])) ≡ Wrong (tokens_from 4 (Punctuator p.Semicolon ∷ []))
+wrong_argument : parse_statement 6 (tokens_from 0 (letter 120 ∷ Punctuator p.Assign ∷ letter 102 ∷ Punctuator p.OpenParenthesis ∷ Punctuator p.Semicolon ∷ []))
+    ≡ Wrong (tokens_from 4 (Punctuator p.Semicolon ∷ []))
 unfolding parse_expression parse_statement
 wrong_argument = refl
 
 -- `x = f() + 1;`: a call is the whole right side
 call_alone :
-    parse_statement 9 (tokens_from 0 (letter 120 ∷ Punctuator p.Assign ∷ letter 102 ∷ Punctuator p.OpenParenthesis ∷ Punctuator p.CloseParenthesis ∷ Punctuator (p.Binary b.Add) ∷ digit 1 ∷ Punctuator p.Semicolon ∷ [])) ≡
+    parse_statement 9 (tokens_from 0 (letter 120 ∷ Punctuator p.Assign ∷ letter 102 ∷ Punctuator p.OpenParenthesis ∷ Punctuator p.CloseParenthesis ∷
+    Punctuator (p.Binary b.Add) ∷ digit 1 ∷ Punctuator p.Semicolon ∷ [])) ≡
     Wrong (tokens_from 5 (Punctuator (p.Binary b.Add) ∷ digit 1 ∷ Punctuator p.Semicolon ∷ []))
 unfolding parse_expression parse_statement
 call_alone = refl
 
 -- `mutex m; thread t { lock(m); }`
 small_program :
-    parse_program (tokens_from 0 (Keyword k.Mutex ∷ letter 109 ∷ Punctuator p.Semicolon ∷ Keyword k.Thread ∷ letter 116 ∷ Punctuator p.OpenBrace ∷ Keyword k.Lock ∷ Punctuator p.OpenParenthesis ∷ letter 109 ∷ Punctuator p.CloseParenthesis ∷ Punctuator p.Semicolon ∷ Punctuator p.CloseBrace ∷ [])) ≡
-    Read (t.MutexItem (named 109 1) ∷ t.ThreadItem (record { name = named 116 4; block = t.Braced (at 5) (t.statement_and (t.Lock (at 6) (named 109 8)) t.no_statement) (at 11) }) ∷ []) []
+    parse_program (tokens_from 0 (Keyword k.Mutex ∷ letter 109 ∷ Punctuator p.Semicolon ∷ Keyword k.Thread ∷ letter 116 ∷ Punctuator p.OpenBrace ∷
+    Keyword k.Lock ∷ Punctuator p.OpenParenthesis ∷ letter 109 ∷ Punctuator p.CloseParenthesis ∷ Punctuator p.Semicolon ∷ Punctuator p.CloseBrace ∷ [])) ≡
+    Read (t.MutexItem (named 109 1) ∷ t.ThreadItem (record {
+      name = named 116 4;
+      block = t.Braced (at 5) (t.statement_and (t.Lock (at 6) (named 109 8)) t.no_statement) (at 11);
+    }) ∷ []) []
 unfolding parse_expression parse_statement parse_program
 small_program = refl
 

@@ -1,7 +1,8 @@
 -- What a text is read as is at most one thing, and no deep one.
 use Rattle.std.specs.Prelude.{◌≡◌, ℕ, ◌+◌, List}
 use Rattle.ido_base.specs.declared.place.Place.{Place}
-use Rattle.c_tree.specs.Reading.{IsRead, IsRefused, most_nesting}
+use Rattle.ido_base.specs.declared.limits.TheConstants.{MOST_NESTING}
+use Rattle.c_tree.specs.Reading.{IsRead, IsRefused}
 use Rattle.c_tree.specs.Trees.{Item}
 use Rattle.c_tree.specs.declared.rule.Rule.{Rule}
 use Rattle.c_reader.specs.Depths.{IsShallow}
@@ -12,7 +13,8 @@ OneTree = (text : List ℕ) (xs ys : List Item) → IsRead text xs → IsRead te
 
 -- it is refused by one rule at one place at most
 abbrev pub OneRefusal : Type 0
-OneRefusal = (text : List ℕ) (found other : Rule) (place elsewhere : Place) → IsRefused text found place → IsRefused text other elsewhere → (found ≡ other) × (place ≡ elsewhere)
+OneRefusal = (text : List ℕ) (found other : Rule) (place elsewhere : Place) → IsRefused text found place → IsRefused text other elsewhere
+    → (found ≡ other) × (place ≡ elsewhere)
 
 -- and what is refused has no tree
 abbrev pub NotBoth : Type 0
@@ -20,4 +22,4 @@ NotBoth = (text : List ℕ) (xs : List Item) (found : Rule) (place : Place) → 
 
 -- the blocks of a tree that is read are at most 128 deep, and its expressions at most 129 high
 abbrev pub TreesAreShallow : Type 0
-TreesAreShallow = (text : List ℕ) (xs : List Item) → IsRead text xs → IsShallow most_nesting (most_nesting + 1) xs
+TreesAreShallow = (text : List ℕ) (xs : List Item) → IsRead text xs → IsShallow MOST_NESTING (MOST_NESTING + 1) xs

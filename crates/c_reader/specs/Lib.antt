@@ -1,10 +1,3 @@
-pub mod Fronts
 pub mod Laws
-pub mod Nestings
-pub mod Parsing
-pub mod Readings
-pub mod Reads
-pub mod Rows
-pub mod Steps
-pub mod Tokens
 pub mod Depths
+pub mod links

@@ -1,10 +1,10 @@
 //! Assignments and calls.
 ghost use Rattle.std.specs.Prelude.{map};
 ghost use Rattle.c_tree.specs.Views.{assignment_of, call_of, change_of, expression_of, name_of, target_of};
-ghost use Rattle.c_reader.specs.Parsing as spec;
-ghost use Rattle.c_reader.specs.Reads.{Reads};
-ghost use Rattle.c_reader.specs.Rows.{right_of};
-ghost use Rattle.c_reader.specs.Steps.{right_behind_name, right_side};
+ghost use Rattle.c_reader.specs.links.Parsing as spec;
+ghost use Rattle.c_reader.specs.links.Reads.{Reads};
+ghost use Rattle.c_reader.specs.links.Rows.{right_of};
+ghost use Rattle.c_reader.specs.links.Steps.{right_behind_name, right_side};
 
 use crate::cursor::Cursor;
 use crate::expression::{expression, expression_after_name, index};

@@ -1,10 +1,12 @@
 //! Blocks, and the statements that have them.
-ghost use Rattle.std.specs.Prelude.{◌<◌, ◌≤◌};
-ghost use Rattle.c_tree.specs.Views.{block_of, statement_of, statements_of};
-ghost use Rattle.c_reader.specs.Parsing as spec;
-ghost use Rattle.c_reader.specs.Reads.{Reads};
-ghost use Rattle.c_reader.specs.Rows.{arm_of};
-ghost use Rattle.c_reader.specs.Steps.{parse_arm, parse_do, parse_for, parse_if, parse_while, statement_by_mark, statement_by_word};
+ghost use Rattle.std.specs.Prelude.{◌≡◌, ◌<◌, ◌≤◌, IfOk};
+ghost use Rattle.std.specs.Option.{option_map};
+ghost use Rattle.c_tree.specs.Trees as t;
+ghost use Rattle.c_tree.specs.Views.{arms_list_of, assignment_of, block_of, expression_of, first_of, otherwise_of, statement_of, statements_of};
+ghost use Rattle.c_reader.specs.links.Parsing as spec;
+ghost use Rattle.c_reader.specs.links.Reads.{Reads};
+ghost use Rattle.c_reader.specs.links.Rows.{arm_of};
+ghost use Rattle.c_reader.specs.links.Steps.{parse_arm, parse_do, parse_for, parse_if, parse_while, statement_by_mark, statement_by_word};
 
 use crate::cursor::Cursor;
 use crate::halt::Halt;
@@ -14,8 +16,64 @@ use crate::statement::{
 };
 use crate::token::Lexeme;
 use c_tree::token::{Keyword, Punctuator};
-use c_tree::tree::{Arm, Block, Statement};
-use std::alloc::Global;
+use c_tree::tree::{Arm, Block, Expression, Head, Statement};
+use ido_base::place::Place;
+use std::alloc::{AllocError, Global};
+
+/// An `if`, whose arms keep no room to spare.
+fn if_of(place: Place, mut arms: Vec<Arm>, otherwise: Option<Block>) -> Statement
+    ensures { statement_of result ≡ t.If place (arms_list_of arms.items) (otherwise_of otherwise) }
+{
+    arms.shrink_to_fit();
+    Statement::If {
+        place,
+        arms,
+        otherwise,
+    }
+}
+
+/// A `while`, its condition boxed.
+fn while_of(
+    alloc: Global,
+    place: Place,
+    condition: Expression,
+    block: Block,
+) -> Result<Statement, AllocError>
+    ensures { IfOk result (λ x. statement_of x ≡ t.While place (expression_of condition) (block_of block)) }
+{
+    let condition = Box::new(alloc, condition)?;
+    Ok(Statement::While {
+        place,
+        condition,
+        block,
+    })
+}
+
+/// A `do`, its condition boxed.
+fn do_of(
+    alloc: Global,
+    place: Place,
+    block: Block,
+    condition: Expression,
+) -> Result<Statement, AllocError>
+    ensures { IfOk result (λ x. statement_of x ≡ t.Do place (block_of block) (expression_of condition)) }
+{
+    let condition = Box::new(alloc, condition)?;
+    Ok(Statement::Do {
+        place,
+        block,
+        condition,
+    })
+}
+
+/// A `for`, its head boxed.
+fn for_of(alloc: Global, place: Place, head: Head, block: Block) -> Result<Statement, AllocError>
+    ensures { IfOk result (λ x. statement_of x ≡ t.For place (first_of head.first) (option_map expression_of head.condition)
+        (option_map assignment_of head.last) (block_of block)) }
+{
+    let head = Box::new(alloc, head)?;
+    Ok(Statement::For { place, head, block })
+}
 
 /// A statement.
 #[cycle(statement)]
@@ -92,20 +150,12 @@ fn if_statement(alloc: Global, tokens: &mut Cursor<'_>, fuel: usize) -> Result<S
     arms.push(first_arm)?;
     for turn in 0..fuel {
         if !tokens.sees_word(Keyword::Else) {
-            return Ok(Statement::If {
-                place,
-                arms,
-                otherwise: None,
-            });
+            return Ok(if_of(place, arms, None));
         }
         tokens.word(Keyword::Else)?;
         if !tokens.sees_word(Keyword::If) {
             let inside = block(alloc, tokens, fuel - 1)?;
-            return Ok(Statement::If {
-                place,
-                arms,
-                otherwise: Some(inside),
-            });
+            return Ok(if_of(place, arms, Some(inside)));
         }
         tokens.word(Keyword::If)?;
         let next = arm(alloc, tokens, fuel - turn, fuel - 1)?;
@@ -138,11 +188,7 @@ fn while_statement(alloc: Global, tokens: &mut Cursor<'_>, fuel: usize) -> Resul
     let place = tokens.word(Keyword::While)?;
     let condition = condition(alloc, tokens, fuel)?;
     let block = block(alloc, tokens, fuel - 1)?;
-    Ok(Statement::While {
-        place,
-        condition,
-        block,
-    })
+    Ok(while_of(alloc, place, condition, block)?)
 }
 
 /// `do`
@@ -156,11 +202,7 @@ fn do_statement(alloc: Global, tokens: &mut Cursor<'_>, fuel: usize) -> Result<S
     tokens.word(Keyword::While)?;
     let condition = condition(alloc, tokens, fuel)?;
     tokens.mark(Punctuator::Semicolon)?;
-    Ok(Statement::Do {
-        place,
-        block,
-        condition,
-    })
+    Ok(do_of(alloc, place, block, condition)?)
 }
 
 /// `for`
@@ -178,13 +220,12 @@ fn for_statement(alloc: Global, tokens: &mut Cursor<'_>, fuel: usize) -> Result<
     let last = last(alloc, tokens, fuel)?;
     tokens.mark(Punctuator::CloseParenthesis)?;
     let block = block(alloc, tokens, fuel - 1)?;
-    Ok(Statement::For {
-        place,
+    let head = Head {
         first,
         condition,
         last,
-        block,
-    })
+    };
+    Ok(for_of(alloc, place, head, block)?)
 }
 
 /// Statements in braces.
@@ -214,6 +255,7 @@ pub fn statements(
     let mut found = Vec::new(alloc);
     for _turn in 0..fuel {
         if !tokens.sees_statement() {
+            found.shrink_to_fit();
             return Ok(found);
         }
         let next = statement(alloc, tokens, fuel)?;

@@ -2,10 +2,10 @@
 ghost use Rattle.std.specs.Prelude.{◌≡◌, length};
 ghost use Rattle.std.specs.Option.{option_map};
 ghost use Rattle.c_tree.specs.Views.{name_of};
-ghost use Rattle.c_reader.specs.Tokens.{lexeme_of, tokens_of};
-ghost use Rattle.c_reader.specs.Parsing as spec;
-ghost use Rattle.c_reader.specs.Reads.{Reads, Gives};
-ghost use Rattle.c_reader.specs.Steps.{at_end, parse_unary, parse_update};
+ghost use Rattle.c_reader.specs.links.Tokens.{lexeme_of, tokens_of};
+ghost use Rattle.c_reader.specs.links.Parsing as spec;
+ghost use Rattle.c_reader.specs.links.Reads.{Reads, Gives};
+ghost use Rattle.c_reader.specs.links.Steps.{at_end, parse_unary, parse_update};
 ghost use Rattle.c_tree.specs.Grammar.{strength};
 
 use crate::halt::Halt;
@@ -29,7 +29,7 @@ impl<'a> Model for Cursor<'a> {
 
     ghost Value = { List Token };
 
-    ghost use Rattle.c_reader.specs.Tokens.{tokens_of};
+    ghost use Rattle.c_reader.specs.links.Tokens.{tokens_of};
 
     ghost view = { λ c. tokens_of c.left.now };
 }

@@ -3,9 +3,9 @@ ghost use Rattle.std.specs.Prelude.{◌≡◌, ◌≤◌, IfOk};
 ghost use Rattle.std.specs.Option.{option_map};
 ghost use Rattle.c_tree.specs.Trees as t;
 ghost use Rattle.c_tree.specs.Views.{expression_of, name_of};
-ghost use Rattle.c_reader.specs.Parsing as spec;
-ghost use Rattle.c_reader.specs.Reads.{Reads};
-ghost use Rattle.c_reader.specs.Steps.{expression_behind_name, operators_behind};
+ghost use Rattle.c_reader.specs.links.Parsing as spec;
+ghost use Rattle.c_reader.specs.links.Reads.{Reads};
+ghost use Rattle.c_reader.specs.links.Steps.{expression_behind_name, operators_behind};
 
 use crate::cursor::Cursor;
 use crate::halt::Halt;

@@ -1,6 +1,6 @@
 //! Types.
-ghost use Rattle.c_reader.specs.Parsing as spec;
-ghost use Rattle.c_reader.specs.Reads.{Gives};
+ghost use Rattle.c_reader.specs.links.Parsing as spec;
+ghost use Rattle.c_reader.specs.links.Reads.{Gives};
 
 use crate::cursor::Cursor;
 use crate::halt::Halt;

@@ -1,15 +1,14 @@
 //! How high the tokens of a text nest.
 ghost use Rattle.std.specs.Prelude.{◌≡◌, ◌<◌, ◌+◌, length, take, true, false, IfNone, IfSome};
 ghost use Rattle.c_tree.specs.Reading.{is_high, nests_high, outside, within_lexeme, within_mark};
-ghost use Rattle.c_reader.specs.Nestings.{nesting_of};
-ghost use Rattle.c_reader.specs.Tokens.{lexeme_of, tokens_of};
+ghost use Rattle.c_reader.specs.links.Nestings.{nesting_of};
+ghost use Rattle.c_reader.specs.links.Tokens.{lexeme_of, tokens_of};
 
 use crate::token::{Lexeme, Token};
 use c_tree::token::Punctuator;
+use ido_base::limits::MOST_NESTING;
 
 /// The greatest nesting.
-const MOST_NESTING: u32 = 128;
-
 /// Braces that are open, and brackets and operators since the last `;`, `,`, `{` or `}`.
 #[derive(Clone, Copy)]
 struct Nesting {

@@ -5,7 +5,7 @@ ghost use Rattle.std.specs.List.{prefix_len};
 ghost use Rattle.std.specs.Option.{option_map};
 ghost use Rattle.std.specs.Str.Parse.{digits_value};
 ghost use Rattle.c_tree.specs.Scanning.{suffix_of, literal_in, hexadecimal, number_of};
-ghost use Rattle.c_reader.specs.Tokens.{value_of};
+ghost use Rattle.c_reader.specs.links.Tokens.{value_of};
 
 use crate::byte::digit_value;
 use crate::token::Literal;
@@ -25,7 +25,7 @@ fn suffix_of(bytes: &[u8]) -> Option<Suffix>
 }
 
 /// How many digits of the radix stand at the front.
-fn digits_at_front(bytes: &[u8], radix: u64) -> usize
+fn digit_prefix(bytes: &[u8], radix: u64) -> usize
     ensures value { result ≡ prefix_len (λ c. is_digit c radix) bytes.now }
     ensures bound { result ≤ length bytes.now }
 {
@@ -61,7 +61,7 @@ fn literal_in(base: Base, radix: u64, bytes: &[u8]) -> Option<Literal>
     requires { 0 < radix }
     ensures { option_map value_of result ≡ literal_in base radix bytes.now }
 {
-    let (digits, behind) = bytes.split_at(digits_at_front(bytes, radix));
+    let (digits, behind) = bytes.split_at(digit_prefix(bytes, radix));
     let suffix = suffix_of(behind)?;
     let number = digits_value(digits, radix)?;
     let kind = literal_kind(base, suffix, u128::from(number))?;

@@ -1,14 +1,14 @@
 //! From tokens to a tree.
 ghost use Rattle.std.specs.Prelude.{IfOk};
-ghost use Rattle.c_reader.specs.Readings.{Parses};
-ghost use Rattle.c_reader.specs.Tokens.{tokens_of};
+ghost use Rattle.c_reader.specs.links.Readings.{Parses};
+ghost use Rattle.c_reader.specs.links.Tokens.{tokens_of};
 
 use crate::cursor::Cursor;
 use crate::halt::Halt;
 use crate::item::items;
 use crate::token::Token;
 use c_tree::tree::Tree;
-use ido_base::memory::Memory;
+use ido_base::memory::OutOfMemory;
 use std::alloc::Global;
 
 /// What tokens are parsed as.
@@ -24,7 +24,7 @@ pub enum Outcome {
 
 /// Parses the tokens of a program.
 #[tactic(auto, using(crate::proofs::Answers::whole_program, crate::proofs::Answers::wrong_program, crate::proofs::Answers::short_program))]
-pub fn parse(alloc: Global, tokens: &[Token<'_>]) -> Result<Outcome, Memory>
+pub fn parse(alloc: Global, tokens: &[Token<'_>]) -> Result<Outcome, OutOfMemory>
     ensures { IfOk result (λ outcome. Parses (tokens_of tokens.now) outcome) }
 {
     let mut cursor = Cursor::new(tokens);
@@ -34,6 +34,6 @@ pub fn parse(alloc: Global, tokens: &[Token<'_>]) -> Result<Outcome, Memory>
             0 => Ok(Outcome::TooShort),
             left => Ok(Outcome::WrongAt(tokens.len() - left)),
         },
-        Err(Halt::Memory) => Err(Memory),
+        Err(Halt::Memory) => Err(OutOfMemory),
     }
 }

@@ -1,53 +1,23 @@
 //! The reader.
-ghost use Rattle.std.specs.Prelude.{◌≡◌, ◌+◌, ◌<◌, ◌≤◌, length, take, IfOk, IfErr, List, ℕ, IsSome, IfSome, IfNone};
-ghost use Rattle.c_tree.specs.Reading.{IsRead, IsRefused, most_nesting};
+ghost use Rattle.std.specs.Prelude.{◌≡◌, ◌+◌, ◌<◌, ◌≤◌, length, take, IfOk, IfErr, List, ℕ, IfSome, option_map};
+ghost use Rattle.ido_base.specs.declared.limits.TheConstants.{MOST_SOURCE_BYTES, MOST_NESTING};
+ghost use Rattle.c_tree.specs.Reading.{IsRead, IsRefused};
+ghost use Rattle.c_tree.specs.Refusals.{fault_of, fault_in};
 ghost use Rattle.c_tree.specs.Scanning.{scanned};
 ghost use Rattle.c_tree.specs.Views.{items_of};
 ghost use Rattle.c_reader.specs.Depths.{IsShallow};
-ghost use Rattle.c_reader.specs.Fronts.{scanned_of};
-ghost use Rattle.c_reader.specs.Readings.{fault_of, behind_of, reach, IsFirstHigh, IsParsed};
+ghost use Rattle.c_reader.specs.links.Prefixes.{scanned_of};
+ghost use Rattle.c_reader.specs.links.Readings.{behind_of, reach, IsFirstHigh, IsParsed};
 
 use crate::nesting::first_high;
 use crate::parser::{Outcome, parse};
 use crate::scanner::{Scanned, scan};
 use crate::token::Token;
+use c_tree::refusal::{Refusal, SourceError};
 use c_tree::rule::Rule;
 use c_tree::tree::Tree;
-use ido_base::memory::Memory;
 use ido_base::place::Place;
-use std::alloc::{AllocError, Global};
-use thiserror::Error;
-
-/// Why a text isn't read.
-#[derive(Clone, Copy, Debug, PartialEq, Eq, Drop, Error)]
-pub enum ReadError {
-    /// The text breaks the rule at the place: `Byte`, `Number`, `Syntax` or `High`.
-    #[error("a rule is broken")]
-    Refused { rule: Rule, place: Place },
-    /// An allocation was refused.
-    #[error("out of memory")]
-    Memory,
-}
-
-impl From<Memory> for ReadError {
-    ghost use Rattle.c_reader.specs.declared.reader.ReadError.TheVariants.{Memory as Unremembered};
-
-    ghost from_gives = { λ _ e. e ≡ Unremembered };
-
-    fn from(_: Memory) -> Self {
-        ReadError::Memory
-    }
-}
-
-impl From<AllocError> for ReadError {
-    ghost use Rattle.c_reader.specs.declared.reader.ReadError.TheVariants.{Memory as Unremembered};
-
-    ghost from_gives = { λ _ e. e ≡ Unremembered };
-
-    fn from(_: AllocError) -> Self {
-        ReadError::Memory
-    }
-}
+use std::alloc::Global;
 
 /// The tokens up to the first that nests too high, and with it.
 fn looked_at<'a, 'b>(tokens: &'b [Token<'a>], high: Option<usize>) -> &'b [Token<'a>]
@@ -61,24 +31,16 @@ fn looked_at<'a, 'b>(tokens: &'b [Token<'a>], high: Option<usize>) -> &'b [Token
 }
 
 /// What is refused behind these tokens: the last of them, or what stands where no token begins.
-fn behind(found: &Scanned<'_>, high: Option<usize>) -> Option<ReadError>
+fn behind(found: &Scanned<'_>, high: Option<usize>) -> Option<Refusal>
     requires { IfSome high (λ i. i < length found.now.tokens.items) }
-    ensures none { IfNone result (behind_of (scanned_of found.now) high ≡ None) }
-    ensures some { IfSome result (λ e. behind_of (scanned_of found.now) high ≡ fault_of e) }
-    ensures told { IfSome result (λ e. IsSome (fault_of e)) }
+    ensures { behind_of (scanned_of found.now) high ≡ option_map fault_of result }
 {
     match high {
-        Some(index) => Some(ReadError::Refused {
+        Some(index) => Some(Refusal {
             rule: Rule::High,
             place: found.tokens[index].place,
         }),
-        None => match found.fault {
-            Some(fault) => Some(ReadError::Refused {
-                rule: fault.rule,
-                place: fault.place,
-            }),
-            None => None,
-        },
+        None => found.fault,
     }
 }
 
@@ -88,27 +50,28 @@ fn judge(
     found: &Scanned<'_>,
     high: Option<usize>,
     outcome: Outcome,
-) -> Result<Tree, ReadError>
+) -> Result<Tree, SourceError>
     requires high { IsFirstHigh (scanned_of found.now).tokens high }
     requires within { IfSome high (λ i. i < length found.now.tokens.items) }
     requires parsed { IsParsed (scanned_of found.now) high outcome }
     ensures read { IfOk result (λ tree. (text : List ℕ) → scanned_of found.now ≡ scanned text → IsRead text (items_of tree)) }
-    ensures refused { IfErr result (λ e. IfSome (fault_of e) (λ f. (text : List ℕ) → scanned_of found.now ≡ scanned text → end ≡ length text → IsRefused text f.rule f.place)) }
+    ensures refused { IfErr result (λ e. IfSome (fault_in e) (λ f. (text : List ℕ) → scanned_of found.now ≡ scanned text → end ≡ length text
+        → IsRefused text f.rule f.place)) }
 {
     match outcome {
-        Outcome::WrongAt(index) => Err(ReadError::Refused {
+        Outcome::WrongAt(index) => Err(SourceError::Refused(Refusal {
             rule: Rule::Syntax,
             place: found.tokens[index].place,
-        }),
+        })),
         Outcome::TooShort => match behind(found, high) {
-            Some(error) => Err(error),
-            None => Err(ReadError::Refused {
+            Some(refusal) => Err(SourceError::Refused(refusal)),
+            None => Err(SourceError::Refused(Refusal {
                 rule: Rule::Syntax,
                 place: Place(end),
-            }),
+            })),
         },
         Outcome::Whole(tree) => match behind(found, high) {
-            Some(error) => Err(error),
+            Some(refusal) => Err(SourceError::Refused(refusal)),
             None => Ok(tree),
         },
     }
@@ -120,11 +83,11 @@ fn judge(
 /// with, and one that nests past 128: the first place decides, and at one place this order. A text
 /// that ends too early is refused at its length. The blocks of a tree are at most 128 deep, and its
 /// expressions at most 129 high.
-pub fn read(alloc: Global, text: &[u8]) -> Result<Tree, ReadError>
-    requires { length text.now ≤ 1048576 }
+pub fn read(alloc: Global, text: &[u8]) -> Result<Tree, SourceError>
+    requires { length text.now ≤ MOST_SOURCE_BYTES }
     ensures read { IfOk result (λ tree. IsRead text.now (items_of tree)) }
-    ensures shallow { IfOk result (λ tree. IsShallow most_nesting (most_nesting + 1) (items_of tree)) }
-    ensures refused { IfErr result (λ e. IfSome (fault_of e) (λ f. IsRefused text.now f.rule f.place)) }
+    ensures shallow { IfOk result (λ tree. IsShallow MOST_NESTING (MOST_NESTING + 1) (items_of tree)) }
+    ensures refused { IfErr result (λ e. IfSome (fault_in e) (λ f. IsRefused text.now f.rule f.place)) }
 {
     let found = scan(alloc, text)?;
     let high = first_high(&found.tokens);

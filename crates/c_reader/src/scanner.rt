@@ -1,27 +1,20 @@
 //! The tokens of a text.
 ghost use Rattle.std.specs.Prelude.{◌≡◌, ◌<◌, ◌≤◌, ◌^◌, length, drop, IfOk};
 ghost use Rattle.c_tree.specs.Scanning.{scanned};
-ghost use Rattle.c_reader.specs.Fronts.{scanned_of};
+ghost use Rattle.c_reader.specs.links.Prefixes.{scanned_of};
 
-use crate::front::{Front, read_front};
+use crate::prefix::{Prefix, read_prefix};
 use crate::token::Token;
-use c_tree::rule::Rule;
+use c_tree::refusal::Refusal;
 use ido_base::place::Place;
 use std::alloc::{AllocError, Global};
-
-/// A rule that is broken at a place.
-#[derive(Clone, Copy, Drop)]
-pub struct Fault {
-    pub rule: Rule,
-    pub place: Place,
-}
 
 /// The tokens of a text up to its end, or up to the first place where none begins.
 #[derive(Drop)]
 pub struct Scanned<'a> {
     pub tokens: Vec<Token<'a>>,
     /// What is broken where no token begins.
-    pub fault: Option<Fault>,
+    pub fault: Option<Refusal>,
 }
 
 /// What stands behind so many bytes.
@@ -42,17 +35,17 @@ pub fn scan<'a>(alloc: Global, text: &'a [u8]) -> Result<Scanned<'a>, AllocError
     let mut rest = text;
     loop {
         let place = Place((text.len() - rest.len()) as u32);
-        match read_front(rest) {
-            Front::Blank(bytes) => rest = behind(rest, bytes),
-            Front::Lexed(lexeme, bytes) => {
+        match read_prefix(rest) {
+            Prefix::Blank(bytes) => rest = behind(rest, bytes),
+            Prefix::Lexed(lexeme, bytes) => {
                 tokens.push(Token { place, lexeme })?;
                 rest = behind(rest, bytes);
             }
-            Front::Broken(rule) => {
-                let fault = Some(Fault { rule, place });
+            Prefix::Broken(rule) => {
+                let fault = Some(Refusal { rule, place });
                 return Ok(Scanned { tokens, fault });
             }
-            Front::End => {
+            Prefix::End => {
                 let fault = None;
                 return Ok(Scanned { tokens, fault });
             }

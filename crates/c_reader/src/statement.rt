@@ -1,9 +1,12 @@
 //! Statements without blocks.
+ghost use Rattle.std.specs.Prelude.{◌≡◌, IfOk};
 ghost use Rattle.std.specs.Option.{option_map};
-ghost use Rattle.c_tree.specs.Views.{assignment_of, declaration_of, expression_of, first_of, initial_of, name_of, statement_of, target_of};
-ghost use Rattle.c_reader.specs.Parsing as spec;
-ghost use Rattle.c_reader.specs.Reads.{Reads};
-ghost use Rattle.c_reader.specs.Steps.{maybe_initial, parse_assignment_statement, parse_declaration_statement, parse_lock, parse_named_statement, parse_unlock, statement_behind_name, statement_behind_target};
+ghost use Rattle.c_tree.specs.Trees as t;
+ghost use Rattle.c_tree.specs.Views.{assignment_of, call_of, declaration_of, expression_of, first_of, initial_of, name_of, statement_of, target_of};
+ghost use Rattle.c_reader.specs.links.Parsing as spec;
+ghost use Rattle.c_reader.specs.links.Reads.{Reads};
+ghost use Rattle.c_reader.specs.links.Steps.{maybe_initial, parse_assignment_statement, parse_declaration_statement, parse_lock};
+ghost use Rattle.c_reader.specs.links.Steps.{parse_named_statement, parse_unlock, statement_behind_name, statement_behind_target};
 
 use crate::assignment::{RightSide, assignment, call_after, change, right};
 use crate::cursor::Cursor;
@@ -12,9 +15,9 @@ use crate::halt::Halt;
 use crate::kind::kind;
 use c_tree::token::{Keyword, Punctuator};
 use c_tree::tree::{
-    Assignment, Change, Declaration, Expression, First, Initial, Name, Statement, Target,
+    Assignment, Call, Change, Declaration, Expression, First, Initial, Name, Statement, Target,
 };
-use std::alloc::Global;
+use std::alloc::{AllocError, Global};
 
 /// What a local begins with, where it is written.
 #[tactic(auto, using(crate::proofs::Steps::maybe_initial_is))]
@@ -97,7 +100,8 @@ pub fn condition_of_for(
     tokens: &mut Cursor<'_>,
     fuel: usize,
 ) -> Result<Option<Expression>, Halt>
-    ensures { Reads (option_map expression_of) (spec.parse_unless (spec.is_mark Punctuator.Semicolon) (spec.parse_expression fuel) tokens.old) result tokens.new }
+    ensures { Reads (option_map expression_of) (spec.parse_unless (spec.is_mark Punctuator.Semicolon) (spec.parse_expression fuel) tokens.old) result
+        tokens.new }
 {
     if tokens.sees(Punctuator::Semicolon) {
         Ok(None)
@@ -108,7 +112,8 @@ pub fn condition_of_for(
 
 /// The last part of a `for`, before its closing parenthesis.
 pub fn last(alloc: Global, tokens: &mut Cursor<'_>, fuel: usize) -> Result<Option<Assignment>, Halt>
-    ensures { Reads (option_map assignment_of) (spec.parse_unless (spec.is_mark Punctuator.CloseParenthesis) (spec.parse_assignment fuel) tokens.old) result tokens.new }
+    ensures { Reads (option_map assignment_of) (spec.parse_unless (spec.is_mark Punctuator.CloseParenthesis) (spec.parse_assignment fuel) tokens.old) result
+        tokens.new }
 {
     if tokens.sees(Punctuator::CloseParenthesis) {
         Ok(None)
@@ -137,6 +142,39 @@ pub fn name_in_parentheses(alloc: Global, tokens: &mut Cursor<'_>) -> Result<Nam
     Ok(inside)
 }
 
+/// A declaration as a statement.
+fn declared_of(alloc: Global, declared: Declaration) -> Result<Statement, AllocError>
+    ensures { IfOk result (λ x. statement_of x ≡ t.Declare (declaration_of declared)) }
+{
+    let declared = Box::new(alloc, declared)?;
+    Ok(Statement::Declaration(declared))
+}
+
+/// An assignment as a statement.
+fn assigned_of(alloc: Global, assigned: Assignment) -> Result<Statement, AllocError>
+    ensures { IfOk result (λ x. statement_of x ≡ t.Assign (assignment_of assigned)) }
+{
+    let assigned = Box::new(alloc, assigned)?;
+    Ok(Statement::Assignment(assigned))
+}
+
+/// The result of a call, assigned.
+fn result_of(alloc: Global, target: Target, call: Call) -> Result<Statement, AllocError>
+    ensures { IfOk result (λ x. statement_of x ≡ t.AssignResult (target_of target) (call_of call)) }
+{
+    let target = Box::new(alloc, target)?;
+    let call = Box::new(alloc, call)?;
+    Ok(Statement::CallAssignment { target, call })
+}
+
+/// A call as a statement.
+fn called_of(alloc: Global, call: Call) -> Result<Statement, AllocError>
+    ensures { IfOk result (λ x. statement_of x ≡ t.CallOnly (call_of call)) }
+{
+    let call = Box::new(alloc, call)?;
+    Ok(Statement::Call(call))
+}
+
 /// What stands behind the target of a statement, before its semicolon.
 #[tactic(auto, using(crate::proofs::Steps::statement_behind_target_is))]
 fn statement_after_target(
@@ -150,20 +188,24 @@ fn statement_after_target(
     let place = target.name.place;
     if !tokens.sees(Punctuator::Assign) {
         let change = change(alloc, tokens, fuel)?;
-        return Ok(Statement::Assignment(Assignment {
+        let assigned = Assignment {
             place,
             target,
             change,
-        }));
+        };
+        return Ok(assigned_of(alloc, assigned)?);
     }
     tokens.mark(Punctuator::Assign)?;
     match right(alloc, tokens, fuel)? {
-        RightSide::Expression(value) => Ok(Statement::Assignment(Assignment {
-            place,
-            target,
-            change: Change::Set { value },
-        })),
-        RightSide::Call(call) => Ok(Statement::CallAssignment { target, call }),
+        RightSide::Expression(value) => {
+            let assigned = Assignment {
+                place,
+                target,
+                change: Change::Set { value },
+            };
+            Ok(assigned_of(alloc, assigned)?)
+        }
+        RightSide::Call(call) => Ok(result_of(alloc, target, call)?),
     }
 }
 
@@ -178,7 +220,8 @@ fn statement_after_name(
     ensures { Reads statement_of (statement_behind_name fuel (name_of name) tokens.old) result tokens.new }
 {
     if tokens.sees(Punctuator::OpenParenthesis) {
-        return Ok(Statement::Call(call_after(alloc, tokens, fuel, name)?));
+        let call = call_after(alloc, tokens, fuel, name)?;
+        return Ok(called_of(alloc, call)?);
     }
     let index = index(alloc, tokens, fuel)?;
     statement_after_target(alloc, tokens, fuel, Target { name, index })
@@ -210,11 +253,11 @@ pub fn declaration_statement(
 {
     let declared = declaration(alloc, tokens, fuel)?;
     tokens.mark(Punctuator::Semicolon)?;
-    Ok(Statement::Declaration(declared))
+    Ok(declared_of(alloc, declared)?)
 }
 
 /// A statement that is an assignment without a call.
-#[tactic(auto, unfolding(crate::specs::Steps::parse_assignment_statement))]
+#[tactic(auto, unfolding(crate::specs::links::Steps::parse_assignment_statement))]
 pub fn assignment_statement(
     alloc: Global,
     tokens: &mut Cursor<'_>,
@@ -224,11 +267,11 @@ pub fn assignment_statement(
 {
     let assigned = assignment(alloc, tokens, fuel)?;
     tokens.mark(Punctuator::Semicolon)?;
-    Ok(Statement::Assignment(assigned))
+    Ok(assigned_of(alloc, assigned)?)
 }
 
 /// `lock(mutex);`
-#[tactic(auto, unfolding(crate::specs::Steps::parse_lock))]
+#[tactic(auto, unfolding(crate::specs::links::Steps::parse_lock))]
 pub fn lock(alloc: Global, tokens: &mut Cursor<'_>) -> Result<Statement, Halt>
     ensures { Reads statement_of (parse_lock tokens.old) result tokens.new }
 {
@@ -239,7 +282,7 @@ pub fn lock(alloc: Global, tokens: &mut Cursor<'_>) -> Result<Statement, Halt>
 }
 
 /// `unlock(mutex);`
-#[tactic(auto, unfolding(crate::specs::Steps::parse_unlock))]
+#[tactic(auto, unfolding(crate::specs::links::Steps::parse_unlock))]
 pub fn unlock(alloc: Global, tokens: &mut Cursor<'_>) -> Result<Statement, Halt>
     ensures { Reads statement_of (parse_unlock tokens.old) result tokens.new }
 {

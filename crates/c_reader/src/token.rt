@@ -1,7 +1,7 @@
 //! Tokens of a text.
 ghost use Rattle.std.specs.Prelude.{◌≡◌};
-ghost use Rattle.c_reader.specs.Tokens.{value_of, lexeme_of};
-ghost use Rattle.c_reader.specs.Parsing as spec;
+ghost use Rattle.c_reader.specs.links.Tokens.{value_of, lexeme_of};
+ghost use Rattle.c_reader.specs.links.Parsing as spec;
 
 use c_tree::token::{Keyword, Punctuator};
 use ido_base::place::Place;

@@ -3,11 +3,12 @@ ghost use Rattle.std.specs.Prelude.{◌≡◌, ◌∷◌, [], map, MatchResult, 
 ghost use Rattle.c_tree.specs.Exprs.{placed_of, target_of};
 ghost use Rattle.c_tree.specs.Flats.{flat_of, thread_of, statement_of, statements_of, arms_list_of};
 ghost use Rattle.c_tree.specs.Temporaries.{assign_exprs, statement_exprs, statements_exprs, arms_exprs, temporaries_fault};
-ghost use Rattle.c_temporaries.specs.Firsts.{first_deep, threads_exprs};
+ghost use Rattle.c_temporaries.specs.links.Firsts.{first_deep, threads_exprs};
 
 use c_tree::expr::{Placed, Target};
 use c_tree::flat::{Arm, Flat, Statement, Thread};
 use c_tree::price::need;
+use ido_base::limits::MOST_TEMPORARIES;
 use ido_base::place::Place;
 use thiserror::Error;
 
@@ -18,9 +19,6 @@ pub struct TemporariesError {
     /// The place of its first token.
     pub place: Place,
 }
-
-/// How many temporaries there are.
-const TEMPORARIES: u32 = 4;
 
 /// Whether no expression of a thread needs more than four temporaries; else the first one that does, in the order of the
 /// steps, where the index of a target comes before the value.
@@ -33,18 +31,18 @@ pub fn check(flat: &Flat) -> Result<(), TemporariesError>
     }
 }
 
-// An expression that needs too many.
+/// An expression that needs too many.
 fn of_placed(placed: &Placed) -> Option<Place>
     ensures { result ≡ first_deep (placed_of placed.now ∷ []) }
 {
-    if need(&placed.expr) > TEMPORARIES {
+    if need(&placed.expr) > MOST_TEMPORARIES {
         Some(placed.place)
     } else {
         None
     }
 }
 
-// The first one of an assignment.
+/// The first one of an assignment.
 fn of_assigned(target: &Target, value: &Placed) -> Option<Place>
     ensures { result ≡ first_deep (assign_exprs (target_of target.now) (placed_of value.now)) }
 {
@@ -54,7 +52,7 @@ fn of_assigned(target: &Target, value: &Placed) -> Option<Place>
     }
 }
 
-// The first one of a condition and of what is done where it holds.
+/// The first one of a condition and of what is done where it holds.
 #[cycle(statements)]
 fn of_tested(condition: &Placed, body: &[Statement]) -> Option<Place>
     ensures { result ≡ first_deep (placed_of condition.now ∷ statements_exprs (statements_of body.now)) }
@@ -62,7 +60,7 @@ fn of_tested(condition: &Placed, body: &[Statement]) -> Option<Place>
     of_placed(condition).or(of_statements(body))
 }
 
-// The first one of a statement.
+/// The first one of a statement.
 #[cycle(statements)]
 fn of_statement(statement: &Statement) -> Option<Place>
     ensures { result ≡ first_deep (statement_exprs (statement_of statement.now)) }
@@ -88,7 +86,7 @@ fn of_statement(statement: &Statement) -> Option<Place>
     }
 }
 
-// The first one of statements.
+/// The first one of statements.
 #[cycle(statements)]
 fn of_statements(statements: &[Statement]) -> Option<Place>
     ensures { result ≡ first_deep (statements_exprs (statements_of statements.now)) }
@@ -100,7 +98,7 @@ fn of_statements(statements: &[Statement]) -> Option<Place>
     first
 }
 
-// The first one of arms.
+/// The first one of arms.
 #[cycle(statements)]
 fn of_arms(arms: &[Arm]) -> Option<Place>
     ensures { result ≡ first_deep (arms_exprs (arms_list_of arms.now)) }
@@ -112,7 +110,7 @@ fn of_arms(arms: &[Arm]) -> Option<Place>
     first
 }
 
-// The first one of threads.
+/// The first one of threads.
 fn of_threads(threads: &[Thread]) -> Option<Place>
     ensures { result ≡ first_deep (threads_exprs (map thread_of threads.now)) }
 {

@@ -67,7 +67,8 @@ function kind x parameters opening inside returned closing =
       body = record { opening = at opening; statements = all_of inside; returned = returned; closing = at closing };
     })
 
--- `mutex m; persistent(m) int a = 2147483647; persistent(m) int b = 7; persistent(m) int c; persistent(m) int d; persistent(m) int z; persistent(m) int e = 1; thread t { lock(m); a = a + 1; c = b / z; d = b % z; b = a / (z - 1); e = -1 < 1u; unlock(m); }`
+-- `mutex m; persistent(m) int a = 2147483647; persistent(m) int b = 7; persistent(m) int c; persistent(m) int d; persistent(m) int z; persistent(m) int e = 1;
+-- thread t { lock(m); a = a + 1; c = b / z; d = b % z; b = a / (z - 1); e = -1 < 1u; unlock(m); }`
 abbrev pub operators : List t.Item
 operators =
     t.MutexItem (name (codes "m") 6) ∷
@@ -81,8 +82,11 @@ operators =
     t.Assign (assignment 176 (scalar (name (codes "a") 176)) (t.Set (t.Binary b.Add (t.Named (name (codes "a") 180)) (t.Number (at 184) (int 1))))) ∷
     t.Assign (assignment 187 (scalar (name (codes "c") 187)) (t.Set (t.Binary b.Div (t.Named (name (codes "b") 191)) (t.Named (name (codes "z") 195))))) ∷
     t.Assign (assignment 198 (scalar (name (codes "d") 198)) (t.Set (t.Binary b.Rem (t.Named (name (codes "b") 202)) (t.Named (name (codes "z") 206))))) ∷
-    t.Assign (assignment 209 (scalar (name (codes "b") 209)) (t.Set (t.Binary b.Div (t.Named (name (codes "a") 213)) (t.Parenthesised (at 217) (t.Binary b.Sub (t.Named (name (codes "z") 218)) (t.Number (at 222) (int 1))))))) ∷
-    t.Assign (assignment 226 (scalar (name (codes "e") 226)) (t.Set (t.Binary b.Less (t.Unary (at 230) u.Minus (t.Number (at 231) (int 1))) (t.Number (at 235) (typed kind.UnsignedInt (pos 1)))))) ∷
+    t.Assign (assignment 209 (scalar (name (codes "b") 209))
+    (t.Set (t.Binary b.Div (t.Named (name (codes "a") 213))
+    (t.Parenthesised (at 217) (t.Binary b.Sub (t.Named (name (codes "z") 218)) (t.Number (at 222) (int 1))))))) ∷
+    t.Assign (assignment 226 (scalar (name (codes "e") 226))
+    (t.Set (t.Binary b.Less (t.Unary (at 230) u.Minus (t.Number (at 231) (int 1))) (t.Number (at 235) (typed kind.UnsignedInt (pos 1)))))) ∷
     t.Unlock (at 239) (name (codes "m") 246) ∷ []) 250) ∷
     []
 
@@ -90,9 +94,11 @@ operators =
 abbrev pub bytes : List t.Item
 bytes =
     t.MutexItem (name (codes "m") 6) ∷
-    persistent (name (codes "m") 20) kind.UnsignedChar (name (codes "a") 37) (Some (length_at 39 (int 8))) (Some (t.InBraces (at 44) (signed 45 false (int 1) ∷ signed 48 false (int 2) ∷ signed 51 false (int 3) ∷ []))) ∷
+    persistent (name (codes "m") 20) kind.UnsignedChar (name (codes "a") 37) (Some (length_at 39 (int 8)))
+    (Some (t.InBraces (at 44) (signed 45 false (int 1) ∷ signed 48 false (int 2) ∷ signed 51 false (int 3) ∷ []))) ∷
     thread (name (codes "t") 62) (block 64 (t.Lock (at 66) (name (codes "m") 71) ∷
-    t.Assign (assignment 75 (element (name (codes "a") 75) (t.Number (at 77) (int 1))) (t.Set (t.Binary b.Add (t.Element (name (codes "a") 82) (t.Number (at 84) (int 0))) (t.Number (at 89) (int 255))))) ∷
+    t.Assign (assignment 75 (element (name (codes "a") 75) (t.Number (at 77) (int 1)))
+    (t.Set (t.Binary b.Add (t.Element (name (codes "a") 82) (t.Number (at 84) (int 0))) (t.Number (at 89) (int 255))))) ∷
     t.Assign (assignment 94 (element (name (codes "a") 94) (t.Number (at 96) (int 2))) (t.Set (t.Number (at 101) (int 300)))) ∷
     t.Unlock (at 106) (name (codes "m") 113) ∷ []) 117) ∷
     []
@@ -105,13 +111,18 @@ two_threads =
     thread (name (codes "u") 49) (block 51 (t.Lock (at 53) (name (codes "m") 58) ∷ t.Unlock (at 62) (name (codes "m") 69) ∷ []) 73) ∷
     []
 
--- `mutex m; persistent(m) long x; int twice(int v) { int w = v + v; return w; } thread t { for (int i = 0; i < 2; i++) { lock(m); x = twice(i); unlock(m); } do { } while (0); }`
+-- `mutex m; persistent(m) long x; int twice(int v) { int w = v + v; return w; }
+-- thread t { for (int i = 0; i < 2; i++) { lock(m); x = twice(i); unlock(m); } do { } while (0); }`
 abbrev pub calls : List t.Item
 calls =
     t.MutexItem (name (codes "m") 6) ∷
     persistent (name (codes "m") 20) kind.Long (name (codes "x") 28) None None ∷
-    function (Some kind.Int) (name (codes "twice") 35) (parameter kind.Int (name (codes "v") 45) ∷ []) 48 (t.Declare (declaration 50 kind.Int (name (codes "w") 54) (t.Value (t.Binary b.Add (t.Named (name (codes "v") 58)) (t.Named (name (codes "v") 62))))) ∷ []) (Some (return_at 65 (Some (t.Named (name (codes "w") 72))))) 75 ∷
-    thread (name (codes "t") 84) (block 86 (t.For (at 88) (t.Declared (declaration 93 kind.Int (name (codes "i") 97) (t.Value (t.Number (at 101) (int 0))))) (Some (t.Binary b.Less (t.Named (name (codes "i") 104)) (t.Number (at 108) (int 2)))) (Some (assignment 111 (scalar (name (codes "i") 111)) t.Increment)) (block 116 (t.Lock (at 118) (name (codes "m") 123) ∷
+    function (Some kind.Int) (name (codes "twice") 35) (parameter kind.Int (name (codes "v") 45) ∷ []) 48
+    (t.Declare (declaration 50 kind.Int (name (codes "w") 54) (t.Value (t.Binary b.Add (t.Named (name (codes "v") 58)) (t.Named (name (codes "v") 62))))) ∷ [])
+    (Some (return_at 65 (Some (t.Named (name (codes "w") 72))))) 75 ∷
+    thread (name (codes "t") 84) (block 86 (t.For (at 88) (t.Declared (declaration 93 kind.Int (name (codes "i") 97) (t.Value (t.Number (at 101) (int 0)))))
+    (Some (t.Binary b.Less (t.Named (name (codes "i") 104)) (t.Number (at 108) (int 2)))) (Some (assignment 111 (scalar (name (codes "i") 111)) t.Increment))
+    (block 116 (t.Lock (at 118) (name (codes "m") 123) ∷
     t.AssignResult (scalar (name (codes "x") 127)) (call (name (codes "twice") 131) (t.Named (name (codes "i") 137) ∷ [])) ∷
     t.Unlock (at 141) (name (codes "m") 148) ∷ []) 152) ∷
     t.Do (at 154) (block 157 [] 159) (t.Number (at 168) (int 0)) ∷ []) 172) ∷
@@ -120,7 +131,8 @@ calls =
 -- `int one() { int k = 1; return k; } thread t { int a = one(); int b = one(); }`
 abbrev pub fresh : List t.Item
 fresh =
-    function (Some kind.Int) (name (codes "one") 4) [] 10 (t.Declare (declaration 12 kind.Int (name (codes "k") 16) (t.Value (t.Number (at 20) (int 1)))) ∷ []) (Some (return_at 23 (Some (t.Named (name (codes "k") 30))))) 33 ∷
+    function (Some kind.Int) (name (codes "one") 4) [] 10 (t.Declare (declaration 12 kind.Int (name (codes "k") 16) (t.Value (t.Number (at 20) (int 1)))) ∷ [])
+    (Some (return_at 23 (Some (t.Named (name (codes "k") 30))))) 33 ∷
     thread (name (codes "t") 42) (block 44 (t.Declare (declaration 46 kind.Int (name (codes "a") 50) (t.Result (call (name (codes "one") 54) []))) ∷
     t.Declare (declaration 61 kind.Int (name (codes "b") 65) (t.Result (call (name (codes "one") 69) []))) ∷ []) 76) ∷
     []
@@ -128,7 +140,8 @@ fresh =
 -- `void f() { if (1) { g(); } } void g() { f(); } void h() { f(); }`
 abbrev pub recursive : List t.Item
 recursive =
-    function None (name (codes "f") 5) [] 9 (t.If (at 11) (t.arm_and (t.Number (at 15) (int 1)) (block 18 (t.CallOnly (call (name (codes "g") 20) []) ∷ []) 25) t.no_arm) t.Nothing ∷ []) None 27 ∷
+    function None (name (codes "f") 5) [] 9 (t.If (at 11) (t.arm_and (t.Number (at 15) (int 1))
+    (block 18 (t.CallOnly (call (name (codes "g") 20) []) ∷ []) 25) t.no_arm) t.Nothing ∷ []) None 27 ∷
     function None (name (codes "g") 34) [] 38 (t.CallOnly (call (name (codes "f") 40) []) ∷ []) None 45 ∷
     function None (name (codes "h") 52) [] 56 (t.CallOnly (call (name (codes "f") 58) []) ∷ []) None 63 ∷
     []
@@ -143,17 +156,23 @@ scopes =
     t.For (at 52) (t.Declared (declaration 57 kind.Int (name (codes "a") 61) (t.Value (t.Number (at 65) (int 0))))) None None (block 72 [] 74) ∷ []) 76) ∷
     []
 
--- `mutex m; persistent(m) int x; persistent(m) int y; thread t { int i = 0; do { i++; } while (i < 3); lock(m); if (i == 1) { x = 1; } else if (i == 3) { x = i; y--; } else { x = 2; } unlock(m); }`
+-- `mutex m; persistent(m) int x; persistent(m) int y;
+-- thread t { int i = 0; do { i++; } while (i < 3); lock(m); if (i == 1) { x = 1; } else if (i == 3) { x = i; y--; } else { x = 2; } unlock(m); }`
 abbrev pub loops : List t.Item
 loops =
     t.MutexItem (name (codes "m") 6) ∷
     persistent (name (codes "m") 20) kind.Int (name (codes "x") 27) None None ∷
     persistent (name (codes "m") 41) kind.Int (name (codes "y") 48) None None ∷
     thread (name (codes "t") 58) (block 60 (t.Declare (declaration 62 kind.Int (name (codes "i") 66) (t.Value (t.Number (at 70) (int 0)))) ∷
-    t.Do (at 73) (block 76 (t.Assign (assignment 78 (scalar (name (codes "i") 78)) t.Increment) ∷ []) 83) (t.Binary b.Less (t.Named (name (codes "i") 92)) (t.Number (at 96) (int 3))) ∷
+    t.Do (at 73) (block 76 (t.Assign (assignment 78 (scalar (name (codes "i") 78)) t.Increment) ∷ []) 83)
+    (t.Binary b.Less (t.Named (name (codes "i") 92)) (t.Number (at 96) (int 3))) ∷
     t.Lock (at 100) (name (codes "m") 105) ∷
-    t.If (at 109) (t.arm_and (t.Binary b.Equal (t.Named (name (codes "i") 113)) (t.Number (at 118) (int 1))) (block 121 (t.Assign (assignment 123 (scalar (name (codes "x") 123)) (t.Set (t.Number (at 127) (int 1)))) ∷ []) 130) (t.arm_and (t.Binary b.Equal (t.Named (name (codes "i") 141)) (t.Number (at 146) (int 3))) (block 149 (t.Assign (assignment 151 (scalar (name (codes "x") 151)) (t.Set (t.Named (name (codes "i") 155)))) ∷
-    t.Assign (assignment 158 (scalar (name (codes "y") 158)) t.Decrement) ∷ []) 163) t.no_arm)) (t.Else (block 170 (t.Assign (assignment 172 (scalar (name (codes "x") 172)) (t.Set (t.Number (at 176) (int 2)))) ∷ []) 179)) ∷
+    t.If (at 109) (t.arm_and (t.Binary b.Equal (t.Named (name (codes "i") 113)) (t.Number (at 118) (int 1)))
+    (block 121 (t.Assign (assignment 123 (scalar (name (codes "x") 123)) (t.Set (t.Number (at 127) (int 1)))) ∷ []) 130)
+    (t.arm_and (t.Binary b.Equal (t.Named (name (codes "i") 141)) (t.Number (at 146) (int 3)))
+    (block 149 (t.Assign (assignment 151 (scalar (name (codes "x") 151)) (t.Set (t.Named (name (codes "i") 155)))) ∷
+    t.Assign (assignment 158 (scalar (name (codes "y") 158)) t.Decrement) ∷ []) 163) t.no_arm))
+    (t.Else (block 170 (t.Assign (assignment 172 (scalar (name (codes "x") 172)) (t.Set (t.Number (at 176) (int 2)))) ∷ []) 179)) ∷
     t.Unlock (at 181) (name (codes "m") 188) ∷ []) 192) ∷
     []
 
@@ -171,7 +190,9 @@ unheld_element =
     t.MutexItem (name (codes "m") 6) ∷
     persistent (name (codes "m") 20) kind.Long (name (codes "a") 28) (Some (length_at 30 (int 2))) None ∷
     persistent (name (codes "m") 45) kind.Long (name (codes "b") 53) None None ∷
-    thread (name (codes "t") 63) (block 65 (t.Assign (assignment 67 (element (name (codes "a") 67) (t.Binary b.And (t.Named (name (codes "b") 69)) (t.Number (at 73) (int 1)))) (t.Set (t.Element (name (codes "a") 78) (t.Number (at 80) (int 0))))) ∷ []) 84) ∷
+    thread (name (codes "t") 63) (block 65 (t.Assign (assignment 67
+    (element (name (codes "a") 67) (t.Binary b.And (t.Named (name (codes "b") 69)) (t.Number (at 73) (int 1))))
+    (t.Set (t.Element (name (codes "a") 78) (t.Number (at 80) (int 0))))) ∷ []) 84) ∷
     []
 
 -- `mutex m; thread t { lock(m); lock(m); }`
@@ -194,7 +215,8 @@ not_held =
 abbrev pub join : List t.Item
 join =
     t.MutexItem (name (codes "m") 6) ∷
-    thread (name (codes "t") 16) (block 18 (t.If (at 20) (t.arm_and (t.Number (at 24) (int 1)) (block 27 (t.Lock (at 29) (name (codes "m") 34) ∷ []) 38) t.no_arm) t.Nothing ∷ []) 40) ∷
+    thread (name (codes "t") 16) (block 18 (t.If (at 20) (t.arm_and (t.Number (at 24) (int 1))
+    (block 27 (t.Lock (at 29) (name (codes "m") 34) ∷ []) 38) t.no_arm) t.Nothing ∷ []) 40) ∷
     []
 
 -- `mutex k; mutex m; mutex n; thread t { lock(k); if (1) { lock(n); } else if (2) { lock(m); } else { } }`
@@ -204,7 +226,8 @@ least_join =
     t.MutexItem (name (codes "m") 15) ∷
     t.MutexItem (name (codes "n") 24) ∷
     thread (name (codes "t") 34) (block 36 (t.Lock (at 38) (name (codes "k") 43) ∷
-    t.If (at 47) (t.arm_and (t.Number (at 51) (int 1)) (block 54 (t.Lock (at 56) (name (codes "n") 61) ∷ []) 65) (t.arm_and (t.Number (at 76) (int 2)) (block 79 (t.Lock (at 81) (name (codes "m") 86) ∷ []) 90) t.no_arm)) (t.Else (block 97 [] 99)) ∷ []) 101) ∷
+    t.If (at 47) (t.arm_and (t.Number (at 51) (int 1)) (block 54 (t.Lock (at 56) (name (codes "n") 61) ∷ []) 65)
+    (t.arm_and (t.Number (at 76) (int 2)) (block 79 (t.Lock (at 81) (name (codes "m") 86) ∷ []) 90) t.no_arm)) (t.Else (block 97 [] 99)) ∷ []) 101) ∷
     []
 
 -- `mutex m; thread t { while (1) { lock(m); } }`
@@ -239,7 +262,8 @@ index_modulo_int =
     persistent (name (codes "m") 20) kind.Long (name (codes "a") 28) (Some (length_at 30 (int 8))) None ∷
     thread (name (codes "t") 41) (block 43 (t.Declare (declaration 45 kind.Long (name (codes "i") 50) (t.Value (t.Number (at 54) (int 9)))) ∷
     t.Lock (at 57) (name (codes "m") 62) ∷
-    t.Assign (assignment 66 (element (name (codes "a") 66) (t.Binary b.Rem (t.Named (name (codes "i") 68)) (t.Number (at 72) (typed kind.UnsignedInt (pos 8))))) (t.Set (t.Number (at 78) (int 1)))) ∷
+    t.Assign (assignment 66 (element (name (codes "a") 66) (t.Binary b.Rem (t.Named (name (codes "i") 68)) (t.Number (at 72) (typed kind.UnsignedInt (pos 8)))))
+    (t.Set (t.Number (at 78) (int 1)))) ∷
     t.Unlock (at 81) (name (codes "m") 88) ∷ []) 92) ∷
     []
 
@@ -250,7 +274,8 @@ index_masked =
     persistent (name (codes "m") 20) kind.Long (name (codes "a") 28) (Some (length_at 30 (int 8))) None ∷
     thread (name (codes "t") 41) (block 43 (t.Declare (declaration 45 kind.Long (name (codes "i") 50) (t.Value (t.Number (at 54) (int 9)))) ∷
     t.Lock (at 57) (name (codes "m") 62) ∷
-    t.Assign (assignment 66 (element (name (codes "a") 66) (t.Binary b.And (t.Named (name (codes "i") 68)) (t.Number (at 72) (int 7)))) (t.Set (t.Number (at 77) (int 1)))) ∷
+    t.Assign (assignment 66 (element (name (codes "a") 66) (t.Binary b.And (t.Named (name (codes "i") 68)) (t.Number (at 72) (int 7))))
+    (t.Set (t.Number (at 77) (int 1)))) ∷
     t.Unlock (at 80) (name (codes "m") 87) ∷ []) 91) ∷
     []
 
@@ -261,7 +286,8 @@ index_modulo_long =
     persistent (name (codes "m") 20) kind.Long (name (codes "a") 28) (Some (length_at 30 (int 8))) None ∷
     thread (name (codes "t") 41) (block 43 (t.Declare (declaration 45 kind.Long (name (codes "i") 50) (t.Value (t.Number (at 54) (int 9)))) ∷
     t.Lock (at 57) (name (codes "m") 62) ∷
-    t.Assign (assignment 66 (element (name (codes "a") 66) (t.Binary b.Rem (t.Named (name (codes "i") 68)) (t.Number (at 72) (typed kind.UnsignedLong (pos 8))))) (t.Set (t.Number (at 79) (int 1)))) ∷
+    t.Assign (assignment 66 (element (name (codes "a") 66) (t.Binary b.Rem (t.Named (name (codes "i") 68))
+    (t.Number (at 72) (typed kind.UnsignedLong (pos 8))))) (t.Set (t.Number (at 79) (int 1)))) ∷
     t.Unlock (at 82) (name (codes "m") 89) ∷ []) 93) ∷
     []
 
@@ -283,10 +309,12 @@ unknown =
 abbrev pub declared_twice : List t.Item
 declared_twice =
     t.MutexItem (name (codes "m") 6) ∷
-    function (Some kind.Long) (name (codes "m") 14) (parameter kind.Int (name (codes "a") 20) ∷ parameter kind.Int (name (codes "a") 27) ∷ []) 30 (t.Declare (declaration 32 kind.Int (name (codes "a") 36) t.Absent) ∷ []) (Some (return_at 39 (Some (t.Number (at 46) (int 1))))) 49 ∷
+    function (Some kind.Long) (name (codes "m") 14) (parameter kind.Int (name (codes "a") 20) ∷ parameter kind.Int (name (codes "a") 27) ∷ []) 30
+    (t.Declare (declaration 32 kind.Int (name (codes "a") 36) t.Absent) ∷ []) (Some (return_at 39 (Some (t.Number (at 46) (int 1))))) 49 ∷
     []
 
--- `mutex m; persistent(m) int x = {1}; persistent(m) int a[2] = 1; void f() { } long g() { return 1; } thread t { x[0] = 1; a = 1; m = 1; lock(x); x = f(); g(); t(); }`
+-- `mutex m; persistent(m) int x = {1}; persistent(m) int a[2] = 1; void f() { } long g() { return 1; }
+-- thread t { x[0] = 1; a = 1; m = 1; lock(x); x = f(); g(); t(); }`
 abbrev pub wrong_sorts : List t.Item
 wrong_sorts =
     t.MutexItem (name (codes "m") 6) ∷
@@ -294,7 +322,8 @@ wrong_sorts =
     persistent (name (codes "m") 47) kind.Int (name (codes "a") 54) (Some (length_at 56 (int 2))) (Some (t.Single (signed 61 false (int 1)))) ∷
     function None (name (codes "f") 69) [] 73 [] None 75 ∷
     function (Some kind.Long) (name (codes "g") 82) [] 86 [] (Some (return_at 88 (Some (t.Number (at 95) (int 1))))) 98 ∷
-    thread (name (codes "t") 107) (block 109 (t.Assign (assignment 111 (element (name (codes "x") 111) (t.Number (at 113) (int 0))) (t.Set (t.Number (at 118) (int 1)))) ∷
+    thread (name (codes "t") 107) (block 109 (t.Assign (assignment 111 (element (name (codes "x") 111) (t.Number (at 113) (int 0)))
+    (t.Set (t.Number (at 118) (int 1)))) ∷
     t.Assign (assignment 121 (scalar (name (codes "a") 121)) (t.Set (t.Number (at 125) (int 1)))) ∷
     t.Assign (assignment 128 (scalar (name (codes "m") 128)) (t.Set (t.Number (at 132) (int 1)))) ∷
     t.Lock (at 135) (name (codes "x") 140) ∷
@@ -308,7 +337,8 @@ abbrev pub wrong_counts : List t.Item
 wrong_counts =
     t.MutexItem (name (codes "m") 6) ∷
     persistent (name (codes "m") 20) kind.Int (name (codes "x") 27) None (Some (t.InBraces (at 31) (signed 32 false (int 1) ∷ signed 35 false (int 2) ∷ []))) ∷
-    persistent (name (codes "m") 50) kind.Int (name (codes "a") 57) (Some (length_at 59 (int 2))) (Some (t.InBraces (at 64) (signed 65 false (int 1) ∷ signed 68 false (int 2) ∷ signed 71 false (int 3) ∷ []))) ∷
+    persistent (name (codes "m") 50) kind.Int (name (codes "a") 57) (Some (length_at 59 (int 2)))
+    (Some (t.InBraces (at 64) (signed 65 false (int 1) ∷ signed 68 false (int 2) ∷ signed 71 false (int 3) ∷ []))) ∷
     function None (name (codes "f") 80) (parameter kind.Int (name (codes "v") 86) ∷ []) 89 [] None 91 ∷
     thread (name (codes "t") 100) (block 102 (t.CallOnly (call (name (codes "f") 104) []) ∷
     t.CallOnly (call (name (codes "f") 109) (t.Number (at 111) (int 1) ∷

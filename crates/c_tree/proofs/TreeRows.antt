@@ -1,12 +1,13 @@
 -- Statements of a tree in vectors: the view of a vector's row is that of its list.
 use Rattle.std.proofs.Common.{◌≡◌, Option, Some, None, refl, sym, ap, ap₂, ◌∙◌, Vec, Global}
+use Rattle.std.specs.Prelude.{Box}
+use Rattle.std.specs.Box.{box_value}
 use Rattle.std.specs.Option.{option_map}
 use Rattle.ido_base.specs.declared.place.Place.{Place}
 use Rattle.c_tree.specs.Trees as t
 use Rattle.c_tree.specs.Views as v
 use Rattle.c_tree.specs.declared.tree.Expression.{Expression}
-use Rattle.c_tree.specs.declared.tree.First.{First}
-use Rattle.c_tree.specs.declared.tree.Assignment.{Assignment}
+use Rattle.c_tree.specs.declared.tree.Head.{Head}
 use Rattle.c_tree.specs.declared.tree.Statement as s
 use Rattle.c_tree.specs.declared.tree.Statement.TheBlock as block
 use Rattle.c_tree.specs.declared.tree.Arm as arm
@@ -31,18 +32,24 @@ arms_in xs = arms _ (block.hidden-the_row-Arm-1 xs) ∙ ap v.arms_list_of (s.ite
 pub of_block : (x : Block) → v.statement_of (s.Block x) ≡ t.BlockOf (v.block_of x)
 of_block x = ap (λ (xs : t.Statements). t.BlockOf (t.Braced x.opening xs x.closing)) (statements_in x.statements)
 
-pub of_while : (place : Place) (condition : Expression) (x : Block) →
-    v.statement_of (s.While place condition x) ≡ t.While place (v.expression_of condition) (v.block_of x)
-of_while place condition x = ap (λ (xs : t.Statements). t.While place (v.expression_of condition) (t.Braced x.opening xs x.closing)) (statements_in x.statements)
+pub of_while : (place : Place) (condition : Box Expression Global) (x : Block) →
+    v.statement_of (s.While place condition x) ≡ t.While place (v.expression_of (box_value condition)) (v.block_of x)
+of_while place condition x =
+    ap (λ (xs : t.Statements). t.While place (v.expression_of (box_value condition)) (t.Braced x.opening xs x.closing)) (statements_in x.statements)
 
-pub of_do : (place : Place) (x : Block) (condition : Expression) →
-    v.statement_of (s.Do place x condition) ≡ t.Do place (v.block_of x) (v.expression_of condition)
-of_do place x condition = ap (λ (xs : t.Statements). t.Do place (t.Braced x.opening xs x.closing) (v.expression_of condition)) (statements_in x.statements)
+pub of_do : (place : Place) (x : Block) (condition : Box Expression Global) →
+    v.statement_of (s.Do place x condition) ≡ t.Do place (v.block_of x) (v.expression_of (box_value condition))
+of_do place x condition =
+    ap (λ (xs : t.Statements). t.Do place (t.Braced x.opening xs x.closing) (v.expression_of (box_value condition))) (statements_in x.statements)
 
-pub of_for : (place : Place) (start : First) (condition : Option Expression) (last : Option Assignment) (x : Block) →
-    v.statement_of (s.For place start condition last x) ≡ t.For place (v.first_of start) (option_map v.expression_of condition) (option_map v.assignment_of last) (v.block_of x)
-of_for place start condition last x =
-    ap (λ (xs : t.Statements). t.For place (v.first_of start) (option_map v.expression_of condition) (option_map v.assignment_of last) (t.Braced x.opening xs x.closing)) (statements_in x.statements)
+pub of_for : (place : Place) (head : Box Head Global) (x : Block) →
+    v.statement_of (s.For place head x)
+    ≡ t.For place (v.first_of (box_value head).first) (option_map v.expression_of (box_value head).condition) (option_map v.assignment_of (box_value head).last)
+    (v.block_of x)
+of_for place head x =
+    ap (λ (xs : t.Statements).
+    t.For place (v.first_of (box_value head).first) (option_map v.expression_of (box_value head).condition) (option_map v.assignment_of (box_value head).last)
+    (t.Braced x.opening xs x.closing)) (statements_in x.statements)
 
 pub of_if : (place : Place) (arms : Vec arm.Arm Global) (otherwise : Option Block) →
     v.statement_of (s.If place arms otherwise) ≡ t.If place (v.arms_list_of arms.items) (v.otherwise_of otherwise)

@@ -1,6 +1,7 @@
 -- Worked rows: rules of names and kinds, and where they are broken.
 use Rattle.std.proofs.Common.{◌≡◌, ℕ, [], ◌∷◌, map, refl}
 use Rattle.std.specs.Prelude.{pos}
+use Rattle.ido_base.specs.declared.limits.TheConstants.{MOST_THREADS}
 use Rattle.ido_ints.specs.declared.kinds.Kind.{Kind}
 use Rattle.ido_ints.specs.declared.kinds.Kind.TheVariants as kind
 use Rattle.ido_ints.specs.declared.operators.Binary.TheVariants as b
@@ -12,7 +13,7 @@ use Rattle.c_tree.specs.Scanning.{Fault}
 use Rattle.c_tree.specs.Exprs as e
 use Rattle.c_tree.specs.Programs as p
 use Rattle.c_tree.specs.Typing.{typed_program}
-use Rattle.c_tree.specs.TypeRules.{past, type_faults, most_threads}
+use Rattle.c_tree.specs.TypeRules.{past, type_faults}
 use Rattle.c_tree.proofs.Samples.{at, int, name, operators, calls, scopes, too_long, unknown, declared_twice, wrong_sorts, wrong_counts, wrong_returns}
 
 abbrev at_rule : r.Rule → ℕ → Fault
@@ -60,7 +61,7 @@ has_length : type_faults too_long ≡ at_rule rule.Length 30 ∷ []
 unfolding type_faults
 has_length = refl
 
-ninth : past rule.Threads most_threads (map (λ n. name [] n) (1 ∷ 2 ∷ 3 ∷ 4 ∷ 5 ∷ 6 ∷ 7 ∷ 8 ∷ 9 ∷ 10 ∷ [])) ≡ at_rule rule.Threads 9 ∷ []
+ninth : past rule.Threads MOST_THREADS (map (λ n. name [] n) (1 ∷ 2 ∷ 3 ∷ 4 ∷ 5 ∷ 6 ∷ 7 ∷ 8 ∷ 9 ∷ 10 ∷ [])) ≡ at_rule rule.Threads 9 ∷ []
 ninth = refl
 
 -- ---- Scopes and kinds

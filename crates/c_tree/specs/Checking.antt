@@ -51,4 +51,5 @@ pub data IsFaulty (text : List ℕ) (found : r.Rule) (place : Place) : Type 0 wh
   unfit : (x : p.Program) (i : Index) → IsTyped text x → IsFirstUnfit x i → found ≡ rule.Index → place ≡ i.place → IsFaulty text found place
   leads_back : (x : p.Program) → IsRanged text x → IsFirstBack x.functions place → found ≡ rule.Recursion → IsFaulty text found place
   too_long : (x : p.Program) → IsRanged text x → HasNoBack x → price_fault (flat_form x) ≡ Some place → found ≡ rule.Code → IsFaulty text found place
-  undisciplined : (flat : f.Flat) (x : l.Fault) → IsFlattened text flat → lock_fault flat ≡ Some x → found ≡ x.rule → place ≡ x.place → IsFaulty text found place
+  undisciplined : (flat : f.Flat) (x : l.Fault) → IsFlattened text flat → lock_fault flat ≡ Some x → found ≡ x.rule → place ≡ x.place
+      → IsFaulty text found place

@@ -12,7 +12,8 @@ use Rattle.c_tree.specs.declared.token.Keyword.TheVariants as k
 use Rattle.c_tree.specs.declared.token.Punctuator.{Punctuator}
 use Rattle.c_tree.specs.declared.token.Punctuator.TheVariants as p
 use Rattle.c_tree.specs.Trees as t
-use Rattle.c_tree.specs.Languages.{empty, never, provided, ◌⋅◌, ◌or◌, starting_at, word, word_at, mark, mark_at, number, number_at, name, words, all_of, some_of, list_of, maybe}
+use Rattle.c_tree.specs.Languages.{empty, never, provided, ◌⋅◌, ◌or◌, starting_at, word, word_at, mark, mark_at}
+use Rattle.c_tree.specs.Languages.{number, number_at, name, words, all_of, some_of, list_of, maybe}
 
 -- ---- Types
 
@@ -138,7 +139,8 @@ abbrev mutual
   statement (t.While place x inside) = word_at place k.While ⋅ condition x ⋅ block inside
   statement (t.Do place inside x) = word_at place k.Do ⋅ block inside ⋅ word k.While ⋅ condition x ⋅ mark p.Semicolon
   statement (t.For place start x last inside) =
-      word_at place k.For ⋅ mark p.OpenParenthesis ⋅ first start ⋅ mark p.Semicolon ⋅ maybe expression x ⋅ mark p.Semicolon ⋅ maybe assignment last ⋅ mark p.CloseParenthesis ⋅ block inside
+      word_at place k.For ⋅ mark p.OpenParenthesis ⋅ first start ⋅ mark p.Semicolon ⋅ maybe expression x ⋅ mark p.Semicolon ⋅ maybe assignment last
+      ⋅ mark p.CloseParenthesis ⋅ block inside
   statement (t.Lock place mutex) = word_at place k.Lock ⋅ mark p.OpenParenthesis ⋅ name mutex ⋅ mark p.CloseParenthesis ⋅ mark p.Semicolon
   statement (t.Unlock place mutex) = word_at place k.Unlock ⋅ mark p.OpenParenthesis ⋅ name mutex ⋅ mark p.CloseParenthesis ⋅ mark p.Semicolon
 
@@ -203,7 +205,8 @@ abbrev pub assigned : t.Initialiser → List Token → Type 0
 assigned x = mark p.Assign ⋅ initialiser x
 
 abbrev pub persistent : t.Persistent → List Token → Type 0
-persistent x = word k.Persistent ⋅ mark p.OpenParenthesis ⋅ name x.guard ⋅ mark p.CloseParenthesis ⋅ type x.kind ⋅ name x.name ⋅ maybe length_of x.length ⋅ maybe assigned x.initialiser ⋅ mark p.Semicolon
+persistent x = word k.Persistent ⋅ mark p.OpenParenthesis ⋅ name x.guard ⋅ mark p.CloseParenthesis ⋅ type x.kind ⋅ name x.name ⋅ maybe length_of x.length
+    ⋅ maybe assigned x.initialiser ⋅ mark p.Semicolon
 
 abbrev pub item : t.Item → List Token → Type 0
 item (t.MutexItem x) = word k.Mutex ⋅ name x ⋅ mark p.Semicolon

@@ -120,7 +120,8 @@ module _ (fs : List p.Function) (bodies : Bodies) where
   -- the parameters, the body, the result
   abbrev pub called : Place → (by : ℕ) → List Kind → p.Function → (body : Made f.Statements) → List e.Placed → Option e.Target → Made f.Statements
   called place n ks x body arguments result =
-      let made = statements_and (passed place (length ks) x.locals (map (shifted_placed n) arguments)) (statements_and body.made (assigned place (length ks) x.result (option_map (shifted_target n) result))) in
+      let made = statements_and (passed place (length ks) x.locals (map (shifted_placed n) arguments))
+      (statements_and body.made (assigned place (length ks) x.result (option_map (shifted_target n) result))) in
       record { made = made; kinds = kinds_behind made ks body.kinds }
 
   abbrev mutual
@@ -164,7 +165,8 @@ bodies_of fs (suc deep) function ks = elim (slice_get fs function) [
 ]
 
 abbrev pub flat_thread : List p.Function → p.Thread → f.Thread
-flat_thread fs x = let m = statements fs (bodies_of fs (length fs)) 0 x.locals x.body in record { name = x.name; locals = m.kinds; body = m.made; closing = x.closing }
+flat_thread fs x =
+    let m = statements fs (bodies_of fs (length fs)) 0 x.locals x.body in record { name = x.name; locals = m.kinds; body = m.made; closing = x.closing }
 
 unfoldable pub flat_form : p.Program → f.Flat
 flat_form x = record { mutexes = x.mutexes; variables = x.variables; threads = map (flat_thread x.functions) x.threads }

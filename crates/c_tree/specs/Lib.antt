@@ -20,3 +20,4 @@ pub mod WellFormed
 pub mod Locking
 pub mod Temporaries
 pub mod Checking
+pub mod Refusals

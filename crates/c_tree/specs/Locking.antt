@@ -1,5 +1,6 @@
 -- The lock discipline: which mutexes a thread holds where, and the first place that breaks it.
-use Rattle.std.specs.Prelude.{◌≡◌, ℕ, zero, suc, List, [], ◌∷◌, ◌++◌, length, replicate, slice_index_or, slice_get, slice_set, Option, Some, None, Bool, true, false, not, find, ◌&&◌, if◌then◌else◌}
+use Rattle.std.specs.Prelude.{◌≡◌, ℕ, zero, suc, List, [], ◌∷◌, ◌++◌, length, replicate, slice_index_or, slice_get}
+use Rattle.std.specs.Prelude.{slice_set, Option, Some, None, Bool, true, false, not, find, ◌&&◌, if◌then◌else◌}
 use Rattle.std.specs.List.{list_any, list_all}
 use Rattle.ido_base.specs.declared.place.Place.{Place}
 use Rattle.c_tree.specs.declared.rule.Rule as r
@@ -70,21 +71,27 @@ AreGuarded vs h us = find (λ u. not (is_guarded vs h u)) us ≡ None
 module _ (vs : List Variable) where
   mutual
     pub data Keeps : Held → f.Statement → Held → Type 0 where
-      assign : {h : Held} (place : Place) (target : e.Target) (value : e.Placed) → AreGuarded vs h (assign_uses target value) → Keeps h (f.Assign place target value) h
-      choose : {h after : Held} (place : Place) (arms : f.Arms) (otherwise : f.Statements) → KeepArms h arms after → KeepAll h otherwise after → Keeps h (f.If place arms otherwise) after
-      repeat : {h : Held} (place : Place) (condition : e.Placed) (body : f.Statements) → AreGuarded vs h (expr_uses condition.expr) → KeepAll h body h → Keeps h (f.While place condition body) h
-      again : {h : Held} (place : Place) (body : f.Statements) (condition : e.Placed) → KeepAll h body h → AreGuarded vs h (expr_uses condition.expr) → Keeps h (f.Do place body condition) h
+      assign : {h : Held} (place : Place) (target : e.Target) (value : e.Placed) → AreGuarded vs h (assign_uses target value)
+          → Keeps h (f.Assign place target value) h
+      choose : {h after : Held} (place : Place) (arms : f.Arms) (otherwise : f.Statements) → KeepArms h arms after → KeepAll h otherwise after
+          → Keeps h (f.If place arms otherwise) after
+      repeat : {h : Held} (place : Place) (condition : e.Placed) (body : f.Statements) → AreGuarded vs h (expr_uses condition.expr) → KeepAll h body h
+          → Keeps h (f.While place condition body) h
+      again : {h : Held} (place : Place) (body : f.Statements) (condition : e.Placed) → KeepAll h body h → AreGuarded vs h (expr_uses condition.expr)
+          → Keeps h (f.Do place body condition) h
       lock : {h : Held} (place : Place) (mutex : ℕ) → holds h mutex ≡ false → Keeps h (f.Lock place mutex) (slice_set h mutex true)
       unlock : {h : Held} (place : Place) (mutex : ℕ) → holds h mutex ≡ true → Keeps h (f.Unlock place mutex) (slice_set h mutex false)
 
     pub data KeepAll : Held → f.Statements → Held → Type 0 where
       no_more : {h : Held} → KeepAll h f.no_statement h
-      then : {h between after : Held} (x : f.Statement) (rest : f.Statements) → Keeps h x between → KeepAll between rest after → KeepAll h (f.statement_and x rest) after
+      then : {h between after : Held} (x : f.Statement) (rest : f.Statements) → Keeps h x between → KeepAll between rest after
+          → KeepAll h (f.statement_and x rest) after
 
     -- each condition is tested with the set before, and each arm leaves the same set
     pub data KeepArms : Held → f.Arms → Held → Type 0 where
       no_more_arms : {h after : Held} → KeepArms h f.no_arm after
-      arm : {h after : Held} (condition : e.Placed) (body : f.Statements) (rest : f.Arms) → AreGuarded vs h (expr_uses condition.expr) → KeepAll h body after → KeepArms h rest after → KeepArms h (f.arm_and condition body rest) after
+      arm : {h after : Held} (condition : e.Placed) (body : f.Statements) (rest : f.Arms) → AreGuarded vs h (expr_uses condition.expr) → KeepAll h body after
+          → KeepArms h rest after → KeepArms h (f.arm_and condition body rest) after
 
 -- a thread begins and ends with no mutex held
 abbrev pub IsDisciplined : f.Flat → f.Thread → Type 0
@@ -144,8 +151,10 @@ module _ (vs : List Variable) (mutexes : ℕ) where
     pub walk : Held → f.Statement → Walked
     walk h (f.Assign place target value) = walk_uses h (assign_uses target value)
     walk h (f.If place arms otherwise) = walk_arms h [] arms (λ left. and_then (walk_all h otherwise) (λ after. join_all place (left ++ after ∷ [])))
-    walk h (f.While place condition body) = and_then (walk_uses h (expr_uses condition.expr)) (λ _. and_then (walk_all h body) (λ after. join place h (after ∷ [])))
-    walk h (f.Do place body condition) = and_then (walk_all h body) (λ after. and_then (walk_uses after (expr_uses condition.expr)) (λ _. join place h (after ∷ [])))
+    walk h (f.While place condition body) =
+        and_then (walk_uses h (expr_uses condition.expr)) (λ _. and_then (walk_all h body) (λ after. join place h (after ∷ [])))
+    walk h (f.Do place body condition) =
+        and_then (walk_all h body) (λ after. and_then (walk_uses after (expr_uses condition.expr)) (λ _. join place h (after ∷ [])))
     walk h (f.Lock place mutex) = if holds h mutex then broken rule.Again place mutex else Behind (slice_set h mutex true)
     walk h (f.Unlock place mutex) = if holds h mutex then Behind (slice_set h mutex false) else broken rule.NotHeld place mutex
 

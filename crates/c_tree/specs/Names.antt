@@ -67,7 +67,8 @@ abbrev pub no_locals : Scope
 no_locals = record { known = []; own = []; kinds = [] }
 
 abbrev pub declared : Scope → (name : List ℕ) → Kind → Scope
-declared s name kind = record { known = record { name = name; number = length s.kinds; kind = kind } ∷ s.known; own = name ∷ s.own; kinds = s.kinds ++ kind ∷ [] }
+declared s name kind =
+    record { known = record { name = name; number = length s.kinds; kind = kind } ∷ s.known; own = name ∷ s.own; kinds = s.kinds ++ kind ∷ [] }
 
 -- a scope inside
 abbrev pub entered : Scope → Scope

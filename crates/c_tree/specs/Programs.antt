@@ -105,10 +105,21 @@ abbrev pub returned_of : returned.Returned → Returned
 returned_of x = record { kind = x.kind; value = placed_of x.value }
 
 abbrev pub function_of : function.Function → Function
-function_of x = record { name = name_of x.name; parameters = x.parameters; locals = x.locals.items; body = statements_of x.body.items; result = option_map returned_of x.result }
+function_of x = record {
+  name = name_of x.name;
+  parameters = x.parameters;
+  locals = x.locals.items;
+  body = statements_of x.body.items;
+  result = option_map returned_of x.result;
+}
 
 abbrev pub thread_of : thread.Thread → Thread
 thread_of x = record { name = name_of x.name; locals = x.locals.items; body = statements_of x.body.items; closing = x.closing }
 
 abbrev pub program_of : program.Program → Program
-program_of x = record { mutexes = map name_of x.mutexes.items; variables = map variable_of x.variables.items; functions = map function_of x.functions.items; threads = map thread_of x.threads.items }
+program_of x = record {
+  mutexes = map name_of x.mutexes.items;
+  variables = map variable_of x.variables.items;
+  functions = map function_of x.functions.items;
+  threads = map thread_of x.threads.items;
+}

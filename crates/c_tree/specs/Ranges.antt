@@ -1,5 +1,6 @@
 -- An interval that holds every value that an expression can have, and the indexes of a program.
-use Rattle.std.specs.Prelude.{◌≡◌, ◌⊎◌, ℕ, ◌<◌, List, [], ◌∷◌, ◌++◌, Contains, flat_map, slice_get, Option, Some, None, Bool, true, false, ◌&&◌, if◌then◌else◌, ℤ, pos, ◌+ℤ◌, ◌-ℤ◌, ◌*ℤ◌, neg_ℤ, int_le, int_lt, int_div, ◌≤ℤ◌}
+use Rattle.std.specs.Prelude.{◌≡◌, ◌⊎◌, ℕ, ◌<◌, List, [], ◌∷◌, ◌++◌, Contains, flat_map, slice_get, Option, Some, None, Bool}
+use Rattle.std.specs.Prelude.{true, false, ◌&&◌, if◌then◌else◌, ℤ, pos, ◌+ℤ◌, ◌-ℤ◌, ◌*ℤ◌, neg_ℤ, int_le, int_lt, int_div, ◌≤ℤ◌}
 use Rattle.std.specs.Int.{int_shr}
 use Rattle.std.specs.Ordering.{int_eq}
 use Rattle.ido_base.specs.declared.place.Place.{Place}
@@ -186,7 +187,8 @@ returned_indexes (Some x) = placed_indexes x.value
 
 abbrev pub program_indexes : p.Program → List Index
 program_indexes x =
-    flat_map (λ (f : p.Function). statements_indexes f.body ++ returned_indexes f.result) x.functions ++ flat_map (λ (t : p.Thread). statements_indexes t.body) x.threads
+    flat_map (λ (f : p.Function). statements_indexes f.body ++ returned_indexes f.result) x.functions
+    ++ flat_map (λ (t : p.Thread). statements_indexes t.body) x.threads
 
 -- elements of a variable; one that is no array has none for an index
 abbrev pub elements_of : List p.Variable → (variable : ℕ) → ℕ

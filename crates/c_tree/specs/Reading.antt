@@ -1,6 +1,7 @@
 -- What a text is read as: its tree, or the first rule that it breaks.
 use Rattle.std.specs.Prelude.{◌≡◌, ℕ, ◌+◌, ◌-◌, List, [], ◌∷◌, ◌++◌, length, Some, None, Bool, true, false, ◌||◌, nat_lt}
 use Rattle.ido_base.specs.declared.place.Place.{Place}
+use Rattle.ido_base.specs.declared.limits.TheConstants.{MOST_NESTING}
 use Rattle.c_tree.specs.declared.token.Punctuator as pn
 use Rattle.c_tree.specs.declared.token.Punctuator.TheVariants as p
 use Rattle.c_tree.specs.declared.rule.Rule as r
@@ -55,12 +56,8 @@ within_lexeme (Name bytes) n = n
 within_lexeme (Keyword x) n = n
 within_lexeme (Number value) n = n
 
--- the greatest nesting
-abbrev pub most_nesting : ℕ
-most_nesting = 128
-
 abbrev pub is_high : Nesting → Bool
-is_high n = nat_lt most_nesting n.braces || nat_lt most_nesting n.others
+is_high n = nat_lt MOST_NESTING n.braces || nat_lt MOST_NESTING n.others
 
 -- some token nests too high, from this nesting on
 abbrev pub is_high_from : Nesting → List Token → Bool
@@ -80,13 +77,17 @@ pub record IsWrong (before : List Token) (t : Token) : Type 0 where
 -- the text is refused by the rule at the place: no rule is broken at an earlier one
 pub data IsRefused (text : List ℕ) (found : r.Rule) (place : Place) : Type 0 where
   -- no token begins there
-  no_token : (scanned text).fault ≡ Some (record { rule = found; place = place }) → Begins (scanned text).tokens → nests_high (scanned text).tokens ≡ false → IsRefused text found place
+  no_token : (scanned text).fault ≡ Some (record { rule = found; place = place }) → Begins (scanned text).tokens → nests_high (scanned text).tokens ≡ false
+      → IsRefused text found place
   -- the token there is wrong
-  wrong_token : (before : List Token) (t : Token) (after : List Token) → (scanned text).tokens ≡ before ++ t ∷ after → nests_high before ≡ false → IsWrong before t → t.place ≡ place → found ≡ rule.Syntax → IsRefused text found place
+  wrong_token : (before : List Token) (t : Token) (after : List Token) → (scanned text).tokens ≡ before ++ t ∷ after → nests_high before ≡ false
+      → IsWrong before t → t.place ≡ place → found ≡ rule.Syntax → IsRefused text found place
   -- it isn't wrong, but nests too high
-  too_high : (before : List Token) (t : Token) (after : List Token) → (scanned text).tokens ≡ before ++ t ∷ after → nests_high before ≡ false → Begins (before ++ t ∷ []) → nests_high (before ++ t ∷ []) ≡ true → t.place ≡ place → found ≡ rule.High → IsRefused text found place
+  too_high : (before : List Token) (t : Token) (after : List Token) → (scanned text).tokens ≡ before ++ t ∷ after → nests_high before ≡ false
+      → Begins (before ++ t ∷ []) → nests_high (before ++ t ∷ []) ≡ true → t.place ≡ place → found ≡ rule.High → IsRefused text found place
   -- the text ends too early
-  wrong_end : (scanned text).fault ≡ None → nests_high (scanned text).tokens ≡ false → Begins (scanned text).tokens → (IsWhole (scanned text).tokens → ⊥) → place ≡ record { 0 = length text } → found ≡ rule.Syntax → IsRefused text found place
+  wrong_end : (scanned text).fault ≡ None → nests_high (scanned text).tokens ≡ false → Begins (scanned text).tokens → (IsWhole (scanned text).tokens → ⊥)
+      → place ≡ record { 0 = length text } → found ≡ rule.Syntax → IsRefused text found place
 
 -- the text is these items
 pub record IsRead (text : List ℕ) (xs : List Item) : Type 0 where

@@ -1,5 +1,6 @@
 -- The tokens of a text. Each is the longest that begins at its place.
-use Rattle.std.specs.Prelude.{ℕ, zero, suc, ◌+◌, List, [], ◌∷◌, length, drop, take_while, find, Option, Some, None, Bool, not, ◌&&◌, ◌||◌, nat_eq, nat_le, ◌==◌, if◌then◌else◌, codes}
+use Rattle.std.specs.Prelude.{ℕ, zero, suc, ◌+◌, List, [], ◌∷◌, length, drop, take_while, find, Option, Some}
+use Rattle.std.specs.Prelude.{None, Bool, not, ◌&&◌, ◌||◌, nat_eq, nat_le, ◌==◌, if◌then◌else◌, codes}
 use Rattle.std.specs.Option.{option_map}
 use Rattle.std.specs.Cmp.Lexicographic.{pointwise}
 use Rattle.std.specs.List.{starts_with}
@@ -110,11 +111,11 @@ punctuators =
 -- ---- What stands at the front of a text
 
 -- so many bytes between tokens; a token of so many bytes; a rule that is broken here; nothing
-pub data Front : Type 0 where
-  Blank : (bytes : ℕ) → Front
-  Lexed : Lexeme → (bytes : ℕ) → Front
-  Broken : r.Rule → Front
-  End : Front
+pub data Prefix : Type 0 where
+  Blank : (bytes : ℕ) → Prefix
+  Lexed : Lexeme → (bytes : ℕ) → Prefix
+  Broken : r.Rule → Prefix
+  End : Prefix
 
 -- space, tab, CR, LF
 abbrev pub is_blank : (byte : ℕ) → Bool
@@ -127,44 +128,44 @@ through_comment (c ∷ []) = None
 through_comment (c ∷ d ∷ ds) = if c == 42 && d == 47 then Some 2 else option_map (λ n. n + 1) (through_comment (d ∷ ds))
 
 -- a comment up to the end of its line
-abbrev pub line_comment : List ℕ → Front
+abbrev pub line_comment : List ℕ → Prefix
 line_comment text = Blank (length (take_while (λ c. not (c == line_feed)) text))
 
 -- a comment that an end closes; without it, its `/` begins no token
-abbrev pub closed_comment : List ℕ → Front
+abbrev pub closed_comment : List ℕ → Prefix
 closed_comment text = elim (through_comment (drop 2 text)) [
   | Some n ↦ Blank (n + 2)
   | None ↦ Broken rule.Byte
 ]
 
-abbrev pub word_front : List ℕ → Front
-word_front text = let bytes = take_while is_word_byte text in Lexed (word_lexeme bytes) (length bytes)
+abbrev pub word_prefix : List ℕ → Prefix
+word_prefix text = let bytes = take_while is_word_byte text in Lexed (word_lexeme bytes) (length bytes)
 
-abbrev pub number_front : List ℕ → Front
-number_front text = let bytes = take_while is_word_byte text in elim (number_of bytes) [
+abbrev pub number_prefix : List ℕ → Prefix
+number_prefix text = let bytes = take_while is_word_byte text in elim (number_of bytes) [
   | Some value ↦ Lexed (Number value) (length bytes)
   | None ↦ Broken rule.Number
 ]
 
-abbrev pub punctuator_front : List ℕ → Front
-punctuator_front text = elim (find (λ e. starts_with nat_eq text e.0) punctuators) [
+abbrev pub punctuator_prefix : List ℕ → Prefix
+punctuator_prefix text = elim (find (λ e. starts_with nat_eq text e.0) punctuators) [
   | Some entry ↦ Lexed (Punctuator entry.1) (length entry.0)
   | None ↦ Broken rule.Byte
 ]
 
 -- by the first byte
-abbrev pub front_from : (first : ℕ) → (text : List ℕ) → Front
-front_from c text =
+abbrev pub prefix_from : (first : ℕ) → (text : List ℕ) → Prefix
+prefix_from c text =
     if is_blank c then Blank 1
     else if starts_with nat_eq text (codes "//") then line_comment text
     else if starts_with nat_eq text (codes "/*") then closed_comment text
-    else if is_letter c then word_front text
-    else if is_decimal c then number_front text
-    else punctuator_front text
+    else if is_letter c then word_prefix text
+    else if is_decimal c then number_prefix text
+    else punctuator_prefix text
 
-unfoldable pub front : List ℕ → Front
-front [] = End
-front (c ∷ cs) = front_from c (c ∷ cs)
+unfoldable pub prefix : List ℕ → Prefix
+prefix [] = End
+prefix (c ∷ cs) = prefix_from c (c ∷ cs)
 
 -- ---- The tokens of a text
 
@@ -187,7 +188,7 @@ with_token t s = record s { tokens = t ∷ s.tokens }
 -- what stands at a place and behind it, of a text with fewer bytes than the first number
 abbrev pub scanned_from : (more : ℕ) → (place : ℕ) → List ℕ → Scanned
 scanned_from zero place text = nothing_more
-scanned_from (suc more) place text = elim (front text) [
+scanned_from (suc more) place text = elim (prefix text) [
   | Blank bytes ↦ scanned_from more (place + bytes) (drop bytes text)
   | Lexed lexeme bytes ↦ with_token (record { place = record { 0 = place }; lexeme = lexeme }) (scanned_from more (place + bytes) (drop bytes text))
   | Broken rule ↦ record { tokens = []; fault = Some (record { rule = rule; place = record { 0 = place } }) }

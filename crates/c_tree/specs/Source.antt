@@ -1,6 +1,7 @@
 -- The source's own meaning: what its threads have left to do, and what a step of one does. It knows no graph, no register,
 -- no line and no log.
-use Rattle.std.specs.Prelude.{ℕ, ◌+◌, List, [], ◌∷◌, ◌++◌, length, map, replicate, slice_index_or, slice_get, slice_set, Option, Some, None, Bool, true, false, not, ◌&&◌, if◌then◌else◌, ℤ, pos}
+use Rattle.std.specs.Prelude.{ℕ, ◌+◌, List, [], ◌∷◌, ◌++◌, length, map, replicate, slice_index_or, slice_get, slice_set}
+use Rattle.std.specs.Prelude.{Option, Some, None, Bool, true, false, not, ◌&&◌, if◌then◌else◌, ℤ, pos}
 use Rattle.ido_base.specs.Locks.{holds_none}
 use Rattle.ido_ints.specs.Typed.{Typed}
 use Rattle.ido_ints.specs.Operators.{is_zero}
@@ -81,7 +82,13 @@ evaluated s thread (ToLocal local kind) x =
 evaluated s thread (ToVariable place variable kind) x =
     record thread { pending = Some (record { variable = variable; element = 0; number = reduced kind (value_in s thread x).number }) }
 evaluated s thread (ToElement place variable kind index) x =
-    record thread { pending = Some (record { variable = variable; element = element_at (value_in s thread index.expr); number = reduced kind (value_in s thread x).number }) }
+    record thread {
+      pending = Some (record {
+        variable = variable;
+        element = element_at (value_in s thread index.expr);
+        number = reduced kind (value_in s thread x).number;
+      });
+    }
 
 abbrev pub is_true : State → Thread → Placed → Bool
 is_true s thread condition = not (is_zero (value_in s thread condition.expr).number)
@@ -98,7 +105,9 @@ abbrev pub statement_step : State → ℕ → Thread → f.Statement → (rest :
 statement_step s t thread (f.Assign place target x) rest = Some (with_thread s t (record (evaluated s thread target x.expr) { left = rest }))
 statement_step s t thread (f.If place f.no_arm otherwise) rest = None
 statement_step s t thread (f.If place (f.arm_and condition body arms) otherwise) rest =
-    Some (with_thread s t (record thread { left = tested (is_true s thread condition) (opened_all body) (f.If place arms otherwise ∷ []) (opened_all otherwise) arms ++ rest }))
+    Some (with_thread s t (record thread {
+      left = tested (is_true s thread condition) (opened_all body) (f.If place arms otherwise ∷ []) (opened_all otherwise) arms ++ rest;
+    }))
 statement_step s t thread (f.While place condition body) rest =
     Some (with_thread s t (record thread { left = if is_true s thread condition then opened_all body ++ (f.While place condition body ∷ rest) else rest }))
 statement_step s t thread (f.Do place body condition) rest = None

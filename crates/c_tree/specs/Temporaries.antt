@@ -2,12 +2,10 @@
 use Rattle.std.specs.Prelude.{ℕ, List, [], ◌∷◌, ◌++◌, find, flat_map, Option, nat_lt}
 use Rattle.std.specs.Option.{option_map}
 use Rattle.ido_base.specs.declared.place.Place.{Place}
+use Rattle.ido_base.specs.declared.limits.TheConstants.{MOST_TEMPORARIES, MOST_PRICE}
 use Rattle.c_tree.specs.Exprs as e
 use Rattle.c_tree.specs.Flats as f
 use Rattle.c_tree.specs.Prices.{need_of, thread_price}
-
-abbrev pub most_temporaries : ℕ
-most_temporaries = 4
 
 -- the index before the value
 abbrev pub assign_exprs : e.Target → e.Placed → List e.Placed
@@ -35,13 +33,11 @@ abbrev mutual
 
 -- where the first one stands that needs too many
 unfoldable pub temporaries_fault : f.Flat → Option Place
-temporaries_fault x = option_map (λ (y : e.Placed). y.place) (find (λ (y : e.Placed). nat_lt most_temporaries (need_of y.expr)) (flat_map (λ (t : f.Thread). statements_exprs t.body) x.threads))
+temporaries_fault x = option_map (λ (y : e.Placed). y.place)
+    (find (λ (y : e.Placed). nat_lt MOST_TEMPORARIES (need_of y.expr)) (flat_map (λ (t : f.Thread). statements_exprs t.body) x.threads))
 
 -- ---- Prices
 
-abbrev pub most_price : ℕ
-most_price = 65536
-
 -- the name of the first thread whose price is too high
 unfoldable pub price_fault : f.Flat → Option Place
-price_fault x = option_map (λ (t : f.Thread). t.name.place) (find (λ (t : f.Thread). nat_lt most_price (thread_price t)) x.threads)
+price_fault x = option_map (λ (t : f.Thread). t.name.place) (find (λ (t : f.Thread). nat_lt MOST_PRICE (thread_price t)) x.threads)

@@ -1,8 +1,10 @@
 -- The rules of names and kinds, and the first that a tree breaks.
-use Rattle.std.specs.Prelude.{◌≡◌, ◌⊎◌, ℕ, zero, suc, ◌+◌, ◌*◌, ◌<◌, ◌≤◌, List, [], ◌∷◌, ◌++◌, length, Contains, Option, Some, None, Bool, true, false, not, ◌||◌, nat_lt, ◌==◌, is_some, if◌then◌else◌, flat_map}
+use Rattle.std.specs.Prelude.{◌≡◌, ◌⊎◌, ℕ, zero, suc, ◌+◌, ◌*◌, ◌<◌, ◌≤◌, List, [], ◌∷◌, ◌++◌, length, Contains, Option}
+use Rattle.std.specs.Prelude.{Some, None, Bool, true, false, not, ◌||◌, nat_lt, ◌==◌, is_some, if◌then◌else◌, flat_map}
 use Rattle.std.specs.List.{list_any}
 use Rattle.ido_base.specs.declared.place.Place.{Place}
 use Rattle.ido_base.specs.Layout.{aligned_up}
+use Rattle.ido_base.specs.declared.limits.TheConstants.{MOST_THREADS, MOST_MUTEXES, MOST_VARIABLE_BYTES, MOST_ELEMENTS}
 use Rattle.ido_ints.specs.Kinds.{bytes_of}
 use Rattle.c_tree.specs.declared.rule.Rule as r
 use Rattle.c_tree.specs.declared.rule.Rule.TheVariants as rule
@@ -33,18 +35,6 @@ past found most [] = []
 past found zero (x ∷ xs) = broken found x.place
 past found (suc most) (x ∷ xs) = past found most xs
 
-abbrev pub most_threads : ℕ
-most_threads = 8
-
-abbrev pub most_mutexes : ℕ
-most_mutexes = 64
-
-abbrev pub most_variable_bytes : ℕ
-most_variable_bytes = 65536
-
-abbrev pub most_elements : ℕ
-most_elements = 4096
-
 abbrev pub thread_names : List t.Item → List t.Name
 thread_names xs = flat_map (λ x. elim x [ t.ThreadItem y ↦ y.name ∷ [] | _ ↦ [] ]) xs
 
@@ -59,7 +49,7 @@ end_behind n x = aligned_up n (bytes_of x.kind) + bytes_of x.kind * made.element
 abbrev pub too_many_bytes : (n : ℕ) → List t.Item → List Fault
 too_many_bytes n [] = []
 too_many_bytes n (t.PersistentItem x ∷ xs) =
-    if nat_lt most_variable_bytes (end_behind n x) then broken rule.Bytes x.name.place else too_many_bytes (end_behind n x) xs
+    if nat_lt MOST_VARIABLE_BYTES (end_behind n x) then broken rule.Bytes x.name.place else too_many_bytes (end_behind n x) xs
 too_many_bytes n (t.MutexItem x ∷ xs) = too_many_bytes n xs
 too_many_bytes n (t.ThreadItem x ∷ xs) = too_many_bytes n xs
 too_many_bytes n (t.FunctionItem x ∷ xs) = too_many_bytes n xs
@@ -68,7 +58,7 @@ too_many_bytes n (t.FunctionItem x ∷ xs) = too_many_bytes n xs
 
 abbrev pub length_faults : Option t.Length → List Fault
 length_faults None = []
-length_faults (Some x) = let elements = made.length_number x in broken_if (elements == 0 || nat_lt most_elements elements) rule.Length x.place
+length_faults (Some x) = let elements = made.length_number x in broken_if (elements == 0 || nat_lt MOST_ELEMENTS elements) rule.Length x.place
 
 -- the first number behind so many
 abbrev pub numbers_past : (count : ℕ) → List t.Signed → List Fault
@@ -132,7 +122,8 @@ module _ (gs : List n.Global) where
   function_faults s x assigned arguments = elim (n.meaning gs s x.text) [
     | n.IsUnknown ↦ broken rule.Unknown x.place
     | n.IsGlobal (n.Function number gives parameters) ↦
-        broken_if (if is_some gives then not assigned else assigned) rule.WrongSort x.place ++ broken_if (not (arguments == length parameters)) rule.Count x.place
+        broken_if (if is_some gives then not assigned else assigned) rule.WrongSort x.place
+        ++ broken_if (not (arguments == length parameters)) rule.Count x.place
     | _ ↦ broken rule.WrongSort x.place
   ]
 
@@ -173,7 +164,8 @@ module _ (gs : List n.Global) where
     statement_faults s (t.While place x body) = expression_faults s x ++ block_faults s body
     statement_faults s (t.Do place body x) = block_faults s body ++ expression_faults (made.inside gs s body).scope x
     statement_faults s (t.For place start x last body) =
-        first_faults (n.entered s) start ++ (let f = (made.first_at gs place (n.entered s) start).scope in maybe_faults f x ++ last_faults f last ++ block_faults f body)
+        first_faults (n.entered s) start ++ (let f = (made.first_at gs place (n.entered s) start).scope in
+        maybe_faults f x ++ last_faults f last ++ block_faults f body)
     statement_faults s (t.Lock place mutex) = mutex_faults s mutex
     statement_faults s (t.Unlock place mutex) = mutex_faults s mutex
 
@@ -216,14 +208,16 @@ module _ (gs : List n.Global) where
   item_faults (t.ThreadItem x) = statements_faults n.no_locals (made.body_of x.block)
   item_faults (t.FunctionItem x) =
       let s = made.with_parameters n.no_locals x.parameters in
-      parameters_faults n.no_locals x.parameters ++ statements_faults s x.body.statements ++ returned_faults (made.statements gs s x.body.statements).scope x.body.returned ++ return_faults x
+      parameters_faults n.no_locals x.parameters ++ statements_faults s x.body.statements
+      ++ returned_faults (made.statements gs s x.body.statements).scope x.body.returned ++ return_faults x
 
 -- ---- The first rule that a tree breaks
 
 -- all places where a rule of names and kinds is broken
 unfoldable pub type_faults : List t.Item → List Fault
 type_faults xs =
-    twice_from [] (n.globals_of xs) ++ past rule.Threads most_threads (thread_names xs) ++ past rule.Mutexes most_mutexes (mutex_names xs) ++ too_many_bytes 0 xs
+    twice_from [] (n.globals_of xs) ++ past rule.Threads MOST_THREADS (thread_names xs) ++ past rule.Mutexes MOST_MUTEXES (mutex_names xs)
+    ++ too_many_bytes 0 xs
     ++ flat_map (item_faults (n.globals_of xs)) xs
 
 -- rules at one place, in the order in which they are told

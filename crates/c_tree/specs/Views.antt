@@ -1,5 +1,6 @@
 -- The trees that the types of `tree` stand for: the same, with lists for vectors and no boxes.
 use Rattle.std.specs.Prelude.{List, [], ◌∷◌, map, Option, Some, None}
+use Rattle.std.specs.Box.{box_value}
 use Rattle.std.specs.Option.{option_map}
 use Rattle.c_tree.specs.Trees as t
 use Rattle.c_tree.specs.declared.tree.Name as n
@@ -76,16 +77,18 @@ abbrev mutual
   pub statement_of : s.Statement → t.Statement
   statement_of (s.Block' opening _ inside closing) = t.BlockOf (t.Braced opening (row_of inside) closing)
   statement_of (s.Empty place) = t.Empty place
-  statement_of (s.Declaration x) = t.Declare (declaration_of x)
-  statement_of (s.Assignment x) = t.Assign (assignment_of x)
-  statement_of (s.CallAssignment x c) = t.AssignResult (target_of x) (call_of c)
-  statement_of (s.Call c) = t.CallOnly (call_of c)
+  statement_of (s.Declaration x) = t.Declare (declaration_of (box_value x))
+  statement_of (s.Assignment x) = t.Assign (assignment_of (box_value x))
+  statement_of (s.CallAssignment x c) = t.AssignResult (target_of (box_value x)) (call_of (box_value c))
+  statement_of (s.Call c) = t.CallOnly (call_of (box_value c))
   statement_of (s.If' place _ arms s.None') = t.If place (arms_of arms) t.Nothing
   statement_of (s.If' place _ arms (s.Some' opening _ inside closing)) = t.If place (arms_of arms) (t.Else (t.Braced opening (row_of inside) closing))
-  statement_of (s.While' place x opening _ inside closing) = t.While place (expression_of x) (t.Braced opening (row_of inside) closing)
-  statement_of (s.Do' place opening _ inside closing x) = t.Do place (t.Braced opening (row_of inside) closing) (expression_of x)
-  statement_of (s.For' place start x last opening _ inside closing) =
-      t.For place (first_of start) (option_map expression_of x) (option_map assignment_of last) (t.Braced opening (row_of inside) closing)
+  statement_of (s.While' place x opening _ inside closing) = t.While place (expression_of (box_value x)) (t.Braced opening (row_of inside) closing)
+  statement_of (s.Do' place opening _ inside closing x) = t.Do place (t.Braced opening (row_of inside) closing) (expression_of (box_value x))
+  statement_of (s.For' place x opening _ inside closing) =
+      let head = box_value x in
+      t.For place (first_of head.first) (option_map expression_of head.condition) (option_map assignment_of head.last)
+      (t.Braced opening (row_of inside) closing)
   statement_of (s.Lock place mutex) = t.Lock place (name_of mutex)
   statement_of (s.Unlock place mutex) = t.Unlock place (name_of mutex)
 
@@ -135,7 +138,13 @@ abbrev pub length_of : Length → t.Length
 length_of x = record { place = x.place; value = x.value }
 
 abbrev pub persistent_of : Persistent → t.Persistent
-persistent_of x = record { guard = name_of x.guard; kind = x.kind; name = name_of x.name; length = option_map length_of x.length; initialiser = option_map initialiser_of x.initialiser }
+persistent_of x = record {
+  guard = name_of x.guard;
+  kind = x.kind;
+  name = name_of x.name;
+  length = option_map length_of x.length;
+  initialiser = option_map initialiser_of x.initialiser;
+}
 
 abbrev pub thread_of : Thread → t.Thread
 thread_of x = record { name = name_of x.name; block = block_of x.block }

@@ -4,13 +4,13 @@ use Rattle.std.specs.List.{AllByRecursion}
 use Rattle.ido_base.specs.declared.place.Place.{Place}
 use Rattle.ido_base.specs.declared.location.Shape.{Shape}
 use Rattle.ido_base.specs.Layout.{end_from}
+use Rattle.ido_base.specs.declared.limits.TheConstants.{MOST_THREADS, MOST_MUTEXES, MOST_VARIABLE_BYTES, MOST_ELEMENTS}
 use Rattle.ido_ints.specs.declared.kinds.Kind.{Kind}
 use Rattle.ido_ints.specs.Kinds.{bytes_of, Holds}
 use Rattle.c_tree.specs.Exprs as e
 use Rattle.c_tree.specs.Programs as p
 use Rattle.c_tree.specs.Flats as f
 use Rattle.c_tree.specs.Ranges.{index_fits}
-use Rattle.c_tree.specs.TypeRules.{most_threads, most_mutexes, most_variable_bytes, most_elements}
 
 -- ---- Variables
 
@@ -23,7 +23,7 @@ elements_in (Some n) = n
 pub record IsVariable (mutexes : ℕ) (v : p.Variable) : Type 0 where
   pub guarded : v.guard < mutexes
   pub not_empty : 0 < elements_in v.length
-  pub not_too_long : elements_in v.length ≤ most_elements
+  pub not_too_long : elements_in v.length ≤ MOST_ELEMENTS
   -- a number for each element, which the kind holds
   pub count : length v.initial ≡ elements_in v.length
   pub held : AllByRecursion (Holds v.kind) v.initial
@@ -33,10 +33,10 @@ shape_of v = record { bytes = bytes_of v.kind; length = elements_in v.length }
 
 -- what the threads share
 pub record AreShared (mutex_count thread_count : ℕ) (vs : List p.Variable) : Type 0 where
-  pub mutexes : mutex_count ≤ most_mutexes
-  pub threads : thread_count ≤ most_threads
+  pub mutexes : mutex_count ≤ MOST_MUTEXES
+  pub threads : thread_count ≤ MOST_THREADS
   pub variables : AllByRecursion (IsVariable mutex_count) vs
-  pub bytes : end_from 0 (map shape_of vs) ≤ most_variable_bytes
+  pub bytes : end_from 0 (map shape_of vs) ≤ MOST_VARIABLE_BYTES
 
 -- ---- Expressions, over variables and locals of these kinds
 

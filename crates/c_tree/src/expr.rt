@@ -1,4 +1,8 @@
 //! Expressions whose names are resolved and whose kinds are fixed.
+ghost use Rattle.std.specs.Prelude.{◌≡◌};
+ghost use Rattle.c_tree.specs.Exprs.{expr_of};
+ghost use Rattle.c_tree.specs.Typing.{kind_of};
+
 use ido_base::place::Place;
 use ido_ints::{Binary, Kind, Unary, Value};
 
@@ -56,6 +60,29 @@ pub enum Expr {
         then: Box<Expr>,
         otherwise: Box<Expr>,
     },
+}
+
+impl Expr {
+    /// The kind of its value.
+    pub fn kind(&self) -> Kind
+        ensures { result ≡ kind_of (expr_of self.now) }
+    {
+        match self {
+            Expr::Constant { value } => value.kind(),
+            Expr::Local { kind, .. }
+            | Expr::Variable { kind, .. }
+            | Expr::Element { kind, .. }
+            | Expr::Cast { kind, .. }
+            | Expr::Converted { kind, .. }
+            | Expr::Conditional { kind, .. } => *kind,
+            Expr::Unary { operator, operand } => operator.kind(operand.kind()),
+            Expr::Binary {
+                operator,
+                left,
+                right,
+            } => operator.kind(left.kind(), right.kind()),
+        }
+    }
 }
 
 /// An expression with the place of its first token.

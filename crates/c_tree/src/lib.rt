@@ -5,6 +5,7 @@ pub mod expr;
 pub mod flat;
 pub mod price;
 pub mod program;
+pub mod refusal;
 pub mod rule;
 pub mod token;
 pub mod tree;

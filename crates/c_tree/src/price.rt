@@ -1,6 +1,7 @@
 //! What expressions and threads cost: nodes, temporaries and prices. No call takes memory.
 ghost use Rattle.std.specs.Prelude.{◌≡◌, ◌<◌, ◌+◌, ◌*◌, length, min, max, slice_get, IfSome};
-ghost use Rattle.c_tree.specs.Prices.{nodes_of, need_of, need_of_both, is_logical, node_price, assign_price, thread_price, statement_price, statements_price, arms_price};
+ghost use Rattle.c_tree.specs.Prices.{nodes_of, need_of, need_of_both, is_logical, node_price, assign_price};
+ghost use Rattle.c_tree.specs.Prices.{thread_price, statement_price, statements_price, arms_price};
 ghost use Rattle.c_tree.specs.Exprs.{expr_of, target_of};
 ghost use Rattle.c_tree.specs.Flats.{statement_of, statements_of, arms_list_of, flat_of};
 
@@ -42,14 +43,14 @@ pub fn nodes(expr: &Expr) -> u64
     }
 }
 
-// The right operand is held alone.
+/// The right operand is held alone.
 fn is_logical(operator: Binary) -> bool
     ensures { result ≡ is_logical operator }
 {
     matches!(operator, Binary::LogicalAnd | Binary::LogicalOr)
 }
 
-// Of two operands that are held at once.
+/// Of two operands that are held at once.
 fn need_of_both(left: u32, right: u32) -> u32
     ensures { result ≡ min (need_of_both left right) u32.MAX }
 {
@@ -97,14 +98,14 @@ pub fn need(expr: &Expr) -> u32
     }
 }
 
-// The price of a node with so many nodes of expressions.
+/// The price of a node with so many nodes of expressions.
 fn node_price(nodes: u64) -> u64
     ensures { result ≡ min (node_price nodes) u64.MAX }
 {
     nodes.saturating_mul(16).saturating_add(96)
 }
 
-// The price of an assignment.
+/// The price of an assignment.
 fn assign_price(target: &Target, value: u64) -> u64
     ensures { result ≡ min (assign_price (target_of target.now) value) u64.MAX }
 {
@@ -118,7 +119,7 @@ fn assign_price(target: &Target, value: u64) -> u64
     }
 }
 
-// The price of a condition and what is done where it holds.
+/// The price of a condition and what is done where it holds.
 #[cycle(prices)]
 fn test_price(body: &[Statement], condition: &Expr) -> u64
     ensures { result ≡ min (node_price (nodes_of (expr_of condition.now)) + statements_price (statements_of body.now)) u64.MAX }
@@ -126,7 +127,7 @@ fn test_price(body: &[Statement], condition: &Expr) -> u64
     node_price(nodes(condition)).saturating_add(statements_price(body))
 }
 
-// The price of a statement.
+/// The price of a statement.
 #[cycle(prices)]
 fn statement_price(statement: &Statement) -> u64
     ensures { result ≡ min (statement_price (statement_of statement.now)) u64.MAX }
@@ -152,7 +153,7 @@ fn statement_price(statement: &Statement) -> u64
     }
 }
 
-// The price of statements.
+/// The price of statements.
 #[cycle(prices)]
 fn statements_price(statements: &[Statement]) -> u64
     ensures { result ≡ min (statements_price (statements_of statements.now)) u64.MAX }
@@ -164,7 +165,7 @@ fn statements_price(statements: &[Statement]) -> u64
     price
 }
 
-// The price of conditions with what is done where they hold.
+/// The price of conditions with what is done where they hold.
 #[cycle(prices)]
 fn arms_price(arms: &[Arm]) -> u64
     ensures { result ≡ min (arms_price (arms_list_of arms.now)) u64.MAX }

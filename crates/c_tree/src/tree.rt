@@ -116,6 +116,14 @@ pub enum First {
     Assignment(Assignment),
 }
 
+/// What stands in the parentheses of a `for`.
+#[derive(Drop)]
+pub struct Head {
+    pub first: First,
+    pub condition: Option<Expression>,
+    pub last: Option<Assignment>,
+}
+
 /// Statements in braces.
 #[cycle(statements)]
 #[derive(Drop)]
@@ -133,7 +141,7 @@ pub struct Arm {
     pub block: Block,
 }
 
-/// A statement. Each place is that of its first token.
+/// A statement. Each place is that of its first token. Large parts are boxed: there may be as many statements as the text has bytes.
 #[cycle(statements)]
 #[derive(Drop)]
 pub enum Statement {
@@ -141,14 +149,14 @@ pub enum Statement {
     Empty {
         place: Place,
     },
-    Declaration(Declaration),
-    Assignment(Assignment),
+    Declaration(Box<Declaration>),
+    Assignment(Box<Assignment>),
     /// `target = call;`
     CallAssignment {
-        target: Target,
-        call: Call,
+        target: Box<Target>,
+        call: Box<Call>,
     },
-    Call(Call),
+    Call(Box<Call>),
     If {
         place: Place,
         arms: Vec<Arm>,
@@ -156,19 +164,17 @@ pub enum Statement {
     },
     While {
         place: Place,
-        condition: Expression,
+        condition: Box<Expression>,
         block: Block,
     },
     Do {
         place: Place,
         block: Block,
-        condition: Expression,
+        condition: Box<Expression>,
     },
     For {
         place: Place,
-        first: First,
-        condition: Option<Expression>,
-        last: Option<Assignment>,
+        head: Box<Head>,
         block: Block,
     },
     Lock {

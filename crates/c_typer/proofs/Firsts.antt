@@ -1,13 +1,22 @@
 -- Of the rules that a tree breaks one is the first: each rule of names and kinds has an order of its own.
-use Rattle.std.proofs.Common.{◌≡◌, inl, inr, ℕ, zero, suc, ◌<◌, List, [], ◌∷◌, ◌++◌, length, Contains, Option, Some, None, Bool, true, false, not, ◌||◌, ◌==◌, nat_lt, is_some, if◌then◌else◌, flat_map, refl, sym, ap, ap₂, subst, slice_get, ◌∙◌, arith}
+use Rattle.std.proofs.Common.{◌≡◌, inl, inr, ℕ, zero, suc, ◌<◌, List, [], ◌∷◌, ◌++◌, length, Contains, Option, Some, None, Bool, true, false}
+use Rattle.std.proofs.Common.{not, ◌||◌, ◌==◌, nat_lt, is_some, if◌then◌else◌, flat_map, refl, sym, ap, ap₂, subst, slice_get, ◌∙◌, arith}
 use Rattle.std.specs.List.{list_any}
 use Rattle.ido_base.specs.declared.place.Place.{Place}
+use Rattle.ido_base.specs.declared.limits.TheConstants.{MOST_THREADS, MOST_MUTEXES, MOST_VARIABLE_BYTES, MOST_ELEMENTS}
 use Rattle.c_tree.specs.declared.rule.Rule as r
 use Rattle.c_tree.specs.declared.rule.Rule.TheVariants as rule
 use Rattle.c_tree.specs.Names as n
 use Rattle.c_tree.specs.Scanning.{Fault}
 use Rattle.c_tree.specs.Trees as t
-use Rattle.c_tree.specs.TypeRules.{broken, broken_if, twice, twice_from, past, most_threads, most_mutexes, most_variable_bytes, most_elements, thread_names, mutex_names, end_behind, too_many_bytes, length_faults, numbers_past, initialiser_faults, use_faults, mutex_faults, expression_faults, maybe_faults, target_faults, change_faults, assignment_faults, function_faults, call_faults, declaration_faults, first_faults, last_faults, behind, statement_faults, block_faults, statements_faults, arms_faults, otherwise_faults, parameters_faults, returns_value, return_faults, returned_faults, item_faults, type_faults, order_of, IsNotAfter, IsFirst}
+use Rattle.c_tree.specs.TypeRules.{broken, broken_if, twice, twice_from, past}
+use Rattle.c_tree.specs.TypeRules.{thread_names, mutex_names, end_behind, too_many_bytes}
+use Rattle.c_tree.specs.TypeRules.{length_faults, numbers_past, initialiser_faults, use_faults, mutex_faults, expression_faults}
+use Rattle.c_tree.specs.TypeRules.{maybe_faults, target_faults, change_faults, assignment_faults}
+use Rattle.c_tree.specs.TypeRules.{function_faults, call_faults, declaration_faults, first_faults, last_faults}
+use Rattle.c_tree.specs.TypeRules.{behind, statement_faults, block_faults, statements_faults, arms_faults}
+use Rattle.c_tree.specs.TypeRules.{otherwise_faults, parameters_faults, returns_value, return_faults, returned_faults}
+use Rattle.c_tree.specs.TypeRules.{item_faults, type_faults, order_of, IsNotAfter, IsFirst}
 use Rattle.c_tree.specs.Typing as made
 
 -- ---- Rules of names and kinds
@@ -80,7 +89,8 @@ twice_ordered own x = one_if (list_any (n.same_name x.text) own) rule.Twice x.pl
 
 twice_from-ordered : (before : List (List ℕ)) (gs : List n.Global) → Ordered (twice_from before gs)
 twice_from-ordered before [] = tt
-twice_from-ordered before (g ∷ gs) = both (twice before g.name) (twice_from (g.name.text ∷ before) gs) (twice_ordered before g.name) (twice_from-ordered (g.name.text ∷ before) gs)
+twice_from-ordered before (g ∷ gs) =
+    both (twice before g.name) (twice_from (g.name.text ∷ before) gs) (twice_ordered before g.name) (twice_from-ordered (g.name.text ∷ before) gs)
 
 past_ordered : (found : r.Rule) (most : ℕ) (xs : List t.Name) → HasOrder found → Ordered (past found most xs)
 past_ordered found most [] h = tt
@@ -89,7 +99,7 @@ past_ordered found (suc most) (x ∷ xs) h = past_ordered found most xs h
 
 too_many-ordered : (k : ℕ) (xs : List t.Item) → Ordered (too_many_bytes k xs)
 too_many-ordered k [] = tt
-too_many-ordered k (t.PersistentItem x ∷ xs) = go (nat_lt most_variable_bytes (end_behind k x)) (too_many-ordered (end_behind k x) xs)
+too_many-ordered k (t.PersistentItem x ∷ xs) = go (nat_lt MOST_VARIABLE_BYTES (end_behind k x)) (too_many-ordered (end_behind k x) xs)
   where
     go : (b : Bool) → Ordered (too_many_bytes (end_behind k x) xs) → Ordered (if b then broken rule.Bytes x.name.place else too_many_bytes (end_behind k x) xs)
     go true h = (omega arith, tt)
@@ -100,7 +110,7 @@ too_many-ordered k (t.FunctionItem x ∷ xs) = too_many-ordered k xs
 
 length_ordered : (size : Option t.Length) → Ordered (length_faults size)
 length_ordered None = tt
-length_ordered (Some x) = one_if (made.length_number x == 0 || nat_lt most_elements (made.length_number x)) rule.Length x.place (omega arith)
+length_ordered (Some x) = one_if (made.length_number x == 0 || nat_lt MOST_ELEMENTS (made.length_number x)) rule.Length x.place (omega arith)
 
 numbers_ordered : (count : ℕ) (xs : List t.Signed) → Ordered (numbers_past count xs)
 numbers_ordered count [] = tt
@@ -149,11 +159,13 @@ module _ (gs : List n.Global) where
   expression_ordered : (s : n.Scope) (x : t.Expression) → Ordered (expression_faults gs s x)
   expression_ordered s (t.Number place value) = tt
   expression_ordered s (t.Named x) = use_ordered s x false
-  expression_ordered s (t.Element array index) = both (use_faults gs s array true) (expression_faults gs s index) (use_ordered s array true) (expression_ordered s index)
+  expression_ordered s (t.Element array index) =
+      both (use_faults gs s array true) (expression_faults gs s index) (use_ordered s array true) (expression_ordered s index)
   expression_ordered s (t.Parenthesised place inner) = expression_ordered s inner
   expression_ordered s (t.Unary place operator operand) = expression_ordered s operand
   expression_ordered s (t.Cast place kind operand) = expression_ordered s operand
-  expression_ordered s (t.Binary operator left right) = both (expression_faults gs s left) (expression_faults gs s right) (expression_ordered s left) (expression_ordered s right)
+  expression_ordered s (t.Binary operator left right) =
+      both (expression_faults gs s left) (expression_faults gs s right) (expression_ordered s left) (expression_ordered s right)
   expression_ordered s (t.Conditional condition chosen otherwise) =
       three (expression_faults gs s condition) (expression_faults gs s chosen) (expression_faults gs s otherwise)
       (expression_ordered s condition)
@@ -165,7 +177,8 @@ module _ (gs : List n.Global) where
   maybe_ordered s (Some x) = expression_ordered s x
 
   target_ordered : (s : n.Scope) (x : t.Target) → Ordered (target_faults gs s x)
-  target_ordered s x = both (use_faults gs s x.name (is_some x.index)) (maybe_faults gs s x.index) (use_ordered s x.name (is_some x.index)) (maybe_ordered s x.index)
+  target_ordered s x =
+      both (use_faults gs s x.name (is_some x.index)) (maybe_faults gs s x.index) (use_ordered s x.name (is_some x.index)) (maybe_ordered s x.index)
 
   change_ordered : (s : n.Scope) (x : t.Change) → Ordered (change_faults gs s x)
   change_ordered s (t.Set value) = expression_ordered s value
@@ -182,7 +195,8 @@ module _ (gs : List n.Global) where
       go : (m : n.Meaning) → Ordered (elim m [
         | n.IsUnknown ↦ broken rule.Unknown x.place
         | n.IsGlobal (n.Function number gives parameters) ↦
-            broken_if (if is_some gives then not assigned else assigned) rule.WrongSort x.place ++ broken_if (not (arguments == length parameters)) rule.Count x.place
+            broken_if (if is_some gives then not assigned else assigned) rule.WrongSort x.place
+            ++ broken_if (not (arguments == length parameters)) rule.Count x.place
         | _ ↦ broken rule.WrongSort x.place
       ])
       go n.IsUnknown = (omega arith, tt)
@@ -190,7 +204,8 @@ module _ (gs : List n.Global) where
       go (n.IsGlobal (n.Variable number kind is_array)) = (omega arith, tt)
       go (n.IsGlobal (n.Mutex number)) = (omega arith, tt)
       go (n.IsGlobal (n.Function number gives parameters)) =
-          both (broken_if (if is_some gives then not assigned else assigned) rule.WrongSort x.place) (broken_if (not (arguments == length parameters)) rule.Count x.place)
+          both (broken_if (if is_some gives then not assigned else assigned) rule.WrongSort x.place)
+          (broken_if (not (arguments == length parameters)) rule.Count x.place)
           (one_if (if is_some gives then not assigned else assigned) rule.WrongSort x.place (omega arith))
           (one_if (not (arguments == length parameters)) rule.Count x.place (omega arith))
       go (n.IsGlobal n.Thread) = (omega arith, tt)
@@ -236,10 +251,12 @@ module _ (gs : List n.Global) where
     statement_ordered s (t.AssignResult x c) = both (target_faults gs s x) (call_faults gs s c true) (target_ordered s x) (call_ordered s c true)
     statement_ordered s (t.CallOnly c) = call_ordered s c false
     statement_ordered s (t.If place arms otherwise) =
-        both (arms_faults gs s arms) (otherwise_faults gs (made.arms_of gs s arms).scope otherwise) (arms_ordered s arms) (otherwise_ordered (made.arms_of gs s arms).scope otherwise)
+        both (arms_faults gs s arms) (otherwise_faults gs (made.arms_of gs s arms).scope otherwise) (arms_ordered s arms)
+        (otherwise_ordered (made.arms_of gs s arms).scope otherwise)
     statement_ordered s (t.While place x body) = both (expression_faults gs s x) (block_faults gs s body) (expression_ordered s x) (block_ordered s body)
     statement_ordered s (t.Do place body x) =
-        both (block_faults gs s body) (expression_faults gs (made.inside gs s body).scope x) (block_ordered s body) (expression_ordered (made.inside gs s body).scope x)
+        both (block_faults gs s body) (expression_faults gs (made.inside gs s body).scope x) (block_ordered s body)
+        (expression_ordered (made.inside gs s body).scope x)
     statement_ordered s (t.For place start x last body) =
         let f = (made.first_at gs place (n.entered s) start).scope in
         both (first_faults gs (n.entered s) start) (maybe_faults gs f x ++ last_faults gs f last ++ block_faults gs f body)
@@ -253,7 +270,8 @@ module _ (gs : List n.Global) where
 
     statements_ordered : (s : n.Scope) (x : t.Statements) → Ordered (statements_faults gs s x)
     statements_ordered s t.no_statement = tt
-    statements_ordered s (t.statement_and x xs) = both (statement_faults gs s x) (statements_faults gs (behind gs s x) xs) (statement_ordered s x) (statements_ordered (behind gs s x) xs)
+    statements_ordered s (t.statement_and x xs) =
+        both (statement_faults gs s x) (statements_faults gs (behind gs s x) xs) (statement_ordered s x) (statements_ordered (behind gs s x) xs)
 
     arms_ordered : (s : n.Scope) (x : t.Arms) → Ordered (arms_faults gs s x)
     arms_ordered s t.no_arm = tt
@@ -272,14 +290,16 @@ module _ (gs : List n.Global) where
   parameters_ordered : (s : n.Scope) (xs : List t.Parameter) → Ordered (parameters_faults gs s xs)
   parameters_ordered s [] = tt
   parameters_ordered s (x ∷ xs) =
-      both (twice s.own x.name) (parameters_faults gs (n.declared s x.name.text x.kind) xs) (twice_ordered s.own x.name) (parameters_ordered (n.declared s x.name.text x.kind) xs)
+      both (twice s.own x.name) (parameters_faults gs (n.declared s x.name.text x.kind) xs) (twice_ordered s.own x.name)
+      (parameters_ordered (n.declared s x.name.text x.kind) xs)
 
   returned_ordered : (s : n.Scope) (x : Option t.Return) → Ordered (returned_faults gs s x)
   returned_ordered s None = tt
   returned_ordered s (Some x) = maybe_ordered s x.value
 
   return_ordered : (x : t.Function) → Ordered (return_faults gs x)
-  return_ordered x = one_if (if is_some x.kind then not (returns_value gs x.body.returned) else returns_value gs x.body.returned) rule.Return x.name.place (omega arith)
+  return_ordered x =
+      one_if (if is_some x.kind then not (returns_value gs x.body.returned) else returns_value gs x.body.returned) rule.Return x.name.place (omega arith)
 
   item_ordered : (x : t.Item) → Ordered (item_faults gs x)
   item_ordered (t.MutexItem x) = tt
@@ -292,7 +312,8 @@ module _ (gs : List n.Global) where
   item_ordered (t.FunctionItem x) =
       let s = made.with_parameters n.no_locals x.parameters in
       let e = (made.statements gs s x.body.statements).scope in
-      both (parameters_faults gs n.no_locals x.parameters ++ statements_faults gs s x.body.statements ++ returned_faults gs e x.body.returned) (return_faults gs x)
+      both (parameters_faults gs n.no_locals x.parameters ++ statements_faults gs s x.body.statements ++ returned_faults gs e x.body.returned)
+      (return_faults gs x)
       (three (parameters_faults gs n.no_locals x.parameters) (statements_faults gs s x.body.statements) (returned_faults gs e x.body.returned)
       (parameters_ordered n.no_locals x.parameters)
       (statements_ordered s x.body.statements)
@@ -305,12 +326,13 @@ all_ordered : (xs : List t.Item) → Ordered (type_faults xs)
 unfolding type_faults
 all_ordered xs =
     let gs = n.globals_of xs in
-    both (twice_from [] gs ++ past rule.Threads most_threads (thread_names xs) ++ past rule.Mutexes most_mutexes (mutex_names xs) ++ too_many_bytes 0 xs) (flat_map (item_faults gs) xs)
-    (both (twice_from [] gs ++ past rule.Threads most_threads (thread_names xs) ++ past rule.Mutexes most_mutexes (mutex_names xs)) (too_many_bytes 0 xs)
-    (three (twice_from [] gs) (past rule.Threads most_threads (thread_names xs)) (past rule.Mutexes most_mutexes (mutex_names xs))
+    both (twice_from [] gs ++ past rule.Threads MOST_THREADS (thread_names xs) ++ past rule.Mutexes MOST_MUTEXES (mutex_names xs) ++ too_many_bytes 0 xs)
+    (flat_map (item_faults gs) xs)
+    (both (twice_from [] gs ++ past rule.Threads MOST_THREADS (thread_names xs) ++ past rule.Mutexes MOST_MUTEXES (mutex_names xs)) (too_many_bytes 0 xs)
+    (three (twice_from [] gs) (past rule.Threads MOST_THREADS (thread_names xs)) (past rule.Mutexes MOST_MUTEXES (mutex_names xs))
     (twice_from-ordered [] gs)
-    (past_ordered rule.Threads most_threads (thread_names xs) (omega arith))
-    (past_ordered rule.Mutexes most_mutexes (mutex_names xs) (omega arith)))
+    (past_ordered rule.Threads MOST_THREADS (thread_names xs) (omega arith))
+    (past_ordered rule.Mutexes MOST_MUTEXES (mutex_names xs) (omega arith)))
     (too_many-ordered 0 xs))
     (each (item_faults gs) (item_ordered gs) xs)
 
@@ -325,5 +347,6 @@ one_first xs f g x y = go (x.first g y.found) (y.first f x.found)
     go (inl h) (inr k) = absurd (omega (arith, h, ap (λ (p : Place). p.0) k.0))
     go (inr h) (inl k) = absurd (omega (arith, k, ap (λ (p : Place). p.0) h.0))
     go (inr h) (inr k) =
-        let rules = one_rule f.rule g.rule (has_order (type_faults xs) f (all_ordered xs) x.found) (has_order (type_faults xs) g (all_ordered xs) y.found) (omega (arith, h.1, k.1)) in
+        let rules = one_rule f.rule g.rule (has_order (type_faults xs) f (all_ordered xs) x.found) (has_order (type_faults xs) g (all_ordered xs) y.found)
+        (omega (arith, h.1, k.1)) in
         ap₂ fault rules h.0

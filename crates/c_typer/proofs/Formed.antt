@@ -1,5 +1,6 @@
 -- What is made of statements without faults is well formed.
-use Rattle.std.proofs.Common.{◌≡◌, refl, ◌∙◌, subst, ℕ, ◌<◌, List, [], ◌∷◌, ◌++◌, length, map, find, flat_map, Bool, true, false, not, ◌==◌, is_some, if◌then◌else◌, cond, Option, Some, None, arith}
+use Rattle.std.proofs.Common.{◌≡◌, refl, ◌∙◌, subst, ℕ, ◌<◌, List, [], ◌∷◌, ◌++◌, length, map, find, flat_map, Bool}
+use Rattle.std.proofs.Common.{true, false, not, ◌==◌, is_some, if◌then◌else◌, cond, Option, Some, None, arith}
 use Rattle.std.specs.Prelude.{slice_get}
 use Rattle.std.specs.List.{AllByRecursion}
 use Rattle.std.proofs.lemmas.Bool.Decides.{nat_tests}

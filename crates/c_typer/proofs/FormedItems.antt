@@ -1,11 +1,13 @@
 -- What is made of items without faults is a well formed program.
-use Rattle.std.proofs.Common.{◌≡◌, refl, sym, ◌∙◌, subst, ℕ, zero, suc, ◌+◌, ◌*◌, ◌-◌, ◌<◌, ◌≤◌, List, [], ◌∷◌, ◌++◌, length, map, flat_map, take, replicate, Bool, true, false, not, ◌==◌, ◌||◌, nat_lt, is_some, if◌then◌else◌, Option, Some, None, arith}
+use Rattle.std.proofs.Common.{◌≡◌, refl, sym, ◌∙◌, subst, ℕ, zero, suc, ◌+◌, ◌*◌, ◌-◌, ◌<◌, ◌≤◌, List, [], ◌∷◌, ◌++◌, length, map, flat_map}
+use Rattle.std.proofs.Common.{take, replicate, Bool, true, false, not, ◌==◌, ◌||◌, nat_lt, is_some, if◌then◌else◌, Option, Some, None, arith}
 use Rattle.std.specs.Prelude.{ℤ, pos, slice_get}
 use Rattle.std.specs.List.{AllByRecursion}
 use Rattle.std.specs.Option.{option_map}
 use Rattle.std.proofs.lemmas.Bool.Decides.{nat_tests}
 use Rattle.std.proofs.lemmas.List.{length-map, length-append, length-take, length-replicate}
 use Rattle.ido_base.specs.Layout.{aligned_up, end_from}
+use Rattle.ido_base.specs.declared.limits.TheConstants.{MOST_THREADS, MOST_MUTEXES, MOST_VARIABLE_BYTES, MOST_ELEMENTS}
 use Rattle.ido_ints.specs.declared.kinds.Kind.{Kind}
 use Rattle.ido_ints.specs.Kinds.{bytes_of, Holds}
 use Rattle.ido_ints.specs.Reduction.{reduced}
@@ -19,7 +21,7 @@ use Rattle.c_tree.specs.Grammar as g
 use Rattle.c_tree.specs.Names as n
 use Rattle.c_tree.specs.Programs as p
 use Rattle.c_tree.specs.TypeRules as rules
-use Rattle.c_tree.specs.TypeRules.{broken, broken_if, type_faults, most_elements, most_variable_bytes}
+use Rattle.c_tree.specs.TypeRules.{broken, broken_if, type_faults}
 use Rattle.c_tree.specs.Typing as made
 use Rattle.c_tree.specs.Typing.{typed_program}
 use Rattle.c_tree.specs.WellFormed.{elements_in, shape_of, IsVariable, AreStatements, IsReturned, IsFunction, IsProgram}
@@ -55,29 +57,29 @@ size_is None = refl
 size_is (Some x) = refl
 
 abbrev Ends : ℕ → List p.Variable → Type 0
-Ends m vs = end_from m (map shape_of vs) ≤ most_variable_bytes
+Ends m vs = end_from m (map shape_of vs) ≤ MOST_VARIABLE_BYTES
 
 module _ (gs : List n.Global) where
   -- the variables end where the rule of bytes says
-  ends_within : (k : ℕ) (xs : List t.Item) → k ≤ most_variable_bytes → rules.too_many_bytes k xs ≡ [] →
-      end_from k (map shape_of (made.program_from gs xs).variables) ≤ most_variable_bytes
+  ends_within : (k : ℕ) (xs : List t.Item) → k ≤ MOST_VARIABLE_BYTES → rules.too_many_bytes k xs ≡ [] →
+      end_from k (map shape_of (made.program_from gs xs).variables) ≤ MOST_VARIABLE_BYTES
   ends_within k [] le h = le
   ends_within k (t.MutexItem x ∷ xs) le h = ends_within k xs le h
   ends_within k (t.ThreadItem x ∷ xs) le h = ends_within k xs le h
   ends_within k (t.FunctionItem x ∷ xs) le h = ends_within k xs le h
-  ends_within k (t.PersistentItem x ∷ xs) le h = go (nat_lt most_variable_bytes (rules.end_behind k x)) refl
+  ends_within k (t.PersistentItem x ∷ xs) le h = go (nat_lt MOST_VARIABLE_BYTES (rules.end_behind k x)) refl
       (λ fits q. ends_within (rules.end_behind k x) xs fits q) h
     where
-      go : (c : Bool) → nat_lt most_variable_bytes (rules.end_behind k x) ≡ c →
-          (rules.end_behind k x ≤ most_variable_bytes → rules.too_many_bytes (rules.end_behind k x) xs ≡ [] →
+      go : (c : Bool) → nat_lt MOST_VARIABLE_BYTES (rules.end_behind k x) ≡ c →
+          (rules.end_behind k x ≤ MOST_VARIABLE_BYTES → rules.too_many_bytes (rules.end_behind k x) xs ≡ [] →
           Ends (rules.end_behind k x) (made.program_from gs xs).variables) →
           (if c then broken rule.Bytes x.name.place else rules.too_many_bytes (rules.end_behind k x) xs) ≡ [] →
-          end_from k (map shape_of (made.variable gs x ∷ (made.program_from gs xs).variables)) ≤ most_variable_bytes
+          end_from k (map shape_of (made.variable gs x ∷ (made.program_from gs xs).variables)) ≤ MOST_VARIABLE_BYTES
       go true e more q = absurd (not_broken rule.Bytes x.name.place q)
       go false e more q =
-          let fits : rules.end_behind k x ≤ most_variable_bytes = grind (arith, nat_tests) in
+          let fits : rules.end_behind k x ≤ MOST_VARIABLE_BYTES = grind (arith, nat_tests) in
           subst (λ (m : ℕ). end_from (aligned_up k (bytes_of x.kind) + bytes_of x.kind * m)
-          (map shape_of (made.program_from gs xs).variables) ≤ most_variable_bytes) (sym (size_is x.length)) (more fits q)
+          (map shape_of (made.program_from gs xs).variables) ≤ MOST_VARIABLE_BYTES) (sym (size_is x.length)) (more fits q)
 
 -- ---- A variable
 
@@ -105,12 +107,12 @@ filled_length count zs = omega (
 
 record InBounds (count : ℕ) : Type 0 where
   not_empty : 0 < count
-  not_too_long : count ≤ most_elements
+  not_too_long : count ≤ MOST_ELEMENTS
 
 bounds : (o : Option t.Length) → rules.length_faults o ≡ [] → InBounds (made.element_count o)
 bounds None h = record { not_empty = omega arith; not_too_long = omega arith }
 bounds (Some x) h =
-    let no = unbroken (made.length_number x == 0 || nat_lt most_elements (made.length_number x)) rule.Length x.place h in
+    let no = unbroken (made.length_number x == 0 || nat_lt MOST_ELEMENTS (made.length_number x)) rule.Length x.place h in
     record { not_empty = grind (arith, nat_tests); not_too_long = grind (arith, nat_tests) }
 
 -- ---- Items, in a program in which their names stand
@@ -125,7 +127,7 @@ module _ (q : p.Program) (gs : List n.Global) (sorts : AllByRecursion (λ (y : n
       let zs = map (reduced x.kind) (made.numbers_of x.initialiser) in record {
         guarded = lock_formed q gs sorts [] n.no_locals tt x.guard guard;
         not_empty = subst (λ (m : ℕ). 0 < m) (sym (size_is x.length)) size.not_empty;
-        not_too_long = subst (λ (m : ℕ). m ≤ most_elements) (sym (size_is x.length)) size.not_too_long;
+        not_too_long = subst (λ (m : ℕ). m ≤ MOST_ELEMENTS) (sym (size_is x.length)) size.not_too_long;
         count = filled_length count zs ∙ sym (size_is x.length);
         held = all_both (Holds x.kind) (take count zs) (replicate (count - length zs) (pos 0)) (all_taken x.kind count (made.numbers_of x.initialiser))
             (all_zeros x.kind (count - length zs));
@@ -252,7 +254,8 @@ module _ (q : p.Program) (gs : List n.Global) where
           (omega arith) (e.functions 0 (made.function gs y) refl) in
           let s = made.with_parameters n.no_locals y.parameters in
           let m = made.statements gs s y.body.statements in
-          let before = (rules.parameters_faults gs n.no_locals y.parameters ++ rules.statements_faults gs s y.body.statements) ++ rules.returned_faults gs m.scope y.body.returned in (
+          let before = (rules.parameters_faults gs n.no_locals y.parameters ++ rules.statements_faults gs s y.body.statements)
+          ++ rules.returned_faults gs m.scope y.body.returned in (
             record {
               it = made.function gs y;
               found = here;
@@ -274,8 +277,8 @@ formed xs ts d h =
     let gs = n.globals_of xs in
     let q = made.program_from gs xs in
     let a = rules.twice_from [] gs in
-    let b = rules.past rule.Threads rules.most_threads (rules.thread_names xs) in
-    let m = rules.past rule.Mutexes rules.most_mutexes (rules.mutex_names xs) in
+    let b = rules.past rule.Threads MOST_THREADS (rules.thread_names xs) in
+    let m = rules.past rule.Mutexes MOST_MUTEXES (rules.mutex_names xs) in
     let e = rules.too_many_bytes 0 xs in
     let f = flat_map (rules.item_faults gs) xs in
     let h4 = nil_left (((a ++ b) ++ m) ++ e) f h in
@@ -291,8 +294,8 @@ formed xs ts d h =
     let sorts = sorts_formed q gs n.none_yet xs whole items in
     let parts = parts_formed q gs sorts xs ts d items in record {
       shared = record {
-        mutexes = omega (arith, mutexes_named gs xs, past_most rule.Mutexes rules.most_mutexes (rules.mutex_names xs) (nil_right (a ++ b) m h3));
-        threads = omega (arith, threads_named gs xs, past_most rule.Threads rules.most_threads (rules.thread_names xs) (nil_right a b h2));
+        mutexes = omega (arith, mutexes_named gs xs, past_most rule.Mutexes MOST_MUTEXES (rules.mutex_names xs) (nil_right (a ++ b) m h3));
+        threads = omega (arith, threads_named gs xs, past_most rule.Threads MOST_THREADS (rules.thread_names xs) (nil_right a b h2));
         variables = parts.variables;
         bytes = ends_within gs 0 xs (omega arith) (nil_right ((a ++ b) ++ m) e h4);
       };

@@ -1,9 +1,10 @@
 -- The first of the faults that are noted: laws.
-use Rattle.std.proofs.Common.{◌≡◌, ◌⊎◌, inl, inr, ℕ, ◌<◌, ◌≤◌, List, [], ◌∷◌, ◌++◌, Option, Some, None, zero, suc, subst, Bool, true, false, nat_lt, ◌==◌, ◌&&◌, ◌||◌, if◌then◌else◌, Contains, refl, ap, sym, ◌∙◌, arith}
+use Rattle.std.proofs.Common.{◌≡◌, ◌⊎◌, inl, inr, ℕ, ◌<◌, ◌≤◌, List, [], ◌∷◌, ◌++◌, Option, Some, None, zero, suc, subst, Bool}
+use Rattle.std.proofs.Common.{true, false, nat_lt, ◌==◌, ◌&&◌, ◌||◌, if◌then◌else◌, Contains, refl, ap, sym, ◌∙◌, arith}
 use Rattle.ido_base.specs.declared.place.Place.{Place}
 use Rattle.c_tree.specs.Scanning.{Fault}
 use Rattle.c_tree.specs.TypeRules.{order_of, IsNotAfter, IsFirst}
-use Rattle.c_typer.specs.Noted.{comes_before, earlier, noted}
+use Rattle.c_typer.specs.links.Noted.{comes_before, earlier, noted}
 use Rattle.std.proofs.lemmas.Bool.Decides.{nat_tests}
 
 pub noted_append : (first : Option Fault) (xs ys : List Fault) → noted first (xs ++ ys) ≡ noted (noted first xs) ys
@@ -79,9 +80,11 @@ some_same : (x y : Fault) → Some x ≡ Some y → x ≡ y
 some_same x y e = cc
 
 -- z is the first of what came before and of x
-one_step : (first : Option Fault) (x z : Fault) (xs : List Fault) (g : Fault) → (first ≡ Some z) ⊎ (x ≡ z) → IsNotAfter z x → ((f : Fault) → first ≡ Some f → IsNotAfter z f)
+one_step : (first : Option Fault) (x z : Fault) (xs : List Fault) (g : Fault) → (first ≡ Some z) ⊎ (x ≡ z) → IsNotAfter z x
+    → ((f : Fault) → first ≡ Some f → IsNotAfter z f)
     → IsFirstOf (Some z) xs g → IsFirstOf first (x ∷ xs) g
-one_step first x z xs g which behind before h = record { found = found h.found; not_before = λ f e. through g z f (h.not_before z refl) (before f e); least = least }
+one_step first x z xs g which behind before h =
+    record { found = found h.found; not_before = λ f e. through g z f (h.not_before z refl) (before f e); least = least }
   where
     of_which : (first ≡ Some z) ⊎ (x ≡ z) → z ≡ g → (first ≡ Some g) ⊎ Contains (x ∷ xs) g
     of_which (inl e) same = inl (e ∙ ap Some same)

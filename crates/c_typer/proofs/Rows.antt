@@ -25,7 +25,8 @@ abbrev pub arms_and : p.Arms → p.Arms → p.Arms
 arms_and p.no_arm more = more
 arms_and (p.arm_and x body xs) more = p.arm_and x body (arms_and xs more)
 
-pub push_arm : (xs : List Arm) (x : Arm) (more : p.Arms) → arms_and (p.arms_list_of (xs ++ x ∷ [])) more ≡ arms_and (p.arms_list_of xs) (arms_and (p.arms_list_of (x ∷ [])) more)
+pub push_arm : (xs : List Arm) (x : Arm) (more : p.Arms)
+    → arms_and (p.arms_list_of (xs ++ x ∷ [])) more ≡ arms_and (p.arms_list_of xs) (arms_and (p.arms_list_of (x ∷ [])) more)
 push_arm [] x more = refl
 push_arm (y ∷ ys) x more = ap (p.arm_and (placed_of y.condition) (p.statements_of y.body.items)) (push_arm ys x more)
 
@@ -40,12 +41,14 @@ always (Ok x) h = h
 always (Err e) h = tt
 
 -- one more statement, and what it is
-pub one_more : {T E : Type 0} (r : Result T E) (new old : p.Statements) (x : p.Statement) (m : p.Statements) → OnOk r (new ≡ statements_and old (one x)) → one x ≡ m
+pub one_more : {T E : Type 0} (r : Result T E) (new old : p.Statements) (x : p.Statement) (m : p.Statements) → OnOk r (new ≡ statements_and old (one x))
+    → one x ≡ m
     → OnOk r (new ≡ statements_and old m)
 one_more r new old x m h e = IfOk-equal r new (statements_and old (one x)) (statements_and old m) h (ap (statements_and old) e)
 
 -- a statement behind others
-pub two_more : {T E : Type 0} (r : Result T E) (new mid old first : p.Statements) (x y : p.Statement) → OnOk r (new ≡ statements_and mid (one x)) → mid ≡ statements_and old first → x ≡ y
+pub two_more : {T E : Type 0} (r : Result T E) (new mid old first : p.Statements) (x y : p.Statement) → OnOk r (new ≡ statements_and mid (one x))
+    → mid ≡ statements_and old first → x ≡ y
     → OnOk r (new ≡ statements_and old (statements_and first (one y)))
 two_more r new mid old first x y h begins e =
     IfOk-equal r new (statements_and mid (one x)) (statements_and old (statements_and first (one y))) h

@@ -3,7 +3,7 @@ use Rattle.std.proofs.Common.{◌≡◌, ℕ, List, [], ◌++◌, length, drop, 
 use Rattle.std.proofs.lemmas.List.{take_at}
 use Rattle.ido_ints.specs.declared.kinds.Kind.{Kind}
 use Rattle.c_tree.specs.Names as n
-use Rattle.c_typer.specs.Scopes.{scope_of, known_of, own_of, Grows, Stays}
+use Rattle.c_typer.specs.links.Scopes.{scope_of, known_of, own_of, Grows, Stays}
 use Rattle.c_typer.specs.declared.scope.Local.{Local}
 use Rattle.c_typer.specs.declared.scope.Scope.{Scope}
 
@@ -24,7 +24,8 @@ abbrev made_of : List Local → ℕ → List Kind → n.Scope
 made_of xs mark ks = record { known = known_of xs; own = own_of (drop mark xs); kinds = ks }
 
 -- the scope again, once the locals behind those that it had are gone
-pub left_again : (old inside mid new : Scope) → inside.known ≡ old.known → Grows inside mid → new.known.items ≡ take (length old.known.items) mid.known.items → new.mark ≡ old.mark
+pub left_again : (old inside mid new : Scope) → inside.known ≡ old.known → Grows inside mid → new.known.items ≡ take (length old.known.items) mid.known.items
+    → new.mark ≡ old.mark
     → new.kinds ≡ mid.kinds → (scope_of new ≡ n.left (scope_of old) (scope_of mid)) × Stays old new
 left_again old inside mid new begins h cut mark kinds = (same, record { mark = mark; known = known })
   where

@@ -8,20 +8,22 @@ use Rattle.c_tree.specs.Scanning.{Fault}
 use Rattle.c_tree.specs.Trees as t
 use Rattle.c_tree.specs.TypeRules as rules
 use Rattle.c_tree.specs.TypeRules.{broken, broken_if}
-use Rattle.c_typer.specs.Meanings.{fault_at, rule_if, function_rule, count_rule}
+use Rattle.c_typer.specs.links.Meanings.{fault_at, rule_if, function_rule, count_rule}
 
 if_is : (b : Bool) (found : Rule) (place : Place) → broken_if b found place ≡ fault_at (rule_if b found) place
 if_is true found place = refl
 if_is false found place = refl
 
 pub function_is : (gs : List n.Global) (s : n.Scope) (x : t.Name) (assigned : Bool) (arguments : ℕ)
-    → rules.function_faults gs s x assigned arguments ≡ fault_at (function_rule (n.meaning gs s x.text) assigned) x.place ++ fault_at (count_rule (n.meaning gs s x.text) arguments) x.place
+    → rules.function_faults gs s x assigned arguments ≡ fault_at (function_rule (n.meaning gs s x.text) assigned) x.place ++ fault_at
+    (count_rule (n.meaning gs s x.text) arguments) x.place
 function_is gs s x assigned arguments = go (n.meaning gs s x.text)
   where
     go : (m : n.Meaning) → elim m [
       | n.IsUnknown ↦ broken rule.Unknown x.place
       | n.IsGlobal (n.Function number gives parameters) ↦
-          broken_if (if is_some gives then not assigned else assigned) rule.WrongSort x.place ++ broken_if (not (arguments == length parameters)) rule.Count x.place
+          broken_if (if is_some gives then not assigned else assigned) rule.WrongSort x.place
+          ++ broken_if (not (arguments == length parameters)) rule.Count x.place
       | _ ↦ broken rule.WrongSort x.place
     ] ≡ fault_at (function_rule m assigned) x.place ++ fault_at (count_rule m arguments) x.place
     go n.IsUnknown = refl

@@ -6,7 +6,7 @@ use Rattle.c_tree.specs.Trees as t
 use Rattle.c_tree.specs.TypeRules as rules
 use Rattle.c_tree.specs.Typing.{with_item}
 use Rattle.c_tree.specs.declared.rule.Rule.{Rule}
-use Rattle.c_typer.specs.Whole.{and_item, joined, nothing}
+use Rattle.c_typer.specs.links.Whole.{and_item, joined, nothing}
 
 -- ---- Programs
 
@@ -19,11 +19,14 @@ joined_item gs q x r = joined_both q (with_item gs x nothing) r ∙ ap (joined q
   where
     joined_both : (a b c : p.Program) → joined (joined a b) c ≡ joined a (joined b c)
     joined_both a b c =
-        ap (λ (ms : List t.Name). program ms ((a.variables ++ b.variables) ++ c.variables) ((a.functions ++ b.functions) ++ c.functions) ((a.threads ++ b.threads) ++ c.threads))
+        ap (λ (ms : List t.Name). program ms ((a.variables ++ b.variables) ++ c.variables) ((a.functions ++ b.functions) ++ c.functions)
+        ((a.threads ++ b.threads) ++ c.threads))
         (append_assoc a.mutexes b.mutexes c.mutexes)
-        ∙ ap (λ (vs : List p.Variable). program (a.mutexes ++ (b.mutexes ++ c.mutexes)) vs ((a.functions ++ b.functions) ++ c.functions) ((a.threads ++ b.threads) ++ c.threads))
+        ∙ ap (λ (vs : List p.Variable). program (a.mutexes ++ (b.mutexes ++ c.mutexes)) vs ((a.functions ++ b.functions) ++ c.functions)
+        ((a.threads ++ b.threads) ++ c.threads))
         (append_assoc a.variables b.variables c.variables)
-        ∙ ap (λ (fs : List p.Function). program (a.mutexes ++ (b.mutexes ++ c.mutexes)) (a.variables ++ (b.variables ++ c.variables)) fs ((a.threads ++ b.threads) ++ c.threads))
+        ∙ ap (λ (fs : List p.Function). program (a.mutexes ++ (b.mutexes ++ c.mutexes)) (a.variables ++ (b.variables ++ c.variables)) fs
+        ((a.threads ++ b.threads) ++ c.threads))
         (append_assoc a.functions b.functions c.functions)
         ∙ ap (program (a.mutexes ++ (b.mutexes ++ c.mutexes)) (a.variables ++ (b.variables ++ c.variables)) (a.functions ++ (b.functions ++ c.functions)))
         (append_assoc a.threads b.threads c.threads)

@@ -5,10 +5,11 @@ use Rattle.c_tree.specs.Programs.{program_of}
 use Rattle.c_tree.specs.TypeRules.{IsFirst, type_faults}
 use Rattle.c_tree.specs.Typing.{typed_program}
 use Rattle.c_tree.specs.declared.program.Program.{Program}
-use Rattle.c_typer.specs.declared.error.TypeError.{TypeError}
-use Rattle.c_typer.specs.declared.error.TypeError.TheVariants as error
+use Rattle.c_tree.specs.declared.refusal.SourceError.{SourceError}
+use Rattle.c_tree.specs.declared.refusal.SourceError.TheVariants as error
+use Rattle.c_tree.specs.Refusals.{fault_of}
 
-abbrev pub Answers : List t.Item → Result Program TypeError → Type 0
+abbrev pub Answers : List t.Item → Result Program SourceError → Type 0
 Answers xs (Ok x) = (type_faults xs ≡ []) × (program_of x ≡ typed_program xs)
-Answers xs (Err (error.Broken rule place)) = IsFirst (type_faults xs) (record { rule = rule; place = place })
+Answers xs (Err (error.Refused x)) = IsFirst (type_faults xs) (fault_of x)
 Answers xs (Err error.Memory) = Unit {0}

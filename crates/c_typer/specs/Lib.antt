@@ -1,11 +1,4 @@
-pub mod Noted
-pub mod Scopes
-pub mod Meanings
-pub mod Rows
-pub mod Whole
 pub mod Answers
-pub mod Places
-pub mod Locals
-pub mod Declarations
 pub mod Laws
 pub mod FormLaws
+pub mod links

@@ -6,9 +6,9 @@ ghost use Rattle.c_tree.specs.Programs as p;
 ghost use Rattle.c_tree.specs.TypeRules as rules;
 ghost use Rattle.c_tree.specs.Typing as typing;
 ghost use Rattle.c_tree.specs.Views as v;
-ghost use Rattle.c_typer.specs.Noted.{first_of, noted};
-ghost use Rattle.c_typer.specs.Meanings.{updated_as};
-ghost use Rattle.c_typer.specs.Scopes.{globals_of, scope_of};
+ghost use Rattle.c_typer.specs.links.Noted.{first_of, noted};
+ghost use Rattle.c_typer.specs.links.Meanings.{updated_as};
+ghost use Rattle.c_typer.specs.links.Scopes.{globals_of, scope_of};
 
 use crate::expression::{binary_of, element, named, note_use, placed, value};
 use crate::faults::Faults;
@@ -34,7 +34,8 @@ pub fn target(
     assigned: &tree::Target,
 ) -> Result<Target, AllocError>
     ensures made { IfOk result (λ x. target_of x ≡ typing.target (globals_of globals.now) (scope_of scope.now) (v.target_of assigned.now)) }
-    ensures noted { OnOk result (first_of faults.new ≡ noted (first_of faults.old) (rules.target_faults (globals_of globals.now) (scope_of scope.now) (v.target_of assigned.now))) }
+    ensures noted { OnOk result (first_of faults.new ≡ noted (first_of faults.old)
+        (rules.target_faults (globals_of globals.now) (scope_of scope.now) (v.target_of assigned.now))) }
 {
     let name = &assigned.name;
     match &assigned.index {
@@ -50,7 +51,7 @@ pub fn target(
     }
 }
 
-// What the target has before. Its faults are noted where it is a target.
+/// What the target has before. Its faults are noted where it is a target.
 fn before(
     alloc: Global,
     globals: &Globals,
@@ -68,7 +69,7 @@ fn before(
     }
 }
 
-// The value of `target operator value`.
+/// The value of `target operator value`.
 fn updated(
     alloc: Global,
     globals: &Globals,
@@ -86,7 +87,7 @@ fn updated(
     })
 }
 
-// The new value of the target.
+/// The new value of the target.
 fn changed(
     alloc: Global,
     globals: &Globals,
@@ -95,8 +96,10 @@ fn changed(
     assigned: &tree::Target,
     change: &Change,
 ) -> Result<Placed, AllocError>
-    ensures made { IfOk result (λ x. placed_of x ≡ typing.changed (globals_of globals.now) (scope_of scope.now) (v.target_of assigned.now) (v.change_of change.now)) }
-    ensures noted { OnOk result (first_of faults.new ≡ noted (first_of faults.old) (rules.change_faults (globals_of globals.now) (scope_of scope.now) (v.change_of change.now))) }
+    ensures made { IfOk result (λ x. placed_of x ≡ typing.changed (globals_of globals.now) (scope_of scope.now) (v.target_of assigned.now)
+        (v.change_of change.now)) }
+    ensures noted { OnOk result (first_of faults.new ≡ noted (first_of faults.old)
+        (rules.change_faults (globals_of globals.now) (scope_of scope.now) (v.change_of change.now))) }
 {
     match change {
         Change::Set { value } => placed(alloc, globals, scope, faults, value),
@@ -123,7 +126,8 @@ pub fn assignment(
     read: &Assignment,
 ) -> Result<Statement, AllocError>
     ensures made { IfOk result (λ x. p.statement_of x ≡ typing.assignment_at (globals_of globals.now) place (scope_of scope.now) (v.assignment_of read.now)) }
-    ensures noted { OnOk result (first_of faults.new ≡ noted (first_of faults.old) (rules.assignment_faults (globals_of globals.now) (scope_of scope.now) (v.assignment_of read.now))) }
+    ensures noted { OnOk result (first_of faults.new ≡ noted (first_of faults.old)
+        (rules.assignment_faults (globals_of globals.now) (scope_of scope.now) (v.assignment_of read.now))) }
 {
     let target = target(alloc, globals, scope, faults, &read.target)?;
     let value = changed(alloc, globals, scope, faults, &read.target, &read.change)?;
@@ -134,7 +138,7 @@ pub fn assignment(
     })
 }
 
-// The arguments of a call.
+/// The arguments of a call.
 #[tactic(auto, using(crate::proofs::Noted::noted_append))]
 fn arguments(
     alloc: Global,
@@ -143,8 +147,10 @@ fn arguments(
     faults: &mut Faults,
     read: &[Expression],
 ) -> Result<Vec<Placed>, AllocError>
-    ensures made { IfOk result (λ xs. map placed_of xs.items ≡ map (typing.placed (globals_of globals.now) (scope_of scope.now)) (map v.expression_of read.now)) }
-    ensures noted { OnOk result (first_of faults.new ≡ noted (first_of faults.old) (flat_map (rules.expression_faults (globals_of globals.now) (scope_of scope.now)) (map v.expression_of read.now))) }
+    ensures made { IfOk result (λ xs. map placed_of xs.items
+        ≡ map (typing.placed (globals_of globals.now) (scope_of scope.now)) (map v.expression_of read.now)) }
+    ensures noted { OnOk result (first_of faults.new ≡ noted (first_of faults.old)
+        (flat_map (rules.expression_faults (globals_of globals.now) (scope_of scope.now)) (map v.expression_of read.now))) }
 {
     let mut made = Vec::new(alloc);
     for argument in read {
@@ -153,7 +159,7 @@ fn arguments(
     Ok(made)
 }
 
-// Notes the rules that the use of a name as a function breaks.
+/// Notes the rules that the use of a name as a function breaks.
 #[tactic(auto, using(crate::proofs::Noted::noted_append))]
 fn note_call(
     globals: &Globals,
@@ -163,7 +169,8 @@ fn note_call(
     assigned: bool,
     arguments: usize,
 )
-    ensures { first_of faults.new ≡ noted (first_of faults.old) (rules.function_faults (globals_of globals.now) (scope_of scope.now) (v.name_of name.now) assigned arguments) }
+    ensures { first_of faults.new ≡ noted (first_of faults.old)
+        (rules.function_faults (globals_of globals.now) (scope_of scope.now) (v.name_of name.now) assigned arguments) }
 {
     let meaning = resolve(globals, scope, &name.text);
     faults.note_some(meaning.function_rule(assigned), name.place);
@@ -181,8 +188,10 @@ pub fn call(
     read: &Call,
     result_target: Option<Target>,
 ) -> Result<Statement, AllocError>
-    ensures made { IfOk result (λ x. p.statement_of x ≡ typing.call (globals_of globals.now) place (scope_of scope.now) (v.call_of read.now) (option_map target_of result_target)) }
-    ensures noted { OnOk result (first_of faults.new ≡ noted (first_of faults.old) (rules.call_faults (globals_of globals.now) (scope_of scope.now) (v.call_of read.now) (is_some result_target))) }
+    ensures made { IfOk result (λ x. p.statement_of x ≡ typing.call (globals_of globals.now) place (scope_of scope.now) (v.call_of read.now)
+        (option_map target_of result_target)) }
+    ensures noted { OnOk result (first_of faults.new ≡ noted (first_of faults.old)
+        (rules.call_faults (globals_of globals.now) (scope_of scope.now) (v.call_of read.now) (is_some result_target))) }
 {
     let name = &read.function;
     note_call(
@@ -214,7 +223,8 @@ pub fn declaration(
     read: &Declaration,
 ) -> Result<Statement, AllocError>
     ensures made { IfOk result (λ x. p.statement_of x ≡ typing.declaration_at (globals_of globals.now) place (scope_of scope.now) (v.declaration_of read.now)) }
-    ensures noted { OnOk result (first_of faults.new ≡ noted (first_of faults.old) (rules.declaration_faults (globals_of globals.now) (scope_of scope.now) (v.declaration_of read.now))) }
+    ensures noted { OnOk result (first_of faults.new ≡ noted (first_of faults.old)
+        (rules.declaration_faults (globals_of globals.now) (scope_of scope.now) (v.declaration_of read.now))) }
 {
     note_twice(scope, faults, &read.name);
     let target = Target::Local {

@@ -5,9 +5,8 @@ ghost use Rattle.c_tree.specs.Exprs.{expr_of, placed_of};
 ghost use Rattle.c_tree.specs.TypeRules as rules;
 ghost use Rattle.c_tree.specs.Typing as typing;
 ghost use Rattle.c_tree.specs.Views.{expression_of, name_of};
-ghost use Rattle.c_typer.specs.Noted.{first_of, noted};
-ghost use Rattle.c_typer.specs.Scopes.{globals_of, scope_of};
-ghost use Rattle.ido_ints.specs.Operators.{binary_kind, unary_kind};
+ghost use Rattle.c_typer.specs.links.Noted.{first_of, noted};
+ghost use Rattle.c_typer.specs.links.Scopes.{globals_of, scope_of};
 
 use crate::faults::Faults;
 use crate::globals::Globals;
@@ -16,66 +15,8 @@ use crate::scope::Scope;
 use c_tree::expr::{Expr, Placed};
 use c_tree::tree::{Expression, Name};
 use ido_base::place::Place;
-use ido_ints::{Binary, Kind, Unary, common, promote};
+use ido_ints::{Binary, Kind, Unary, common};
 use std::alloc::{AllocError, Global};
-
-fn unary_kind(operator: Unary, operand: Kind) -> Kind
-    ensures { result ≡ unary_kind operator operand }
-{
-    match operator {
-        Unary::Plus | Unary::Minus | Unary::Complement => promote(operand),
-        Unary::Not => Kind::Int,
-    }
-}
-
-fn binary_kind(operator: Binary, left: Kind, right: Kind) -> Kind
-    ensures { result ≡ binary_kind operator left right }
-{
-    match operator {
-        Binary::Mul
-        | Binary::Div
-        | Binary::Rem
-        | Binary::Add
-        | Binary::Sub
-        | Binary::And
-        | Binary::Xor
-        | Binary::Or => common(left, right),
-        Binary::ShiftLeft | Binary::ShiftRight => promote(left),
-        Binary::Less
-        | Binary::Greater
-        | Binary::LessEqual
-        | Binary::GreaterEqual
-        | Binary::Equal
-        | Binary::NotEqual
-        | Binary::LogicalAnd
-        | Binary::LogicalOr => Kind::Int,
-    }
-}
-
-/// The kind of an expression's value.
-pub fn kind_of(expr: &Expr) -> Kind
-    ensures { result ≡ typing.kind_of (expr_of expr.now) }
-{
-    match expr {
-        Expr::Constant { value } => value.kind(),
-        Expr::Local { kind, .. }
-        | Expr::Variable { kind, .. }
-        | Expr::Element { kind, .. }
-        | Expr::Cast { kind, .. }
-        | Expr::Converted { kind, .. }
-        | Expr::Conditional { kind, .. } => *kind,
-        Expr::Unary { operator, operand } => unary_kind(*operator, kind_of(operand)),
-        Expr::Binary {
-            operator,
-            left,
-            right,
-        } => {
-            let left = kind_of(left);
-            let right = kind_of(right);
-            binary_kind(*operator, left, right)
-        }
-    }
-}
 
 /// The place of the first token.
 pub fn first_place(expression: &Expression) -> Place
@@ -131,7 +72,8 @@ pub fn value(
     expression: &Expression,
 ) -> Result<Expr, AllocError>
     ensures made { IfOk result (λ x. expr_of x ≡ typing.expr (globals_of globals.now) (scope_of scope.now) (expression_of expression.now)) }
-    ensures noted { OnOk result (first_of faults.new ≡ noted (first_of faults.old) (rules.expression_faults (globals_of globals.now) (scope_of scope.now) (expression_of expression.now))) }
+    ensures noted { OnOk result (first_of faults.new ≡ noted (first_of faults.old)
+        (rules.expression_faults (globals_of globals.now) (scope_of scope.now) (expression_of expression.now))) }
 {
     match expression {
         Expression::Number { value, .. } => Ok(Expr::Constant { value: *value }),
@@ -189,7 +131,8 @@ pub fn placed(
     expression: &Expression,
 ) -> Result<Placed, AllocError>
     ensures made { IfOk result (λ x. placed_of x ≡ typing.placed (globals_of globals.now) (scope_of scope.now) (expression_of expression.now)) }
-    ensures noted { OnOk result (first_of faults.new ≡ noted (first_of faults.old) (rules.expression_faults (globals_of globals.now) (scope_of scope.now) (expression_of expression.now))) }
+    ensures noted { OnOk result (first_of faults.new ≡ noted (first_of faults.old)
+        (rules.expression_faults (globals_of globals.now) (scope_of scope.now) (expression_of expression.now))) }
 {
     let expr = value(alloc, globals, scope, faults, expression)?;
     Ok(Placed {
@@ -238,7 +181,7 @@ fn conditional_of(
 ) -> Result<Expr, AllocError>
     ensures { IfOk result (λ x. expr_of x ≡ typing.conditional (expr_of condition) (expr_of then) (expr_of otherwise)) }
 {
-    let kind = common(kind_of(&then), kind_of(&otherwise));
+    let kind = common(then.kind(), otherwise.kind());
     let condition = Box::new(alloc, condition)?;
     let then = Box::new(alloc, then)?;
     let otherwise = Box::new(alloc, otherwise)?;

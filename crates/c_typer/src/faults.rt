@@ -1,26 +1,21 @@
 //! The first rule that is broken.
 ghost use Rattle.std.specs.Prelude.{◌≡◌, [], ◌∷◌};
+ghost use Rattle.c_tree.specs.Refusals.{fault_of};
 ghost use Rattle.c_tree.specs.TypeRules.{order_of};
-ghost use Rattle.c_typer.specs.Meanings.{fault_at};
-ghost use Rattle.c_typer.specs.Noted.{comes_before, fault_of, first_of, noted};
+ghost use Rattle.c_typer.specs.links.Meanings.{fault_at};
+ghost use Rattle.c_typer.specs.links.Noted.{comes_before, first_of, noted};
 
+use c_tree::refusal::Refusal;
 use c_tree::rule::Rule;
 use ido_base::place::Place;
-
-/// A rule that is broken, and where.
-#[derive(Clone, Copy, Debug, Drop)]
-pub struct Fault {
-    pub rule: Rule,
-    pub place: Place,
-}
 
 /// The first of the faults that were noted, by their places.
 #[derive(Drop)]
 pub struct Faults {
-    pub first: Option<Fault>,
+    pub first: Option<Refusal>,
 }
 
-// Of two rules at one place the lesser is told.
+/// Of two rules at one place the lesser is told.
 fn order_of(rule: Rule) -> u8
     ensures { result ≡ order_of rule }
 {
@@ -38,7 +33,7 @@ fn order_of(rule: Rule) -> u8
     }
 }
 
-fn comes_before(fault: Fault, other: Fault) -> bool
+fn comes_before(fault: Refusal, other: Refusal) -> bool
     ensures { result ≡ comes_before (fault_of fault) (fault_of other) }
 {
     fault.place.0 < other.place.0
@@ -57,7 +52,7 @@ impl Faults {
     pub fn note(&mut self, rule: Rule, place: Place)
         ensures { first_of self.new ≡ noted (first_of self.old) (record { rule = rule; place = place } ∷ []) }
     {
-        let fault = Fault { rule, place };
+        let fault = Refusal { rule, place };
         let is_first = match self.first {
             None => true,
             Some(first) => comes_before(fault, first),

@@ -3,8 +3,8 @@ ghost use Rattle.std.specs.Prelude.{◌≡◌, ◌+◌, ℕ, List, map, IfOk, On
 ghost use Rattle.std.proofs.Props.{props};
 ghost use Rattle.c_tree.specs.Trees as t;
 ghost use Rattle.c_tree.specs.Views.{name_of, parameter_of};
-ghost use Rattle.c_typer.specs.Declarations.{names_declared};
-ghost use Rattle.c_typer.specs.Places.{place_of, first_place};
+ghost use Rattle.c_typer.specs.links.Declarations.{names_declared};
+ghost use Rattle.c_typer.specs.links.Places.{place_of, first_place};
 
 use crate::names::Places;
 use c_tree::tree::{Item, Name, Parameter, Tree};
@@ -40,7 +40,7 @@ pub struct Declared {
 impl Declared {
     ghost use Rattle.c_tree.specs.Names as n;
     ghost use Rattle.c_tree.specs.Views.{item_of};
-    ghost use Rattle.c_typer.specs.Scopes.{counts_of, global_of};
+    ghost use Rattle.c_typer.specs.links.Scopes.{counts_of, global_of};
 
     /// The name that an item declares.
     fn of(alloc: Global, counts: &Counts, item: &Item) -> Result<Declared, AllocError>
@@ -91,7 +91,7 @@ impl Globals {
     ghost use Rattle.std.specs.Option.{option_map};
     ghost use Rattle.c_tree.specs.Names as n;
     ghost use Rattle.c_tree.specs.Views.{items_of};
-    ghost use Rattle.c_typer.specs.Scopes.{global_of, globals_of, names_before};
+    ghost use Rattle.c_typer.specs.links.Scopes.{global_of, globals_of, names_before};
 
     /// The first declaration of a name.
     pub fn find(&self, name: &[u8]) -> Option<&Declared>
@@ -144,7 +144,7 @@ struct Counts {
 impl Counts {
     ghost use Rattle.c_tree.specs.Names as n;
     ghost use Rattle.c_tree.specs.Views.{item_of};
-    ghost use Rattle.c_typer.specs.Scopes.{counts_of};
+    ghost use Rattle.c_typer.specs.links.Scopes.{counts_of};
 
     /// Counts one more. More than 2^32 - 1 of a sort have no numbers.
     fn count(&mut self, item: &Item) -> Result<(), AllocError>

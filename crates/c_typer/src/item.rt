@@ -7,8 +7,8 @@ ghost use Rattle.c_tree.specs.Trees as t;
 ghost use Rattle.c_tree.specs.TypeRules as rules;
 ghost use Rattle.c_tree.specs.Typing as typing;
 ghost use Rattle.c_tree.specs.Views as v;
-ghost use Rattle.c_typer.specs.Noted.{first_of, noted};
-ghost use Rattle.c_typer.specs.Scopes.{globals_of, scope_of};
+ghost use Rattle.c_typer.specs.links.Noted.{first_of, noted};
+ghost use Rattle.c_typer.specs.links.Scopes.{globals_of, scope_of};
 ghost use Rattle.ido_ints.specs.Reduction.{reduced};
 
 use crate::assignment::note_twice;
@@ -21,12 +21,11 @@ use c_tree::program::{Function, Returned, Thread, Variable};
 use c_tree::rule::Rule;
 use c_tree::tree;
 use c_tree::tree::{Initialiser, Length, Parameter, Persistent, Return, Signed};
+use ido_base::limits::MOST_ELEMENTS;
 use ido_ints::{Kind, Unary, Value, unary};
 use std::alloc::{AllocError, Global};
 
-const MOST_ELEMENTS: u64 = 4096;
-
-// The scope that a function's body stands in.
+/// The scope that a function's body stands in.
 #[tactic(auto, using(crate::proofs::Noted::noted_append))]
 fn with_parameters(
     alloc: Global,
@@ -34,7 +33,8 @@ fn with_parameters(
     parameters: &[Parameter],
 ) -> Result<Scope, AllocError>
     ensures made { IfOk result (λ scope. scope_of scope ≡ typing.with_parameters n.no_locals (map v.parameter_of parameters.now)) }
-    ensures noted { (gs : List n.Global) → OnOk result (first_of faults.new ≡ noted (first_of faults.old) (rules.parameters_faults gs n.no_locals (map v.parameter_of parameters.now))) }
+    ensures noted { (gs : List n.Global) → OnOk result (first_of faults.new
+        ≡ noted (first_of faults.old) (rules.parameters_faults gs n.no_locals (map v.parameter_of parameters.now))) }
 {
     let mut scope = Scope::new(alloc);
     for parameter in parameters {
@@ -44,7 +44,7 @@ fn with_parameters(
     Ok(scope)
 }
 
-// What a function of a kind gives.
+/// What a function of a kind gives.
 fn returned(
     alloc: Global,
     globals: &Globals,
@@ -53,8 +53,10 @@ fn returned(
     kind: Option<Kind>,
     read: &Option<Return>,
 ) -> Result<Option<Returned>, AllocError>
-    ensures made { IfOk result (λ x. option_map p.returned_of x ≡ typing.returned (globals_of globals.now) (scope_of scope.now) kind (option_map v.return_of read.now)) }
-    ensures noted { OnOk result (first_of faults.new ≡ noted (first_of faults.old) (rules.returned_faults (globals_of globals.now) (scope_of scope.now) (option_map v.return_of read.now))) }
+    ensures made { IfOk result (λ x. option_map p.returned_of x
+        ≡ typing.returned (globals_of globals.now) (scope_of scope.now) kind (option_map v.return_of read.now)) }
+    ensures noted { OnOk result (first_of faults.new ≡ noted (first_of faults.old)
+        (rules.returned_faults (globals_of globals.now) (scope_of scope.now) (option_map v.return_of read.now))) }
 {
     match read {
         Some(
@@ -73,7 +75,7 @@ fn returned(
     }
 }
 
-// Notes a function with a result that returns none, or one without that returns one.
+/// Notes a function with a result that returns none, or one without that returns one.
 fn note_return(faults: &mut Faults, read: &tree::Function)
     ensures { first_of faults.new ≡ noted (first_of faults.old) (rules.return_faults [] (v.function_of read.now)) }
 {
@@ -95,7 +97,8 @@ pub fn function(
     read: &tree::Function,
 ) -> Result<Function, AllocError>
     ensures made { IfOk result (λ x. p.function_of x ≡ typing.function (globals_of globals.now) (v.function_of read.now)) }
-    ensures noted { OnOk result (first_of faults.new ≡ noted (first_of faults.old) (rules.item_faults (globals_of globals.now) (t.FunctionItem (v.function_of read.now)))) }
+    ensures noted { OnOk result (first_of faults.new ≡ noted (first_of faults.old)
+        (rules.item_faults (globals_of globals.now) (t.FunctionItem (v.function_of read.now)))) }
 {
     let mut scope = with_parameters(alloc, faults, &read.parameters)?;
     let mut body = Vec::new(alloc);
@@ -133,7 +136,8 @@ pub fn thread(
     read: &tree::Thread,
 ) -> Result<Thread, AllocError>
     ensures made { IfOk result (λ x. p.thread_of x ≡ typing.thread (globals_of globals.now) (v.thread_of read.now)) }
-    ensures noted { OnOk result (first_of faults.new ≡ noted (first_of faults.old) (rules.item_faults (globals_of globals.now) (t.ThreadItem (v.thread_of read.now)))) }
+    ensures noted { OnOk result (first_of faults.new ≡ noted (first_of faults.old)
+        (rules.item_faults (globals_of globals.now) (t.ThreadItem (v.thread_of read.now)))) }
 {
     let mut scope = Scope::new(alloc);
     let mut body = Vec::new(alloc);
@@ -174,7 +178,7 @@ fn note_length(faults: &mut Faults, length: &Option<Length>)
     }
 }
 
-// Notes the first number behind so many.
+/// Notes the first number behind so many.
 fn note_count(faults: &mut Faults, count: u64, numbers: &[Signed])
     ensures { first_of faults.new ≡ noted (first_of faults.old) (rules.numbers_past count (map v.signed_of numbers.now)) }
 {
@@ -184,7 +188,8 @@ fn note_count(faults: &mut Faults, count: u64, numbers: &[Signed])
 }
 
 fn note_initialiser(faults: &mut Faults, length: &Option<Length>, initialiser: &Option<Initialiser>)
-    ensures { first_of faults.new ≡ noted (first_of faults.old) (rules.initialiser_faults (option_map v.length_of length.now) (option_map v.initialiser_of initialiser.now)) }
+    ensures { first_of faults.new ≡ noted (first_of faults.old)
+        (rules.initialiser_faults (option_map v.length_of length.now) (option_map v.initialiser_of initialiser.now)) }
 {
     match initialiser {
         None => (),
@@ -199,7 +204,7 @@ fn note_initialiser(faults: &mut Faults, length: &Option<Length>, initialiser: &
     }
 }
 
-// The number, in the kind of the variable.
+/// The number, in the kind of the variable.
 fn signed_number(kind: Kind, read: &Signed) -> i128
     ensures { result ≡ reduced kind (typing.signed_number (v.signed_of read.now)) }
 {
@@ -211,7 +216,7 @@ fn signed_number(kind: Kind, read: &Signed) -> i128
     Value::reduce(kind, value.number()).number()
 }
 
-// Numbers, in the kind of the variable.
+/// Numbers, in the kind of the variable.
 fn converted(alloc: Global, kind: Kind, given: &[Signed]) -> Result<Vec<i128>, AllocError>
     ensures { IfOk result (λ xs. xs.items ≡ map (reduced kind) (map typing.signed_number (map v.signed_of given.now))) }
 {
@@ -222,7 +227,7 @@ fn converted(alloc: Global, kind: Kind, given: &[Signed]) -> Result<Vec<i128>, A
     Ok(numbers)
 }
 
-// The numbers that are given, in the kind of the variable.
+/// The numbers that are given, in the kind of the variable.
 fn given_numbers(
     alloc: Global,
     kind: Kind,
@@ -241,7 +246,7 @@ fn given_numbers(
     }
 }
 
-// So many numbers: zeros behind the last one given.
+/// So many numbers: zeros behind the last one given.
 fn fill(numbers: &mut Vec<i128>, count: usize) -> Result<(), AllocError>
     ensures { OnOk result (numbers.new.items ≡ typing.filled count numbers.old.items) }
 {
@@ -253,7 +258,7 @@ fn fill(numbers: &mut Vec<i128>, count: usize) -> Result<(), AllocError>
     Ok(())
 }
 
-// How many elements a variable has, or any number where its length breaks its rule.
+/// How many elements a variable has, or any number where its length breaks its rule.
 #[tactic(auto, using(crate::proofs::Counts::within))]
 fn checked_count(length: &Option<Length>) -> u32
     ensures { rules.length_faults (option_map v.length_of length.now) ≡ [] → result ≡ typing.element_count (option_map v.length_of length.now) }
@@ -266,7 +271,7 @@ fn checked_count(length: &Option<Length>) -> u32
     }
 }
 
-// The length of an array, or any where it breaks its rule.
+/// The length of an array, or any where it breaks its rule.
 fn checked_length(length: &Option<Length>) -> Option<u32>
     ensures { rules.length_faults (option_map v.length_of length.now) ≡ [] → result ≡ option_map typing.length_number (option_map v.length_of length.now) }
 {
@@ -284,7 +289,8 @@ pub fn variable(
     read: &Persistent,
 ) -> Result<Variable, AllocError>
     ensures made { IfOk result (λ x. first_of faults.new ≡ None → p.variable_of x ≡ typing.variable (globals_of globals.now) (v.persistent_of read.now)) }
-    ensures noted { OnOk result (first_of faults.new ≡ noted (first_of faults.old) (rules.item_faults (globals_of globals.now) (t.PersistentItem (v.persistent_of read.now)))) }
+    ensures noted { OnOk result (first_of faults.new ≡ noted (first_of faults.old)
+        (rules.item_faults (globals_of globals.now) (t.PersistentItem (v.persistent_of read.now)))) }
 {
     let guard = mutex(globals, &Scope::new(alloc), faults, &read.guard);
     note_length(faults, &read.length);

@@ -2,7 +2,6 @@
 #![tactic(auto)]
 
 mod assignment;
-mod error;
 mod expression;
 mod faults;
 mod globals;
@@ -15,5 +14,4 @@ mod scope;
 mod statement;
 mod text;
 
-pub use error::TypeError;
 pub use program::type_tree;

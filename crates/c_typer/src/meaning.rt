@@ -6,8 +6,9 @@ ghost use Rattle.ido_ints.specs.declared.kinds.Kind.TheVariants.{Int};
 ghost use Rattle.c_tree.specs.Exprs as e;
 ghost use Rattle.c_tree.specs.Exprs.{expr_of, placed_of, target_of};
 ghost use Rattle.c_tree.specs.Names as n;
-ghost use Rattle.c_typer.specs.Meanings.{count_rule, element_as, function_as, function_rule, meaning_of, mutex_as, mutex_rule, named_as, rule_if, target_as, target_element_as, use_rule};
-ghost use Rattle.c_typer.specs.Scopes.{globals_of, scope_of};
+ghost use Rattle.c_typer.specs.links.Meanings.{count_rule, element_as, function_as, function_rule, meaning_of, mutex_as};
+ghost use Rattle.c_typer.specs.links.Meanings.{mutex_rule, named_as, rule_if, target_as, target_element_as, use_rule};
+ghost use Rattle.c_typer.specs.links.Scopes.{globals_of, scope_of};
 
 use crate::globals::{Globals, Sort};
 use crate::scope::{Local, Scope};

@@ -2,7 +2,7 @@
 ghost use Rattle.std.specs.Prelude.{◌≡◌, ℕ, List, cond, IfOk, OnOk, OnErr, IsSome, Some, None};
 ghost use Rattle.std.specs.Option.{option_or};
 ghost use Rattle.c_tree.specs.Names.{same_name};
-ghost use Rattle.c_typer.specs.Places.{place_of};
+ghost use Rattle.c_typer.specs.links.Places.{place_of};
 
 use indexmap::IndexMap;
 use std::alloc::{AllocError, Global};
@@ -41,7 +41,8 @@ impl Places {
 
     /// Puts a name at a place if it has none.
     pub fn put_first(&mut self, name: &Vec<u8>, place: usize) -> Result<(), AllocError>
-        ensures { OnOk result ((other : List ℕ) → place_of self.new other ≡ option_or (place_of self.old other) (cond (same_name name.now.items other) (Some place) None)) }
+        ensures { OnOk result ((other : List ℕ) → place_of self.new other
+            ≡ option_or (place_of self.old other) (cond (same_name name.now.items other) (Some place) None)) }
     {
         if self.get(name).is_none() {
             self.put(name.clone()?, place)?;

@@ -4,17 +4,17 @@ ghost use Rattle.c_tree.specs.Programs as p;
 ghost use Rattle.c_tree.specs.TypeRules as rules;
 ghost use Rattle.c_tree.specs.Typing as typing;
 ghost use Rattle.c_tree.specs.Views.{item_of, items_of};
-ghost use Rattle.c_typer.specs.Noted.{first_of, noted};
-ghost use Rattle.c_typer.specs.Scopes.{globals_of};
+ghost use Rattle.c_typer.specs.links.Noted.{first_of, noted};
+ghost use Rattle.c_typer.specs.links.Scopes.{globals_of};
 ghost use Rattle.c_typer.specs.Answers.{Answers};
-ghost use Rattle.c_typer.specs.Whole.{and_item, nothing};
+ghost use Rattle.c_typer.specs.links.Whole.{and_item, nothing};
 
-use crate::error::TypeError;
 use crate::faults::Faults;
 use crate::globals::{Globals, copied};
 use crate::item::{function, thread, variable};
 use crate::text::{note_bytes, note_mutexes, note_second_declarations, note_threads};
 use c_tree::program::Program;
+use c_tree::refusal::SourceError;
 use c_tree::tree::{Item, Tree};
 use std::alloc::{AllocError, Global};
 
@@ -29,7 +29,7 @@ fn empty(alloc: Global) -> Program
     }
 }
 
-// One more item behind those that were made.
+/// One more item behind those that were made.
 fn add(
     alloc: Global,
     globals: &Globals,
@@ -37,7 +37,8 @@ fn add(
     item: &Item,
     made: &mut Program,
 ) -> Result<(), AllocError>
-    ensures made { OnOk result (first_of faults.new ≡ None → p.program_of made.new ≡ and_item (globals_of globals.now) (p.program_of made.old) (item_of item.now)) }
+    ensures made { OnOk result (first_of faults.new ≡ None
+        → p.program_of made.new ≡ and_item (globals_of globals.now) (p.program_of made.old) (item_of item.now)) }
     ensures noted { OnOk result (first_of faults.new ≡ noted (first_of faults.old) (rules.item_faults (globals_of globals.now) (item_of item.now))) }
 {
     match item {
@@ -54,7 +55,7 @@ fn add(
     Ok(())
 }
 
-// The items of a tree.
+/// The items of a tree.
 #[tactic(auto, using(crate::proofs::Whole::joins))]
 fn items(
     alloc: Global,
@@ -63,7 +64,8 @@ fn items(
     tree: &Tree,
 ) -> Result<Program, AllocError>
     ensures made { IfOk result (λ x. first_of faults.new ≡ None → p.program_of x ≡ typing.program_from (globals_of globals.now) (items_of tree.now)) }
-    ensures noted { OnOk result (first_of faults.new ≡ noted (first_of faults.old) (flat_map (rules.item_faults (globals_of globals.now)) (items_of tree.now))) }
+    ensures noted { OnOk result (first_of faults.new ≡ noted (first_of faults.old)
+        (flat_map (rules.item_faults (globals_of globals.now)) (items_of tree.now))) }
 {
     let mut made = empty(alloc);
     for item in &tree.items {
@@ -76,7 +78,7 @@ fn items(
 /// the first of its tokens where a rule of names and kinds is broken. `Memory` is answered also where
 /// the mutexes, variables or functions of the text, the parameters of a function or the locals of a
 /// function or thread would be numbered past 2^32 - 1.
-pub fn type_tree(alloc: Global, tree: &Tree) -> Result<Program, TypeError>
+pub fn type_tree(alloc: Global, tree: &Tree) -> Result<Program, SourceError>
     ensures { Answers (items_of tree.now) result }
 {
     let globals = Globals::of(alloc, tree)?;
@@ -88,9 +90,6 @@ pub fn type_tree(alloc: Global, tree: &Tree) -> Result<Program, TypeError>
     let program = items(alloc, &globals, &mut faults, tree)?;
     match faults.first {
         None => Ok(program),
-        Some(fault) => Err(TypeError::Broken {
-            rule: fault.rule,
-            place: fault.place,
-        }),
+        Some(refusal) => Err(SourceError::Refused(refusal)),
     }
 }

@@ -1,8 +1,8 @@
 //! The locals that are known at a place.
 ghost use Rattle.std.specs.Prelude.{◌≡◌, ◌≤◌, ℕ, List, length};
 ghost use Rattle.std.proofs.Props.{props};
-ghost use Rattle.c_typer.specs.Places.{place_of, last_place, places_before};
-ghost use Rattle.c_typer.specs.Locals.{names_in, hidden_in};
+ghost use Rattle.c_typer.specs.links.Places.{place_of, last_place, places_before};
+ghost use Rattle.c_typer.specs.links.Locals.{names_in, hidden_in};
 
 use crate::names::Places;
 use ido_ints::Kind;
@@ -42,7 +42,7 @@ impl Scope {
     ghost use Rattle.std.specs.List.{list_any};
     ghost use Rattle.std.specs.Option.{option_map};
     ghost use Rattle.c_tree.specs.Names as n;
-    ghost use Rattle.c_typer.specs.Scopes.{Grows, local_of, scope_of};
+    ghost use Rattle.c_typer.specs.links.Scopes.{Grows, local_of, scope_of};
 
     /// No locals.
     pub fn new(alloc: Global) -> Scope

@@ -9,9 +9,9 @@ ghost use Rattle.c_tree.specs.TypeRules as rules;
 ghost use Rattle.c_tree.specs.Typing as typing;
 ghost use Rattle.c_tree.specs.Typing.{one, statements_and};
 ghost use Rattle.c_tree.specs.Views as v;
-ghost use Rattle.c_typer.specs.Noted.{first_of, noted};
-ghost use Rattle.c_typer.specs.Rows.{loop_as, loop_faults, maybe_one};
-ghost use Rattle.c_typer.specs.Scopes.{globals_of, scope_of, Grows, Stays};
+ghost use Rattle.c_typer.specs.links.Noted.{first_of, noted};
+ghost use Rattle.c_typer.specs.links.Rows.{loop_as, loop_faults, maybe_one};
+ghost use Rattle.c_typer.specs.links.Scopes.{globals_of, scope_of, Grows, Stays};
 
 use crate::assignment::{assignment, call, declaration, target};
 use crate::expression::placed;
@@ -21,7 +21,7 @@ use crate::meaning::{int, resolve};
 use crate::scope::Scope;
 use c_tree::expr::Placed;
 use c_tree::program::Arm;
-use c_tree::tree::{Assignment, Block, Expression, First, Name, Statement};
+use c_tree::tree::{Assignment, Block, Expression, First, Head, Name, Statement};
 use c_tree::{program, tree};
 use ido_base::place::Place;
 use std::alloc::{AllocError, Global};
@@ -88,7 +88,7 @@ pub fn mutex(globals: &Globals, scope: &Scope, faults: &mut Faults, name: &Name)
     meaning.mutex()
 }
 
-// A declaration, as a statement at a place, and its local in the scope.
+/// A declaration, as a statement at a place, and its local in the scope.
 fn declare(
     alloc: Global,
     globals: &Globals,
@@ -98,7 +98,8 @@ fn declare(
     read: &tree::Declaration,
 ) -> Result<program::Statement, AllocError>
     ensures made { IfOk result (λ x. p.statement_of x ≡ typing.declaration_at (globals_of globals.now) place (scope_of scope.old) (v.declaration_of read.now)) }
-    ensures noted { OnOk result (first_of faults.new ≡ noted (first_of faults.old) (rules.declaration_faults (globals_of globals.now) (scope_of scope.old) (v.declaration_of read.now))) }
+    ensures noted { OnOk result (first_of faults.new ≡ noted (first_of faults.old)
+        (rules.declaration_faults (globals_of globals.now) (scope_of scope.old) (v.declaration_of read.now))) }
     ensures scope { OnOk result (scope_of scope.new ≡ n.declared (scope_of scope.old) read.now.name.text.items read.now.kind) }
     ensures grows { OnOk result (Grows scope.old scope.new) }
 {
@@ -107,7 +108,7 @@ fn declare(
     Ok(made)
 }
 
-// The first part of a `for` at a place.
+/// The first part of a `for` at a place.
 fn start_of_for(
     alloc: Global,
     globals: &Globals,
@@ -117,8 +118,10 @@ fn start_of_for(
     read: &First,
     made: &mut Vec<program::Statement>,
 ) -> Result<(), AllocError>
-    ensures made { OnOk result (p.statements_of made.new.items ≡ statements_and (p.statements_of made.old.items) (typing.first_at (globals_of globals.now) place (scope_of scope.old) (v.first_of read.now)).made) }
-    ensures noted { OnOk result (first_of faults.new ≡ noted (first_of faults.old) (rules.first_faults (globals_of globals.now) (scope_of scope.old) (v.first_of read.now))) }
+    ensures made { OnOk result (p.statements_of made.new.items
+        ≡ statements_and (p.statements_of made.old.items) (typing.first_at (globals_of globals.now) place (scope_of scope.old) (v.first_of read.now)).made) }
+    ensures noted { OnOk result (first_of faults.new ≡ noted (first_of faults.old)
+        (rules.first_faults (globals_of globals.now) (scope_of scope.old) (v.first_of read.now))) }
     ensures scope { OnOk result (scope_of scope.new ≡ (typing.first_at (globals_of globals.now) place (scope_of scope.old) (v.first_of read.now)).scope) }
     ensures grows { OnOk result (Grows scope.old scope.new) }
 {
@@ -135,7 +138,7 @@ fn start_of_for(
     }
 }
 
-// The last part of a `for` at a place.
+/// The last part of a `for` at a place.
 fn last(
     alloc: Global,
     globals: &Globals,
@@ -144,8 +147,10 @@ fn last(
     place: Place,
     read: &Option<Assignment>,
 ) -> Result<Option<program::Statement>, AllocError>
-    ensures made { IfOk result (λ x. maybe_one (option_map p.statement_of x) ≡ typing.last_at (globals_of globals.now) place (scope_of scope.now) (option_map v.assignment_of read.now)) }
-    ensures noted { OnOk result (first_of faults.new ≡ noted (first_of faults.old) (rules.last_faults (globals_of globals.now) (scope_of scope.now) (option_map v.assignment_of read.now))) }
+    ensures made { IfOk result (λ x. maybe_one (option_map p.statement_of x)
+        ≡ typing.last_at (globals_of globals.now) place (scope_of scope.now) (option_map v.assignment_of read.now)) }
+    ensures noted { OnOk result (first_of faults.new ≡ noted (first_of faults.old)
+        (rules.last_faults (globals_of globals.now) (scope_of scope.now) (option_map v.assignment_of read.now))) }
 {
     match read {
         None => Ok(None),
@@ -153,7 +158,7 @@ fn last(
     }
 }
 
-// The condition of a `for` at a place: 1 where none is written.
+/// The condition of a `for` at a place: 1 where none is written.
 fn condition_of_for(
     alloc: Global,
     globals: &Globals,
@@ -162,8 +167,10 @@ fn condition_of_for(
     place: Place,
     read: &Option<Expression>,
 ) -> Result<Placed, AllocError>
-    ensures made { IfOk result (λ x. placed_of x ≡ typing.condition_at (globals_of globals.now) place (scope_of scope.now) (option_map v.expression_of read.now)) }
-    ensures noted { OnOk result (first_of faults.new ≡ noted (first_of faults.old) (rules.maybe_faults (globals_of globals.now) (scope_of scope.now) (option_map v.expression_of read.now))) }
+    ensures made { IfOk result (λ x. placed_of x ≡ typing.condition_at (globals_of globals.now) place (scope_of scope.now)
+        (option_map v.expression_of read.now)) }
+    ensures noted { OnOk result (first_of faults.new ≡ noted (first_of faults.old)
+        (rules.maybe_faults (globals_of globals.now) (scope_of scope.now) (option_map v.expression_of read.now))) }
 {
     match read {
         None => Ok(Placed {
@@ -184,8 +191,10 @@ fn statement(
     read: &Statement,
     made: &mut Vec<program::Statement>,
 ) -> Result<(), AllocError>
-    ensures made { OnOk result (p.statements_of made.new.items ≡ statements_and (p.statements_of made.old.items) (typing.statement (globals_of globals.now) (scope_of scope.old) (v.statement_of read.now)).made) }
-    ensures noted { OnOk result (first_of faults.new ≡ noted (first_of faults.old) (rules.statement_faults (globals_of globals.now) (scope_of scope.old) (v.statement_of read.now))) }
+    ensures made { OnOk result (p.statements_of made.new.items
+        ≡ statements_and (p.statements_of made.old.items) (typing.statement (globals_of globals.now) (scope_of scope.old) (v.statement_of read.now)).made) }
+    ensures noted { OnOk result (first_of faults.new ≡ noted (first_of faults.old)
+        (rules.statement_faults (globals_of globals.now) (scope_of scope.old) (v.statement_of read.now))) }
     ensures scope { OnOk result (scope_of scope.new ≡ (typing.statement (globals_of globals.now) (scope_of scope.old) (v.statement_of read.now)).scope) }
     ensures grows { OnOk result (Grows scope.old scope.new) }
 {
@@ -239,16 +248,10 @@ fn statement(
             let next = do_statement(alloc, globals, scope, faults, *place, block, condition)?;
             add(made, next)
         }
-        Statement::For {
-            place,
-            first: start,
-            condition,
-            last: end,
-            block,
-        } => {
+        Statement::For { place, head, block } => {
             let outer = scope.enter();
-            start_of_for(alloc, globals, scope, faults, *place, start, made)?;
-            let next = loop_of_for(alloc, globals, scope, faults, *place, condition, end, block)?;
+            start_of_for(alloc, globals, scope, faults, *place, &head.first, made)?;
+            let next = loop_of_for(alloc, globals, scope, faults, *place, head, block)?;
             scope.leave(outer);
             add(made, next)
         }
@@ -275,7 +278,7 @@ fn statement(
     }
 }
 
-// What stands behind the last `else`.
+/// What stands behind the last `else`.
 #[cycle(statements)]
 fn last_block(
     alloc: Global,
@@ -284,8 +287,10 @@ fn last_block(
     faults: &mut Faults,
     read: &Option<Block>,
 ) -> Result<Vec<program::Statement>, AllocError>
-    ensures made { IfOk result (λ xs. p.statements_of xs.items ≡ (typing.otherwise_of (globals_of globals.now) (scope_of scope.old) (v.otherwise_of read.now)).made) }
-    ensures noted { OnOk result (first_of faults.new ≡ noted (first_of faults.old) (rules.otherwise_faults (globals_of globals.now) (scope_of scope.old) (v.otherwise_of read.now))) }
+    ensures made { IfOk result (λ xs. p.statements_of xs.items
+        ≡ (typing.otherwise_of (globals_of globals.now) (scope_of scope.old) (v.otherwise_of read.now)).made) }
+    ensures noted { OnOk result (first_of faults.new ≡ noted (first_of faults.old)
+        (rules.otherwise_faults (globals_of globals.now) (scope_of scope.old) (v.otherwise_of read.now))) }
     ensures scope { OnOk result (scope_of scope.new ≡ (typing.otherwise_of (globals_of globals.now) (scope_of scope.old) (v.otherwise_of read.now)).scope) }
     ensures stays { OnOk result (Stays scope.old scope.new) }
 {
@@ -295,7 +300,7 @@ fn last_block(
     }
 }
 
-// A `while`.
+/// A `while`.
 #[cycle(statements)]
 #[tactic(auto, using(crate::proofs::Noted::noted_append))]
 fn while_statement(
@@ -307,9 +312,12 @@ fn while_statement(
     read: &Block,
     condition: &Expression,
 ) -> Result<program::Statement, AllocError>
-    ensures made { IfOk result (λ x. one (p.statement_of x) ≡ (typing.statement (globals_of globals.now) (scope_of scope.old) (t.While place (v.expression_of condition.now) (v.block_of read.now))).made) }
-    ensures noted { OnOk result (first_of faults.new ≡ noted (first_of faults.old) (rules.statement_faults (globals_of globals.now) (scope_of scope.old) (t.While place (v.expression_of condition.now) (v.block_of read.now)))) }
-    ensures scope { OnOk result (scope_of scope.new ≡ (typing.statement (globals_of globals.now) (scope_of scope.old) (t.While place (v.expression_of condition.now) (v.block_of read.now))).scope) }
+    ensures made { IfOk result (λ x. one (p.statement_of x)
+        ≡ (typing.statement (globals_of globals.now) (scope_of scope.old) (t.While place (v.expression_of condition.now) (v.block_of read.now))).made) }
+    ensures noted { OnOk result (first_of faults.new ≡ noted (first_of faults.old)
+        (rules.statement_faults (globals_of globals.now) (scope_of scope.old) (t.While place (v.expression_of condition.now) (v.block_of read.now)))) }
+    ensures scope { OnOk result (scope_of scope.new ≡ (typing.statement (globals_of globals.now) (scope_of scope.old)
+        (t.While place (v.expression_of condition.now) (v.block_of read.now))).scope) }
     ensures stays { OnOk result (Stays scope.old scope.new) }
 {
     let condition = placed(alloc, globals, scope, faults, condition)?;
@@ -317,7 +325,7 @@ fn while_statement(
     Ok(while_of(place, condition, body))
 }
 
-// A `do`.
+/// A `do`.
 #[cycle(statements)]
 #[tactic(auto, using(crate::proofs::Noted::noted_append))]
 fn do_statement(
@@ -329,9 +337,12 @@ fn do_statement(
     read: &Block,
     condition: &Expression,
 ) -> Result<program::Statement, AllocError>
-    ensures made { IfOk result (λ x. one (p.statement_of x) ≡ (typing.statement (globals_of globals.now) (scope_of scope.old) (t.Do place (v.block_of read.now) (v.expression_of condition.now))).made) }
-    ensures noted { OnOk result (first_of faults.new ≡ noted (first_of faults.old) (rules.statement_faults (globals_of globals.now) (scope_of scope.old) (t.Do place (v.block_of read.now) (v.expression_of condition.now)))) }
-    ensures scope { OnOk result (scope_of scope.new ≡ (typing.statement (globals_of globals.now) (scope_of scope.old) (t.Do place (v.block_of read.now) (v.expression_of condition.now))).scope) }
+    ensures made { IfOk result (λ x. one (p.statement_of x)
+        ≡ (typing.statement (globals_of globals.now) (scope_of scope.old) (t.Do place (v.block_of read.now) (v.expression_of condition.now))).made) }
+    ensures noted { OnOk result (first_of faults.new ≡ noted (first_of faults.old)
+        (rules.statement_faults (globals_of globals.now) (scope_of scope.old) (t.Do place (v.block_of read.now) (v.expression_of condition.now)))) }
+    ensures scope { OnOk result (scope_of scope.new ≡ (typing.statement (globals_of globals.now) (scope_of scope.old)
+        (t.Do place (v.block_of read.now) (v.expression_of condition.now))).scope) }
     ensures stays { OnOk result (Stays scope.old scope.new) }
 {
     let body = body_of(alloc, globals, scope, faults, read)?;
@@ -339,7 +350,7 @@ fn do_statement(
     Ok(do_of(place, body, condition))
 }
 
-// The loop that a `for` is, in the scope of its own local.
+/// The loop that a `for` is, in the scope of its own local.
 #[cycle(statements)]
 #[tactic(auto, using(crate::proofs::Noted::noted_append))]
 fn loop_of_for(
@@ -348,19 +359,22 @@ fn loop_of_for(
     scope: &mut Scope,
     faults: &mut Faults,
     place: Place,
-    condition: &Option<Expression>,
-    end: &Option<Assignment>,
+    head: &Head,
     read: &Block,
 ) -> Result<program::Statement, AllocError>
-    ensures made { IfOk result (λ x. p.statement_of x ≡ loop_as (globals_of globals.now) place (scope_of scope.old) (option_map v.expression_of condition.now) (option_map v.assignment_of end.now) (v.block_of read.now)) }
-    ensures noted { OnOk result (first_of faults.new ≡ noted (first_of faults.old) (loop_faults (globals_of globals.now) (scope_of scope.old) (option_map v.expression_of condition.now) (option_map v.assignment_of end.now) (v.block_of read.now))) }
+    ensures made { IfOk result (λ x. p.statement_of x ≡ loop_as (globals_of globals.now) place (scope_of scope.old)
+        (option_map v.expression_of head.now.condition) (option_map v.assignment_of head.now.last) (v.block_of read.now)) }
+    ensures noted { OnOk result (first_of faults.new ≡ noted (first_of faults.old)
+        (loop_faults (globals_of globals.now) (scope_of scope.old) (option_map v.expression_of head.now.condition) (option_map v.assignment_of head.now.last)
+        (v.block_of read.now))) }
     ensures scope { OnOk result (scope_of scope.new ≡ (typing.inside (globals_of globals.now) (scope_of scope.old) (v.block_of read.now)).scope) }
     ensures stays { OnOk result (Stays scope.old scope.new) }
 {
-    let condition = condition_of_for(alloc, globals, scope, faults, place, condition)?;
-    let end = last(alloc, globals, scope, faults, place, end)?;
+    let condition = condition_of_for(alloc, globals, scope, faults, place, &head.condition)?;
+    let end = last(alloc, globals, scope, faults, place, &head.last)?;
     let mut body = body_of(alloc, globals, scope, faults, read)?;
     add_some(&mut body, end)?;
+    body.shrink_to_fit();
     Ok(while_of(place, condition, body))
 }
 
@@ -374,12 +388,14 @@ fn body_of(
     read: &Block,
 ) -> Result<Vec<program::Statement>, AllocError>
     ensures made { IfOk result (λ xs. p.statements_of xs.items ≡ (typing.inside (globals_of globals.now) (scope_of scope.old) (v.block_of read.now)).made) }
-    ensures noted { OnOk result (first_of faults.new ≡ noted (first_of faults.old) (rules.block_faults (globals_of globals.now) (scope_of scope.old) (v.block_of read.now))) }
+    ensures noted { OnOk result (first_of faults.new ≡ noted (first_of faults.old)
+        (rules.block_faults (globals_of globals.now) (scope_of scope.old) (v.block_of read.now))) }
     ensures scope { OnOk result (scope_of scope.new ≡ (typing.inside (globals_of globals.now) (scope_of scope.old) (v.block_of read.now)).scope) }
     ensures stays { OnOk result (Stays scope.old scope.new) }
 {
     let mut made = Vec::new(alloc);
     block(alloc, globals, scope, faults, read, &mut made)?;
+    made.shrink_to_fit();
     Ok(made)
 }
 
@@ -393,8 +409,10 @@ fn block(
     read: &Block,
     made: &mut Vec<program::Statement>,
 ) -> Result<(), AllocError>
-    ensures made { OnOk result (p.statements_of made.new.items ≡ statements_and (p.statements_of made.old.items) (typing.inside (globals_of globals.now) (scope_of scope.old) (v.block_of read.now)).made) }
-    ensures noted { OnOk result (first_of faults.new ≡ noted (first_of faults.old) (rules.block_faults (globals_of globals.now) (scope_of scope.old) (v.block_of read.now))) }
+    ensures made { OnOk result (p.statements_of made.new.items
+        ≡ statements_and (p.statements_of made.old.items) (typing.inside (globals_of globals.now) (scope_of scope.old) (v.block_of read.now)).made) }
+    ensures noted { OnOk result (first_of faults.new ≡ noted (first_of faults.old)
+        (rules.block_faults (globals_of globals.now) (scope_of scope.old) (v.block_of read.now))) }
     ensures scope { OnOk result (scope_of scope.new ≡ (typing.inside (globals_of globals.now) (scope_of scope.old) (v.block_of read.now)).scope) }
     ensures stays { OnOk result (Stays scope.old scope.new) }
 {
@@ -414,8 +432,10 @@ pub fn statements(
     read: &[Statement],
     made: &mut Vec<program::Statement>,
 ) -> Result<(), AllocError>
-    ensures made { OnOk result (p.statements_of made.new.items ≡ statements_and (p.statements_of made.old.items) (typing.statements (globals_of globals.now) (scope_of scope.old) (v.statements_of read.now)).made) }
-    ensures noted { OnOk result (first_of faults.new ≡ noted (first_of faults.old) (rules.statements_faults (globals_of globals.now) (scope_of scope.old) (v.statements_of read.now))) }
+    ensures made { OnOk result (p.statements_of made.new.items
+        ≡ statements_and (p.statements_of made.old.items) (typing.statements (globals_of globals.now) (scope_of scope.old) (v.statements_of read.now)).made) }
+    ensures noted { OnOk result (first_of faults.new ≡ noted (first_of faults.old)
+        (rules.statements_faults (globals_of globals.now) (scope_of scope.old) (v.statements_of read.now))) }
     ensures scope { OnOk result (scope_of scope.new ≡ (typing.statements (globals_of globals.now) (scope_of scope.old) (v.statements_of read.now)).scope) }
     ensures grows { OnOk result (Grows scope.old scope.new) }
 {
@@ -435,7 +455,8 @@ fn arms_of(
     read: &[tree::Arm],
 ) -> Result<Vec<Arm>, AllocError>
     ensures made { IfOk result (λ xs. p.arms_list_of xs.items ≡ (typing.arms_of (globals_of globals.now) (scope_of scope.old) (v.arms_list_of read.now)).made) }
-    ensures noted { OnOk result (first_of faults.new ≡ noted (first_of faults.old) (rules.arms_faults (globals_of globals.now) (scope_of scope.old) (v.arms_list_of read.now))) }
+    ensures noted { OnOk result (first_of faults.new ≡ noted (first_of faults.old)
+        (rules.arms_faults (globals_of globals.now) (scope_of scope.old) (v.arms_list_of read.now))) }
     ensures scope { OnOk result (scope_of scope.new ≡ (typing.arms_of (globals_of globals.now) (scope_of scope.old) (v.arms_list_of read.now)).scope) }
     ensures stays { OnOk result (Stays scope.old scope.new) }
 {
@@ -445,5 +466,6 @@ fn arms_of(
         let body = body_of(alloc, globals, scope, faults, &arm.block)?;
         made.push(Arm { condition, body })?;
     }
+    made.shrink_to_fit();
     Ok(made)
 }

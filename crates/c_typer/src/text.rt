@@ -1,23 +1,17 @@
 //! Rules of the whole text.
 ghost use Rattle.std.specs.Prelude.{◌≡◌, ℕ, ◌+◌, ◌*◌, ◌≤◌, [], map};
 ghost use Rattle.c_tree.specs.TypeRules as rules;
-ghost use Rattle.c_tree.specs.TypeRules.{most_mutexes, most_threads};
 ghost use Rattle.c_tree.specs.Views.{items_of, persistent_of};
 ghost use Rattle.c_tree.specs.declared.rule.Rule.TheVariants as rule;
-ghost use Rattle.c_typer.specs.Noted.{first_of, noted};
-ghost use Rattle.c_typer.specs.Scopes.{globals_of};
+ghost use Rattle.c_typer.specs.links.Noted.{first_of, noted};
+ghost use Rattle.c_typer.specs.links.Scopes.{globals_of};
 
 use crate::faults::Faults;
 use crate::globals::Globals;
 use crate::item::element_count;
 use c_tree::rule::Rule;
 use c_tree::tree::{Item, Persistent, Tree};
-
-const MOST_THREADS: usize = 8;
-
-const MOST_MUTEXES: usize = 64;
-
-const MOST_VARIABLE_BYTES: u128 = 65536;
+use ido_base::limits::{MOST_MUTEXES, MOST_THREADS, MOST_VARIABLE_BYTES};
 
 /// Notes each second declaration of a name.
 pub fn note_second_declarations(globals: &Globals, faults: &mut Faults)
@@ -33,9 +27,9 @@ pub fn note_second_declarations(globals: &Globals, faults: &mut Faults)
 /// Notes the first thread past the eighth.
 #[tactic(auto, using(crate::proofs::Whole::pasts))]
 pub fn note_threads(tree: &Tree, faults: &mut Faults)
-    ensures { first_of faults.new ≡ noted (first_of faults.old) (rules.past rule.Threads most_threads (rules.thread_names (items_of tree.now))) }
+    ensures { first_of faults.new ≡ noted (first_of faults.old) (rules.past rule.Threads MOST_THREADS (rules.thread_names (items_of tree.now))) }
 {
-    let mut left = MOST_THREADS;
+    let mut left = MOST_THREADS as usize;
     for item in &tree.items {
         if let Item::Thread(thread) = item {
             if left == 0 {
@@ -50,9 +44,9 @@ pub fn note_threads(tree: &Tree, faults: &mut Faults)
 /// Notes the first mutex past the 64th.
 #[tactic(auto, using(crate::proofs::Whole::pasts))]
 pub fn note_mutexes(tree: &Tree, faults: &mut Faults)
-    ensures { first_of faults.new ≡ noted (first_of faults.old) (rules.past rule.Mutexes most_mutexes (rules.mutex_names (items_of tree.now))) }
+    ensures { first_of faults.new ≡ noted (first_of faults.old) (rules.past rule.Mutexes MOST_MUTEXES (rules.mutex_names (items_of tree.now))) }
 {
-    let mut left = MOST_MUTEXES;
+    let mut left = MOST_MUTEXES as usize;
     for item in &tree.items {
         if let Item::Mutex(name) = item {
             if left == 0 {
@@ -64,9 +58,9 @@ pub fn note_mutexes(tree: &Tree, faults: &mut Faults)
     }
 }
 
-// Where a variable ends, if the one before it ends at `end`.
+/// Where a variable ends, if the one before it ends at `end`.
 fn end_behind(end: u128, variable: &Persistent) -> u128
-    requires { end ≤ 65536 }
+    requires { end ≤ MOST_VARIABLE_BYTES }
     ensures { result ≡ rules.end_behind end (persistent_of variable.now) }
 {
     let bytes = u128::from(variable.kind.bytes());
@@ -82,7 +76,7 @@ pub fn note_bytes(tree: &Tree, faults: &mut Faults)
     for item in &tree.items {
         if let Item::Persistent(variable) = item {
             end = end_behind(end, variable);
-            if end > MOST_VARIABLE_BYTES {
+            if end > MOST_VARIABLE_BYTES as u128 {
                 faults.note(Rule::Bytes, variable.name.place);
                 return;
             }

@@ -35,7 +35,7 @@ use Rattle.rv64_link.specs.Linked.{Stands}
 use Rattle.thread_code.specs.Performing.{Places}
 use Rattle.thread_code.specs.Programs.{IsCalling}
 use Rattle.thread_runs.specs.Laws.{MarksPass, WaysGoOn, left_of, GivesMutex}
-use Rattle.thread_runs.specs.Ways.{Aim, Arrives, Keeps, Asks, Took, Gives, Ends, IsOnWay, IsPlaced, end_of}
+use Rattle.thread_runs.specs.Ways.{Aim, Arrives, Keeps, Asks, Took, Gives, Ends, IsOnWay, IsPlaced, end_of, on_machine}
 use Rattle.thread_runs.proofs.Locking.{locks_take, locks_wait}
 use Rattle.thread_runs.proofs.Unlocking.{unlocks_give, ends_end}
 use Rattle.thread_runs.proofs.Arriving.{unlocks_go_on}
@@ -48,7 +48,8 @@ use Rattle.resumed_programs.specs.Standing.{AreHeld}
 use Rattle.resumed_programs.specs.Moving as moving
 use Rattle.resumed_programs.specs.Moving.{OnWayNow, thread_of}
 use Rattle.resumed_programs.proofs.Bare.{bare, bare_agrees, bare_meets, bare_reads, placed}
-use Rattle.resumed_programs.proofs.Calling.{none_from, way, lock, owns, none_here}
+use Rattle.resumed_programs.proofs.AtCalls.{none_from, way, lock}
+use Rattle.resumed_programs.proofs.Calling.{owns, none_here}
 use Rattle.resumed_programs.proofs.Holding.{mutex_there}
 use Rattle.resumed_programs.proofs.Ready.{chosen_or_not, chosen_stores}
 use Rattle.compilation.proofs.Where.{RunsOn, IsWhere, on_run, at_call}
@@ -251,7 +252,7 @@ module _ (y : System) (s : IsSystem y) (h : ℕ) (below : h < thread_count y) wh
         no_pass r.run.setting.around (moment on.hart.registers on.hart.pc) on.walks.0 passes.instr (same_Some passes.instr Ecall (sym fetched ∙ is)) passes.does
 
     module _ (left : ℕ) (setting : Setting) (aim : Aim) (node : ℕ) (seen : Seen) (bank : ℕ) (effects : List Effect)
-        (mine : IsOnWay y.plan code.thread c y.program w n setting (record { aim = aim; node = node; seen = seen; bank = bank }) 0 effects) where
+        (mine : IsOnWay y.plan code.thread c (on_machine y.program w n setting) (record { aim = aim; node = node; seen = seen; bank = bank }) 0 effects) where
       registers_same : (hart : Hart) (registers : List ℕ) (pc : ℕ) → slice_get w.harts n ≡ Some hart → moment hart.registers hart.pc ≡ moment registers pc →
           mine.registers ≡ registers
       registers_same hart registers pc here is =
@@ -263,7 +264,8 @@ module _ (y : System) (s : IsSystem y) (h : ℕ) (below : h < thread_count y) wh
           ap (λ (m : Moment). instr_at y.program n m.pc) mine.on.walks.0 ∙ mine.agrees.fetches _ Ecall (mine.meets.fetches _ Ecall there)
 
     module _ (left : ℕ) (setting : Setting) (node mutex next : ℕ) (seen : Seen) (bank : ℕ) (effects : List Effect)
-        (mine : IsOnWay y.plan code.thread c y.program w n setting (record { aim = Asks mutex next; node = node; seen = seen; bank = bank }) 0 effects) where
+        (mine : IsOnWay y.plan code.thread c (on_machine y.program w n setting) (record { aim = Asks mutex next; node = node; seen = seen; bank = bank })
+        0 effects) where
       asks_calls : IsCalling y.plan code.thread c (Lock mutex next) node
       asks_calls =
           let it = mine.of_graph in
@@ -285,7 +287,7 @@ module _ (y : System) (s : IsSystem y) (h : ℕ) (below : h < thread_count y) wh
       asks_where (at_call o zero_left calling) = asks_by_call o.aim o zero_left calling refl
 
     module _ (left : ℕ) (setting : Setting) (node : ℕ) (seen : Seen) (bank : ℕ) (effects : List Effect)
-        (mine : IsOnWay y.plan code.thread c y.program w n setting (record { aim = Ends; node = node; seen = seen; bank = bank }) 0 effects) where
+        (mine : IsOnWay y.plan code.thread c (on_machine y.program w n setting) (record { aim = Ends; node = node; seen = seen; bank = bank }) 0 effects) where
       ends_calls : IsCalling y.plan code.thread c End node
       ends_calls =
           let it = mine.of_graph in
@@ -305,7 +307,8 @@ module _ (y : System) (s : IsSystem y) (h : ℕ) (below : h < thread_count y) wh
       ends_where (at_call o zero_left calling) = ends_by_call o.aim o zero_left calling refl
 
     module _ (left : ℕ) (setting : Setting) (from mutex node : ℕ) (seen : Seen) (bank : ℕ) (effects : List Effect)
-        (mine : IsOnWay y.plan code.thread c y.program w n setting (record { aim = Gives from mutex; node = node; seen = seen; bank = bank }) 0 effects)
+        (mine : IsOnWay y.plan code.thread c (on_machine y.program w n setting)
+        (record { aim = Gives from mutex; node = node; seen = seen; bank = bank }) 0 effects)
         (fit : length mine.on.hart.queue + suc (c.words from + ahead y.plan c node) ≤ left) where
       gives_calls : IsCalling y.plan code.thread c (Unlock mutex node) from
       gives_calls =
@@ -319,7 +322,8 @@ module _ (y : System) (s : IsSystem y) (h : ℕ) (below : h < thread_count y) wh
         abbrev new : Hart
         new = record (gone_on mine.on.hart) { phase = phase_behind w n left_holders }
 
-        given : GivesMutex y.plan code.thread c y.program w n setting from mutex node seen bank mine.on.hart mine.registers
+        given : GivesMutex y.plan code.thread c (on_machine y.program w n setting) from mutex
+            (record { aim = Gives from mutex; node = node; seen = seen; bank = bank }) mine.on.hart mine.registers
         given = unlocks_give calls_count y.plan code.thread y.program code.program code.is w n setting from mutex node seen bank effects placed_here mine owned
 
         new_here : slice_get after.harts n ≡ Some new
@@ -374,7 +378,8 @@ module _ (y : System) (s : IsSystem y) (h : ℕ) (below : h < thread_count y) wh
 
     module _ (left : ℕ) (g : Goes w left) where
       call_by : (aim : Aim) (node : ℕ) (seen : Seen) (bank steps : ℕ) (effects : List Effect)
-          (mine : IsOnWay y.plan code.thread c y.program w n g.setting (record { aim = aim; node = node; seen = seen; bank = bank }) steps effects) →
+          (mine : IsOnWay y.plan code.thread c (on_machine y.program w n g.setting) (record { aim = aim; node = node; seen = seen; bank = bank })
+          steps effects) →
           left_of y.plan code.thread c mine + legs.beyond y.plan code.thread code.program code.is y.program y.marks n aim node ≤ left → steps ≡ 0 →
           legs.IsCall y.plan code.thread code.program code.is y.program y.marks n aim → Steps w left
       call_by aim node seen bank (suc steps) effects mine soon none call = absurd (let k : suc steps ≡ 0 = none in omega (arith, k))

@@ -25,7 +25,7 @@ use Rattle.thread_code.specs.Plans.{IsNodeOf}
 use Rattle.thread_code.specs.Entering.{IsPendingIn, Enters}
 use Rattle.thread_code.specs.Performing.{Places}
 use Rattle.thread_code.proofs.Locals.{locals_are}
-use Rattle.thread_runs.specs.Ways.{Arrives, Keeps, IsOnWay, IsPlaced}
+use Rattle.thread_runs.specs.Ways.{Arrives, Keeps, IsOnWay, IsPlaced, on_machine}
 use Rattle.thread_runs.specs.Laws.{IsOnSomeWay}
 use Rattle.thread_runs.proofs.Arriving.{locks_go_on, unlocks_go_on}
 use Rattle.thread_runs.proofs.Cores.{threads_start}
@@ -118,7 +118,7 @@ module _ (y : System) (s : IsSystem y) (h : ℕ) (below : h < thread_count y) wh
     abbrev placed_here : IsPlaced y.plan code.thread c (length w.harts)
     placed_here = placed y s w h below count
 
-    on_way : (stage : _) (steps : ℕ) (way : IsOnWay y.plan code.thread c y.program w n z stage steps []) →
+    on_way : (stage : _) (steps : ℕ) (way : IsOnWay y.plan code.thread c (on_machine y.program w n z) stage steps []) →
         steps + 16 + legs.beyond y.plan code.thread code.program code.is y.program y.marks n stage.aim stage.node ≤ most y s h below →
         soon.Goes y s h below w (most y s h below)
     on_way stage steps way fit =
@@ -151,7 +151,7 @@ module _ (y : System) (s : IsSystem y) (h : ℕ) (below : h < thread_count y) wh
 
     -- at the entry of one
     at_entry : (node : ℕ) (seen : Seen) (bank : ℕ)
-        (way : IsOnWay y.plan code.thread c y.program w n z (record { aim = Arrives; node = node; seen = seen; bank = bank }) 0 []) →
+        (way : IsOnWay y.plan code.thread c (on_machine y.program w n z) (record { aim = Arrives; node = node; seen = seen; bank = bank }) 0 []) →
         soon.Goes y s h below w (most y s h below)
     at_entry node seen bank way =
         let few = ahead_few (c.words node) (slice_get y.plan.graph.nodes node) in
@@ -160,7 +160,7 @@ module _ (y : System) (s : IsSystem y) (h : ℕ) (below : h < thread_count y) wh
 
     -- on the way from a lock or an unlock to the next node
     from_call : (from node : ℕ) (seen : Seen) (bank : ℕ) → 2 * c.words from + ahead y.plan c node + 4 ≤ 2 * length code.program.code →
-        IsOnSomeWay y.plan code.thread c y.program w n z (record { aim = Arrives; node = node; seen = seen; bank = bank }) (c.words from) [] →
+        IsOnSomeWay y.plan code.thread c (on_machine y.program w n z) (record { aim = Arrives; node = node; seen = seen; bank = bank }) (c.words from) [] →
         soon.Goes y s h below w (most y s h below)
     from_call from node seen bank fit some =
         let most_steps = some.short in
@@ -199,7 +199,7 @@ module _ (y : System) (s : IsSystem y) (h : ℕ) (below : h < thread_count y) wh
     tells =
         subst (λ (done : Bool). Tells y.plan code (kept_of y b) (if done then course.new else course.old)) rests.committed (stands.trails.each h below).tells
 
-    go : GoesOn y.program y.plan code (kept_of y b) w i.hart course.new
+    go : GoesOn y.program code (kept_of y b) w i.hart course.new
     go =
         let ready : IsReady w h course.new = subst (λ (p : Phase). HasGathered w h course.new p) i.phase_is (ag.each h i.hart i.here) in
         harts_go_on y.program y.plan code (kept_of y b) w course.new tells (subst (λ (k : ℕ). IsReady w k course.new) (sym same) ready)

@@ -28,7 +28,7 @@ spread : (n : ℕ) (ws : List ℕ) → n ≤ 8192 → 8192 ≤ length ws → ((i
     spread_words n (take n ws ++ drop 8192 ws) ≡ ws
 unfolding spread_words
 spread n ws few many between =
-    let front : length (take n ws) ≡ n = length-take-le n ws (omega (arith, few, many)) in
+    let prefix : length (take n ws) ≡ n = length-take-le n ws (omega (arith, few, many)) in
     let rest = length-drop n ws in
     let sum : n + (8192 - n) ≡ 8192 = omega (arith, few) in
     let behind : drop (8192 - n) (drop n ws) ≡ drop 8192 ws = drop-drop (8192 - n) n ws ∙ ap (λ (k : ℕ). drop k ws) sum in
@@ -36,9 +36,9 @@ spread n ws few many between =
     zeros_are (8192 - n) (drop n ws) (omega (arith, rest, many)) (λ i below.
     get_or-drop n ws i 0 ∙ between (n + i) (omega arith) (omega (arith, below))) in
     let own : take n (take n ws ++ drop 8192 ws) ≡ take n ws =
-    ap (λ (k : ℕ). take k (take n ws ++ drop 8192 ws)) (sym front) ∙ take-append_seam (take n ws) (drop 8192 ws) in
+    ap (λ (k : ℕ). take k (take n ws ++ drop 8192 ws)) (sym prefix) ∙ take-append_seam (take n ws) (drop 8192 ws) in
     let logs : drop n (take n ws ++ drop 8192 ws) ≡ drop 8192 ws =
-    ap (λ (k : ℕ). drop k (take n ws ++ drop 8192 ws)) (sym front) ∙ drop-append_seam (take n ws) (drop 8192 ws) in
+    ap (λ (k : ℕ). drop k (take n ws ++ drop 8192 ws)) (sym prefix) ∙ drop-append_seam (take n ws) (drop 8192 ws) in
     ap₂ (λ (us vs : List ℕ). us ++ replicate (8192 - n) 0 ++ vs) own logs
     ∙ (ap₂ (λ (us vs : List ℕ). take n ws ++ us ++ vs) (sym zeros) (sym behind)
     ∙ (append_assoc (take n ws) (take (8192 - n) (drop n ws)) (drop (8192 - n) (drop n ws))
@@ -78,11 +78,11 @@ module _ (stand : EventsStand) (stay : WordsBetweenStay) (y : System) (s : IsSys
   in_file =
       let all = size in
       let inside = few in
-      let front = length-take-le n image.words (omega (arith, all, inside)) in
+      let prefix = length-take-le n image.words (omega (arith, all, inside)) in
       let logs = length-drop 8192 image.words in
       let both = length-append (take n image.words) (drop 8192 image.words) in
       record {
-        size = omega (arith, front, logs, both, all);
+        size = omega (arith, prefix, logs, both, all);
         is_all =
             ap (λ (ws : List ℕ). record { words = ws; kept = image.kept })
             (spread n image.words few (omega (arith, all)) between);

@@ -20,7 +20,7 @@ itself xs = record { rest = []; is = sym (append-nil xs) }
 further : (xs ys zs : List ℕ) → BeginsWith zs ys → BeginsWith ys xs → BeginsWith zs xs
 further xs ys zs more first = record {
   rest = first.rest ++ more.rest;
-  is = more.is ∙ (ap (λ (front : List ℕ). front ++ more.rest) first.is ∙ append_assoc xs first.rest more.rest);
+  is = more.is ∙ (ap (λ (prefix : List ℕ). prefix ++ more.rest) first.is ∙ append_assoc xs first.rest more.rest);
 }
 
 -- ---- Accounts
@@ -38,7 +38,7 @@ event_grows : (marks : List (List ℕ)) (program : List (List Slot)) (w : World)
     BeginsWith (steps_after marks program w event s).kept s.kept
 unfolding steps_after
 event_grows marks program w (Step h) s =
-    subst (λ (front : List ℕ). BeginsWith (steps_after marks program w (Step h) s).kept front) (step_kept marks program w h s)
+    subst (λ (prefix : List ℕ). BeginsWith (steps_after marks program w (Step h) s).kept prefix) (step_kept marks program w h s)
     (all_kept (after_event program w (Step h)).words (length s.harts) (with_step marks program w h s))
 event_grows marks program w (Evict line mask) s = all_kept (after_event program w (Evict line mask)).words (length s.harts) s
 event_grows marks program w Crash s = itself s.kept

@@ -64,32 +64,32 @@ module _ (marks : List (List ℕ)) (program : List (List Slot)) where
 -- ---- The account behind what was begun before
 
 abbrev ahead : List ℕ → Steps → Steps
-ahead front s = record s { begun = front ++ s.begun }
+ahead prefix s = record s { begun = prefix ++ s.begun }
 
-either : (front : List ℕ) (b : Bool) (x y u v : Steps) → x ≡ ahead front u → y ≡ ahead front v → cond b x y ≡ ahead front (cond b u v)
-either front true x y u v p q = p
-either front false x y u v p q = q
+either : (prefix : List ℕ) (b : Bool) (x y u v : Steps) → x ≡ ahead prefix u → y ≡ ahead prefix v → cond b x y ≡ ahead prefix (cond b u v)
+either prefix true x y u v p q = p
+either prefix false x y u v p q = q
 
-module _ (front : List ℕ) where
-  begun_ahead : (h : ℕ) (s : Steps) → with_begun h (ahead front s) ≡ ahead front (with_begun h s)
-  begun_ahead h s = ap (λ (begun : List ℕ). record (with_begun h s) { begun = begun }) (append_assoc front s.begun (h ∷ []))
+module _ (prefix : List ℕ) where
+  begun_ahead : (h : ℕ) (s : Steps) → with_begun h (ahead prefix s) ≡ ahead prefix (with_begun h s)
+  begun_ahead h s = ap (λ (begun : List ℕ). record (with_begun h s) { begun = begun }) (append_assoc prefix s.begun (h ∷ []))
 
-  kept_ahead : (words : List Word) (count : ℕ) (s : Steps) → with_all_kept words count (ahead front s) ≡ ahead front (with_all_kept words count s)
+  kept_ahead : (words : List Word) (count : ℕ) (s : Steps) → with_all_kept words count (ahead prefix s) ≡ ahead prefix (with_all_kept words count s)
   kept_ahead words zero s = refl
   kept_ahead words (suc h) s = ap (with_kept words h) (kept_ahead words h s)
 
   module _ (marks : List (List ℕ)) (program : List (List Slot)) where
-    step_ahead : (w : World) (h : ℕ) (s : Steps) → with_step marks program w h (ahead front s) ≡ ahead front (with_step marks program w h s)
+    step_ahead : (w : World) (h : ℕ) (s : Steps) → with_step marks program w h (ahead prefix s) ≡ ahead prefix (with_step marks program w h s)
     step_ahead w h s =
         let started = λ (t : Steps). cond (passes_mark marks program w h) (with_begun h t) t in
         let position = last_position (word_at (after_event program w (Step h)).words (word_number (point_at h))) in
-        let same : started (ahead front s) ≡ ahead front (started s) =
-        either front (passes_mark marks program w h) (with_begun h (ahead front s)) (ahead front s) (with_begun h s) s (begun_ahead h s) refl in
-        either front (stores_point program w (Step h) h) (with_bound h position (started (ahead front s))) (started (ahead front s))
+        let same : started (ahead prefix s) ≡ ahead prefix (started s) =
+        either prefix (passes_mark marks program w h) (with_begun h (ahead prefix s)) (ahead prefix s) (with_begun h s) s (begun_ahead h s) refl in
+        either prefix (stores_point program w (Step h) h) (with_bound h position (started (ahead prefix s))) (started (ahead prefix s))
         (with_bound h position (started s)) (started s) (ap (with_bound h position) same) same
 
     event_ahead : (w : World) (event : Event) (s : Steps) →
-        steps_after marks program w event (ahead front s) ≡ ahead front (steps_after marks program w event s)
+        steps_after marks program w event (ahead prefix s) ≡ ahead prefix (steps_after marks program w event s)
     unfolding steps_after
     event_ahead w (Step h) s =
         let words = (after_event program w (Step h)).words in
@@ -98,7 +98,7 @@ module _ (front : List ℕ) where
     event_ahead w Crash s = refl
 
     along_ahead : (events : List Event) (w : World) (s : Steps) →
-        steps_along marks program w events (ahead front s) ≡ ahead front (steps_along marks program w events s)
+        steps_along marks program w events (ahead prefix s) ≡ ahead prefix (steps_along marks program w events s)
     along_ahead [] w s = refl
     along_ahead (event ∷ events) w s =
         ap (steps_along marks program (after_event program w event) events) (event_ahead w event s)
@@ -166,11 +166,11 @@ module _ (c : Translation) (before : List Event) where
 
     steps_same : ahead (steps c before).begun (steps_from c (image_of c before) events) ≡ steps c (before ++ Crash ∷ events)
     steps_same =
-        let front = (steps c before).begun in
+        let prefix = (steps c before).begun in
         let first = first_steps (length c.program) (steps c before).kept in
         sym (steps_on c.marks c.program before (Crash ∷ events) (first_world c) (first_steps (length c.program) [])
         ∙ (ap₂ (λ (w : World) (s : Steps). steps_along c.marks c.program w events s) crash_is dropped_is
-        ∙ along_ahead front c.marks c.program events (first_from c (image_of c before)) first))
+        ∙ along_ahead prefix c.marks c.program events (first_from c (image_of c before)) first))
 
     crashed : IsCrashed c before events
     crashed = record {
@@ -190,10 +190,10 @@ images_are_resumed grow kept y s before events =
     let c = translation_of y in
     let same = crashed c before events in
     let all = kept y s (before ++ Crash ∷ events) in
-    let front = grow c before (Crash ∷ events) in
+    let prefix = grow c before (Crash ∷ events) in
     record {
       runs = subst (λ (schedule : List ℕ). Runs c schedule) (sym same.kept_is) all.runs;
-      grows = record { rest = front.rest; is = same.kept_is ∙ front.is };
+      grows = record { rest = prefix.rest; is = same.kept_is ∙ prefix.is };
       between = λ settled thread.
           ap (λ (schedule : List ℕ). is_between (source c schedule) thread) same.kept_is
           ∙ all.between (ap is_settled (sym same.world_is) ∙ settled) thread;

@@ -26,7 +26,7 @@ use Rattle.thread_code.specs.Plans.{Plan, Thread, IsNodeOf}
 use Rattle.thread_code.specs.Entering.{IsAnswered, source_of}
 use Rattle.thread_code.specs.Performing.{Places}
 use Rattle.thread_code.specs.Programs.{IsThreadCode, mark_of}
-use Rattle.thread_runs.specs.Ways.{Aim, Arrives, Keeps, Asks, Took, Gives, Ends, Stage, ReadsVariables, end_of, IsOnWay, IsAtCore, IsPlaced}
+use Rattle.thread_runs.specs.Ways.{Aim, Arrives, Keeps, Asks, Took, Gives, Ends, Stage, ReadsVariables, end_of, IsOnWay, IsAtCore, IsPlaced, on_machine}
 use Rattle.thread_runs.specs.Laws.{AreMarksOf, left_of, IsOnSomeWay, WaysGoOn}
 use Rattle.hart_runs.specs.Laws.{IsOfOthers}
 use Rattle.hart_runs.proofs.Others.{others_leave}
@@ -105,7 +105,7 @@ module _ (p : Plan) (t : Thread) (own : Program) (code : IsThreadCode p t own) (
     pub stage : Stage
     pub steps : ℕ
     pub effects : List Effect
-    pub way : IsOnWay p t c program w h s stage steps effects
+    pub way : IsOnWay p t c (on_machine program w h s) stage steps effects
     pub soon : left_of p t c way + beyond stage.aim stage.node ≤ left
 
   -- it stands at the mark
@@ -137,7 +137,8 @@ module _ (p : Plan) (t : Thread) (own : Program) (code : IsThreadCode p t own) (
       (chosen_weighs : (node : ℕ) (is : Node) → NodeAt p.graph node is → IsChosen p.graph p.boundaries node →
       (weight is.action (c.words node) ≡ 2 * c.words node) × (call_weight is.action (c.words node) ≡ 0)) where
     -- on a way of which so much is left
-    set_on : (stage : Stage) (steps : ℕ) (effects : List Effect) (way : IsOnWay p t c program w h s stage steps effects) (left : ℕ) → IsCall stage.aim →
+    set_on : (stage : Stage) (steps : ℕ) (effects : List Effect) (way : IsOnWay p t c (on_machine program w h s) stage steps effects) (left : ℕ) →
+        IsCall stage.aim →
         left_of p t c way + beyond stage.aim stage.node ≤ left → IsSet w s left
     set_on stage zero effects way left call soon = calls (record { stage = stage; steps = zero; effects = effects; way = way; soon = soon }) refl call
     set_on stage (suc steps) effects way left call soon =
@@ -147,7 +148,7 @@ module _ (p : Plan) (t : Thread) (own : Program) (code : IsThreadCode p t own) (
     queue_same : (one other : Hart) → slice_get w.harts h ≡ Some one → slice_get w.harts h ≡ Some other → length one.queue ≡ length other.queue
     queue_same one other here there = ap (λ (x : Hart). length x.queue) (same_there (slice_get w.harts h) one other here there)
 
-    way_left : (stage : Stage) (steps : ℕ) (effects : List Effect) (way : IsOnWay p t c program w h s stage steps effects) (hart : Hart) →
+    way_left : (stage : Stage) (steps : ℕ) (effects : List Effect) (way : IsOnWay p t c (on_machine program w h s) stage steps effects) (hart : Hart) →
         slice_get w.harts h ≡ Some hart → left_of p t c way ≤ 2 * steps + length hart.queue
     way_left stage steps effects way hart here =
         let cleans : cleans_in (seen_effects effects) ≤ steps =
@@ -156,7 +157,7 @@ module _ (p : Plan) (t : Thread) (own : Program) (code : IsThreadCode p t own) (
         let queue = queue_same way.on.hart hart way.on.here here in
         omega (arith, cleans, queue)
 
-    none_cleaned : (stage : Stage) (steps : ℕ) (way : IsOnWay p t c program w h s stage steps []) (hart : Hart) →
+    none_cleaned : (stage : Stage) (steps : ℕ) (way : IsOnWay p t c (on_machine program w h s) stage steps []) (hart : Hart) →
         slice_get w.harts h ≡ Some hart → left_of p t c way ≡ steps + length hart.queue
     none_cleaned stage steps way hart here =
         let queue = queue_same way.on.hart hart way.on.here here in
@@ -186,7 +187,8 @@ module _ (p : Plan) (t : Thread) (own : Program) (code : IsThreadCode p t own) (
 
         at_lock : (mutex next : ℕ) → found.0.action ≡ Lock mutex next → IsSet w s left
         at_lock mutex next e =
-            let some : IsOnSomeWay p t c program w h s (record { aim = Asks mutex next; node = node; seen = seen; bank = bank }) (c.words node) [] =
+            let some : IsOnSomeWay p t c (on_machine program w h s) (record { aim = Asks mutex next; node = node; seen = seen; bank = bank })
+            (c.words node) [] =
             nodes_begin p t program own code w h s node seen bank registers found.0 (a.Takes mutex next) placed meets agrees reads found.1
             (ap (λ (z : Action). effect_of z seen) e)
             (subst (λ (z : Action). IsAnswered (source_of p t seen) s.around.loads z) (sym e) tt) tt core in
@@ -208,7 +210,7 @@ module _ (p : Plan) (t : Thread) (own : Program) (code : IsThreadCode p t own) (
     -- ---- Where a way ends
 
     keeps_set : (node : ℕ) (seen : Seen) (bank steps : ℕ) (effects : List Effect)
-        (way : IsOnWay p t c program w h s (record { aim = Keeps; node = node; seen = seen; bank = bank }) steps effects) (left : ℕ) →
+        (way : IsOnWay p t c (on_machine program w h s) (record { aim = Keeps; node = node; seen = seen; bank = bank }) steps effects) (left : ℕ) →
         left_of p t c way + at_core_ahead p c node ≤ left → IsSet w s left
     keeps_set node seen bank (suc steps) effects way left soon =
         goes (record { stage = record { aim = Keeps; node = node; seen = seen; bank = bank }; steps = suc steps; effects = effects; way = way; soon = soon })
@@ -234,7 +236,7 @@ module _ (p : Plan) (t : Thread) (own : Program) (code : IsThreadCode p t own) (
         less_by End = omega arith
 
     arrives_set : (node : ℕ) (seen : Seen) (bank steps : ℕ) (effects : List Effect)
-        (way : IsOnWay p t c program w h s (record { aim = Arrives; node = node; seen = seen; bank = bank }) steps effects) (left : ℕ) →
+        (way : IsOnWay p t c (on_machine program w h s) (record { aim = Arrives; node = node; seen = seen; bank = bank }) steps effects) (left : ℕ) →
         left_of p t c way + ahead p c node ≤ left → IsSet w s left
     arrives_set node seen bank (suc steps) effects way left soon =
         goes (record { stage = record { aim = Arrives; node = node; seen = seen; bank = bank }; steps = suc steps; effects = effects; way = way; soon = soon })
@@ -260,7 +262,7 @@ module _ (p : Plan) (t : Thread) (own : Program) (code : IsThreadCode p t own) (
         ]
 
     took_set : (from node : ℕ) (seen : Seen) (bank steps : ℕ) (effects : List Effect)
-        (way : IsOnWay p t c program w h s (record { aim = Took from; node = node; seen = seen; bank = bank }) steps effects) (left : ℕ) →
+        (way : IsOnWay p t c (on_machine program w h s) (record { aim = Took from; node = node; seen = seen; bank = bank }) steps effects) (left : ℕ) →
         left_of p t c way + (c.words from + ahead p c node) ≤ left → IsSet w s left
     took_set from node seen bank (suc steps) effects way left soon =
         goes (record {
@@ -280,7 +282,7 @@ module _ (p : Plan) (t : Thread) (own : Program) (code : IsThreadCode p t own) (
     settled left o = by o.stage.aim o.stage.node o.stage.seen o.stage.bank o.steps o.effects o.way o.soon
       where
         by : (aim : Aim) (node : ℕ) (seen : Seen) (bank steps : ℕ) (effects : List Effect)
-            (way : IsOnWay p t c program w h s (record { aim = aim; node = node; seen = seen; bank = bank }) steps effects) →
+            (way : IsOnWay p t c (on_machine program w h s) (record { aim = aim; node = node; seen = seen; bank = bank }) steps effects) →
             left_of p t c way + beyond aim node ≤ left → IsSet w s left
         by Arrives node seen bank steps effects way soon = arrives_set node seen bank steps effects way left soon
         by Keeps node seen bank steps effects way soon = keeps_set node seen bank steps effects way left soon
@@ -309,7 +311,8 @@ module _ (p : Plan) (t : Thread) (own : Program) (code : IsThreadCode p t own) (
       IsNearer w (after_event program w (Step h)) s left
   goes_on law w s left sound o steps is = by o.steps o.way o.soon is
     where
-      by : (k : ℕ) (way : IsOnWay p t c program w h s o.stage k o.effects) → left_of p t c way + beyond o.stage.aim o.stage.node ≤ left → k ≡ suc steps →
+      by : (k : ℕ) (way : IsOnWay p t c (on_machine program w h s) o.stage k o.effects) →
+          left_of p t c way + beyond o.stage.aim o.stage.node ≤ left → k ≡ suc steps →
           IsNearer w (after_event program w (Step h)) s left
       by zero way soon e = absurd (let z : 0 ≡ suc steps = e in omega (arith, z))
       by (suc n) way soon e = elim (law p t c program w h s o.stage n o.effects sound way).0 [

@@ -74,16 +74,16 @@ module _ (x : f.Flat) (w : IsWellFormed x) (node : ℕ) (is : Node) (at : NodeAt
 
 -- ---- The last node of a thread
 
-get_front : {X : Type 0} (xs ys : List X) (k : ℕ) (x : X) → slice_get xs k ≡ Some x → slice_get (xs ++ ys) k ≡ Some x
-get_front [] ys k x h = cc
-get_front (y ∷ xs) ys zero x h = h
-get_front (y ∷ xs) ys (suc k) x h = get_front xs ys k x h
+get_prefix : {X : Type 0} (xs ys : List X) (k : ℕ) (x : X) → slice_get xs k ≡ Some x → slice_get (xs ++ ys) k ≡ Some x
+get_prefix [] ys k x h = cc
+get_prefix (y ∷ xs) ys zero x h = h
+get_prefix (y ∷ xs) ys (suc k) x h = get_prefix xs ys k x h
 
-get_back : {X : Type 0} (xs ys : List X) (k : ℕ) (x : X) → slice_get ys k ≡ Some x → slice_get (xs ++ ys) (length xs + k) ≡ Some x
-get_back [] ys k x h = let e : 0 + k ≡ k = omega arith in ap (slice_get ys) e ∙ h
-get_back (y ∷ xs) ys k x h =
+get_suffix : {X : Type 0} (xs ys : List X) (k : ℕ) (x : X) → slice_get ys k ≡ Some x → slice_get (xs ++ ys) (length xs + k) ≡ Some x
+get_suffix [] ys k x h = let e : 0 + k ≡ k = omega arith in ap (slice_get ys) e ∙ h
+get_suffix (y ∷ xs) ys k x h =
     let e : suc (length xs) + k ≡ suc (length xs + k) = omega arith in
-    ap (slice_get (y ∷ (xs ++ ys))) e ∙ get_back xs ys k x h
+    ap (slice_get (y ∷ (xs ++ ys))) e ∙ get_suffix xs ys k x h
 
 -- of nodes from a number on, the last one of a part ends the thread
 record HasEnd (ns : List Node) (first : ℕ) (p : Part) : Type 0 where
@@ -96,16 +96,16 @@ has_end : (ts : List f.Thread) (first k : ℕ) (p : Part) → slice_get (parts t
 has_end [] first k p g = cc
 has_end (t ∷ ts) first zero p g =
     let here : part t first ≡ p = cc in
-    let front = statements_nodes t.body first (first + statements_count t.body) in
-    let count : length front ≡ statements_count t.body = length-statements_nodes t.body first (first + statements_count t.body) in
-    let own : slice_get (thread_nodes t first) (length front + 0) ≡ Some (plain_node t.closing End) =
-    get_back front (plain_node t.closing End ∷ []) 0 (plain_node t.closing End) refl in
+    let prefix = statements_nodes t.body first (first + statements_count t.body) in
+    let count : length prefix ≡ statements_count t.body = length-statements_nodes t.body first (first + statements_count t.body) in
+    let own : slice_get (thread_nodes t first) (length prefix + 0) ≡ Some (plain_node t.closing End) =
+    get_suffix prefix (plain_node t.closing End ∷ []) 0 (plain_node t.closing End) refl in
     let ends : first + thread_count t ≡ p.end = ap (λ (q : Part). q.end) here in
     record {
       place = t.closing;
-      number = length front + 0;
+      number = length prefix + 0;
       last = omega (arith, count, ends);
-      there = get_front (thread_nodes t first) (threads_nodes ts (first + thread_count t)) (length front + 0) (plain_node t.closing End) own;
+      there = get_prefix (thread_nodes t first) (threads_nodes ts (first + thread_count t)) (length prefix + 0) (plain_node t.closing End) own;
     }
 has_end (t ∷ ts) first (suc k) p g =
     let more = has_end ts (first + thread_count t) k p g in
@@ -115,7 +115,7 @@ has_end (t ∷ ts) first (suc k) p g =
       place = more.place;
       number = length (thread_nodes t first) + more.number;
       last = omega (arith, count, last);
-      there = get_back (thread_nodes t first) (threads_nodes ts (first + thread_count t)) more.number (plain_node more.place End) more.there;
+      there = get_suffix (thread_nodes t first) (threads_nodes ts (first + thread_count t)) more.number (plain_node more.place End) more.there;
     }
 
 -- the thread's end

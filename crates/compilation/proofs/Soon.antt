@@ -22,7 +22,7 @@ use Rattle.hart_runs.specs.Steps.{cleans_in}
 use Rattle.thread_code.specs.Plans.{IsNodeOf}
 use Rattle.thread_code.specs.Performing.{Places, keeping}
 use Rattle.thread_runs.specs.Laws.{MarksPass, WaysGoOn, AreMarksOf, IsAtSomeMark, Passes, Stays, left_of, left_at}
-use Rattle.thread_runs.specs.Ways.{Aim, Asks, Gives, Ends, Stage, IsOnWay, stage_behind, IsPlaced, ReadsVariables, IsLockOf}
+use Rattle.thread_runs.specs.Ways.{Aim, Asks, Gives, Ends, Stage, IsOnWay, stage_behind, IsPlaced, ReadsVariables, IsLockOf, on_machine}
 use Rattle.thread_runs.proofs.Graph.{next_by, next_follows}
 use Rattle.thread_runs.proofs.Left.{marks_are_bounded}
 use Rattle.recovered_threads.specs.Telling.{Code}
@@ -33,7 +33,8 @@ use Rattle.resumed_programs.specs.Standing.{AreHeld, Stands}
 use Rattle.resumed_programs.specs.Moving as moving
 use Rattle.resumed_programs.specs.Moving.{OnWayNow, AtCoreNow, thread_of}
 use Rattle.resumed_programs.proofs.Bare.{bare, bare_meets, bare_reads, placed}
-use Rattle.resumed_programs.proofs.Calling.{none_from, way, lock, owns, none_here}
+use Rattle.resumed_programs.proofs.AtCalls.{none_from, way, lock}
+use Rattle.resumed_programs.proofs.Calling.{owns, none_here}
 use Rattle.hart_runs.proofs.Counting.{calls_count}
 use Rattle.hart_runs.proofs.Queues.{queues_stay_short}
 use Rattle.thread_runs.proofs.Locking.{locks_take, locks_wait}
@@ -181,8 +182,8 @@ module _ (y : System) (s : IsSystem y) (h : ℕ) (below : h < thread_count y) wh
 
   module _ (w : World) (stands : Stands y s w) (z : Setting) (node : ℕ) (seen : Seen) (bank : ℕ) (registers : List ℕ) (is : Node) (e : a.Effect)
       (of : IsNodeOf code.thread node) (at : NodeAt y.plan.graph node is) (does : effect_of is.action seen ≡ Some e)
-      (m : IsAtSomeMark y.plan code.thread c y.program w n z node seen bank registers e)
-      (p : Passes y.plan code.thread c y.program w n z e (stage_behind y.plan code.thread c node seen bank e) m.steps m.effects m.at) where
+      (m : IsAtSomeMark y.plan code.thread c (on_machine y.program w n z) node seen bank registers e)
+      (p : Passes y.plan code.thread c (on_machine y.program w n z) e (stage_behind y.plan code.thread c node seen bank e) m.steps m.effects m.at) where
     abbrev after : World
     after = after_event y.program w (Step n)
 
@@ -251,15 +252,16 @@ module _ (y : System) (s : IsSystem y) (h : ℕ) (below : h < thread_count y) wh
     on_way o steps is =
         let stage : Stage = record { aim = o.aim; node = walker.at; seen = seen_now; bank = o.bank } in
         let effects : List Effect = (stands.trails.courses h).cleans ++ (stands.trails.courses h).rest in
-        let one = subst (λ (k : ℕ). IsOnWay y.plan code.thread c y.program w n o.setting stage k effects) is o.way in
+        let one = subst (λ (k : ℕ). IsOnWay y.plan code.thread c (on_machine y.program w n o.setting) stage k effects) is o.way in
         none_passed ((law y.plan code.thread c y.program w n o.setting stage steps effects stands.trails.sound one).1 y.marks (marks_are o.setting one.meets))
 
     -- at a mark it passes that, and is on its way behind it
     module _ (z : Setting) (bank : ℕ) (registers : List ℕ) (e : a.Effect) (is : Node) (at : NodeAt y.plan.graph walker.at is)
         (of : IsNodeOf code.thread walker.at) (does : effect_of is.action seen_now ≡ Some e) (reads : ReadsVariables z) (answers : AnswersHeld y s n w z)
-        (m : IsAtSomeMark y.plan code.thread c y.program w n z walker.at seen_now bank registers e) where
-      goes_by : (Passes y.plan code.thread c y.program w n z e (stage_behind y.plan code.thread c walker.at seen_now bank e) m.steps m.effects m.at) ⊎
-          (Stays y.plan code.thread c y.program w n z e (stage_behind y.plan code.thread c walker.at seen_now bank e) m.steps m.effects m.at) →
+        (m : IsAtSomeMark y.plan code.thread c (on_machine y.program w n z) walker.at seen_now bank registers e) where
+      goes_by : (Passes y.plan code.thread c (on_machine y.program w n z) e (stage_behind y.plan code.thread c walker.at seen_now bank e) m.steps
+          m.effects m.at) ⊎
+          (Stays y.plan code.thread c (on_machine y.program w n z) e (stage_behind y.plan code.thread c walker.at seen_now bank e) m.steps m.effects m.at) →
           Goes (after_event y.program w (Step n)) most
       goes_by (inl p) = behind w stands z walker.at seen_now bank registers is e of at does m p reads answers
       goes_by (inr stays) = none_passed (stays.no_mark y.marks)

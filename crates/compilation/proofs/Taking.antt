@@ -23,7 +23,7 @@ use Rattle.resumed_programs.specs.Courses.{Course, GoesClean, Fits, ThreadStands
 use Rattle.resumed_programs.specs.Standing.{AreHeld, IsGiving, Stands}
 use Rattle.resumed_programs.specs.Moving as moving
 use Rattle.resumed_programs.specs.Moving.{OnWayNow, thread_of}
-use Rattle.resumed_programs.proofs.Calling.{way, lock}
+use Rattle.resumed_programs.proofs.AtCalls.{way, lock}
 use Rattle.resumed_programs.proofs.Holding.{locks_it}
 use Rattle.resumed_programs.proofs.Locked.{runs_held}
 use Rattle.resumed_programs.proofs.Ready.{runs_ready}

@@ -24,7 +24,8 @@ use Rattle.resumed_programs.specs.Moving as moving
 use Rattle.resumed_programs.specs.Moving.{OnWayNow, AtCoreNow, thread_of}
 use Rattle.resumed_programs.specs.Counting.{MachinesResume}
 use Rattle.resumed_programs.proofs.Bare.{bare}
-use Rattle.resumed_programs.proofs.Calling.{none_from, way, lock, owns, none_here}
+use Rattle.resumed_programs.proofs.AtCalls.{none_from, way, lock}
+use Rattle.resumed_programs.proofs.Calling.{owns, none_here}
 use Rattle.resumed_programs.proofs.Holding.{mutex_there}
 use Rattle.resumed_programs.proofs.Locked.{runs_held}
 use Rattle.resumed_programs.proofs.Ready.{runs_ready}

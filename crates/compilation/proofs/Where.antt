@@ -10,7 +10,7 @@ use Rattle.flow_graph.specs.Actions.{Walker, Seen, effect_of, seen_by}
 use Rattle.resumption.specs.Moments.{now}
 use Rattle.hart_runs.specs.Standing.{Agrees, OnRun}
 use Rattle.thread_runs.specs.Laws.{MarksPass, run_of, run_at}
-use Rattle.thread_runs.specs.Ways.{IsOnWay}
+use Rattle.thread_runs.specs.Ways.{IsOnWay, on_machine}
 use Rattle.recovered_threads.specs.Telling.{Code}
 use Rattle.resumed_programs.specs.Systems.{System, IsSystem, flat_of, thread_count}
 use Rattle.resumed_programs.specs.Histories.{Beside, now_of}
@@ -56,7 +56,7 @@ module _ (y : System) (s : IsSystem y) (w : World) (h : ℕ) (stands : Stands y 
   -- on a way
   ways : (o : OnWayNow y s w h stands below) (steps : ℕ) → o.steps ≡ suc steps → RunsOn y w n
   ways o steps is =
-      let way = subst (λ (k : ℕ). IsOnWay y.plan code.thread code.is.places y.program w n o.setting
+      let way = subst (λ (k : ℕ). IsOnWay y.plan code.thread code.is.places (on_machine y.program w n o.setting)
       (record { aim = o.aim; node = walker.at; seen = seen; bank = o.bank }) k (course.cleans ++ course.rest)) is o.way in
       record { run = run_of y.plan code.thread code.is.places way; agrees = way.agrees }
 

@@ -29,9 +29,9 @@ pub record IsSettledAsKept (c : Translation) (events : List Event) : Type 0 wher
 -- ---- Kept steps
 
 -- the one schedule, and more behind it
-pub record BeginsWith (whole front : List ℕ) : Type 0 where
+pub record BeginsWith (whole prefix : List ℕ) : Type 0 where
   pub rest : List ℕ
-  pub is : whole ≡ front ++ rest
+  pub is : whole ≡ prefix ++ rest
 
 -- no kept step is lost, whatever happens next
 abbrev pub Grows : Translation → List Event → Type 0

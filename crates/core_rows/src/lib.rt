@@ -23,7 +23,7 @@ pub struct Counter {
     ghost reserved: { most ≤ vec_capacity journal },
 }
 
-// The steps since the last crash, with an event.
+/// The steps since the last crash, with an event.
 fn next(steps: u32, event: Event) -> u32
     requires { steps ≤ 6 }
     ensures steps { result ≡ next steps event }
@@ -36,7 +36,7 @@ fn next(steps: u32, event: Event) -> u32
     }
 }
 
-// What an event is replied to.
+/// What an event is replied to.
 fn reply(steps: u32, event: Event) -> Reply
     ensures { result ≡ reply steps event }
 {
@@ -47,7 +47,7 @@ fn reply(steps: u32, event: Event) -> Reply
     }
 }
 
-// The event is the step behind so many.
+/// The event is the step behind so many.
 fn is_step(number: u32, steps: u32, event: Event) -> bool
     ensures { result ≡ is_step number steps event }
 {
@@ -67,7 +67,7 @@ impl Counter {
         })
     }
 
-    // The steps since the last crash.
+    /// The steps since the last crash.
     fn steps(&self) -> u32
         ensures steps { result ≡ played counting 0 self.now.journal.items }
         ensures bound { result ≤ 6 }
@@ -79,7 +79,7 @@ impl Counter {
         steps
     }
 
-    // How often the step behind so many was made.
+    /// How often the step behind so many was made.
     fn times(&self, number: u32) -> u64
         ensures { result ≡ passed_count counting (is_step number) 0 self.now.journal.items }
     {

@@ -30,7 +30,7 @@ module _ (bytes : List ℕ) where
 
   pub compile_answer : (source rest : List ℕ) (x : CompileError) → source_at bytes ≡ Ok (source, rest) → IsCompileAnswer source (Err x) →
       IsImageAnswer bytes (Err (of_compile x))
-  compile_answer source rest (compiling.Refused rule place) begins h = refused source rest rule place begins h
+  compile_answer source rest (compiling.Refused x) begins h = refused source rest x.rule x.place begins h
   compile_answer source rest compiling.Memory begins h = no_memory
 
   module _ (c : Compiled) (begun : BeginsCompiled bytes c) (size threads : ℕ) (size_is : size ≡ size_of c) (threads_is : threads ≡ threads_of c) where

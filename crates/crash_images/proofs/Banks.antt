@@ -17,11 +17,11 @@ none = record { register = 0; local = 0; kind = Char }
 parted : (live : List LiveLocal) (i : ℕ) (d : LiveLocal) → i < length live → live ≡ take i live ++ get_or live i d ∷ drop (i + 1) live
 parted live i d within = grind (arith, common_steps)
 
-in_front : (live : List LiveLocal) (n k : ℕ) (d : LiveLocal) → k < length (take n live) → get_or (take n live) k d ≡ get_or live k d
-in_front live n k d within = grind (arith, common_steps)
+in_prefix : (live : List LiveLocal) (n k : ℕ) (d : LiveLocal) → k < length (take n live) → get_or (take n live) k d ≡ get_or live k d
+in_prefix live n k d within = grind (arith, common_steps)
 
-in_front_below : (live : List LiveLocal) (n k : ℕ) → k < length (take n live) → k < n
-in_front_below live n k within = grind (arith, common_steps)
+in_prefix_below : (live : List LiveLocal) (n k : ℕ) → k < length (take n live) → k < n
+in_prefix_below live n k within = grind (arith, common_steps)
 
 module _ (logs : List ℕ) (thread bank : ℕ) (live : List LiveLocal) (i : ℕ) (d : LiveLocal) (word : ℕ) (within : i < length live)
     (word_is : word ≡ slot_in logs thread bank (get_or live i d).register)
@@ -32,7 +32,7 @@ module _ (logs : List ℕ) (thread bank : ℕ) (live : List LiveLocal) (i : ℕ)
     local = get_or live i d;
     behind = drop (i + 1) live;
     parts = parted live i d within;
-    right = λ k e l. subst (HasLocal logs thread bank) (sym (in_front live i k e l)) (before k e (in_front_below live i k l));
+    right = λ k e l. subst (HasLocal logs thread bank) (sym (in_prefix live i k e l)) (before k e (in_prefix_below live i k l));
     wrong = λ h. wrong (subst (IsForm (get_or live i d).kind) (sym word_is) h);
     register_is = refl;
   }

@@ -1,5 +1,6 @@
 -- A field that is read is the field that was written, and what was written is read again.
-use Rattle.std.proofs.Common.{◌≡◌, ℕ, zero, suc, ◌+◌, ◌^◌, ◌<◌, ◌≤◌, Bool, true, false, cond, ltb, List, [], ◌∷◌, ◌++◌, ◌&&◌, length, get_or, take, drop, Result, Ok, Err, refl, sym, ap, subst, ◌∙◌, append_assoc, arith, inl, inr}
+use Rattle.std.proofs.Common.{◌≡◌, ℕ, zero, suc, ◌+◌, ◌^◌, ◌<◌, ◌≤◌, Bool, true, false, cond, ltb, List, [], ◌∷◌, ◌++◌, ◌&&◌}
+use Rattle.std.proofs.Common.{length, get_or, take, drop, Result, Ok, Err, refl, sym, ap, subst, ◌∙◌, append_assoc, arith, inl, inr}
 use Rattle.std.specs.List.{flat_map, AllByRecursion}
 use Rattle.std.specs.Int.{w32, w64, from_le_bytes, to_le_bytes}
 use Rattle.std.proofs.lemmas.Bool.{cases_lt, ltb-false, le-ltb}
@@ -58,13 +59,17 @@ then a x b y c p q = record { parts = p.parts ∙ ap (λ t. x ++ t) q.parts ∙ 
 
 -- ---- Bytes and numbers
 
-pub bytes_take : (total count : ℕ) (bytes : List ℕ) (x : List ℕ × List ℕ) → IsBytes bytes → bytes_at total count bytes ≡ Ok x → Takes bytes x.0 x.1 × (length x.0 ≡ count) × IsBytes x.0
+pub bytes_take : (total count : ℕ) (bytes : List ℕ) (x : List ℕ × List ℕ) → IsBytes bytes → bytes_at total count bytes ≡ Ok x →
+    Takes bytes x.0 x.1 × (length x.0 ≡ count) × IsBytes x.0
 bytes_take total count bytes x fits e =
     let g = guard_ok (ltb (length bytes) count) (Cut total) (take count bytes, drop count bytes) x e in
     let long : count ≤ length bytes = ltb-false _ _ g.0 in
     let made : List ℕ × List ℕ = (take count bytes, drop count bytes) in
-    subst (λ (y : List ℕ × List ℕ). Takes bytes y.0 y.1 × (length y.0 ≡ count) × IsBytes y.0) g.1
-    (record { parts = sym (take-append-drop count bytes); rest_fits = IsBytes-drop count bytes fits }, omega (arith, length-take count bytes), IsBytes-take count bytes fits)
+    subst (λ (y : List ℕ × List ℕ). Takes bytes y.0 y.1 × (length y.0 ≡ count) × IsBytes y.0) g.1 (
+      record { parts = sym (take-append-drop count bytes); rest_fits = IsBytes-drop count bytes fits },
+      omega (arith, length-take count bytes),
+      IsBytes-take count bytes fits,
+    )
 
 pub bytes_again : (total count : ℕ) (text rest : List ℕ) → length text ≡ count → bytes_at total count (text ++ rest) ≡ Ok (text, rest)
 bytes_again total count text rest e =
@@ -107,21 +112,25 @@ run_takes total bytes x fits e =
     let t = number_takes total bytes a.0 fits a.1 in
     let u = number_takes total a.0.1 b.0 t.0.rest_fits b.1 in
     let made : Run × List ℕ = (record { thread = a.0.0; steps = b.0.0 }, b.0.1) in
-    subst (λ (y : Run × List ℕ). Takes bytes (run_text y.0) y.1 × IsRun y.0) (ok_is made x b.2) (then bytes (number a.0.0) a.0.1 (number b.0.0) b.0.1 t.0 u.0, (t.1, u.1))
+    subst (λ (y : Run × List ℕ). Takes bytes (run_text y.0) y.1 × IsRun y.0) (ok_is made x b.2)
+    (then bytes (number a.0.0) a.0.1 (number b.0.0) b.0.1 t.0 u.0, (t.1, u.1))
 
 pub run_again : (total : ℕ) (r : Run) (rest : List ℕ) → IsRun r → run_at total (run_text r ++ rest) ≡ Ok (r, rest)
 unfolding run_at
 run_again total r rest good =
-    ap (run_at total) (append_assoc (number r.thread) (number r.steps) rest) ∙ rw (number_again total r.thread (number r.steps ++ rest) good.0, number_again total r.steps rest good.1) refl
+    ap (run_at total) (append_assoc (number r.thread) (number r.steps) rest)
+    ∙ rw (number_again total r.thread (number r.steps ++ rest) good.0, number_again total r.steps rest good.1) refl
 
 -- ---- So many
 
 pub repeated_take : {A : Type 0} (text : A → List ℕ) (Good : A → Type 0) (read : List ℕ → Reads A)
     → ((bytes : List ℕ) (x : A × List ℕ) → IsBytes bytes → read bytes ≡ Ok x → Takes bytes (text x.0) x.1 × Good x.0)
-    → (n : ℕ) (bytes : List ℕ) (x : List A × List ℕ) → IsBytes bytes → repeated read n bytes ≡ Ok x → Takes bytes (flat_map text x.0) x.1 × (length x.0 ≡ n) × AllByRecursion Good x.0
+    → (n : ℕ) (bytes : List ℕ) (x : List A × List ℕ) → IsBytes bytes → repeated read n bytes ≡ Ok x →
+    Takes bytes (flat_map text x.0) x.1 × (length x.0 ≡ n) × AllByRecursion Good x.0
 unfolding repeated
 repeated_take {A} text Good read one zero bytes x fits e =
-    subst (λ (y : List A × List ℕ). Takes bytes (flat_map text y.0) y.1 × (length y.0 ≡ 0) × AllByRecursion Good y.0) (ok_is ([], bytes) x e) (record { parts = refl; rest_fits = fits }, refl, tt)
+    subst (λ (y : List A × List ℕ). Takes bytes (flat_map text y.0) y.1 × (length y.0 ≡ 0) × AllByRecursion Good y.0) (ok_is ([], bytes) x e)
+    (record { parts = refl; rest_fits = fits }, refl, tt)
 repeated_take {A} text Good read one (suc n) bytes x fits e =
     let a = bind_ok (read bytes) (λ first. repeated read n first.1 >>= λ others. Ok (first.0 ∷ others.0, others.1)) x e in
     let b = bind_ok (repeated read n a.0.1) (λ others. Ok (a.0.0 ∷ others.0, others.1)) x a.2 in
@@ -129,7 +138,8 @@ repeated_take {A} text Good read one (suc n) bytes x fits e =
     let second = repeated_take text Good read one n a.0.1 b.0 first.0.rest_fits b.1 in
     let both = then bytes (text a.0.0) a.0.1 (flat_map text b.0.0) b.0.1 first.0 second.0 in
     let made : List A × List ℕ = (a.0.0 ∷ b.0.0, b.0.1) in
-    subst (λ (y : List A × List ℕ). Takes bytes (flat_map text y.0) y.1 × (length y.0 ≡ suc n) × AllByRecursion Good y.0) (ok_is made x b.2) (rw flat_map-cons both, ap suc second.1, (first.1, second.2))
+    subst (λ (y : List A × List ℕ). Takes bytes (flat_map text y.0) y.1 × (length y.0 ≡ suc n) × AllByRecursion Good y.0) (ok_is made x b.2)
+    (rw flat_map-cons both, ap suc second.1, (first.1, second.2))
 
 pub repeated_again : {A : Type 0} (text : A → List ℕ) (Good : A → Type 0) (read : List ℕ → Reads A)
     → ((x : A) (rest : List ℕ) → Good x → read (text x ++ rest) ≡ Ok (x, rest))
@@ -137,5 +147,6 @@ pub repeated_again : {A : Type 0} (text : A → List ℕ) (Good : A → Type 0) 
 unfolding repeated
 repeated_again text Good read one [] rest good = refl
 repeated_again text Good read one (x ∷ xs) rest good =
-    let regrouped : flat_map text (x ∷ xs) ++ rest ≡ text x ++ (flat_map text xs ++ rest) = ap (λ t. t ++ rest) (flat_map-cons text x xs) ∙ append_assoc (text x) (flat_map text xs) rest in
+    let regrouped : flat_map text (x ∷ xs) ++ rest ≡ text x ++ (flat_map text xs ++ rest) =
+    ap (λ t. t ++ rest) (flat_map-cons text x xs) ∙ append_assoc (text x) (flat_map text xs) rest in
     ap (repeated read (suc (length xs))) regrouped ∙ rw (one x (flat_map text xs ++ rest) good.0, repeated_again text Good read one xs rest good.1) refl

@@ -36,10 +36,10 @@ module _ (logs : List ℕ) (thread bank : ℕ) (live : List LiveLocal) where
   not_before : (one other : ℕ) (f : IsFirstWrong logs thread bank live one) (g : IsFirstWrong logs thread bank live other) →
       ¬ (length f.before < length g.before)
   not_before one other f g less =
-      let front : get_or live (length f.before) f.local ≡ get_or g.before (length f.before) f.local =
+      let prefix : get_or live (length f.before) f.local ≡ get_or g.before (length f.before) f.local =
       ap (λ (ls : List LiveLocal). get_or ls (length f.before) f.local) g.parts
       ∙ get_or_append_left g.before (g.local ∷ g.behind) f.local (length f.before) less in
-      f.wrong (subst (HasLocal logs thread bank) (sym front ∙ at_wrong one f) (g.right (length f.before) f.local less))
+      f.wrong (subst (HasLocal logs thread bank) (sym prefix ∙ at_wrong one f) (g.right (length f.before) f.local less))
 
   one_register : (one other : ℕ) → IsFirstWrong logs thread bank live one → IsFirstWrong logs thread bank live other → one ≡ other
   one_register one other f g =

@@ -1,9 +1,12 @@
 -- Where runs begin in their schedule, and which step is the first at fault.
-use Rattle.std.proofs.Common.{◌≡◌, ◌≢◌, ⊎_elim, ℕ, ◌+◌, ◌-◌, ◌<◌, ◌≤◌, List, [], ◌∷◌, ◌++◌, length, get_or, take, drop, replicate, slice_get, Option, Some, None, true, false, refl, sym, ap, subst, ◌∙◌, append_assoc, length-append, arith}
+use Rattle.std.proofs.Common.{◌≡◌, ◌≢◌, ⊎_elim, ℕ, ◌+◌, ◌-◌, ◌<◌, ◌≤◌, List, [], ◌∷◌, ◌++◌, length, get_or, take, drop, replicate}
+use Rattle.std.proofs.Common.{slice_get, Option, Some, None, true, false, refl, sym, ap, subst, ◌∙◌, append_assoc, length-append, arith}
 use Rattle.std.proofs.lemmas.Bool.{cases_eq, cases_lt, cases_order}
-use Rattle.std.proofs.lemmas.List.{append-nil, take_all, take_more, take-take, take_at, take-append-le, take-append-drop, length-replicate, replicate-append-replicate, get_or_at, get_or_append_left, flat_map_more}
+use Rattle.std.proofs.lemmas.List.{append-nil, take_all, take_more, take-take, take_at, take-append-le, take-append-drop}
+use Rattle.std.proofs.lemmas.List.{length-replicate, replicate-append-replicate, get_or_at, get_or_append_left, flat_map_more}
 use Rattle.std.proofs.lemmas.List.Concat.{flat_map-append}
 use Rattle.std.proofs.lemmas.Option.{none-some, same_Some, slice_get_within, slice_get-get_or, get_or_from_slice_get}
+use Rattle.ido_base.specs.declared.limits.TheConstants.{MOST_STEPS}
 use Rattle.c_tree.specs.Flats.{Flat}
 use Rattle.c_tree.specs.Source as m
 use Rattle.c_tree.specs.Source.{source_step}
@@ -11,9 +14,9 @@ use Rattle.run_scripts.specs.Reports.{Run}
 use Rattle.source_machine.specs.declared.answers.Refused.{Refused}
 use Rattle.source_machine.specs.Runs.{IsRefused}
 use Rattle.source_machine.proofs.Running.{goes_on, runs_by, split_at}
-use Rattle.crash_images.specs.Contents.{schedule_of, most_steps}
+use Rattle.crash_images.specs.Contents.{schedule_of}
 use Rattle.crash_images.specs.Schedules.{AreMerged, IsFormed, IsSchedule, IsMalformed, empty, again, late, IsAtFault, malformed, refused, IsScheduleFault}
-use Rattle.crash_images.specs.links.Fronts.{IsCut, IsFront, Follows}
+use Rattle.crash_images.specs.links.Fronts.{IsCut, IsPrefix, Follows}
 
 -- ---- Where runs begin
 
@@ -51,7 +54,7 @@ pub record AreMergedBelow (runs : List Run) (i : ℕ) : Type 0 where
   pub threads : (k : ℕ) (run next : Run) → k + 1 < i → slice_get runs k ≡ Some run → slice_get runs (k + 1) ≡ Some next →
       run.thread ≢ next.thread
 
-none_malformed : (runs : List Run) (i step : ℕ) → AreMergedBelow runs i → step ≤ length (schedule_of (take i runs)) → step ≤ most_steps →
+none_malformed : (runs : List Run) (i step : ℕ) → AreMergedBelow runs i → step ≤ length (schedule_of (take i runs)) → step ≤ MOST_STEPS →
     ¬ (IsMalformed runs step)
 none_malformed runs i step good within few (empty k run h z e) =
     ⊎_elim (λ lt. good.steps k run lt h z) (λ le. absurd (omega (arith, begins_later runs i k le))) (cases_lt k i)
@@ -62,7 +65,7 @@ none_malformed runs i step good within few (late past le) = absurd (omega arith)
 merged_below : (runs : List Run) (i : ℕ) → AreMerged runs → AreMergedBelow runs i
 merged_below runs i m = record { steps = λ k run lt h. m.steps k run h; threads = λ k run next lt h n. m.threads k run next h n }
 
-none_whole : (runs : List Run) (step : ℕ) → AreMerged runs → length (schedule_of runs) ≤ most_steps → ¬ (IsMalformed runs step)
+none_whole : (runs : List Run) (step : ℕ) → AreMerged runs → length (schedule_of runs) ≤ MOST_STEPS → ¬ (IsMalformed runs step)
 none_whole runs step good few (late past le) = absurd (omega arith)
 none_whole runs step good few (empty k run h z e) = good.steps k run h z
 none_whole runs step good few (again k run next h n same e) = good.threads k run next h n same
@@ -70,7 +73,7 @@ none_whole runs step good few (again k run next h n same e) = good.threads k run
 -- the first so many runs have no fault of form and tell the steps, and the last of them is of that thread
 pub record IsSoFar (runs : List Run) (i : ℕ) (steps : List ℕ) (last : Option ℕ) : Type 0 where
   pub is : steps ≡ schedule_of (take i runs)
-  pub few : length steps ≤ most_steps
+  pub few : length steps ≤ MOST_STEPS
   pub merged : AreMergedBelow runs i
   pub last_is : (k : ℕ) (run : Run) → k + 1 ≡ i → slice_get runs k ≡ Some run → last ≡ Some run.thread
   pub none : i ≡ 0 → last ≡ None
@@ -105,7 +108,7 @@ module _ (runs : List Run) (i : ℕ) (steps : List ℕ) (last : Option ℕ) (run
   through_long : length (schedule_of (take (i + 1) runs)) ≡ length steps + run.steps
   through_long = omega (arith, ap length through, length-append steps (replicate run.steps run.thread), length-replicate run.steps run.thread)
 
-  pub goes_so : (new : List ℕ) (count : ℕ) → Follows last run → count ≡ run.steps → length steps + count ≤ most_steps →
+  pub goes_so : (new : List ℕ) (count : ℕ) → Follows last run → count ≡ run.steps → length steps + count ≤ MOST_STEPS →
       new ≡ steps ++ replicate count run.thread → IsSoFar runs (i + 1) new (Some run.thread)
   goes_so new count ok all room e = record {
     is = e ∙ ap (λ (n : ℕ). steps ++ replicate n run.thread) all ∙ sym through;
@@ -146,23 +149,23 @@ module _ (runs : List Run) (i : ℕ) (steps : List ℕ) (last : Option ℕ) (run
     first = λ earlier lt. none_malformed runs i earlier so.merged (omega (arith, ap length so.is)) (omega (arith, so.few));
   }
 
-  pub fills_so : (new : List ℕ) (room : ℕ) → Follows last run → room ≡ most_steps - length steps → room < run.steps →
-      new ≡ steps ++ replicate room run.thread → IsCut runs new (most_steps + 1)
+  pub fills_so : (new : List ℕ) (room : ℕ) → Follows last run → room ≡ MOST_STEPS - length steps → room < run.steps →
+      new ≡ steps ++ replicate room run.thread → IsCut runs new (MOST_STEPS + 1)
   fills_so new room ok is_room more e =
-      let front : List ℕ = replicate room run.thread in
-      let back : List ℕ = replicate (run.steps - room) run.thread in
+      let prefix : List ℕ = replicate room run.thread in
+      let suffix : List ℕ = replicate (run.steps - room) run.thread in
       let behind : List ℕ = schedule_of (drop (i + 1) runs) in
       let both : run.steps ≡ room + (run.steps - room) = omega arith in
-      let own : replicate run.steps run.thread ≡ front ++ back =
+      let own : replicate run.steps run.thread ≡ prefix ++ suffix =
       ap (λ (n : ℕ). replicate n run.thread) both ∙ sym (replicate-append-replicate room (run.steps - room) run.thread) in
-      let new_long : length new ≡ most_steps =
-      omega (arith, ap length e, length-append steps front, length-replicate room run.thread, so.few) in
+      let new_long : length new ≡ MOST_STEPS =
+      omega (arith, ap length e, length-append steps prefix, length-replicate room run.thread, so.few) in
       let all_long : length (schedule_of runs) ≡ length (schedule_of (take (i + 1) runs)) + length behind =
       omega (arith, ap length (parts runs (i + 1)), length-append (schedule_of (take (i + 1) runs)) behind) in
       record {
-        behind = back ++ behind;
+        behind = suffix ++ behind;
         is = parts runs (i + 1) ∙ ap (λ (ts : List ℕ). ts ++ behind) (through ∙ ap (λ (ts : List ℕ). steps ++ ts) own)
-            ∙ regrouped steps front back behind ∙ ap (λ (ts : List ℕ). ts ++ (back ++ behind)) (sym e);
+            ∙ regrouped steps prefix suffix behind ∙ ap (λ (ts : List ℕ). ts ++ (suffix ++ behind)) (sym e);
         count = omega arith;
         malformed = late (omega arith) (omega (arith, through_long, so.few));
         first = λ earlier lt. none_malformed runs (i + 1) earlier (merged_more ok) (omega (arith, through_long, so.few)) (omega arith);
@@ -193,12 +196,12 @@ made_before s done behind stop made r = ⊎_elim (λ lt. absurd (not_within lt))
 
     not_within : n < length done → ⊥
     not_within lt =
-        let front : take n done ≡ r.before =
+        let prefix : take n done ≡ r.before =
         sym (take-append-le n done behind (omega arith)) ∙ ap (take n) r.is ∙ take_at r.before (r.thread ∷ r.behind) n refl in
         let there : get_or done n 0 ≡ r.thread =
         sym (get_or_append_left done behind 0 n lt) ∙ ap (λ (ts : List ℕ). get_or ts n 0) r.is ∙ get_or_at r.before r.thread r.behind 0 n refl in
         let split : done ≡ r.before ++ r.thread ∷ rest =
-        split_at done n lt ∙ ap (λ (ts : List ℕ). ts ++ get_or done n 0 ∷ rest) front ∙ ap (λ (t : ℕ). r.before ++ t ∷ rest) there in
+        split_at done n lt ∙ ap (λ (ts : List ℕ). ts ++ get_or done n 0 ∷ rest) prefix ∙ ap (λ (t : ℕ). r.before ++ t ∷ rest) there in
         let stuck : m.runs_from s done ≡ false =
         ap (m.runs_from s) split ∙ (goes_on s r.before (r.thread ∷ rest) r.runs).runs ∙ ap (runs_by rest) r.none in
         cc
@@ -230,21 +233,21 @@ record IsBeginning (runs : List Run) (steps : List ℕ) : Type 0 where
   is : schedule_of runs ≡ steps ++ behind
   none : (step : ℕ) → step ≤ length steps → ¬ (IsMalformed runs step)
 
-front_begins : (runs : List Run) (steps : List ℕ) (fault : Option ℕ) → IsFront runs steps fault → IsBeginning runs steps
-front_begins runs steps None w = record {
+prefix_begins : (runs : List Run) (steps : List ℕ) (fault : Option ℕ) → IsPrefix runs steps fault → IsBeginning runs steps
+prefix_begins runs steps None w = record {
   behind = [];
   is = sym w.is ∙ sym (append-nil steps);
   none = λ step le. none_whole runs step w.merged (omega (arith, w.few, ap length w.is));
 }
-front_begins runs steps (Some n) c = record { behind = c.behind; is = c.is; none = λ step le. c.first step (omega (arith, c.count)) }
+prefix_begins runs steps (Some n) c = record { behind = c.behind; is = c.is; none = λ step le. c.first step (omega (arith, c.count)) }
 
 module _ (program : Flat) (runs : List Run) (steps : List ℕ) where
-  pub source_fault : (fault : Option ℕ) (stop : Refused) → IsFront runs steps fault → IsRefused stop (m.start program) steps →
+  pub source_fault : (fault : Option ℕ) (stop : Refused) → IsPrefix runs steps fault → IsRefused stop (m.start program) steps →
       IsScheduleFault program runs stop.step
-  source_fault fault stop front r = record { is = refused stop whole refl; first = none }
+  source_fault fault stop prefix r = record { is = refused stop whole refl; first = none }
     where
       begins : IsBeginning runs steps
-      begins = front_begins runs steps fault front
+      begins = prefix_begins runs steps fault prefix
 
       whole : IsRefused stop (m.start program) (schedule_of runs)
       whole = subst (IsRefused stop (m.start program)) (sym begins.is) (refused_behind (m.start program) steps begins.behind stop r)

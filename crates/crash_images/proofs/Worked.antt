@@ -2,7 +2,8 @@
 use Rattle.std.specs.Prelude.{◌≡◌, ℕ, List, [], ◌∷◌, ◌++◌, take, drop, refl, Ok, Err}
 use Rattle.crash_images.specs.Contents.{Contents, contents}
 use Rattle.crash_images.specs.Spelling.{spelling}
-use Rattle.crash_images.specs.Reading.{Magic, Version, Cut, Source, Rest, number_at, word_at, run_at, repeated, magic_at, version_at, source_at, size_at, state_at, image_at}
+use Rattle.crash_images.specs.Reading.{Magic, Version, Cut, Source, Rest, number_at, word_at, run_at}
+use Rattle.crash_images.specs.Reading.{repeated, magic_at, version_at, source_at, size_at, state_at, image_at}
 
 -- the source `x`, one word of variables, no log, and three steps
 small : Contents

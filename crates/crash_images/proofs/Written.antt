@@ -5,9 +5,10 @@ use Rattle.std.specs.Global.{Vec}
 use Rattle.std.proofs.lemmas.List.{length-map, length-append}
 use Rattle.std.proofs.lemmas.List.Concat.{flat_map-cons}
 use Rattle.std.specs.List.{flat_map}
-use Rattle.ido_base.specs.declared.memory.Memory.{Memory}
+use Rattle.ido_base.specs.declared.memory.OutOfMemory.{OutOfMemory}
+use Rattle.ido_base.specs.declared.limits.TheConstants.{MOST_SOURCE_BYTES, VARIABLE_WORDS, MOST_STEPS}
 use Rattle.run_scripts.specs.Reports.{runs_of}
-use Rattle.crash_images.specs.Contents.{contents, IsState, most_source, most_variables, most_logs, most_steps, word_bytes}
+use Rattle.crash_images.specs.Contents.{contents, IsState, most_logs, word_bytes}
 use Rattle.crash_images.specs.Spelling.{magic, version, number, word, run_text, source_text, state_text, spelling}
 use Rattle.crash_images.specs.Reading.{image_at, IsReadAs}
 use Rattle.crash_images.specs.declared.state.Run.{Run}
@@ -18,20 +19,21 @@ use Rattle.crash_images.proofs.Images.{image_again}
 grouped : (old a b c d : List ℕ) → (((old ++ a) ++ b) ++ c) ++ d ≡ old ++ (a ++ b ++ c ++ d)
 grouped old a b c d = simp append_assoc
 
-pub source_put : (old x y z new source : List ℕ) → x ≡ old ++ magic → y ≡ x ++ number version → z ≡ y ++ number (length source) → new ≡ z ++ source → new ≡ old ++ source_text source
+pub source_put : (old x y z new source : List ℕ) → x ≡ old ++ magic → y ≡ x ++ number version → z ≡ y ++ number (length source) → new ≡ z ++ source →
+    new ≡ old ++ source_text source
 source_put old x y z new source e1 e2 e3 e4 =
     let e2' : y ≡ (old ++ magic) ++ number version = e2 ∙ ap (λ t. t ++ number version) e1 in
     let e3' : z ≡ ((old ++ magic) ++ number version) ++ number (length source) = e3 ∙ ap (λ t. t ++ number (length source)) e2' in
     e4 ∙ ap (λ t. t ++ source) e3' ∙ grouped old magic (number version) (number (length source)) source
 
-pub runs_are_few : (schedule : List ℕ) → length schedule ≤ most_steps → length (runs_of schedule) < 2 ^ 32
+pub runs_are_few : (schedule : List ℕ) → length schedule ≤ MOST_STEPS → length (runs_of schedule) < 2 ^ 32
 runs_are_few schedule few = omega (arith, few_runs schedule, few)
 
-pub runs_put : (schedule : List ℕ) (runs : List Run) → length schedule ≤ most_steps → map run_of runs ≡ runs_of schedule → length runs < 2 ^ 32
+pub runs_put : (schedule : List ℕ) (runs : List Run) → length schedule ≤ MOST_STEPS → map run_of runs ≡ runs_of schedule → length runs < 2 ^ 32
 runs_put schedule runs few e = omega (arith, runs_are_few schedule few, ap length e, length-map runs run_of)
 
-pub written_again : (source variables logs schedule : List ℕ) (x : Result (Vec ℕ) Memory)
-    → length source ≤ most_source → length variables ≤ most_variables → length schedule ≤ most_steps
+pub written_again : (source variables logs schedule : List ℕ) (x : Result (Vec ℕ) OutOfMemory)
+    → length source ≤ MOST_SOURCE_BYTES → length variables ≤ VARIABLE_WORDS → length schedule ≤ MOST_STEPS
     → ((i : ℕ) → get_or variables i 0 < 2 ^ 64) → ((i : ℕ) → get_or logs i 0 < 2 ^ 64) → ((i : ℕ) → get_or schedule i 0 < 2 ^ 32)
     → IfOk x (λ image. image.items ≡ spelling (contents source variables logs schedule))
     → IfOk x (λ image. IsReadAs (contents source variables logs schedule) image.items)
@@ -53,7 +55,8 @@ written_again source variables logs schedule (Ok image) s v l vf lf sf spelled =
 
 texts_length : {A : Type 0} (text : A → List ℕ) (xs : List A) → ((x : A) → length (text x) ≡ 8) → length (flat_map text xs) ≡ 8 * length xs
 texts_length text [] eight = refl
-texts_length text (x ∷ xs) eight = omega (arith, ap length (flat_map-cons text x xs), length-append (text x) (flat_map text xs), eight x, texts_length text xs eight)
+texts_length text (x ∷ xs) eight =
+    omega (arith, ap length (flat_map-cons text x xs), length-append (text x) (flat_map text xs), eight x, texts_length text xs eight)
 
 pub spelling_length : (source variables logs schedule : List ℕ)
     → length (spelling (contents source variables logs schedule)) ≡ 24 + length source + 8 * length variables + 8 * length logs + 8 * length (runs_of schedule)
@@ -75,8 +78,8 @@ spelling_length source variables logs schedule =
     five_lengths : (a b c d e : List ℕ) → length (a ++ b ++ c ++ (d ++ e)) ≡ length a + length b + length c + length d + length e
     five_lengths a b c d e = grind (arith, length-append)
 
-pub written_short : (source variables logs schedule : List ℕ) (x : Result (Vec ℕ) Memory)
-    → length source ≤ most_source → length variables ≤ most_variables → length logs ≤ most_logs → length schedule ≤ most_steps
+pub written_short : (source variables logs schedule : List ℕ) (x : Result (Vec ℕ) OutOfMemory)
+    → length source ≤ MOST_SOURCE_BYTES → length variables ≤ VARIABLE_WORDS → length logs ≤ most_logs → length schedule ≤ MOST_STEPS
     → IfOk x (λ image. image.items ≡ spelling (contents source variables logs schedule)) → IfOk x (λ image. length image.items ≤ 67108864)
 written_short source variables logs schedule (Err e) s v l n spelled = tt
 written_short source variables logs schedule (Ok image) s v l n spelled =

@@ -1,6 +1,7 @@
 -- What an image holds, without where it lies in memory, and its limits.
 use Rattle.std.specs.Prelude.{◌≡◌, ℕ, ◌*◌, ◌^◌, ◌<◌, List, length, flat_map, replicate}
 use Rattle.std.specs.List.{AllByRecursion}
+use Rattle.ido_base.specs.declared.limits.TheConstants.{LOG_WORDS, MOST_THREADS}
 use Rattle.run_scripts.specs.Reports.{Run, runs_of}
 
 -- what a crash leaves of a run of a source
@@ -27,27 +28,16 @@ schedule_of runs = flat_map (λ r. replicate r.steps r.thread) runs
 
 -- ---- Limits
 
--- bytes of a source
-abbrev pub most_source : ℕ
-most_source = 1048576
-
--- words of variables
-abbrev pub most_variables : ℕ
-most_variables = 8192
-
 -- words of logs
 abbrev pub most_logs : ℕ
-most_logs = 1024
-
-abbrev pub most_steps : ℕ
-most_steps = 4000000
+most_logs = LOG_WORDS * MOST_THREADS
 
 abbrev pub word_bytes : ℕ
 word_bytes = 8
 
 -- words of the log of a thread
 abbrev pub log_words : ℕ
-log_words = 128
+log_words = LOG_WORDS
 
 abbrev pub IsWord : ℕ → Type 0
 IsWord n = n < 2 ^ 64

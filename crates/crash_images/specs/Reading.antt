@@ -2,8 +2,9 @@
 use Rattle.std.specs.Prelude.{◌≡◌, ℕ, zero, suc, ◌-◌, ◌*◌, ◌/◌, List, [], ◌∷◌, length, take, drop, Result, Ok, Err, nat_lt, nat_le, nat_eq, ◌==◌, if◌then◌else◌}
 use Rattle.std.specs.Cmp.Lexicographic.{pointwise}
 use Rattle.std.specs.Int.{w32, w64, from_le_bytes}
+use Rattle.ido_base.specs.declared.limits.TheConstants.{MOST_SOURCE_BYTES}
 use Rattle.run_scripts.specs.Reports.{Run}
-use Rattle.crash_images.specs.Contents.{Contents, State, most_source, word_bytes, log_words}
+use Rattle.crash_images.specs.Contents.{Contents, State, word_bytes, log_words}
 use Rattle.crash_images.specs.Spelling.{magic, version}
 
 pub data Fault : Type 0 where
@@ -75,7 +76,7 @@ source_at bytes = do
   behind_magic ← magic_at (length bytes) bytes
   behind_version ← version_at (length bytes) behind_magic
   size ← number_at (length bytes) behind_version
-  if nat_le size.0 most_source then bytes_at (length bytes) size.0 size.1 else Err Source
+  if nat_le size.0 MOST_SOURCE_BYTES then bytes_at (length bytes) size.0 size.1 else Err Source
 
 -- ---- Behind the source
 

@@ -1,11 +1,12 @@
 -- The schedule that the runs of an image tell, and its first fault. Steps count from 1, and runs from 0.
 use Rattle.std.specs.Prelude.{◌≡◌, ◌≢◌, ◌+◌, ◌<◌, ◌≤◌, ℕ, List, length, slice_get, take, Some, true}
+use Rattle.ido_base.specs.declared.limits.TheConstants.{MOST_STEPS}
 use Rattle.c_tree.specs.Flats.{Flat}
 use Rattle.c_tree.specs.Source.{start, runs_from}
 use Rattle.run_scripts.specs.Reports.{Run}
 use Rattle.source_machine.specs.declared.answers.Refused.{Refused}
 use Rattle.source_machine.specs.Runs.{IsRefused}
-use Rattle.crash_images.specs.Contents.{schedule_of, most_steps}
+use Rattle.crash_images.specs.Contents.{schedule_of}
 
 -- each run takes a step, and the next is of another thread
 pub record AreMerged (runs : List Run) : Type 0 where
@@ -16,7 +17,7 @@ pub record AreMerged (runs : List Run) : Type 0 where
 pub record IsFormed (runs : List Run) (schedule : List ℕ) : Type 0 where
   pub is : schedule ≡ schedule_of runs
   pub merged : AreMerged runs
-  pub few : length schedule ≤ most_steps
+  pub few : length schedule ≤ MOST_STEPS
 
 -- where none has a fault
 pub record IsSchedule (program : Flat) (runs : List Run) (schedule : List ℕ) : Type 0 where
@@ -38,7 +39,7 @@ pub data IsMalformed (runs : List Run) (step : ℕ) : Type 0 where
   again : (k : ℕ) (run next : Run) → slice_get runs k ≡ Some run → slice_get runs (k + 1) ≡ Some next → run.thread ≡ next.thread →
       step ≡ first_step runs (k + 1) → IsMalformed runs step
   -- there are too many before it
-  late : most_steps < step → step ≤ length (schedule_of runs) → IsMalformed runs step
+  late : MOST_STEPS < step → step ≤ length (schedule_of runs) → IsMalformed runs step
 
 pub data IsAtFault (program : Flat) (runs : List Run) (step : ℕ) : Type 0 where
   malformed : IsMalformed runs step → IsAtFault program runs step

@@ -3,7 +3,7 @@ ghost use Rattle.std.specs.Prelude.{◌≡◌};
 
 use crate::fields::FieldError;
 use crate::schedules::ScheduleFault;
-use ido_base::memory::Memory;
+use ido_base::memory::OutOfMemory;
 use ido_base::place::Place;
 use ido_compile::CompileError;
 use thiserror::Error;
@@ -64,12 +64,12 @@ impl From<FieldError> for ImageError {
     }
 }
 
-impl From<Memory> for ImageError {
+impl From<OutOfMemory> for ImageError {
     ghost use Rattle.crash_images.specs.declared.error.ImageError.TheVariants.{Memory as Unremembered};
 
     ghost from_gives = { λ _ e. e ≡ Unremembered };
 
-    fn from(_: Memory) -> Self {
+    fn from(_: OutOfMemory) -> Self {
         ImageError::Memory
     }
 }
@@ -81,7 +81,7 @@ impl From<CompileError> for ImageError {
 
     fn from(error: CompileError) -> Self {
         match error {
-            CompileError::Refused { .. } => ImageError::Source,
+            CompileError::Refused(_) => ImageError::Source,
             CompileError::Memory => ImageError::Memory,
         }
     }

@@ -5,7 +5,7 @@ ghost use Rattle.crash_images.specs.links.Gives.{Tells};
 ghost use Rattle.crash_images.specs.links.Views.{run_of};
 
 use crate::state::Run;
-use ido_base::memory::Memory;
+use ido_base::memory::OutOfMemory;
 use ido_base::place::Place;
 use thiserror::Error;
 
@@ -32,12 +32,12 @@ pub(crate) enum FieldError {
     Memory,
 }
 
-impl From<Memory> for FieldError {
+impl From<OutOfMemory> for FieldError {
     ghost use Rattle.crash_images.specs.declared.fields.FieldError.TheVariants.{Memory as Unremembered};
 
     ghost from_gives = { λ _ e. e ≡ Unremembered };
 
-    fn from(_: Memory) -> Self {
+    fn from(_: OutOfMemory) -> Self {
         FieldError::Memory
     }
 }

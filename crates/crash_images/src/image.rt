@@ -1,8 +1,9 @@
 //! Bytes read as an image, from which a machine can begin.
 ghost use Rattle.std.specs.Prelude.{◌≡◌, ◌+◌, ◌*◌, ◌/◌, ◌≤◌, ◌++◌, length, map, IfOk, OnOk};
+ghost use Rattle.ido_base.specs.declared.limits.TheConstants.{MOST_STEPS};
 ghost use Rattle.c_tree.specs.Flats.{flat_of};
 ghost use Rattle.variable_layout.specs.Placing.{HaveRoom};
-ghost use Rattle.crash_images.specs.Contents.{log_words, most_steps, word_bytes};
+ghost use Rattle.crash_images.specs.Contents.{log_words, word_bytes};
 ghost use Rattle.crash_images.specs.Images.{IsImageAnswer};
 ghost use Rattle.crash_images.specs.links.States.{IsStateAnswer};
 ghost use Rattle.crash_images.specs.links.Tables.{TablesHaveSlots};
@@ -14,7 +15,7 @@ use crate::reading::{read_source, read_state};
 use crate::schedules::schedule_of;
 use crate::state::State;
 use crate::threads::check_logs;
-use ido_base::memory::Memory;
+use ido_base::memory::OutOfMemory;
 use ido_compile::{Compiled, compile};
 use std::alloc::Global;
 use variable_layout::addresses;
@@ -29,7 +30,7 @@ pub struct Image {
     pub schedule: Vec<u32>,
 }
 
-// The schedule of what stands behind a source that is compiled to this, or the first fault there.
+/// The schedule of what stands behind a source that is compiled to this, or the first fault there.
 fn check(alloc: Global, compiled: &Compiled, state: &State) -> Result<Vec<u32>, ImageError>
     requires room { HaveRoom (flat_of compiled.now.flat).variables }
     requires slots { TablesHaveSlots compiled.now.resumes.items }
@@ -45,8 +46,8 @@ fn check(alloc: Global, compiled: &Compiled, state: &State) -> Result<Vec<u32>, 
     Ok(schedule)
 }
 
-// Adds words.
-fn extend(words: &mut Vec<u64>, others: &[u64]) -> Result<(), Memory>
+/// Adds words.
+fn extend(words: &mut Vec<u64>, others: &[u64]) -> Result<(), OutOfMemory>
     ensures { OnOk result (words.new.items ≡ words.old.items ++ others.now) }
 {
     words.extend_from_slice(others)?;
@@ -65,7 +66,7 @@ pub fn read_image(alloc: Global, bytes: &[u8]) -> Result<Image, ImageError>
     // It has as many words as the variables and the logs have, and at most 4,000,000 steps.
     ensures words { IfOk result (λ image. length image.words.items ≡
         length image.compiled.object.initial.items / word_bytes + log_words * length image.compiled.object.code.items) }
-    ensures steps { IfOk result (λ image. length image.schedule.items ≤ most_steps) }
+    ensures steps { IfOk result (λ image. length image.schedule.items ≤ MOST_STEPS) }
 {
     let (source, rest) = read_source(bytes)?;
     let compiled = compile(alloc, source)?;

@@ -10,12 +10,8 @@ mod logs;
 mod mutexes;
 mod reading;
 mod runs;
-#[cfg(test)]
-mod schedule_tests;
 mod schedules;
 mod slots;
 mod state;
-#[cfg(test)]
-mod tests;
 mod threads;
 pub mod writing;

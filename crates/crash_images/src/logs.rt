@@ -7,7 +7,7 @@ use crate::limits::BANK_SLOTS;
 use log_layout::log::{LOGS_BASE, MASK_SLOT, SLOT_BYTES, point_at, slot_at};
 use log_layout::point::{Point, read_point};
 
-// The word at an address of the logs.
+/// The word at an address of the logs.
 fn logged(logs: &[u64], address: u64) -> u64
     requires base { LOGS_BASE ≤ address }
     requires within { (address - LOGS_BASE) / word_bytes < length logs.now }

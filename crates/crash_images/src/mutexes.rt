@@ -10,7 +10,7 @@ use crate::error::ImageError;
 use crate::limits::MASK_BITS;
 use crate::logs::mask_in;
 
-// Whether the mask has the mutex.
+/// Whether the mask has the mutex.
 fn has_lock(mask: u64, lock: u32) -> bool
     requires { lock < MASK_BITS }
     ensures { result ≡ has_lock mask lock }
@@ -18,7 +18,7 @@ fn has_lock(mask: u64, lock: u32) -> bool
     (mask >> lock) % 2 == 1
 }
 
-// The least of so many threads, from one on, that holds the mutex.
+/// The least of so many threads, from one on, that holds the mutex.
 fn holder_from(logs: &[u64], threads: u32, from: u32, lock: u32) -> Option<u32>
     requires lock { lock < MASK_BITS }
     requires logs { log_words * threads ≤ length logs.now }
@@ -32,7 +32,7 @@ fn holder_from(logs: &[u64], threads: u32, from: u32, lock: u32) -> Option<u32>
     None
 }
 
-// The least two of so many threads that hold the mutex.
+/// The least two of so many threads that hold the mutex.
 fn holders(logs: &[u64], threads: u32, lock: u32) -> Option<(u32, u32)>
     requires lock { lock < MASK_BITS }
     requires logs { log_words * threads ≤ length logs.now }

@@ -2,7 +2,8 @@
 //! is known from the source.
 ghost use Rattle.std.specs.Prelude.{◌≡◌, ◌≤◌, ◌*◌, ◌%◌, ◌∷◌, ◌++◌, [], ℕ, List, length, map, IfOk, OnOk, Ok};
 ghost use Rattle.std.specs.Result.{IsOkAnd};
-ghost use Rattle.crash_images.specs.Contents.{State as SpelledState, IsState, most_source, word_bytes};
+ghost use Rattle.ido_base.specs.declared.limits.TheConstants.{MOST_INPUT_BYTES};
+ghost use Rattle.crash_images.specs.Contents.{State as SpelledState, IsState, word_bytes};
 ghost use Rattle.crash_images.specs.Spelling.{source_text, state_text};
 ghost use Rattle.crash_images.specs.Reading.{repeated, word_at, run_at, size_at, source_at, state_at};
 ghost use Rattle.crash_images.specs.links.Gives.{Tells, Gives};
@@ -11,13 +12,14 @@ ghost use Rattle.crash_images.specs.links.Views.{run_of, state_of};
 use crate::fields::{
     FieldError, bytes_at, magic_at, number_at, place_of, run_at, version_at, word_at,
 };
-use crate::limits::{LOG_WORDS, MOST_SOURCE, WORD_BYTES};
+use crate::limits::WORD_BYTES;
 use crate::state::{Run, State};
-use ido_base::memory::Memory;
+use ido_base::limits::{LOG_WORDS, MOST_SOURCE_BYTES};
+use ido_base::memory::OutOfMemory;
 use std::alloc::Global;
 
 /// Adds an element.
-fn push<T: Drop>(items: &mut Vec<T>, item: T) -> Result<(), Memory>
+fn push<T: Drop>(items: &mut Vec<T>, item: T) -> Result<(), OutOfMemory>
     ensures { OnOk result (items.new.items ≡ items.old.items ++ item ∷ []) }
 {
     items.push(item)?;
@@ -78,14 +80,14 @@ fn size_at(total: u32, size: u32, bytes: &[u8]) -> Result<&[u8], FieldError>
 /// The source of all bytes and what stands behind it, or their first fault.
 #[tactic(auto, unfolding(crate::specs::Reading::source_at))]
 fn source_at(bytes: &[u8]) -> Result<(&[u8], &[u8]), FieldError>
-    requires { length bytes.now ≤ 67108864 }
+    requires { length bytes.now ≤ MOST_INPUT_BYTES }
     ensures { Tells (λ x. (x.0.now, x.1.now)) result (source_at bytes.now) }
 {
     let total = bytes.len() as u32;
     let rest = magic_at(total, bytes)?;
     let rest = version_at(total, rest)?;
     let (size, rest) = number_at(total, rest)?;
-    if size <= MOST_SOURCE {
+    if size as usize <= MOST_SOURCE_BYTES {
         bytes_at(total, size as usize, rest)
     } else {
         Err(FieldError::Source)
@@ -105,7 +107,7 @@ fn state_at(
 {
     let rest = size_at(total, size, rest)?;
     let (variables, rest) = words_at(alloc, total, u64::from(size / WORD_BYTES), rest)?;
-    let (logs, rest) = words_at(alloc, total, LOG_WORDS * u64::from(threads), rest)?;
+    let (logs, rest) = words_at(alloc, total, LOG_WORDS as u64 * u64::from(threads), rest)?;
     let (count, rest) = number_at(total, rest)?;
     let (runs, rest) = runs_at(alloc, total, count, rest)?;
     if !rest.is_empty() {
@@ -123,11 +125,12 @@ fn state_at(
 /// Numbers are of four bytes, little-endian: 8 bytes `IDO-IMG` and LF, the version 1, the number of bytes of
 /// the source, at most 1,048,576, and these.
 pub(crate) fn read_source(bytes: &[u8]) -> Result<(&[u8], &[u8]), FieldError>
-    requires short { length bytes.now ≤ 67108864 }
+    requires short { length bytes.now ≤ MOST_INPUT_BYTES }
     // What is read is spelled so, and isn't too long.
-    ensures found { IfOk result (λ x. (length x.0.now ≤ most_source) × (bytes.now ≡ source_text x.0.now ++ x.1.now)) }
+    ensures found { IfOk result (λ x. (length x.0.now ≤ MOST_SOURCE_BYTES) × (bytes.now ≡ source_text x.0.now ++ x.1.now)) }
     // What isn't too long and is spelled so is read.
-    ensures only { (s rest : List ℕ) → length s ≤ most_source → bytes.now ≡ source_text s ++ rest → IsOkAnd result (λ x. (x.0.now ≡ s) × (x.1.now ≡ rest)) }
+    ensures only { (s rest : List ℕ) → length s ≤ MOST_SOURCE_BYTES → bytes.now ≡ source_text s ++ rest →
+        IsOkAnd result (λ x. (x.0.now ≡ s) × (x.1.now ≡ rest)) }
     // Which fault it is: the first in the order of the bytes.
     ensures exact { Tells (λ x. (x.0.now, x.1.now)) result (source_at bytes.now) }
 {

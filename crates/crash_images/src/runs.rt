@@ -5,10 +5,10 @@ ghost use Rattle.run_scripts.specs.Reports.{runs_of};
 ghost use Rattle.crash_images.specs.links.Views.{run_of};
 
 use crate::state::Run;
-use ido_base::memory::Memory;
+use ido_base::memory::OutOfMemory;
 use std::alloc::Global;
 
-// How many numbers at the front are this one.
+/// How many numbers at the front are this one.
 fn run_length(schedule: &[u32], thread: u32) -> usize
     ensures value { result ≡ prefix_len (λ t. t == thread) schedule.now }
     ensures bound { result ≤ length schedule.now }
@@ -16,7 +16,7 @@ fn run_length(schedule: &[u32], thread: u32) -> usize
     schedule.iter().take_while(|t| **t == thread).count()
 }
 
-// The first of the longest runs of a schedule, and what stands behind it.
+/// The first of the longest runs of a schedule, and what stands behind it.
 fn first_run(schedule: &[u32]) -> Option<(Run, &[u32])>
     requires { length schedule.now < 2 ^ 32 }
     ensures none { IfNone result (runs_of schedule.now ≡ []) }
@@ -36,7 +36,7 @@ fn first_run(schedule: &[u32]) -> Option<(Run, &[u32])>
 }
 
 /// Adds a run.
-fn push(runs: &mut Vec<Run>, run: Run) -> Result<(), Memory>
+fn push(runs: &mut Vec<Run>, run: Run) -> Result<(), OutOfMemory>
     ensures { OnOk result (runs.new.items ≡ runs.old.items ++ run ∷ []) }
 {
     runs.push(run)?;
@@ -44,7 +44,7 @@ fn push(runs: &mut Vec<Run>, run: Run) -> Result<(), Memory>
 }
 
 /// The longest runs of a schedule.
-pub fn runs_of(alloc: Global, schedule: &[u32]) -> Result<Vec<Run>, Memory>
+pub fn runs_of(alloc: Global, schedule: &[u32]) -> Result<Vec<Run>, OutOfMemory>
     requires { length schedule.now < 2 ^ 32 }
     ensures { IfOk result (λ runs. map run_of runs.items ≡ runs_of schedule.now) }
 {

@@ -2,12 +2,12 @@
 ghost use Rattle.std.specs.Prelude.{◌≡◌, ◌≢◌, ◌↔◌, ◌++◌, ◌<◌, ◌≤◌, ℕ, map, replicate, Some, IfOk, IfErr, OnOk, IsTrue};
 ghost use Rattle.c_tree.specs.Flats.{flat_of};
 ghost use Rattle.crash_images.specs.Schedules.{IsSchedule, IsAtFault, IsScheduleFault};
-ghost use Rattle.crash_images.specs.links.Fronts.{IsFront, TellsFault, Follows};
+ghost use Rattle.crash_images.specs.links.Fronts.{IsPrefix, TellsFault, Follows};
 ghost use Rattle.crash_images.specs.links.Views.{run_of};
 
 use crate::state::Run;
 use c_tree::flat::Flat;
-use ido_base::memory::Memory;
+use ido_base::memory::OutOfMemory;
 use source_machine::SourceState;
 use std::alloc::Global;
 use thiserror::Error;
@@ -26,33 +26,33 @@ pub(crate) enum ScheduleFault {
     Memory,
 }
 
-impl From<Memory> for ScheduleFault {
+impl From<OutOfMemory> for ScheduleFault {
     ghost use Rattle.crash_images.specs.declared.schedules.ScheduleFault.TheVariants.{Memory as Unremembered};
 
     ghost from_gives = { λ _ e. e ≡ Unremembered };
 
-    fn from(_: Memory) -> Self {
+    fn from(_: OutOfMemory) -> Self {
         ScheduleFault::Memory
     }
 }
 
 // The steps before the first fault of form, or all where there is none.
 #[derive(Drop)]
-struct Front {
+struct Prefix {
     steps: Vec<u32>,
     // the step of that fault
     fault: Option<u64>,
 }
 
-// Whether a run can follow one of that thread, or stand first.
+/// Whether a run can follow one of that thread, or stand first.
 fn follows(last: Option<u32>, run: &Run) -> bool
     ensures { IsTrue result ↔ Follows last (run_of run.now) }
 {
     run.steps != 0 && last != Some(run.thread)
 }
 
-// Adds so many steps of a thread.
-fn push_steps(steps: &mut Vec<u32>, count: u64, thread: u32) -> Result<(), Memory>
+/// Adds so many steps of a thread.
+fn push_steps(steps: &mut Vec<u32>, count: u64, thread: u32) -> Result<(), OutOfMemory>
     ensures { OnOk result (steps.new.items ≡ steps.old.items ++ replicate count thread) }
 {
     for _ in 0..count {
@@ -61,16 +61,16 @@ fn push_steps(steps: &mut Vec<u32>, count: u64, thread: u32) -> Result<(), Memor
     Ok(())
 }
 
-// The steps before the first that has a fault of form: a run begins there that can't follow, or it is past the most.
-fn front_of(alloc: Global, runs: &[Run]) -> Result<Front, Memory>
-    ensures { IfOk result (λ front. IsFront (map run_of runs.now) front.steps.items front.fault) }
+/// The steps before the first that has a fault of form: a run begins there that can't follow, or it is past the most.
+fn prefix_of(alloc: Global, runs: &[Run]) -> Result<Prefix, OutOfMemory>
+    ensures { IfOk result (λ prefix. IsPrefix (map run_of runs.now) prefix.steps.items prefix.fault) }
 {
     let mut steps = Vec::new(alloc);
     let mut last = None;
     for run in runs {
         let done = steps.len() as u64;
         if !follows(last, run) {
-            return Ok(Front {
+            return Ok(Prefix {
                 steps,
                 fault: Some(done + 1),
             });
@@ -79,7 +79,7 @@ fn front_of(alloc: Global, runs: &[Run]) -> Result<Front, Memory>
         let room = MOST_STEPS - done;
         if count > room {
             push_steps(&mut steps, room, run.thread)?;
-            return Ok(Front {
+            return Ok(Prefix {
                 steps,
                 fault: Some(MOST_STEPS + 1),
             });
@@ -87,7 +87,7 @@ fn front_of(alloc: Global, runs: &[Run]) -> Result<Front, Memory>
         push_steps(&mut steps, count, run.thread)?;
         last = Some(run.thread);
     }
-    Ok(Front { steps, fault: None })
+    Ok(Prefix { steps, fault: None })
 }
 
 /// The schedule that runs tell: of each step the thread.
@@ -107,13 +107,13 @@ pub(crate) fn schedule_of(
     ensures one { (step other : ℕ) → IsScheduleFault (flat_of flat.now) (map run_of runs.now) step →
         IsScheduleFault (flat_of flat.now) (map run_of runs.now) other → step ≡ other }
 {
-    let front = front_of(alloc, runs)?;
+    let prefix = prefix_of(alloc, runs)?;
     let mut state = SourceState::start(alloc, flat)?;
-    if let Err(refused) = state.run(&front.steps) {
+    if let Err(refused) = state.run(&prefix.steps) {
         return Err(ScheduleFault::Step(refused.step));
     }
-    match front.fault {
+    match prefix.fault {
         Some(step) => Err(ScheduleFault::Step(step)),
-        None => Ok(front.steps),
+        None => Ok(prefix.steps),
     }
 }

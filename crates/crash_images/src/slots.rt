@@ -15,7 +15,7 @@ pub fn is_form(kind: Kind, word: u64) -> bool
     register_form(Value::reduce(kind, i128::from(word))) == word
 }
 
-// Which element of so many bytes stands at the address, where the first stands at that one.
+/// Which element of so many bytes stands at the address, where the first stands at that one.
 fn element_at(first: u64, bytes: u64, address: u64) -> Option<u64>
     requires { 0 < bytes }
     ensures is { IfSome result (λ element. address ≡ first + bytes * element) }

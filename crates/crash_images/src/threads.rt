@@ -18,7 +18,7 @@ use log_layout::log::MASK_SLOT;
 use log_layout::point::Point;
 use log_layout::roles::PENDING_ADDRESS;
 
-// The first register of these locals in whose slot is no number of its local's kind.
+/// The first register of these locals in whose slot is no number of its local's kind.
 fn wrong_register(live: &[LiveLocal], logs: &[u64], thread: u32, bank: u32) -> Option<u8>
     requires slots { HaveSlots live.now }
     requires log { log_words * (thread + 1) ≤ length logs.now }
@@ -33,7 +33,7 @@ fn wrong_register(live: &[LiveLocal], logs: &[u64], thread: u32, bank: u32) -> O
     None
 }
 
-// Whether the slot has the address of an element that may be written, where a store is pending.
+/// Whether the slot has the address of an element that may be written, where a store is pending.
 fn has_address(
     variables: &[Variable],
     addresses: &[u32],
@@ -58,7 +58,7 @@ fn has_address(
     }
 }
 
-// The first fault of the bank by which the thread is resumed there.
+/// The first fault of the bank by which the thread is resumed there.
 fn check_bank(
     variables: &[Variable],
     addresses: &[u32],
@@ -89,14 +89,14 @@ fn check_bank(
     Ok(())
 }
 
-// The first of the places that has this address.
+/// The first of the places that has this address.
 fn resume_at(resumes: &[Resume], address: u64) -> Option<&Resume>
     ensures { option_copied result ≡ resume_at resumes.now address }
 {
     resumes.iter().find(|resume| resume.address == address)
 }
 
-// The first fault of the thread's log.
+/// The first fault of the thread's log.
 fn check_log(
     variables: &[Variable],
     addresses: &[u32],

@@ -1,7 +1,8 @@
 //! An image written as bytes.
 ghost use Rattle.std.specs.Prelude.{◌≡◌, ◌++◌, ◌<◌, ◌≤◌, ◌^◌, length, map, IfOk, OnOk, flat_map};
+ghost use Rattle.ido_base.specs.declared.limits.TheConstants.{MOST_INPUT_BYTES, MOST_SOURCE_BYTES, VARIABLE_WORDS, MOST_STEPS};
 ghost use Rattle.run_scripts.specs.Reports.{runs_of};
-ghost use Rattle.crash_images.specs.Contents.{contents, schedule_of, most_source, most_variables, most_logs, most_steps};
+ghost use Rattle.crash_images.specs.Contents.{contents, schedule_of, most_logs};
 ghost use Rattle.crash_images.specs.Spelling.{number, word, run_text, source_text, state_text, spelling};
 ghost use Rattle.crash_images.specs.Reading.{IsReadAs};
 ghost use Rattle.crash_images.specs.Schedules.{AreMerged};
@@ -10,11 +11,11 @@ ghost use Rattle.crash_images.specs.links.Views.{run_of};
 use crate::limits::WORD_BYTES;
 use crate::runs::runs_of;
 use crate::state::Run;
-use ido_base::memory::Memory;
+use ido_base::memory::OutOfMemory;
 use std::alloc::Global;
 
 /// Adds bytes.
-fn put(out: &mut Vec<u8>, bytes: &[u8]) -> Result<(), Memory>
+fn put(out: &mut Vec<u8>, bytes: &[u8]) -> Result<(), OutOfMemory>
     ensures { OnOk result (out.new.items ≡ out.old.items ++ bytes.now) }
 {
     out.extend_from_slice(bytes)?;
@@ -22,21 +23,21 @@ fn put(out: &mut Vec<u8>, bytes: &[u8]) -> Result<(), Memory>
 }
 
 /// Adds a number.
-fn put_number(out: &mut Vec<u8>, n: u32) -> Result<(), Memory>
+fn put_number(out: &mut Vec<u8>, n: u32) -> Result<(), OutOfMemory>
     ensures { OnOk result (out.new.items ≡ out.old.items ++ number n) }
 {
     put(out, &n.to_le_bytes())
 }
 
 /// Adds a durable word.
-fn put_word(out: &mut Vec<u8>, n: u64) -> Result<(), Memory>
+fn put_word(out: &mut Vec<u8>, n: u64) -> Result<(), OutOfMemory>
     ensures { OnOk result (out.new.items ≡ out.old.items ++ word n) }
 {
     put(out, &n.to_le_bytes())
 }
 
 /// Adds durable words.
-fn put_words(out: &mut Vec<u8>, words: &[u64]) -> Result<(), Memory>
+fn put_words(out: &mut Vec<u8>, words: &[u64]) -> Result<(), OutOfMemory>
     ensures { OnOk result (out.new.items ≡ out.old.items ++ flat_map word words.now) }
 {
     for word in words {
@@ -46,7 +47,7 @@ fn put_words(out: &mut Vec<u8>, words: &[u64]) -> Result<(), Memory>
 }
 
 /// Adds a run.
-fn put_run(out: &mut Vec<u8>, run: Run) -> Result<(), Memory>
+fn put_run(out: &mut Vec<u8>, run: Run) -> Result<(), OutOfMemory>
     ensures { OnOk result (out.new.items ≡ out.old.items ++ run_text (run_of run)) }
 {
     put_number(out, run.thread)?;
@@ -54,7 +55,7 @@ fn put_run(out: &mut Vec<u8>, run: Run) -> Result<(), Memory>
 }
 
 /// Adds runs.
-fn put_runs(out: &mut Vec<u8>, runs: &[Run]) -> Result<(), Memory>
+fn put_runs(out: &mut Vec<u8>, runs: &[Run]) -> Result<(), OutOfMemory>
     ensures { OnOk result (out.new.items ≡ out.old.items ++ flat_map run_text (map run_of runs.now)) }
 {
     for run in runs {
@@ -64,7 +65,7 @@ fn put_runs(out: &mut Vec<u8>, runs: &[Run]) -> Result<(), Memory>
 }
 
 /// Adds what stands first, up to the end of the source.
-fn put_source(out: &mut Vec<u8>, source: &[u8]) -> Result<(), Memory>
+fn put_source(out: &mut Vec<u8>, source: &[u8]) -> Result<(), OutOfMemory>
     requires { length source.now < 2 ^ 32 }
     ensures { OnOk result (out.new.items ≡ out.old.items ++ source_text source.now) }
 {
@@ -75,8 +76,13 @@ fn put_source(out: &mut Vec<u8>, source: &[u8]) -> Result<(), Memory>
 }
 
 /// Adds what stands behind the source.
-fn put_state(out: &mut Vec<u8>, variables: &[u64], logs: &[u64], runs: &[Run]) -> Result<(), Memory>
-    requires variables { length variables.now ≤ most_variables }
+fn put_state(
+    out: &mut Vec<u8>,
+    variables: &[u64],
+    logs: &[u64],
+    runs: &[Run],
+) -> Result<(), OutOfMemory>
+    requires variables { length variables.now ≤ VARIABLE_WORDS }
     requires runs { length runs.now < 2 ^ 32 }
     ensures { OnOk result (out.new.items ≡ out.old.items ++ state_text (record { variables = variables.now; logs = logs.now; runs = map run_of runs.now })) }
 {
@@ -94,10 +100,10 @@ fn spelled(
     variables: &[u64],
     logs: &[u64],
     schedule: &[u32],
-) -> Result<Vec<u8>, Memory>
-    requires source { length source.now ≤ most_source }
-    requires variables { length variables.now ≤ most_variables }
-    requires schedule { length schedule.now ≤ most_steps }
+) -> Result<Vec<u8>, OutOfMemory>
+    requires source { length source.now ≤ MOST_SOURCE_BYTES }
+    requires variables { length variables.now ≤ VARIABLE_WORDS }
+    requires schedule { length schedule.now ≤ MOST_STEPS }
     ensures { IfOk result (λ image. image.items ≡ spelling (contents source.now variables.now logs.now schedule.now)) }
 {
     let runs = runs_of(alloc, schedule)?;
@@ -115,16 +121,16 @@ pub fn write_image(
     variables: &[u64],
     logs: &[u64],
     schedule: &[u32],
-) -> Result<Vec<u8>, Memory>
-    requires source { length source.now ≤ most_source }
-    requires variables { length variables.now ≤ most_variables }
+) -> Result<Vec<u8>, OutOfMemory>
+    requires source { length source.now ≤ MOST_SOURCE_BYTES }
+    requires variables { length variables.now ≤ VARIABLE_WORDS }
     requires logs { length logs.now ≤ most_logs }
-    requires schedule { length schedule.now ≤ most_steps }
+    requires schedule { length schedule.now ≤ MOST_STEPS }
     ensures spelled { IfOk result (λ image. image.items ≡ spelling (contents source.now variables.now logs.now schedule.now)) }
     // What was written is read again.
     ensures again { IfOk result (λ image. IsReadAs (contents source.now variables.now logs.now schedule.now) image.items) }
     // It isn't too long for that.
-    ensures short { IfOk result (λ image. length image.items ≤ 67108864) }
+    ensures short { IfOk result (λ image. length image.items ≤ MOST_INPUT_BYTES) }
     // The runs tell each step.
     ensures steps { schedule_of (runs_of schedule.now) ≡ schedule.now }
     // Each of them takes a step, and the next is of another thread.

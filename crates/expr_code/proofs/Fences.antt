@@ -9,7 +9,8 @@ use Rattle.ido_ints.specs.Reduction.{residue, from_least_on}
 use Rattle.ido_ints.specs.Typed.{typed, converted, register_form_of}
 use Rattle.ido_ints.proofs.Reduced.{Holds-zero}
 use Rattle.rv64_isa.specs.declared.instr.Instr.{Instr}
-use Rattle.rv64_isa.specs.declared.instr.Instr.TheVariants.{Lui, Auipc, Jal, Jalr, Branch, Load, Store, OpImmediate, ShiftImmediate, ShiftImmediateWord, Op, CboClean, Fence, Ecall}
+use Rattle.rv64_isa.specs.declared.instr.Instr.TheVariants.{Lui, Auipc, Jal, Jalr, Branch, Load, Store, OpImmediate}
+use Rattle.rv64_isa.specs.declared.instr.Instr.TheVariants.{ShiftImmediate, ShiftImmediateWord, Op, CboClean, Fence, Ecall}
 use Rattle.rv64_isa.specs.declared.object.CodeItem.TheVariants.{Instruction}
 use Rattle.rv64_isa.specs.Rows.{Effect, GoesOn, Fences, row, read}
 use Rattle.rv64_link.specs.LabelledCode.{fences_of}

@@ -78,9 +78,9 @@ stands_right s pc (i ∷ a) b h =
 
 -- ---- Straight-line code
 
-front_empty : (a b : List Effect) → a ++ b ≡ [] → a ≡ []
-front_empty [] b e = refl
-front_empty (f ∷ a) b e = cc
+prefix_empty : (a b : List Effect) → a ++ b ≡ [] → a ≡ []
+prefix_empty [] b e = refl
+prefix_empty (f ∷ a) b e = cc
 
 goes_on : (pc : ℕ) (y : List ℕ) (to : ℕ) → seen pc (GoesOn y to) ≡ [] → to ≡ next pc
 goes_on pc y to e = by (to == next pc) refl
@@ -100,14 +100,14 @@ straight_first s i is x pc rest_leads e h l = by (row i x pc) refl
     seen_one : (f : Effect) → row i x pc ≡ f → seen pc f ≡ f ∷ [] → ⊥
     seen_one f w o =
         let z : seen pc f ++ effects is (left_by x f) (pc + 4) ≡ [] = ap (λ (g : Effect). seen pc g ++ effects is (left_by x g) (pc + 4)) (sym w) ∙ e in
-        let none : seen pc f ≡ [] = front_empty (seen pc f) (effects is (left_by x f) (pc + 4)) z in
+        let none : seen pc f ≡ [] = prefix_empty (seen pc f) (effects is (left_by x f) (pc + 4)) z in
         cc (none, o)
 
     by : (f : Effect) → row i x pc ≡ f →
         LeadsBy s (moment x pc) (moment (registers_after (i ∷ is) x pc) (pc + 4 * length (i ∷ is))) (length (i ∷ is))
     by (GoesOn y to) w =
         let seen_none : seen pc (GoesOn y to) ++ effects is y (pc + 4) ≡ [] = ap (λ (f : Effect). seen pc f ++ effects is (left_by x f) (pc + 4)) (sym w) ∙ e in
-        let none : seen pc (GoesOn y to) ≡ [] = front_empty (seen pc (GoesOn y to)) (effects is y (pc + 4)) seen_none in
+        let none : seen pc (GoesOn y to) ≡ [] = prefix_empty (seen pc (GoesOn y to)) (effects is y (pc + 4)) seen_none in
         let small : pc + 4 < 2 ^ 64 = omega arith in
         let here : to ≡ pc + 4 = goes_on pc y to none ∙ next_is pc small in
         let rest : effects is y (pc + 4) ≡ [] = ap (λ (fs : List Effect). fs ++ effects is y (pc + 4)) (sym none) ∙ seen_none in

@@ -2,6 +2,7 @@
 use Rattle.std.specs.Prelude.{◌≡◌, ℕ, ◌+◌, ◌*◌, ◌^◌, ◌<◌, ◌≤◌, List, length, map, slice_index, slice_index_or, Option, Some, Bool, true, false, not, ◌==◌}
 use Rattle.std.specs.Prelude.{◌||◌, ℤ, pos}
 use Rattle.ido_base.specs.Layout.{variable_at, end_from}
+use Rattle.ido_base.specs.declared.limits.TheConstants.{MOST_VARIABLE_BYTES, MOST_ELEMENTS}
 use Rattle.ido_ints.specs.declared.kinds.Kind.{Kind}
 use Rattle.ido_ints.specs.Kinds.{Holds, bytes_of, bits_of}
 use Rattle.ido_ints.specs.Reduction.{residue}
@@ -10,7 +11,6 @@ use Rattle.ido_ints.specs.Typed.{Typed, typed, converted}
 use Rattle.c_tree.specs.Exprs as e
 use Rattle.c_tree.specs.Programs as p
 use Rattle.c_tree.specs.Values.{value, element_number, element_at}
-use Rattle.c_tree.specs.TypeRules.{most_variable_bytes, most_elements}
 use Rattle.c_tree.specs.Ranges.{elements_of}
 use Rattle.c_tree.specs.WellFormed.{IsExpr, IsDeclared, IndexFits, Fits, shape_of}
 use Rattle.rv64_isa.specs.declared.instr.Instr.{Instr}
@@ -58,8 +58,8 @@ place_of s variable element = variable_at (map shape_of s.variables) variable el
 
 -- the homes are those of the variables and locals
 pub record Suits (h : Homes) (s : Source) : Type 0 where
-  pub bytes : end_from 0 (map shape_of s.variables) ≤ most_variable_bytes
-  pub lengths : (variable : ℕ) → elements_of s.variables variable ≤ most_elements
+  pub bytes : end_from 0 (map shape_of s.variables) ≤ MOST_VARIABLE_BYTES
+  pub lengths : (variable : ℕ) → elements_of s.variables variable ≤ MOST_ELEMENTS
   pub address : (variable : ℕ) → variable < length s.variables → slice_index h.addresses variable ≡ place_of s variable 0
   pub register : (local : ℕ) → local < length s.kinds → is_local (slice_index h.registers local) ≡ true
 

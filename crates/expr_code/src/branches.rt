@@ -7,7 +7,7 @@ ghost use Rattle.expr_code.specs.links.Giving.{IsTest, IsMade, IsChoice, Choice}
 ghost use Rattle.expr_code.specs.links.Skipping.{Skips, SkipsWhere, IsGuard};
 
 use crate::operators::append;
-use ido_base::memory::Memory;
+use ido_base::memory::OutOfMemory;
 use operator_code::Test;
 use rv64_isa::field::{BranchOffset, JumpOffset, Register};
 use rv64_isa::instr::Instr;
@@ -45,7 +45,7 @@ fn branch(test: Test, words: usize) -> Option<Instr>
 
 /// Goes on behind itself where the test is passed, else skips so many words: a branch, or one over a jump where it
 /// doesn't reach.
-fn guard(alloc: Global, test: Test, words: usize) -> Result<Vec<Instr>, Memory>
+fn guard(alloc: Global, test: Test, words: usize) -> Result<Vec<Instr>, OutOfMemory>
     requires { words + 1 < 2 ^ 18 }
     ensures fences { IfOk result (λ code. fences_among code.items ≡ 0) }
     ensures code { IfOk result (λ code. IsGuard words test code.items) }
@@ -64,7 +64,7 @@ pub(crate) fn choose(
     test: Test,
     chosen: &[Instr],
     otherwise: &[Instr],
-) -> Result<Vec<Instr>, Memory>
+) -> Result<Vec<Instr>, OutOfMemory>
     requires chosen { length chosen.now + 2 < 2 ^ 18 }
     requires otherwise { length otherwise.now + 1 < 2 ^ 18 }
     ensures short { IfOk result (λ whole. length whole.items ≤ length code.items + length chosen.now + length otherwise.now + 3) }

@@ -12,7 +12,7 @@ ghost use Rattle.expr_code.specs.links.Giving.{IsEvaluation, IsOperand, IsPair, 
 use crate::branches::choose;
 use crate::operand::{Operand, Pair, TestCode};
 use crate::operators::constant_code;
-use ido_base::memory::Memory;
+use ido_base::memory::OutOfMemory;
 use ido_ints::{Kind, Value};
 use operator_code::{BinaryOperation, comparison, nonzero};
 use rv64_isa::field::Register;
@@ -25,7 +25,7 @@ pub(crate) fn conjunction(
     left: TestCode,
     right: Vec<Instr>,
     rd: Register,
-) -> Result<Vec<Instr>, Memory>
+) -> Result<Vec<Instr>, OutOfMemory>
     requires some { 0 < rd }
     requires right { length right.items + 2 < 2 ^ 18 }
     ensures short { IfOk result (λ code. length code.items ≤ length left.code.items + length right.items + 4) }
@@ -44,7 +44,7 @@ pub(crate) fn disjunction(
     left: TestCode,
     right: Vec<Instr>,
     rd: Register,
-) -> Result<Vec<Instr>, Memory>
+) -> Result<Vec<Instr>, OutOfMemory>
     requires some { 0 < rd }
     requires right { length right.items + 2 < 2 ^ 18 }
     ensures short { IfOk result (λ code. length code.items ≤ length left.code.items + length right.items + 4) }
@@ -63,11 +63,12 @@ pub(crate) fn conditional(
     condition: TestCode,
     chosen: Vec<Instr>,
     otherwise: Vec<Instr>,
-) -> Result<Vec<Instr>, Memory>
+) -> Result<Vec<Instr>, OutOfMemory>
     requires chosen { length chosen.items + 2 < 2 ^ 18 }
     requires otherwise { length otherwise.items + 1 < 2 ^ 18 }
     ensures short { IfOk result (λ code. length code.items ≤ length condition.code.items + length chosen.items + length otherwise.items + 3) }
-    ensures fences { IfOk result (λ code. fences_among code.items ≡ fences_among condition.code.items + fences_among chosen.items + fences_among otherwise.items) }
+    ensures fences { IfOk result (λ code.
+        fences_among code.items ≡ fences_among condition.code.items + fences_among chosen.items + fences_among otherwise.items) }
     ensures code { IfOk result (λ code. (h : Homes) (k : Kind) (c x y : e.Expr) (held rd : ℕ) → IsTest h c held condition.test condition.code.items →
         IsEvaluation h (e.Converted k x) held rd chosen.items → IsEvaluation h (e.Converted k y) held rd otherwise.items →
         IsEvaluation h (e.Conditional k c x y) held rd code.items) }

@@ -1,6 +1,7 @@
 //! Addresses and loads of elements.
 ghost use Rattle.std.specs.Prelude.{◌≡◌, ◌<◌, ◌≤◌, ◌^◌, ◌+◌, ◌*◌, ◌/◌, ◌%◌, ℕ, length, slice_index, IfOk};
 ghost use Rattle.ido_base.specs.declared.place.Place.{Place};
+ghost use Rattle.ido_base.specs.declared.limits.TheConstants.{MOST_TEMPORARIES};
 ghost use Rattle.ido_ints.specs.Kinds.{bytes_of};
 ghost use Rattle.c_tree.specs.Exprs as e;
 ghost use Rattle.rv64_isa.specs.declared.instr.Instr.{Instr};
@@ -10,7 +11,7 @@ ghost use Rattle.expr_code.specs.links.Loading.{loaded_by, places_of, HasUpper};
 
 use crate::operand::Operand;
 use crate::temporaries::{ADDRESS, temporary};
-use ido_base::memory::Memory;
+use ido_base::memory::OutOfMemory;
 use ido_ints::Kind;
 use operator_code::instructions::{add, immediate, lui, shift};
 use rv64_isa::field::{Immediate, Register};
@@ -60,8 +61,13 @@ fn lower(address: u32) -> u16
 }
 
 /// The upper part of an element's address into the register for addresses, with the bytes of the elements before it.
-fn element_upper(index: Operand, address: u32, kind: Kind, held: u32) -> Result<Vec<Instr>, Memory>
-    requires { held < 4 }
+fn element_upper(
+    index: Operand,
+    address: u32,
+    kind: Kind,
+    held: u32,
+) -> Result<Vec<Instr>, OutOfMemory>
+    requires { held < MOST_TEMPORARIES }
     ensures short { IfOk result (λ code. length code.items ≤ length index.code.items + 3) }
     ensures fences { IfOk result (λ code. fences_among code.items ≡ fences_among index.code.items) }
     ensures code { IfOk result (λ code. (h : Homes) (x : e.Expr) → address + 2048 < 2 ^ 31 → IsOperand h x held index.register index.code.items →
@@ -98,7 +104,7 @@ pub(crate) fn variable_code(
     address: u32,
     kind: Kind,
     rd: Register,
-) -> Result<Vec<Instr>, Memory>
+) -> Result<Vec<Instr>, OutOfMemory>
     requires { 0 < rd }
     ensures short { IfOk result (λ code. length code.items ≡ 2) }
     ensures fences { IfOk result (λ code. fences_among code.items ≡ 0) }
@@ -115,9 +121,9 @@ pub(crate) fn element_code(
     kind: Kind,
     rd: Register,
     held: u32,
-) -> Result<Vec<Instr>, Memory>
+) -> Result<Vec<Instr>, OutOfMemory>
     requires some { 0 < rd }
-    requires held { held < 4 }
+    requires held { held < MOST_TEMPORARIES }
     ensures short { IfOk result (λ code. length code.items ≤ length index.code.items + 4) }
     ensures fences { IfOk result (λ code. fences_among code.items ≡ fences_among index.code.items) }
     ensures code { IfOk result (λ code. (h : Homes) (place : Place) (variable : ℕ) (index_place : Place) (x : e.Expr) →
@@ -134,7 +140,7 @@ pub(crate) fn variable_address(
     alloc: Global,
     address: u32,
     rd: Register,
-) -> Result<Vec<Instr>, Memory>
+) -> Result<Vec<Instr>, OutOfMemory>
     requires { 0 < rd }
     ensures short { IfOk result (λ code. length code.items ≡ 2) }
     ensures fences { IfOk result (λ code. fences_among code.items ≡ 0) }
@@ -153,7 +159,7 @@ pub(crate) fn element_address(
     address: u32,
     kind: Kind,
     rd: Register,
-) -> Result<Vec<Instr>, Memory>
+) -> Result<Vec<Instr>, OutOfMemory>
     requires { 0 < rd }
     ensures short { IfOk result (λ code. length code.items ≤ length index.code.items + 4) }
     ensures fences { IfOk result (λ code. fences_among code.items ≡ fences_among index.code.items) }

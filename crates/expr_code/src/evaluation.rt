@@ -1,10 +1,10 @@
 //! The code of expressions, by recursion.
 ghost use Rattle.std.specs.Prelude.{◌≡◌, ◌<◌, ◌≤◌, ◌+◌, ◌*◌, true, false, length, IfOk};
+ghost use Rattle.ido_base.specs.declared.limits.TheConstants.{MOST_TEMPORARIES, MOST_PRICE};
 ghost use Rattle.ido_ints.specs.Kinds.{rank_of};
 ghost use Rattle.c_tree.specs.Exprs as e;
 ghost use Rattle.c_tree.specs.Exprs.{expr_of};
 ghost use Rattle.c_tree.specs.Prices.{need_of, need_of_both, nodes_of, node_price};
-ghost use Rattle.c_tree.specs.Temporaries.{most_price};
 ghost use Rattle.c_tree.specs.Typing.{kind_of};
 ghost use Rattle.operator_code.specs.Computing.{is_comparison};
 ghost use Rattle.expr_code.specs.Evaluating.{AreAtHome, homes_of, fences_among};
@@ -13,7 +13,6 @@ ghost use Rattle.expr_code.specs.links.Giving.{IsEvaluation, IsOperand, IsTest, 
 use crate::conditions::{compared, conditional, conjunction, disjunction, negated, tested};
 use crate::elements::{element_code, variable_code};
 use crate::frame::Frame;
-use crate::kinds::kind_of;
 use crate::operand::{Operand, TestCode};
 use crate::operators::{
     constant_code, constant_form, converted, copied, held_operand, left_first, local_operand,
@@ -22,7 +21,7 @@ use crate::operators::{
 use crate::temporaries::temporary;
 use c_tree::expr::Expr;
 use c_tree::price::need;
-use ido_base::memory::Memory;
+use ido_base::memory::OutOfMemory;
 use ido_ints::{Binary, Kind, Unary};
 use operator_code::{BinaryOperation, keeps_form};
 use rv64_isa::field::Register;
@@ -37,10 +36,10 @@ pub(crate) fn evaluate(
     frame: &Frame,
     rd: Register,
     held: u32,
-) -> Result<Vec<Instr>, Memory>
+) -> Result<Vec<Instr>, OutOfMemory>
     requires home { AreAtHome (homes_of frame.now) (expr_of expr.now) }
-    requires need { need_of (expr_of expr.now) + held ≤ 4 }
-    requires price { node_price (nodes_of (expr_of expr.now)) ≤ most_price }
+    requires need { need_of (expr_of expr.now) + held ≤ MOST_TEMPORARIES }
+    requires price { node_price (nodes_of (expr_of expr.now)) ≤ MOST_PRICE }
     requires some { 0 < rd }
     ensures short { IfOk result (λ code. length code.items + 8 ≤ 16 * nodes_of (expr_of expr.now) + conversion_words (expr_of expr.now)) }
     ensures fences { IfOk result (λ code. fences_among code.items ≡ 0) }
@@ -68,7 +67,7 @@ pub(crate) fn evaluate(
             operator,
             operand: inner,
         } => {
-            let kind = kind_of(inner);
+            let kind = inner.kind();
             let inner = operand(alloc, inner, frame, held)?;
             Ok(with_unary(inner, *operator, kind, rd)?)
         }
@@ -98,8 +97,8 @@ pub(crate) fn evaluate(
             _ => {
                 let operation = BinaryOperation {
                     operator: *operator,
-                    left: kind_of(left),
-                    right: kind_of(right),
+                    left: left.kind(),
+                    right: right.kind(),
                 };
                 if let Some(form) = constant_form(operation, right) {
                     let left = operand_in(alloc, left, operation.left_kind(), frame, held)?;
@@ -141,10 +140,10 @@ pub(crate) fn evaluate_converted(
     frame: &Frame,
     rd: Register,
     held: u32,
-) -> Result<Vec<Instr>, Memory>
+) -> Result<Vec<Instr>, OutOfMemory>
     requires home { AreAtHome (homes_of frame.now) (expr_of expr.now) }
-    requires need { need_of (expr_of expr.now) + held ≤ 4 }
-    requires price { node_price (nodes_of (expr_of expr.now)) ≤ most_price }
+    requires need { need_of (expr_of expr.now) + held ≤ MOST_TEMPORARIES }
+    requires price { node_price (nodes_of (expr_of expr.now)) ≤ MOST_PRICE }
     requires some { 0 < rd }
     ensures short { IfOk result (λ code. length code.items + 8 ≤ 16 * nodes_of (expr_of expr.now) + 2 * rank_of kind) }
     ensures fences { IfOk result (λ code. fences_among code.items ≡ 0) }
@@ -159,7 +158,7 @@ pub(crate) fn evaluate_converted(
             Ok(code)
         }
         _ => {
-            let from = kind_of(expr);
+            let from = expr.kind();
             if keeps_form(from, kind) {
                 let code = evaluate(alloc, expr, frame, rd, held)?;
                 Ok(code)
@@ -179,10 +178,10 @@ fn evaluate_truth(
     frame: &Frame,
     rd: Register,
     held: u32,
-) -> Result<Vec<Instr>, Memory>
+) -> Result<Vec<Instr>, OutOfMemory>
     requires home { AreAtHome (homes_of frame.now) (expr_of expr.now) }
-    requires need { need_of (expr_of expr.now) + held ≤ 4 }
-    requires price { node_price (nodes_of (expr_of expr.now)) ≤ most_price }
+    requires need { need_of (expr_of expr.now) + held ≤ MOST_TEMPORARIES }
+    requires price { node_price (nodes_of (expr_of expr.now)) ≤ MOST_PRICE }
     requires some { 0 < rd }
     ensures short { IfOk result (λ code. length code.items ≤ 16 * nodes_of (expr_of expr.now) + 2) }
     ensures fences { IfOk result (λ code. fences_among code.items ≡ 0) }
@@ -207,10 +206,10 @@ pub(crate) fn operand(
     expr: &Expr,
     frame: &Frame,
     held: u32,
-) -> Result<Operand, Memory>
+) -> Result<Operand, OutOfMemory>
     requires home { AreAtHome (homes_of frame.now) (expr_of expr.now) }
-    requires need { need_of (expr_of expr.now) + held ≤ 4 }
-    requires price { node_price (nodes_of (expr_of expr.now)) ≤ most_price }
+    requires need { need_of (expr_of expr.now) + held ≤ MOST_TEMPORARIES }
+    requires price { node_price (nodes_of (expr_of expr.now)) ≤ MOST_PRICE }
     ensures short { IfOk result (λ x. length x.code.items + 8 ≤ 16 * nodes_of (expr_of expr.now) + conversion_words (expr_of expr.now)) }
     ensures fences { IfOk result (λ x. fences_among x.code.items ≡ 0) }
     ensures operand { IfOk result (λ x. IsOperand (homes_of frame.now) (expr_of expr.now) held x.register x.code.items) }
@@ -232,36 +231,41 @@ fn operand_in(
     kind: Kind,
     frame: &Frame,
     held: u32,
-) -> Result<Operand, Memory>
+) -> Result<Operand, OutOfMemory>
     requires home { AreAtHome (homes_of frame.now) (expr_of expr.now) }
-    requires need { need_of (expr_of expr.now) + held ≤ 4 }
-    requires price { node_price (nodes_of (expr_of expr.now)) ≤ most_price }
+    requires need { need_of (expr_of expr.now) + held ≤ MOST_TEMPORARIES }
+    requires price { node_price (nodes_of (expr_of expr.now)) ≤ MOST_PRICE }
     ensures short { IfOk result (λ x. length x.code.items ≤ 16 * nodes_of (expr_of expr.now) + 2) }
     ensures fences { IfOk result (λ x. fences_among x.code.items ≡ 0) }
     ensures operand { IfOk result (λ x. IsOperand (homes_of frame.now) (e.Converted kind (expr_of expr.now)) held x.register x.code.items) }
 {
     let inner = operand(alloc, expr, frame, held)?;
-    Ok(converted(inner, kind_of(expr), kind, held)?)
+    Ok(converted(inner, expr.kind(), kind, held)?)
 }
 
 /// Whether the right operand needs more temporaries than the left one, and so is evaluated first: the other one is
 /// then evaluated while one more is held.
 fn is_right_first(left: &Expr, right: &Expr, held: u32) -> bool
-    requires { need_of_both (need_of (expr_of left.now)) (need_of (expr_of right.now)) + held ≤ 4 }
-    ensures right_first { result ≡ true → need_of (expr_of right.now) + held ≤ 4 }
-    ensures left_then { result ≡ true → need_of (expr_of left.now) + (held + 1) ≤ 4 }
-    ensures left_first { result ≡ false → need_of (expr_of left.now) + held ≤ 4 }
-    ensures right_then { result ≡ false → need_of (expr_of right.now) + (held + 1) ≤ 4 }
+    requires { need_of_both (need_of (expr_of left.now)) (need_of (expr_of right.now)) + held ≤ MOST_TEMPORARIES }
+    ensures right_first { result ≡ true → need_of (expr_of right.now) + held ≤ MOST_TEMPORARIES }
+    ensures left_then { result ≡ true → need_of (expr_of left.now) + (held + 1) ≤ MOST_TEMPORARIES }
+    ensures left_first { result ≡ false → need_of (expr_of left.now) + held ≤ MOST_TEMPORARIES }
+    ensures right_then { result ≡ false → need_of (expr_of right.now) + (held + 1) ≤ MOST_TEMPORARIES }
 {
     need(right) > need(left)
 }
 
 /// The code of a condition: a comparison is tested as it is, any other value against 0.
 #[cycle(evaluation)]
-pub(crate) fn test(alloc: Global, expr: &Expr, frame: &Frame, held: u32) -> Result<TestCode, Memory>
+pub(crate) fn test(
+    alloc: Global,
+    expr: &Expr,
+    frame: &Frame,
+    held: u32,
+) -> Result<TestCode, OutOfMemory>
     requires home { AreAtHome (homes_of frame.now) (expr_of expr.now) }
-    requires need { need_of (expr_of expr.now) + held ≤ 4 }
-    requires price { node_price (nodes_of (expr_of expr.now)) ≤ most_price }
+    requires need { need_of (expr_of expr.now) + held ≤ MOST_TEMPORARIES }
+    requires price { node_price (nodes_of (expr_of expr.now)) ≤ MOST_PRICE }
     ensures short { IfOk result (λ x. length x.code.items ≤ 16 * nodes_of (expr_of expr.now)) }
     ensures fences { IfOk result (λ x. fences_among x.code.items ≡ 0) }
     ensures test { IfOk result (λ x. IsTest (homes_of frame.now) (expr_of expr.now) held x.test x.code.items) }
@@ -274,8 +278,8 @@ pub(crate) fn test(alloc: Global, expr: &Expr, frame: &Frame, held: u32) -> Resu
         } if is_comparison(*operator) => {
             let operation = BinaryOperation {
                 operator: *operator,
-                left: kind_of(left),
-                right: kind_of(right),
+                left: left.kind(),
+                right: right.kind(),
             };
             if is_right_first(left, right, held) {
                 let right = operand_in(alloc, right, operation.right_kind(), frame, held)?;

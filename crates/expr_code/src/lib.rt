@@ -9,7 +9,6 @@ mod conditions;
 mod elements;
 mod evaluation;
 mod frame;
-mod kinds;
 mod operand;
 mod operators;
 mod selection;

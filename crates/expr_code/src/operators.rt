@@ -1,5 +1,6 @@
 //! Constants, locals, conversions and operators on values that stand in registers.
 ghost use Rattle.std.specs.Prelude.{◌≡◌, ◌++◌, ◌<◌, ◌≤◌, ◌+◌, ◌^◌, ℕ, [], true, length, slice_index, IfOk, IfSome, OnOk};
+ghost use Rattle.ido_base.specs.declared.limits.TheConstants.{MOST_TEMPORARIES};
 ghost use Rattle.ido_ints.specs.declared.kinds.Kind.{Kind};
 ghost use Rattle.ido_ints.specs.Typed.{register_form_of};
 ghost use Rattle.c_tree.specs.Exprs as e;
@@ -15,7 +16,7 @@ ghost use Rattle.expr_code.specs.links.Giving.{IsEvaluation, IsOperand, IsPair, 
 use crate::operand::{Operand, Pair};
 use crate::temporaries::temporary;
 use c_tree::expr::Expr;
-use ido_base::memory::Memory;
+use ido_base::memory::OutOfMemory;
 use ido_ints::{Kind, Unary, Value, convert as convert_value, register_form};
 use operator_code::constant::constant;
 use operator_code::{
@@ -26,7 +27,7 @@ use rv64_isa::instr::Instr;
 use std::alloc::Global;
 
 /// Code behind code.
-pub(crate) fn append(code: &mut Vec<Instr>, more: &[Instr]) -> Result<(), Memory>
+pub(crate) fn append(code: &mut Vec<Instr>, more: &[Instr]) -> Result<(), OutOfMemory>
     ensures { OnOk result (code.new.items ≡ code.old.items ++ more.now) }
 {
     code.extend_from_slice(more)?;
@@ -34,7 +35,11 @@ pub(crate) fn append(code: &mut Vec<Instr>, more: &[Instr]) -> Result<(), Memory
 }
 
 /// A constant into `rd`.
-pub(crate) fn constant_code(alloc: Global, value: Value, rd: Register) -> Result<Vec<Instr>, Memory>
+pub(crate) fn constant_code(
+    alloc: Global,
+    value: Value,
+    rd: Register,
+) -> Result<Vec<Instr>, OutOfMemory>
     requires { 0 < rd }
     ensures short { IfOk result (λ code. length code.items ≤ 8) }
     ensures small { register_form_of value < 2 ^ 11 → IfOk result (λ code. length code.items ≡ 1) }
@@ -46,7 +51,7 @@ pub(crate) fn constant_code(alloc: Global, value: Value, rd: Register) -> Result
 }
 
 /// What the operand has, into `rd`.
-pub(crate) fn copied(operand: Operand, rd: Register) -> Result<Vec<Instr>, Memory>
+pub(crate) fn copied(operand: Operand, rd: Register) -> Result<Vec<Instr>, OutOfMemory>
     requires { 0 < rd }
     ensures short { IfOk result (λ code. length code.items ≤ length operand.code.items + 2) }
     ensures fences { IfOk result (λ code. fences_among code.items ≡ fences_among operand.code.items) }
@@ -64,7 +69,7 @@ pub(crate) fn with_unary(
     operator: Unary,
     kind: Kind,
     rd: Register,
-) -> Result<Vec<Instr>, Memory>
+) -> Result<Vec<Instr>, OutOfMemory>
     requires { 0 < rd }
     ensures short { IfOk result (λ code. length code.items ≤ length operand.code.items + 2) }
     ensures fences { IfOk result (λ code. fences_among code.items ≡ fences_among operand.code.items) }
@@ -82,7 +87,7 @@ pub(crate) fn with_conversion(
     from: Kind,
     to: Kind,
     rd: Register,
-) -> Result<Vec<Instr>, Memory>
+) -> Result<Vec<Instr>, OutOfMemory>
     requires { 0 < rd }
     ensures short { IfOk result (λ code. length code.items ≤ length operand.code.items + 2) }
     ensures fences { IfOk result (λ code. fences_among code.items ≡ fences_among operand.code.items) }
@@ -100,8 +105,8 @@ pub(crate) fn converted(
     from: Kind,
     to: Kind,
     held: u32,
-) -> Result<Operand, Memory>
-    requires { held < 4 }
+) -> Result<Operand, OutOfMemory>
+    requires { held < MOST_TEMPORARIES }
     ensures short { IfOk result (λ y. length y.code.items ≤ length operand.code.items + 2) }
     ensures fences { IfOk result (λ y. fences_among y.code.items ≡ fences_among operand.code.items) }
     ensures operand { IfOk result (λ y. (h : Homes) (x : e.Expr) → kind_of x ≡ from →
@@ -129,7 +134,7 @@ pub(crate) fn local_operand(alloc: Global, register: Register) -> Operand
 
 /// Code of a value in the next temporary, as an operand.
 pub(crate) fn held_operand(code: Vec<Instr>, held: u32) -> Operand
-    requires { held < 4 }
+    requires { held < MOST_TEMPORARIES }
     ensures short { result.code.items ≡ code.items }
     ensures operand { (h : Homes) (x : e.Expr) → IsEvaluation h x held (temporary held) code.items → IsOperand h x held result.register result.code.items }
 {
@@ -140,7 +145,7 @@ pub(crate) fn held_operand(code: Vec<Instr>, held: u32) -> Operand
 }
 
 /// Two operands, the right one evaluated while the left one is held.
-pub(crate) fn left_first(left: Operand, right: Operand) -> Result<Pair, Memory>
+pub(crate) fn left_first(left: Operand, right: Operand) -> Result<Pair, OutOfMemory>
     ensures short { IfOk result (λ p. length p.code.items ≡ length left.code.items + length right.code.items) }
     ensures fences { IfOk result (λ p. fences_among p.code.items ≡ fences_among left.code.items + fences_among right.code.items) }
     ensures pair { IfOk result (λ p. (h : Homes) (x y : e.Expr) (held : ℕ) →
@@ -156,7 +161,7 @@ pub(crate) fn left_first(left: Operand, right: Operand) -> Result<Pair, Memory>
 }
 
 /// Two operands, the left one evaluated while the right one is held.
-pub(crate) fn right_first(left: Operand, right: Operand) -> Result<Pair, Memory>
+pub(crate) fn right_first(left: Operand, right: Operand) -> Result<Pair, OutOfMemory>
     ensures short { IfOk result (λ p. length p.code.items ≡ length left.code.items + length right.code.items) }
     ensures fences { IfOk result (λ p. fences_among p.code.items ≡ fences_among left.code.items + fences_among right.code.items) }
     ensures pair { IfOk result (λ p. (h : Homes) (x y : e.Expr) (held : ℕ) →
@@ -176,7 +181,7 @@ pub(crate) fn with_binary(
     pair: Pair,
     operation: BinaryOperation,
     rd: Register,
-) -> Result<Vec<Instr>, Memory>
+) -> Result<Vec<Instr>, OutOfMemory>
     requires some { 0 < rd }
     requires strict { is_strict operation.operator ≡ true }
     ensures short { IfOk result (λ code. length code.items ≤ length pair.code.items + 2) }
@@ -210,7 +215,7 @@ pub(crate) fn with_immediate(
     operand: Operand,
     form: ImmediateForm,
     rd: Register,
-) -> Result<Vec<Instr>, Memory>
+) -> Result<Vec<Instr>, OutOfMemory>
     requires { 0 < rd }
     ensures short { IfOk result (λ code. length code.items ≤ length operand.code.items + 1) }
     ensures fences { IfOk result (λ code. fences_among code.items ≡ fences_among operand.code.items) }
@@ -224,7 +229,7 @@ pub(crate) fn with_immediate(
 }
 
 /// 1 into `rd` where the operand isn't 0, else 0.
-pub(crate) fn with_truth(operand: Operand, rd: Register) -> Result<Vec<Instr>, Memory>
+pub(crate) fn with_truth(operand: Operand, rd: Register) -> Result<Vec<Instr>, OutOfMemory>
     requires { 0 < rd }
     ensures short { IfOk result (λ code. length code.items ≤ length operand.code.items + 2) }
     ensures fences { IfOk result (λ code. fences_among code.items ≡ fences_among operand.code.items) }

@@ -1,19 +1,20 @@
 //! The code of an expression, of a condition, and of the address of what is assigned.
 ghost use Rattle.std.specs.Prelude.{◌≡◌, ◌↔◌, ◌<◌, ◌≤◌, ◌+◌, ◌*◌, length, MatchResult, IfOk, IfErr};
+ghost use Rattle.ido_base.specs.declared.limits.TheConstants.{MOST_PRICE};
 ghost use Rattle.c_tree.specs.Exprs.{expr_of, placed_of};
 ghost use Rattle.c_tree.specs.Prices.{need_of, nodes_of, node_price};
-ghost use Rattle.c_tree.specs.Temporaries.{most_temporaries, most_price};
-ghost use Rattle.expr_code.specs.Evaluating.{AreAtHome, IsValueCode, IsConvertedCode, IsTestCode, IsElementAddressCode, IsVariableAddressCode, homes_of, fences_among};
+ghost use Rattle.expr_code.specs.Evaluating.{AreAtHome, IsValueCode, IsConvertedCode, IsTestCode};
+ghost use Rattle.expr_code.specs.Evaluating.{IsElementAddressCode, IsVariableAddressCode, homes_of, fences_among};
 ghost use Rattle.expr_code.specs.Refusing.{IsRefused};
 
 use crate::elements::{element_address, variable_address};
 use crate::evaluation::{evaluate, evaluate_converted, operand, test};
 use crate::frame::Frame;
 use crate::operand::TestCode;
-use crate::temporaries::MOST_HELD;
 use c_tree::expr::Placed;
 use c_tree::price::need;
-use ido_base::memory::Memory;
+use ido_base::limits::MOST_TEMPORARIES;
+use ido_base::memory::OutOfMemory;
 use ido_base::place::Place;
 use ido_ints::Kind;
 use rv64_isa::field::Register;
@@ -39,20 +40,20 @@ pub fn select(
     destination: Register,
 ) -> Result<Vec<Instr>, SelectError>
     requires home { AreAtHome (homes_of frame.now) (expr_of expr.now.expr) }
-    requires price { node_price (nodes_of (expr_of expr.now.expr)) ≤ most_price }
+    requires price { node_price (nodes_of (expr_of expr.now.expr)) ≤ MOST_PRICE }
     requires destination { 0 < destination }
     ensures short { IfOk result (λ code. length code.items ≤ 16 * nodes_of (expr_of expr.now.expr)) }
     ensures fences { IfOk result (λ code. fences_among code.items ≡ 0) }
     ensures code { MatchResult result
-        (λ code. (need_of (expr_of expr.now.expr) ≤ most_temporaries) × IsValueCode (homes_of frame.now) (expr_of expr.now.expr) destination code.items)
+        (λ code. (need_of (expr_of expr.now.expr) ≤ MOST_TEMPORARIES) × IsValueCode (homes_of frame.now) (expr_of expr.now.expr) destination code.items)
         (λ error. IsRefused (placed_of expr.now) error) }
 {
-    if need(&expr.expr) > MOST_HELD {
+    if need(&expr.expr) > MOST_TEMPORARIES {
         return Err(SelectError::Temporaries { place: expr.place });
     }
     match evaluate(alloc, &expr.expr, frame, destination, 0) {
         Ok(code) => Ok(code),
-        Err(Memory) => Err(SelectError::Memory),
+        Err(OutOfMemory) => Err(SelectError::Memory),
     }
 }
 
@@ -66,21 +67,21 @@ pub fn select_converted(
     destination: Register,
 ) -> Result<Vec<Instr>, SelectError>
     requires home { AreAtHome (homes_of frame.now) (expr_of expr.now.expr) }
-    requires price { node_price (nodes_of (expr_of expr.now.expr)) ≤ most_price }
+    requires price { node_price (nodes_of (expr_of expr.now.expr)) ≤ MOST_PRICE }
     requires destination { 0 < destination }
     ensures short { IfOk result (λ code. length code.items ≤ 16 * nodes_of (expr_of expr.now.expr) + 8) }
     ensures fences { IfOk result (λ code. fences_among code.items ≡ 0) }
     ensures code { MatchResult result
-        (λ code. (need_of (expr_of expr.now.expr) ≤ most_temporaries) ×
+        (λ code. (need_of (expr_of expr.now.expr) ≤ MOST_TEMPORARIES) ×
         IsConvertedCode (homes_of frame.now) (expr_of expr.now.expr) kind destination code.items)
         (λ error. IsRefused (placed_of expr.now) error) }
 {
-    if need(&expr.expr) > MOST_HELD {
+    if need(&expr.expr) > MOST_TEMPORARIES {
         return Err(SelectError::Temporaries { place: expr.place });
     }
     match evaluate_converted(alloc, &expr.expr, kind, frame, destination, 0) {
         Ok(code) => Ok(code),
-        Err(Memory) => Err(SelectError::Memory),
+        Err(OutOfMemory) => Err(SelectError::Memory),
     }
 }
 
@@ -91,21 +92,21 @@ pub fn select_test(
     frame: &Frame,
 ) -> Result<TestCode, SelectError>
     requires home { AreAtHome (homes_of frame.now) (expr_of condition.now.expr) }
-    requires price { node_price (nodes_of (expr_of condition.now.expr)) ≤ most_price }
+    requires price { node_price (nodes_of (expr_of condition.now.expr)) ≤ MOST_PRICE }
     ensures short { IfOk result (λ x. length x.code.items ≤ 16 * nodes_of (expr_of condition.now.expr) + 8) }
     ensures fences { IfOk result (λ x. fences_among x.code.items ≡ 0) }
     ensures code { MatchResult result
-        (λ x. (need_of (expr_of condition.now.expr) ≤ most_temporaries) × IsTestCode (homes_of frame.now) (expr_of condition.now.expr) x.test x.code.items)
+        (λ x. (need_of (expr_of condition.now.expr) ≤ MOST_TEMPORARIES) × IsTestCode (homes_of frame.now) (expr_of condition.now.expr) x.test x.code.items)
         (λ error. IsRefused (placed_of condition.now) error) }
 {
-    if need(&condition.expr) > MOST_HELD {
+    if need(&condition.expr) > MOST_TEMPORARIES {
         return Err(SelectError::Temporaries {
             place: condition.place,
         });
     }
     match test(alloc, &condition.expr, frame, 0) {
         Ok(code) => Ok(code),
-        Err(Memory) => Err(SelectError::Memory),
+        Err(OutOfMemory) => Err(SelectError::Memory),
     }
 }
 
@@ -115,7 +116,7 @@ pub fn select_variable_address(
     variable: u32,
     frame: &Frame,
     destination: Register,
-) -> Result<Vec<Instr>, Memory>
+) -> Result<Vec<Instr>, OutOfMemory>
     requires home { variable < length frame.now.addresses.now }
     requires destination { 0 < destination }
     ensures short { IfOk result (λ code. length code.items ≤ 8) }
@@ -136,24 +137,24 @@ pub fn select_element_address(
 ) -> Result<Vec<Instr>, SelectError>
     requires variable { variable < length frame.now.addresses.now }
     requires index { AreAtHome (homes_of frame.now) (expr_of index.now.expr) }
-    requires price { node_price (nodes_of (expr_of index.now.expr)) ≤ most_price }
+    requires price { node_price (nodes_of (expr_of index.now.expr)) ≤ MOST_PRICE }
     requires destination { 0 < destination }
     ensures short { IfOk result (λ code. length code.items ≤ 16 * nodes_of (expr_of index.now.expr) + 8) }
     ensures fences { IfOk result (λ code. fences_among code.items ≡ 0) }
     ensures code { MatchResult result
-        (λ code. (need_of (expr_of index.now.expr) ≤ most_temporaries) ×
+        (λ code. (need_of (expr_of index.now.expr) ≤ MOST_TEMPORARIES) ×
         IsElementAddressCode (homes_of frame.now) variable kind (placed_of index.now) destination code.items)
         (λ error. IsRefused (placed_of index.now) error) }
 {
-    if need(&index.expr) > MOST_HELD {
+    if need(&index.expr) > MOST_TEMPORARIES {
         return Err(SelectError::Temporaries { place: index.place });
     }
     let address = frame.addresses[variable as usize];
     match operand(alloc, &index.expr, frame, 0) {
         Ok(index) => match element_address(index, address, kind, destination) {
             Ok(code) => Ok(code),
-            Err(Memory) => Err(SelectError::Memory),
+            Err(OutOfMemory) => Err(SelectError::Memory),
         },
-        Err(Memory) => Err(SelectError::Memory),
+        Err(OutOfMemory) => Err(SelectError::Memory),
     }
 }

@@ -4,9 +4,6 @@ ghost use Rattle.expr_code.specs.links.Giving.{temporary};
 
 use rv64_isa::field::Register;
 
-/// How many temporaries may be held.
-pub(crate) const MOST_HELD: u32 = 4;
-
 /// Holds an address for a moment.
 pub(crate) const ADDRESS: Register = Register::X31;
 

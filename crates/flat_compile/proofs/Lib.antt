@@ -11,4 +11,3 @@ pub mod Spots
 pub mod Owned
 pub mod Lives
 pub mod Tables
-pub mod Sample

@@ -40,7 +40,34 @@ climbs f low (z ∷ xs) x h below l =
     (h.0, climbs f (suc (f z)) xs x h.1 (λ w k. below w (tail z xs w k)) (omega (arith, up)))
 
 locals_ascend : Ascends 8 LOCALS
-locals_ascend = (omega arith, (omega arith, (omega arith, (omega arith, (omega arith, (omega arith, (omega arith, (omega arith, (omega arith, (omega arith, (omega arith, (omega arith, (omega arith, (omega arith, (omega arith, (omega arith, (omega arith, (omega arith, tt))))))))))))))))))
+locals_ascend = (
+  omega arith,
+  (
+    omega arith,
+    (
+      omega arith,
+      (
+        omega arith,
+        (
+          omega arith,
+          (
+            omega arith,
+            (
+              omega arith,
+              (
+                omega arith,
+                (
+                  omega arith,
+                  (omega arith, (omega arith, (omega arith, (omega arith, (omega arith, (omega arith, (omega arith, (omega arith, (omega arith, tt))))))))),
+                ),
+              ),
+            ),
+          ),
+        ),
+      ),
+    ),
+  ),
+)
 
 registers_rise : (a b : ℕ) → a < b → b < 18 → slice_index LOCALS a < slice_index LOCALS b
 registers_rise a b up l = rise 8 LOCALS locals_ascend a b up l

@@ -53,5 +53,6 @@ module _ (q : plan.Plan) (number : ℕ) (part : Part) (n : ℕ) (own : IsOwnNode
   kinds_are x e =
       let all = q.flat.now.threads.items in
       let below : number < length all = omega (arith, slice_get_within (map thread_of all) number th.text th.of_text, length-map all thread_of) in
-      let same = same_Some (thread_of x) th.text (sym (slice_get-map thread_of all number ∙ ap (option_map thread_of) (read_get all number x below e)) ∙ th.of_text) in
+      let same = same_Some (thread_of x) th.text
+      (sym (slice_get-map thread_of all number ∙ ap (option_map thread_of) (read_get all number x below e)) ∙ th.of_text) in
       ap (λ (y : f.Thread). y.locals) same ∙ sym th.kinds

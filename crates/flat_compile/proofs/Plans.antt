@@ -92,7 +92,8 @@ module _ (p : Plan) (code : Code) (is : IsCodeFor p code) (plan : IsPlan p) (obj
   unfolding is_translated
   marked = record { codes = whole.is.codes; are = marks_of whole.system whole.is resumes_long }
 
-  pub resumable : (table : List (Vec Resume Global)) → ((codes : Codes p) → AreMarksOf p codes (resume_marks marks.threads.items) → IsResumeTable p codes table) →
+  pub resumable : (table : List (Vec Resume Global)) →
+      ((codes : Codes p) → AreMarksOf p codes (resume_marks marks.threads.items) → IsResumeTable p codes table) →
       IsResumable p.flat object marks cuts table
   unfolding is_translated
   resumable table h = record { translated = whole; are = h whole.is.codes (marks_of whole.system whole.is resumes_long) }

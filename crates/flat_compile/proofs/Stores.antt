@@ -5,7 +5,8 @@ use Rattle.ido_base.specs.declared.place.Place.{Place}
 use Rattle.c_tree.specs.Exprs as e
 use Rattle.c_tree.specs.Flats as f
 use Rattle.flow_graph.specs.Nodes.{Action, Eval, Store, Test, Lock, Unlock, End, Node}
-use Rattle.flow_graph.specs.Lowering.{test_node, plain_node, assign_nodes, count, statements_count, arms_count, thread_count, entry, statement_nodes, statements_nodes, arms_nodes, thread_nodes, threads_nodes}
+use Rattle.flow_graph.specs.Lowering.{test_node, plain_node, assign_nodes, count, statements_count, arms_count, thread_count}
+use Rattle.flow_graph.specs.Lowering.{entry, statement_nodes, statements_nodes, arms_nodes, thread_nodes, threads_nodes}
 use Rattle.rv64_codegen.specs.links.Live.{is_store}
 
 abbrev pub is_eval : Action → Bool

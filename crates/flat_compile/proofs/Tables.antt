@@ -206,7 +206,8 @@ tabled_more p marks count table rs h last = record {
       (λ g.
       let same : count ≡ n = omega (arith, g, l) in
       let here : rs.items ≡ resumes_at (table ++ rs ∷ []) count = sym (ap (resumes_at (table ++ rs ∷ [])) (sym h.long) ∙ at_push table rs) in
-      last_at codes n same below (λ b. subst (λ (xs : List Resume). AreResumes p (codes.each count b).thread (codes.each count b).program (codes.each count b).is xs)
+      last_at codes n same below (λ b.
+      subst (λ (xs : List Resume). AreResumes p (codes.each count b).thread (codes.each count b).program (codes.each count b).is xs)
       here (last codes are b)))
       (cases_lt n count);
 }

@@ -23,7 +23,7 @@ use flow_graph::graph::Graph;
 use flow_graph::live_sets::LiveSets;
 use flow_live::live;
 use flow_lower::lower;
-use ido_base::memory::Memory;
+use ido_base::memory::OutOfMemory;
 use lock_discipline::{Held, LockError, check};
 use reg_colour::{ColourRefusal, colour};
 use region_cutter::cut;
@@ -44,20 +44,20 @@ pub struct Translated {
     pub resumes: Vec<Vec<Resume>>,
 }
 
-// The mutexes that are held before each step: the form keeps the lock discipline.
-fn held(alloc: Global, flat: &Flat) -> Result<Held, Memory>
+/// The mutexes that are held before each step: the form keeps the lock discipline.
+fn held(alloc: Global, flat: &Flat) -> Result<Held, OutOfMemory>
     requires { IsAcceptedForm (flat_of flat.now) }
     ensures { IfOk result (AreAllSetsOf (flat_of flat.now)) }
 {
     match check(alloc, flat) {
         Ok(held) => Ok(held),
-        Err(LockError::Memory) => Err(Memory),
+        Err(LockError::Memory) => Err(OutOfMemory),
         Err(_) => unreachable!(),
     }
 }
 
-// Registers of the locals: there is room for all.
-fn coloured(alloc: Global, graph: &Graph, live: &LiveSets) -> Result<Colours, Memory>
+/// Registers of the locals: there is room for all.
+fn coloured(alloc: Global, graph: &Graph, live: &LiveSets) -> Result<Colours, OutOfMemory>
     requires live { AreLive (graph_of graph.now) live.now }
     requires room { HasRoom (graph_of graph.now) }
     ensures registers { IfOk result (λ colours. AreRegisters (graph_of graph.now) (colouring_of colours)) }
@@ -65,25 +65,25 @@ fn coloured(alloc: Global, graph: &Graph, live: &LiveSets) -> Result<Colours, Me
 {
     match colour(alloc, graph, live) {
         Ok(colours) => Ok(colours),
-        Err(ColourRefusal::Memory) => Err(Memory),
+        Err(ColourRefusal::Memory) => Err(OutOfMemory),
         Err(ColourRefusal::Locals { .. }) => unreachable!(),
     }
 }
 
-// The code of the threads: no expression needs too many temporaries.
-fn emitted(alloc: Global, plan: &Plan) -> Result<Code, Memory>
+/// The code of the threads: no expression needs too many temporaries.
+fn emitted(alloc: Global, plan: &Plan) -> Result<Code, OutOfMemory>
     requires plan { IsPlan (plan_of plan.now) }
     requires shallow { temporaries_fault (plan_of plan.now).flat ≡ None }
     ensures { IfOk result (IsCodeFor (plan_of plan.now)) }
 {
     match emit(alloc, plan) {
         Ok(code) => Ok(code),
-        Err(EmitError::Memory) => Err(Memory),
+        Err(EmitError::Memory) => Err(OutOfMemory),
         Err(EmitError::Temporaries { .. }) => unreachable!(),
     }
 }
 
-// The code of the flat form whose graph this is, where it is resumed at the cuts.
+/// The code of the flat form whose graph this is, where it is resumed at the cuts.
 fn code(
     alloc: Global,
     flat: &Flat,
@@ -92,7 +92,7 @@ fn code(
     held: &Held,
     live: &LiveSets,
     colours: &Colours,
-) -> Result<Code, Memory>
+) -> Result<Code, OutOfMemory>
     requires form { IsAcceptedForm (flat_of flat.now) }
     requires plan { IsPlan (plan_from flat.now graph.now cuts.now held.now live.now colours.now) }
     ensures { IfOk result (IsCodeFor (plan_from flat.now graph.now cuts.now held.now live.now colours.now)) }
@@ -108,7 +108,7 @@ fn code(
     emitted(alloc, &plan)
 }
 
-// Of each thread what it has where recovery may resume it.
+/// Of each thread what it has where recovery may resume it.
 fn resumes(
     alloc: Global,
     flat: &Flat,
@@ -118,7 +118,7 @@ fn resumes(
     live: &LiveSets,
     colours: &Colours,
     marks: &Marks,
-) -> Result<Vec<Vec<Resume>>, Memory>
+) -> Result<Vec<Vec<Resume>>, OutOfMemory>
     requires plan { IsPlan (plan_from flat.now graph.now cuts.now held.now live.now colours.now) }
     requires marked { AreMarked (plan_from flat.now graph.now cuts.now held.now live.now colours.now) (resume_marks marks.now.threads.items) }
     ensures { IfOk result (λ r. (codes : Codes (plan_from flat.now graph.now cuts.now held.now live.now colours.now)) →
@@ -138,7 +138,7 @@ fn resumes(
 
 /// The object of an accepted flat form, the addresses of its marks, and where boundaries stand: a machine that runs it is resumed after
 /// each crash. Want of memory is all that may hinder it.
-pub fn translate(alloc: Global, flat: &Flat) -> Result<Translated, Memory>
+pub fn translate(alloc: Global, flat: &Flat) -> Result<Translated, OutOfMemory>
     requires { IsAcceptedForm (flat_of flat.now) }
     ensures translated { IfOk result (λ r. IsTranslated (flat_of flat.now) r.object r.marks r.cuts) }
     ensures resumes { IfOk result (λ r. IsResumable (flat_of flat.now) r.object r.marks r.cuts r.resumes.items) }

@@ -4,7 +4,5 @@
 pub mod compile;
 pub mod laws;
 pub mod resumes;
-#[cfg(test)]
-mod tests;
 
 pub use compile::{Translated, translate};

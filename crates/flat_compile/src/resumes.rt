@@ -14,8 +14,9 @@ ghost use Rattle.flat_compile.specs.links.Resuming.{thread_in, IsOwn, IsOwnNode,
 
 use flow_graph::graph::{Action, Node, Part};
 use flow_graph::live_sets::LiveSets;
+use ido_base::limits::LOCAL_REGISTERS;
 use ido_base::location::Location;
-use ido_base::memory::Memory;
+use ido_base::memory::OutOfMemory;
 use ido_ints::Kind;
 use log_layout::roles::LOCALS;
 use rv64_codegen::Plan;
@@ -47,7 +48,7 @@ pub struct Resume {
 
 // ---- Where
 
-// Whether the node gives a mutex back.
+/// Whether the node gives a mutex back.
 fn gives(node: &Node) -> bool
     ensures { result ≡ gives (node_of node.now).action }
 {
@@ -57,7 +58,7 @@ fn gives(node: &Node) -> bool
     }
 }
 
-// Whether a boundary stands before the node by choice.
+/// Whether a boundary stands before the node by choice.
 fn is_chosen(plan: &Plan, node: usize) -> bool
     requires node { node < length plan.now.graph.now.nodes.items }
     requires cuts { length plan.now.cuts.now.before.items ≡ length plan.now.graph.now.nodes.items }
@@ -66,7 +67,7 @@ fn is_chosen(plan: &Plan, node: usize) -> bool
     plan.cuts.before[node] && !gives(&plan.graph.nodes[node])
 }
 
-// The mutexes that the thread holds before the node.
+/// The mutexes that the thread holds before the node.
 fn mask(plan: &Plan, number: usize, part: Part, node: usize) -> u64
     requires { IsOwnNode (plan_of plan.now) number part node }
     ensures { result ≡ mask_before (plan_of plan.now) (thread_in (plan_of plan.now) number part) node }
@@ -74,7 +75,7 @@ fn mask(plan: &Plan, number: usize, part: Part, node: usize) -> u64
     plan.held.held(number as u32, (node - part.first) as u32)
 }
 
-// Where the thread may be resumed behind the ECALL of a node: the node that it goes on at.
+/// Where the thread may be resumed behind the ECALL of a node: the node that it goes on at.
 fn behind(plan: &Plan, number: usize, part: Part, node: usize) -> Option<usize>
     requires { IsOwnNode (plan_of plan.now) number part node }
     ensures { IsBehind (plan_of plan.now) (thread_in (plan_of plan.now) number part) node result }
@@ -92,7 +93,7 @@ fn behind(plan: &Plan, number: usize, part: Part, node: usize) -> Option<usize>
     }
 }
 
-// Where the thread may be resumed behind a boundary before a node: the node.
+/// Where the thread may be resumed behind a boundary before a node: the node.
 fn before(plan: &Plan, number: usize, part: Part, node: usize) -> Option<usize>
     requires { IsOwnNode (plan_of plan.now) number part node }
     ensures { IsBefore (plan_of plan.now) (thread_in (plan_of plan.now) number part) node result }
@@ -104,8 +105,8 @@ fn before(plan: &Plan, number: usize, part: Part, node: usize) -> Option<usize>
     }
 }
 
-// Appends the node, if there is one.
-fn push_some(nodes: &mut Vec<usize>, node: Option<usize>) -> Result<(), Memory>
+/// Appends the node, if there is one.
+fn push_some(nodes: &mut Vec<usize>, node: Option<usize>) -> Result<(), OutOfMemory>
     ensures { OnOk result (nodes.new.items ≡ nodes.old.items ++ option_to_list node) }
 {
     if let Some(node) = node {
@@ -114,8 +115,8 @@ fn push_some(nodes: &mut Vec<usize>, node: Option<usize>) -> Result<(), Memory>
     Ok(())
 }
 
-// The nodes that the thread goes on at where it may be resumed, in the order of the addresses.
-fn nodes(alloc: Global, plan: &Plan, number: usize, part: Part) -> Result<Vec<usize>, Memory>
+/// The nodes that the thread goes on at where it may be resumed, in the order of the addresses.
+fn nodes(alloc: Global, plan: &Plan, number: usize, part: Part) -> Result<Vec<usize>, OutOfMemory>
     requires { IsOwn (plan_of plan.now) number part }
     ensures { IfOk result (λ r. AreNodesBelow (plan_of plan.now) (thread_in (plan_of plan.now) number part) (2 * part.end) r.items) }
 {
@@ -129,7 +130,7 @@ fn nodes(alloc: Global, plan: &Plan, number: usize, part: Part) -> Result<Vec<us
 
 // ---- What is found
 
-// The local that is live at the node's entry and has the register with this number among those of locals.
+/// The local that is live at the node's entry and has the register with this number among those of locals.
 fn local_in(colours: &[u8], live: &LiveSets, node: usize, number: usize) -> Option<usize>
     ensures is { IfSome result (IsLiveIn colours.now live.now node number) }
     ensures none { result ≡ None → (local : ℕ) → ¬ (IsLiveIn colours.now live.now node number local) }
@@ -142,10 +143,10 @@ fn local_in(colours: &[u8], live: &LiveSets, node: usize, number: usize) -> Opti
     None
 }
 
-// The local of that number, whose register has this number among those of locals.
+/// The local of that number, whose register has this number among those of locals.
 fn live_local(kinds: &[Kind], local: usize, number: usize) -> LiveLocal
     requires there { local < length kinds.now }
-    requires number { number < 18 }
+    requires number { number < LOCAL_REGISTERS }
     ensures register { result.register ≡ slice_index local_numbers number }
     ensures local { result.local ≡ local }
     ensures kind { slice_get kinds.now local ≡ Some result.kind }
@@ -157,20 +158,20 @@ fn live_local(kinds: &[Kind], local: usize, number: usize) -> LiveLocal
     }
 }
 
-// The locals that are live at the node's entry, in the order of their registers.
+/// The locals that are live at the node's entry, in the order of their registers.
 fn live_locals(
     alloc: Global,
     colours: &[u8],
     kinds: &[Kind],
     live: &LiveSets,
     node: usize,
-) -> Result<Vec<LiveLocal>, Memory>
+) -> Result<Vec<LiveLocal>, OutOfMemory>
     requires kinds { length kinds.now ≡ length colours.now }
     requires apart { (number a b : ℕ) → IsLiveIn colours.now live.now node number a → IsLiveIn colours.now live.now node number b → a ≡ b }
-    ensures { IfOk result (λ r. AreLiveBelow colours.now kinds.now live.now node 18 r.items) }
+    ensures { IfOk result (λ r. AreLiveBelow colours.now kinds.now live.now node LOCAL_REGISTERS r.items) }
 {
     let mut found = Vec::new(alloc);
-    for number in 0..18 {
+    for number in 0..LOCAL_REGISTERS {
         if let Some(local) = local_in(colours, live, node, number) {
             found.push(live_local(kinds, local, number))?;
         }
@@ -178,7 +179,7 @@ fn live_locals(
     Ok(found)
 }
 
-// What the thread has where it is resumed at the address and goes on at the node.
+/// What the thread has where it is resumed at the address and goes on at the node.
 fn found(
     alloc: Global,
     plan: &Plan,
@@ -186,7 +187,7 @@ fn found(
     part: Part,
     node: usize,
     address: u64,
-) -> Result<Resume, Memory>
+) -> Result<Resume, OutOfMemory>
     requires { IsOwnNode (plan_of plan.now) number part node }
     ensures address { IfOk result (λ r. r.address ≡ address) }
     ensures node { IfOk result (λ r. r.node ≡ node) }
@@ -210,7 +211,7 @@ fn found(
 
 // ---- Of all threads
 
-// Where the thread may be resumed, by these addresses.
+/// Where the thread may be resumed, by these addresses.
 fn thread_resumes(
     alloc: Global,
     plan: &Plan,
@@ -218,7 +219,7 @@ fn thread_resumes(
     part: Part,
     nodes: &[usize],
     addresses: &[u64],
-) -> Result<Vec<Resume>, Memory>
+) -> Result<Vec<Resume>, OutOfMemory>
     requires own { IsOwn (plan_of plan.now) number part }
     requires nodes { (k node : ℕ) → slice_get nodes.now k ≡ Some node → IsOwnNode (plan_of plan.now) number part node }
     requires count { length nodes.now ≡ length addresses.now }
@@ -232,7 +233,11 @@ fn thread_resumes(
 }
 
 /// Of each thread what it has where recovery may resume it, by its marks.
-pub fn resume_table(alloc: Global, plan: &Plan, marks: &Marks) -> Result<Vec<Vec<Resume>>, Memory>
+pub fn resume_table(
+    alloc: Global,
+    plan: &Plan,
+    marks: &Marks,
+) -> Result<Vec<Vec<Resume>>, OutOfMemory>
     requires plan { IsPlan (plan_of plan.now) }
     requires marked { AreMarked (plan_of plan.now) (resume_marks marks.now.threads.items) }
     ensures { IfOk result (λ r. (codes : Codes (plan_of plan.now)) → AreMarksOf (plan_of plan.now) codes (resume_marks marks.now.threads.items) →

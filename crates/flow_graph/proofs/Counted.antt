@@ -4,7 +4,8 @@ use Rattle.ido_base.specs.declared.place.Place.{Place}
 use Rattle.c_tree.specs.Exprs as e
 use Rattle.c_tree.specs.Flats as f
 use Rattle.flow_graph.specs.Nodes.{End}
-use Rattle.flow_graph.specs.Lowering.{test_node, plain_node, assign_nodes, assign_count, count, statements_count, arms_count, thread_count, entry, statement_nodes, statements_nodes, arms_nodes, thread_nodes}
+use Rattle.flow_graph.specs.Lowering.{test_node, plain_node, assign_nodes, assign_count, count, statements_count, arms_count}
+use Rattle.flow_graph.specs.Lowering.{thread_count, entry, statement_nodes, statements_nodes, arms_nodes, thread_nodes}
 
 length-assign_nodes : (target : e.Target) (place : Place) (value : e.Placed) (first next : ℕ) →
     length (assign_nodes place target value first next) ≡ assign_count target

@@ -1,5 +1,6 @@
 -- What every run of a graph keeps: its edges, what steps leave, and that the source keeps step.
-use Rattle.std.proofs.Common.{◌≡◌, ◌≢◌, ◌⊎◌, inl, inr, ⊎_elim, ◌<◌, ◌≤◌, refl, ℕ, zero, suc, List, [], ◌∷◌, length, map, replicate, ◌∙◌, ap, sym, subst, arith, Option, Some, None, Bool, true, false, slice_set}
+use Rattle.std.proofs.Common.{◌≡◌, ◌≢◌, ◌⊎◌, inl, inr, ⊎_elim, ◌<◌, ◌≤◌, refl, ℕ, zero, suc, List, [], ◌∷◌, length, map}
+use Rattle.std.proofs.Common.{replicate, ◌∙◌, ap, sym, subst, arith, Option, Some, None, Bool, true, false, slice_set}
 use Rattle.std.specs.Prelude.{slice_get, is_some, Contains, if◌then◌else◌, ℤ}
 use Rattle.std.specs.List.{AllByRecursion, AllZip}
 use Rattle.std.specs.Option.{option_map}
@@ -8,6 +9,7 @@ use Rattle.std.proofs.lemmas.Bool.Decides.{nat_tests}
 use Rattle.std.proofs.lemmas.Option.{slice_get_within}
 use Rattle.ido_base.specs.declared.location.Location.{Location}
 use Rattle.ido_base.specs.Locations.{overlap, same}
+use Rattle.ido_base.specs.declared.limits.TheConstants.{MOST_ELEMENTS}
 use Rattle.ido_ints.specs.Kinds.{Holds}
 use Rattle.ido_ints.specs.Operators.{is_zero}
 use Rattle.c_tree.specs.Exprs as e
@@ -16,7 +18,6 @@ use Rattle.c_tree.specs.Flats as f
 use Rattle.c_tree.specs.Source as m
 use Rattle.c_tree.specs.Source.{Pending}
 use Rattle.c_tree.specs.Ranges.{range_of}
-use Rattle.c_tree.specs.TypeRules.{most_elements}
 use Rattle.c_tree.specs.WellFormed.{elements_in, IsVariable, IsWellFormed, IsFlatStatement, IsFlatPlaced}
 use Rattle.c_ranges.specs.Keeping.{AreNumbersOf, IsLeft, IsThreadOf, IsStateOf}
 use Rattle.c_ranges.proofs.Kept.{Pair, zip_found}
@@ -26,10 +27,12 @@ use Rattle.flow_graph.specs.Nodes.{Action, Eval, Store, Test, Lock, Unlock, End,
 use Rattle.flow_graph.specs.Lowering.{lowered, threads_nodes, scalar, elements, expr_reads, target_reads}
 use Rattle.flow_graph.specs.Liveness.{NodeAt}
 use Rattle.flow_graph.specs.Actions as g
-use Rattle.flow_graph.specs.Actions.{Seen, Walker, FlowState, Effect, Sets, Owes, Makes, Goes, Takes, Gives, Ends, effect_of, effect_step, node_step, walker_step, seen_by, graph_start, graph_step, graph_after, graph_runs}
+use Rattle.flow_graph.specs.Actions.{Seen, Walker, FlowState, Effect, Sets, Owes, Makes, Goes, Takes, Gives, Ends, effect_of}
+use Rattle.flow_graph.specs.Actions.{effect_step, node_step, walker_step, seen_by, graph_start, graph_step, graph_after, graph_runs}
 use Rattle.flow_graph.specs.Lockstep.{Standing, free, threads_standings, WalkerMatches, Matches, StepsMatch}
 use Rattle.flow_graph.specs.Cutting.{Boundaries, IsEdge, IsBoundary, Begins, IsInside, stays, goes_on, ReadsAt, WritesAt, IsWrittenBefore, AreCuts}
-use Rattle.flow_graph.specs.Paths.{Element, expr_elements, target_elements, reads_of, stored_element, write_of, Visit, solo_path, ReadsElement, WritesElement, IsWithinRegion, IsReached, Lies, LiesInOne, LiesInWritten, StandsAtNode}
+use Rattle.flow_graph.specs.Paths.{Element, expr_elements, target_elements, reads_of, stored_element, write_of, Visit, solo_path}
+use Rattle.flow_graph.specs.Paths.{ReadsElement, WritesElement, IsWithinRegion, IsReached, Lies, LiesInOne, LiesInWritten, StandsAtNode}
 use Rattle.flow_graph.proofs.Standing.{Does, chooses, repeats, node_at}
 use Rattle.flow_graph.proofs.Lockstep.{set_same, set_other, found_in, graph_is, lowered_nodes, begins_alike, steps_alike}
 use Rattle.flow_graph.proofs.Shapes.{ShapedAs, node_shaped}
@@ -200,7 +203,7 @@ all_at P [] k y h e = cc
 all_at P (x ∷ xs) zero y h e = let is : x ≡ y = cc in subst P is h.0
 all_at P (x ∷ xs) (suc k) y h e = all_at P xs k y h.1 e
 
-pub bounded : (x : f.Flat) → IsWellFormed x → (variable : ℕ) (it : Variable) → slice_get x.variables variable ≡ Some it → elements_in it.length ≤ most_elements
+pub bounded : (x : f.Flat) → IsWellFormed x → (variable : ℕ) (it : Variable) → slice_get x.variables variable ≡ Some it → elements_in it.length ≤ MOST_ELEMENTS
 bounded x w variable it h = (all_at (IsVariable (length x.mutexes)) x.variables variable it w.shared.variables h).not_too_long
 
 module _ (x : f.Flat) (w : IsWellFormed x) (s : FlowState) (good : Good x s) (t : ℕ) (walker : Walker) (found : slice_get s.walkers t ≡ Some walker) where

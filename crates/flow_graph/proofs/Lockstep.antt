@@ -1,5 +1,6 @@
 -- A source and the graph of its flat form step alike.
-use Rattle.std.proofs.Common.{◌≡◌, ◌≢◌, ◌<◌, ◌≤◌, ◌⊎◌, inl, inr, ⊎_elim, refl, ℕ, zero, suc, ◌+◌, List, [], ◌∷◌, ◌++◌, length, map, replicate, sym, ◌∙◌, ap, ap₂, subst, arith, Option, Some, None, Bool, true, false, slice_set}
+use Rattle.std.proofs.Common.{◌≡◌, ◌≢◌, ◌<◌, ◌≤◌, ◌⊎◌, inl, inr, ⊎_elim, refl, ℕ, zero, suc, ◌+◌, List, [], ◌∷◌, ◌++◌, length}
+use Rattle.std.proofs.Common.{map, replicate, sym, ◌∙◌, ap, ap₂, subst, arith, Option, Some, None, Bool, true, false, slice_set}
 use Rattle.std.specs.Prelude.{slice_get, is_some, not, if◌then◌else◌, ℤ, pos}
 use Rattle.std.proofs.lemmas.Bool.{cases_eq}
 use Rattle.std.proofs.lemmas.Option.{slice_get_within, slice_get_past}

@@ -6,6 +6,7 @@ use Rattle.std.proofs.lemmas.Int.{ints}
 use Rattle.std.proofs.lemmas.List.Elements.{Contains-append_left, Contains-append_right, Contains-append_cases}
 use Rattle.ido_base.specs.declared.place.Place.{Place}
 use Rattle.ido_base.specs.declared.location.Location.{Location}
+use Rattle.ido_base.specs.declared.limits.TheConstants.{MOST_ELEMENTS}
 use Rattle.ido_ints.specs.declared.kinds.Kind.{Kind}
 use Rattle.ido_ints.specs.Kinds.{Holds}
 use Rattle.c_tree.specs.Exprs as e
@@ -13,7 +14,6 @@ use Rattle.c_tree.specs.Programs.{Variable}
 use Rattle.c_tree.specs.Source.{Pending}
 use Rattle.c_tree.specs.Values.{value, element_at}
 use Rattle.c_tree.specs.Ranges.{range_of, elements_of}
-use Rattle.c_tree.specs.TypeRules.{most_elements}
 use Rattle.c_tree.specs.WellFormed.{elements_in, IsDeclared, IsExpr, Fits, IndexFits, IsTarget, TargetFits}
 use Rattle.c_ranges.specs.Keeping.{AreNumbersOf}
 use Rattle.c_ranges.proofs.Foreseen.{foreseen, fits_element}
@@ -29,7 +29,7 @@ low_le (pos n) (pos m) h k = let below : n ≤ m = omega (arith, ints) in omega 
 low_le (pos n) (negsuc m) h k = absurd (omega (arith, ints))
 low_le (negsuc n) z h k = omega arith
 
-le_high : (hi z : ℤ) → pos 0 ≤ℤ z → z ≤ℤ hi → unsigned_abs z ≤ most_elements → unsigned_abs z ≤ element_number hi
+le_high : (hi z : ℤ) → pos 0 ≤ℤ z → z ≤ℤ hi → unsigned_abs z ≤ MOST_ELEMENTS → unsigned_abs z ≤ element_number hi
 le_high (pos n) (pos m) h k l = let below : m ≤ n = omega (arith, ints) in omega arith
 le_high (pos n) (negsuc m) h k l = absurd (omega (arith, ints))
 le_high (negsuc n) (pos m) h k l = absurd (omega (arith, ints))
@@ -73,7 +73,7 @@ lies_scalar variable = record { variable = refl; from_lo = omega arith; to_hi = 
 -- ---- Expressions
 
 module _ (vs : List Variable) (ks : List Kind) (ls : List ℤ) (ns : List (List ℤ)) (locals : AllZip Holds ks ls) (variables : AllZip AreNumbersOf vs ns)
-    (bounded : (variable : ℕ) (it : Variable) → slice_get vs variable ≡ Some it → elements_in it.length ≤ most_elements) where
+    (bounded : (variable : ℕ) (it : Variable) → slice_get vs variable ≡ Some it → elements_in it.length ≤ MOST_ELEMENTS) where
   abbrev seen : Option Pending → Seen
   seen p = record { locals = ls; pending = p; variables = ns }
 

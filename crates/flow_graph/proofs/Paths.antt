@@ -1,5 +1,6 @@
 -- Reads are right: within a region, what is read and is written then or later was written before.
-use Rattle.std.proofs.Common.{◌≡◌, ◌≢◌, ◌⊎◌, inl, inr, ⊎_elim, ◌<◌, ◌≤◌, refl, ℕ, zero, suc, List, [], ◌∷◌, length, map, replicate, ◌∙◌, ap, sym, subst, arith, Option, Some, None, Bool, true, false, slice_set}
+use Rattle.std.proofs.Common.{◌≡◌, ◌≢◌, ◌⊎◌, inl, inr, ⊎_elim, ◌<◌, ◌≤◌, refl, ℕ, zero, suc, List, [], ◌∷◌, length, map}
+use Rattle.std.proofs.Common.{replicate, ◌∙◌, ap, sym, subst, arith, Option, Some, None, Bool, true, false, slice_set}
 use Rattle.std.specs.Prelude.{slice_get, is_some, Contains, if◌then◌else◌, ℤ}
 use Rattle.std.specs.List.{AllByRecursion, AllZip}
 use Rattle.std.specs.Option.{option_map}
@@ -16,7 +17,6 @@ use Rattle.c_tree.specs.Flats as f
 use Rattle.c_tree.specs.Source as m
 use Rattle.c_tree.specs.Source.{Pending}
 use Rattle.c_tree.specs.Ranges.{range_of}
-use Rattle.c_tree.specs.TypeRules.{most_elements}
 use Rattle.c_tree.specs.WellFormed.{elements_in, IsVariable, IsWellFormed, IsFlatStatement, IsFlatPlaced}
 use Rattle.c_ranges.specs.Keeping.{AreNumbersOf, IsLeft, IsThreadOf, IsStateOf}
 use Rattle.c_ranges.proofs.Kept.{Pair, zip_found}
@@ -26,15 +26,18 @@ use Rattle.flow_graph.specs.Nodes.{Action, Eval, Store, Test, Lock, Unlock, End,
 use Rattle.flow_graph.specs.Lowering.{lowered, threads_nodes, scalar, elements, expr_reads, target_reads}
 use Rattle.flow_graph.specs.Liveness.{NodeAt}
 use Rattle.flow_graph.specs.Actions as g
-use Rattle.flow_graph.specs.Actions.{Seen, Walker, FlowState, Effect, Sets, Owes, Makes, Goes, Takes, Gives, Ends, effect_of, effect_step, node_step, walker_step, seen_by, graph_start, graph_step, graph_after, graph_runs}
+use Rattle.flow_graph.specs.Actions.{Seen, Walker, FlowState, Effect, Sets, Owes, Makes, Goes, Takes, Gives, Ends, effect_of}
+use Rattle.flow_graph.specs.Actions.{effect_step, node_step, walker_step, seen_by, graph_start, graph_step, graph_after, graph_runs}
 use Rattle.flow_graph.specs.Lockstep.{Standing, free, threads_standings, WalkerMatches, Matches, StepsMatch}
 use Rattle.flow_graph.specs.Cutting.{Boundaries, IsEdge, IsBoundary, Begins, IsInside, stays, goes_on, ReadsAt, WritesAt, IsWrittenBefore, AreCuts}
-use Rattle.flow_graph.specs.Paths.{Element, expr_elements, target_elements, reads_of, stored_element, write_of, Visit, solo_path, ReadsElement, WritesElement, IsWithinRegion, IsReached, Lies, LiesInOne, LiesInWritten, StandsAtNode}
+use Rattle.flow_graph.specs.Paths.{Element, expr_elements, target_elements, reads_of, stored_element, write_of, Visit, solo_path}
+use Rattle.flow_graph.specs.Paths.{ReadsElement, WritesElement, IsWithinRegion, IsReached, Lies, LiesInOne, LiesInWritten, StandsAtNode}
 use Rattle.flow_graph.proofs.Standing.{Does, chooses, repeats, node_at}
 use Rattle.flow_graph.proofs.Lockstep.{set_same, set_other, found_in, graph_is, lowered_nodes, begins_alike, steps_alike}
 use Rattle.flow_graph.proofs.Shapes.{ShapedAs, node_shaped}
 use Rattle.flow_graph.proofs.Lying.{contains_none, one_of_both, lies_scalar, lies_element, lies_expr, lies_target}
-use Rattle.flow_graph.proofs.Keeping.{reads_lie_here, writes_lie_here, Stepped, stepped, moved, effects_same, goes_by, after_is, not_again, Done, Good, nodes_at, good_step, after_by, good_reached}
+use Rattle.flow_graph.proofs.Keeping.{reads_lie_here, writes_lie_here, Stepped, stepped, moved, effects_same, goes_by}
+use Rattle.flow_graph.proofs.Keeping.{after_is, not_again, Done, Good, nodes_at, good_step, after_by, good_reached}
 
 -- ---- Solo paths
 

@@ -9,20 +9,21 @@ use Rattle.c_tree.specs.Flats as f
 use Rattle.c_tree.specs.Ranges.{range_of}
 use Rattle.flow_graph.specs.Nodes.{Action, Eval, Store, Test, Lock, Unlock, End, Node}
 use Rattle.flow_graph.proofs.Counted.{length-statement_nodes, length-statements_nodes, length-arms_nodes, length-thread_nodes}
-use Rattle.flow_graph.specs.Lowering.{expr_reads, target_reads, elements, scalar, test_node, plain_node, assign_nodes, assign_count, count, statements_count, arms_count, thread_count, entry, statement_nodes, statements_nodes, arms_nodes, thread_nodes, threads_nodes}
+use Rattle.flow_graph.specs.Lowering.{expr_reads, target_reads, elements, scalar, test_node, plain_node, assign_nodes, assign_count, count, statements_count}
+use Rattle.flow_graph.specs.Lowering.{arms_count, thread_count, entry, statement_nodes, statements_nodes, arms_nodes, thread_nodes, threads_nodes}
 
 -- ---- Nodes among others, from a place on
 
-get_front : {X : Type 0} (xs ys : List X) (k : ℕ) (x : X) → slice_get xs k ≡ Some x → slice_get (xs ++ ys) k ≡ Some x
-get_front [] ys k x h = cc
-get_front (y ∷ xs) ys zero x h = h
-get_front (y ∷ xs) ys (suc k) x h = get_front xs ys k x h
+get_prefix : {X : Type 0} (xs ys : List X) (k : ℕ) (x : X) → slice_get xs k ≡ Some x → slice_get (xs ++ ys) k ≡ Some x
+get_prefix [] ys k x h = cc
+get_prefix (y ∷ xs) ys zero x h = h
+get_prefix (y ∷ xs) ys (suc k) x h = get_prefix xs ys k x h
 
-get_back : {X : Type 0} (xs ys : List X) (k : ℕ) (x : X) → slice_get ys k ≡ Some x → slice_get (xs ++ ys) (length xs + k) ≡ Some x
-get_back [] ys k x h = let e : 0 + k ≡ k = omega arith in ap (slice_get ys) e ∙ h
-get_back (y ∷ xs) ys k x h =
+get_suffix : {X : Type 0} (xs ys : List X) (k : ℕ) (x : X) → slice_get ys k ≡ Some x → slice_get (xs ++ ys) (length xs + k) ≡ Some x
+get_suffix [] ys k x h = let e : 0 + k ≡ k = omega arith in ap (slice_get ys) e ∙ h
+get_suffix (y ∷ xs) ys k x h =
     let e : suc (length xs) + k ≡ suc (length xs + k) = omega arith in
-    ap (slice_get (y ∷ (xs ++ ys))) e ∙ get_back xs ys k x h
+    ap (slice_get (y ∷ (xs ++ ys))) e ∙ get_suffix xs ys k x h
 
 at_same : (all : List Node) (n m : ℕ) (s : Node) → n ≡ m → slice_get all n ≡ Some s → slice_get all m ≡ Some s
 at_same all n m s h a = ap (slice_get all) (sym h) ∙ a
@@ -30,12 +31,12 @@ at_same all n m s h a = ap (slice_get all) (sym h) ∙ a
 record Has (all : List Node) (first : ℕ) (xs : List Node) : Type 0 where
   each : (k : ℕ) (s : Node) → slice_get xs k ≡ Some s → slice_get all (first + k) ≡ Some s
 
-has_front : (all : List Node) (first : ℕ) (xs ys : List Node) → Has all first (xs ++ ys) → Has all first xs
-has_front all first xs ys h = record { each = λ k s g. h.each k s (get_front xs ys k s g) }
+has_prefix : (all : List Node) (first : ℕ) (xs ys : List Node) → Has all first (xs ++ ys) → Has all first xs
+has_prefix all first xs ys h = record { each = λ k s g. h.each k s (get_prefix xs ys k s g) }
 
-has_back : (all : List Node) (first n : ℕ) (xs ys : List Node) → length xs ≡ n → Has all first (xs ++ ys) → Has all (first + n) ys
-has_back all first n xs ys e h = record {
-  each = λ k s g. at_same all (first + (length xs + k)) (first + n + k) s (omega (arith, e)) (h.each (length xs + k) s (get_back xs ys k s g));
+has_suffix : (all : List Node) (first n : ℕ) (xs ys : List Node) → length xs ≡ n → Has all first (xs ++ ys) → Has all (first + n) ys
+has_suffix all first n xs ys e h = record {
+  each = λ k s g. at_same all (first + (length xs + k)) (first + n + k) s (omega (arith, e)) (h.each (length xs + k) s (get_suffix xs ys k s g));
 }
 
 has_tail : (all : List Node) (first : ℕ) (x : Node) (xs : List Node) → Has all first (x ∷ xs) → Has all (suc first) xs
@@ -116,16 +117,16 @@ module _ (all : List Node) where
     shaped (f.Assign place target value) first next h = shaped_assign target place value first next h
     shaped (f.If place arms otherwise) first next h =
         let last = entry (statements_count otherwise) (first + arms_count arms) next in
-        let front = arms_nodes arms place last first next in
-        let back = statements_nodes otherwise (first + arms_count arms) next in
-        joined front back (shaped_arms arms place last first next (has_front all first front back h))
-        (shaped_all otherwise (first + arms_count arms) next (has_back all first (arms_count arms) front back
+        let prefix = arms_nodes arms place last first next in
+        let suffix = statements_nodes otherwise (first + arms_count arms) next in
+        joined prefix suffix (shaped_arms arms place last first next (has_prefix all first prefix suffix h))
+        (shaped_all otherwise (first + arms_count arms) next (has_suffix all first (arms_count arms) prefix suffix
         (length-arms_nodes arms place last first next) h))
     shaped (f.While place condition body) first next h =
         (record { reads = refl; writes = refl }, shaped_all body (suc first) first (has_tail all first _ _ h))
     shaped (f.Do place body condition) first next h =
-        let front = statements_nodes body first (first + statements_count body) in
-        joined front (test_node place condition first next ∷ []) (shaped_all body first (first + statements_count body) (has_front all first front _ h))
+        let prefix = statements_nodes body first (first + statements_count body) in
+        joined prefix (test_node place condition first next ∷ []) (shaped_all body first (first + statements_count body) (has_prefix all first prefix _ h))
         (record { reads = refl; writes = refl }, tt)
     shaped (f.Lock place mutex) first next h = (refl, tt)
     shaped (f.Unlock place mutex) first next h = (refl, tt)
@@ -134,34 +135,34 @@ module _ (all : List Node) where
     shaped_all f.no_statement first next h = tt
     shaped_all (f.statement_and y rest) first next h =
         let behind = entry (statements_count rest) (first + count y) next in
-        let front = statement_nodes y first behind in
-        let back = statements_nodes rest (first + count y) next in
-        joined front back (shaped y first behind (has_front all first front back h))
-        (shaped_all rest (first + count y) next (has_back all first (count y) front back (length-statement_nodes y first behind) h))
+        let prefix = statement_nodes y first behind in
+        let suffix = statements_nodes rest (first + count y) next in
+        joined prefix suffix (shaped y first behind (has_prefix all first prefix suffix h))
+        (shaped_all rest (first + count y) next (has_suffix all first (count y) prefix suffix (length-statement_nodes y first behind) h))
 
     shaped_arms : (arms : f.Arms) (place : Place) (last first next : ℕ) → Has all first (arms_nodes arms place last first next) →
         AllShaped all (arms_nodes arms place last first next)
     shaped_arms f.no_arm place last first next h = tt
     shaped_arms (f.arm_and condition body rest) place last first next h =
         let inner = has_tail all first _ _ h in
-        let front = statements_nodes body (suc first) next in
-        let back = arms_nodes rest place last (suc first + statements_count body) next in (
+        let prefix = statements_nodes body (suc first) next in
+        let suffix = arms_nodes rest place last (suc first + statements_count body) next in (
           record { reads = refl; writes = refl },
-          joined front back (shaped_all body (suc first) next (has_front all (suc first) front back inner))
+          joined prefix suffix (shaped_all body (suc first) next (has_prefix all (suc first) prefix suffix inner))
               (shaped_arms rest place last (suc first + statements_count body) next
-              (has_back all (suc first) (statements_count body) front back (length-statements_nodes body (suc first) next) inner)),
+              (has_suffix all (suc first) (statements_count body) prefix suffix (length-statements_nodes body (suc first) next) inner)),
         )
 
   shaped_threads : (ts : List f.Thread) (first : ℕ) → Has all first (threads_nodes ts first) → AllShaped all (threads_nodes ts first)
   shaped_threads [] first h = tt
   shaped_threads (t ∷ ts) first h =
       let own = thread_nodes t first in
-      let back = threads_nodes ts (first + thread_count t) in
-      let front = statements_nodes t.body first (first + statements_count t.body) in
-      joined own back
-      (joined front (plain_node t.closing End ∷ [])
-      (shaped_all t.body first (first + statements_count t.body) (has_front all first front _ (has_front all first own back h))) (refl, tt))
-      (shaped_threads ts (first + thread_count t) (has_back all first (thread_count t) own back (length-thread_nodes t first) h))
+      let suffix = threads_nodes ts (first + thread_count t) in
+      let prefix = statements_nodes t.body first (first + statements_count t.body) in
+      joined own suffix
+      (joined prefix (plain_node t.closing End ∷ [])
+      (shaped_all t.body first (first + statements_count t.body) (has_prefix all first prefix _ (has_prefix all first own suffix h))) (refl, tt))
+      (shaped_threads ts (first + thread_count t) (has_suffix all first (thread_count t) own suffix (length-thread_nodes t first) h))
 
 shaped_at : (all ns : List Node) (k : ℕ) (n : Node) → AllShaped all ns → slice_get ns k ≡ Some n → ShapedAs all n n.action
 shaped_at all [] k n h g = cc

@@ -1,5 +1,6 @@
 -- What is left to do at each node of a well formed flat form's graph is what the node does, and then what is left behind it.
-use Rattle.std.proofs.Common.{◌≡◌, ◌<◌, refl, ℕ, zero, suc, ◌+◌, List, [], ◌∷◌, ◌++◌, length, sym, ◌∙◌, ap, ap₂, subst, arith, Some, append_assoc, append-nil, length-append}
+use Rattle.std.proofs.Common.{◌≡◌, ◌<◌, refl, ℕ, zero, suc, ◌+◌, List, [], ◌∷◌, ◌++◌, length, sym, ◌∙◌}
+use Rattle.std.proofs.Common.{ap, ap₂, subst, arith, Some, append_assoc, append-nil, length-append}
 use Rattle.std.specs.Prelude.{slice_get}
 use Rattle.std.specs.List.{AllZip, AllByRecursion}
 use Rattle.ido_base.specs.declared.place.Place.{Place}
@@ -10,21 +11,22 @@ use Rattle.c_tree.specs.Source.{opened, opened_all}
 use Rattle.c_tree.specs.WellFormed.{HasArm, IsFlatStatement, AreFlatStatements, AreFlatArms}
 use Rattle.flow_graph.specs.declared.graph.Part.{Part}
 use Rattle.flow_graph.specs.Nodes.{Action, Eval, Store, Test, Lock, Unlock, End, Node}
-use Rattle.flow_graph.specs.Lowering.{assign_nodes, assign_count, count, statements_count, arms_count, thread_count, entry, statement_nodes, statements_nodes, arms_nodes, thread_nodes, threads_nodes, part, parts}
+use Rattle.flow_graph.specs.Lowering.{assign_nodes, assign_count, count, statements_count, arms_count, thread_count, entry}
+use Rattle.flow_graph.specs.Lowering.{statement_nodes, statements_nodes, arms_nodes, thread_nodes, threads_nodes, part, parts}
 use Rattle.flow_graph.specs.Lockstep.{Standing, free, owing, assign_standings, standings, all_standings, arms_standings, thread_standings, threads_standings}
 
 -- ---- Lists
 
-get_front : {X : Type 0} (xs ys : List X) (k : ℕ) (x : X) → slice_get xs k ≡ Some x → slice_get (xs ++ ys) k ≡ Some x
-get_front [] ys k x h = cc
-get_front (y ∷ xs) ys zero x h = h
-get_front (y ∷ xs) ys (suc k) x h = get_front xs ys k x h
+get_prefix : {X : Type 0} (xs ys : List X) (k : ℕ) (x : X) → slice_get xs k ≡ Some x → slice_get (xs ++ ys) k ≡ Some x
+get_prefix [] ys k x h = cc
+get_prefix (y ∷ xs) ys zero x h = h
+get_prefix (y ∷ xs) ys (suc k) x h = get_prefix xs ys k x h
 
-get_back : {X : Type 0} (xs ys : List X) (k : ℕ) (x : X) → slice_get ys k ≡ Some x → slice_get (xs ++ ys) (length xs + k) ≡ Some x
-get_back [] ys k x h = let e : 0 + k ≡ k = omega arith in ap (slice_get ys) e ∙ h
-get_back (y ∷ xs) ys k x h =
+get_suffix : {X : Type 0} (xs ys : List X) (k : ℕ) (x : X) → slice_get ys k ≡ Some x → slice_get (xs ++ ys) (length xs + k) ≡ Some x
+get_suffix [] ys k x h = let e : 0 + k ≡ k = omega arith in ap (slice_get ys) e ∙ h
+get_suffix (y ∷ xs) ys k x h =
     let e : suc (length xs) + k ≡ suc (length xs + k) = omega arith in
-    ap (slice_get (y ∷ (xs ++ ys))) e ∙ get_back xs ys k x h
+    ap (slice_get (y ∷ (xs ++ ys))) e ∙ get_suffix xs ys k x h
 
 -- ---- At nodes
 
@@ -41,12 +43,12 @@ at_as all n l m h a = a ∙ ap (λ (k : List f.Statement). Some (free k)) h
 record Has (all : List Standing) (first : ℕ) (xs : List Standing) : Type 0 where
   each : (k : ℕ) (s : Standing) → slice_get xs k ≡ Some s → At all (first + k) s
 
-has_front : (all : List Standing) (first : ℕ) (xs ys : List Standing) → Has all first (xs ++ ys) → Has all first xs
-has_front all first xs ys h = record { each = λ k s g. h.each k s (get_front xs ys k s g) }
+has_prefix : (all : List Standing) (first : ℕ) (xs ys : List Standing) → Has all first (xs ++ ys) → Has all first xs
+has_prefix all first xs ys h = record { each = λ k s g. h.each k s (get_prefix xs ys k s g) }
 
-has_back : (all : List Standing) (first n : ℕ) (xs ys : List Standing) → length xs ≡ n → Has all first (xs ++ ys) → Has all (first + n) ys
-has_back all first n xs ys e h = record {
-  each = λ k s g. at_same all (first + (length xs + k)) (first + n + k) s (omega (arith, e)) (h.each (length xs + k) s (get_back xs ys k s g));
+has_suffix : (all : List Standing) (first n : ℕ) (xs ys : List Standing) → length xs ≡ n → Has all first (xs ++ ys) → Has all (first + n) ys
+has_suffix all first n xs ys e h = record {
+  each = λ k s g. at_same all (first + (length xs + k)) (first + n + k) s (omega (arith, e)) (h.each (length xs + k) s (get_suffix xs ys k s g));
 }
 
 has_tail : (all : List Standing) (first : ℕ) (x : Standing) (xs : List Standing) → Has all first (x ∷ xs) → Has all (suc first) xs
@@ -206,17 +208,17 @@ module _ (x : f.Flat) (ks : List Kind) (all : List Standing) where
     enters : (y : f.Statement) (first : ℕ) (rest : List f.Statement) → IsFlatStatement x ks y → Has all first (standings y rest) →
         At all first (free (opened y ++ rest))
     enters (f.Assign place target value) first rest w h = enters_assign target place value first rest h
-    enters (f.If place arms otherwise) first rest w h = enters_if arms place otherwise first rest w.0 (has_front all first _ _ h)
+    enters (f.If place arms otherwise) first rest w h = enters_if arms place otherwise first rest w.0 (has_prefix all first _ _ h)
     enters (f.While place condition body) first rest w h = has_head all first _ _ h
     enters (f.Do place body condition) first rest w h =
         let again : List f.Statement = f.While place condition body ∷ rest in
         let last : At all (first + statements_count body) (free again) =
-        has_head all (first + statements_count body) _ [] (has_back all first (statements_count body) (all_standings body again) (free again ∷ [])
+        has_head all (first + statements_count body) _ [] (has_suffix all first (statements_count body) (all_standings body again) (free again ∷ [])
         (length-all_standings body again) h) in
         at_as all first (opened_all body ++ again) ((opened_all body ++ (f.While place condition body ∷ [])) ++ rest)
         (sym (append_assoc (opened_all body) (f.While place condition body ∷ []) rest))
         (at_same all _ first _ (entry_end (statements_count body) first)
-        (enters_all body first (first + statements_count body) again w.0 (has_front all first (all_standings body again) (free again ∷ []) h) last))
+        (enters_all body first (first + statements_count body) again w.0 (has_prefix all first (all_standings body again) (free again ∷ []) h) last))
     enters (f.Lock place mutex) first rest w h = has_head all first _ _ h
     enters (f.Unlock place mutex) first rest w h = has_head all first _ _ h
 
@@ -227,7 +229,7 @@ module _ (x : f.Flat) (ks : List Kind) (all : List Standing) where
         let later : List f.Statement = opened_all more ++ rest in
         at_as all _ (opened y ++ later) ((opened y ++ opened_all more) ++ rest) (sym (append_assoc (opened y) (opened_all more) rest))
         (at_same all first _ _ (sym (entry_some (count y + statements_count more) first next (omega (arith, count_some y w.0))))
-        (enters y first later w.0 (has_front all first (standings y later) (all_standings more rest) h)))
+        (enters y first later w.0 (has_prefix all first (standings y later) (all_standings more rest) h)))
 
   -- ---- Nodes
 
@@ -250,11 +252,11 @@ module _ (x : f.Flat) (ks : List Kind) (all : List Standing) where
         Agree all (statement_nodes y first next) (standings y rest)
     agree (f.Assign place target value) first next rest w h a = agree_assign target place value first next rest h a
     agree (f.If place arms otherwise) first next rest w h a =
-        let behind = has_back all first (arms_count arms) (arms_standings arms place otherwise rest) (all_standings otherwise rest)
+        let behind = has_suffix all first (arms_count arms) (arms_standings arms place otherwise rest) (all_standings otherwise rest)
         (length-arms_standings arms place otherwise rest) h in
         let last = enters_all otherwise (first + arms_count arms) next rest w.2 behind a in
         agree_append all _ _ _ _
-        (agree_arms arms place otherwise _ first next rest w.1 (has_front all first _ _ h) last a)
+        (agree_arms arms place otherwise _ first next rest w.1 (has_prefix all first _ _ h) last a)
         (agree_all otherwise (first + arms_count arms) next rest w.2 behind a)
     agree (f.While place condition body) first next rest w h a =
         let again : List f.Statement = f.While place condition body ∷ rest in
@@ -264,8 +266,8 @@ module _ (x : f.Flat) (ks : List Kind) (all : List Standing) where
     agree (f.Do place body condition) first next rest w h a =
         let again : List f.Statement = f.While place condition body ∷ rest in
         let test = first + statements_count body in
-        let inner = has_front all first (all_standings body again) (free again ∷ []) h in
-        let there = has_head all test _ [] (has_back all first (statements_count body) (all_standings body again) (free again ∷ [])
+        let inner = has_prefix all first (all_standings body again) (free again ∷ []) h in
+        let there = has_head all test _ [] (has_suffix all first (statements_count body) (all_standings body again) (free again ∷ [])
         (length-all_standings body again) h) in
         agree_append all _ _ _ _ (agree_all body first test again w.0 inner there) (
           repeats place body rest refl (at_same all _ first _ (entry_end (statements_count body) first)
@@ -280,9 +282,9 @@ module _ (x : f.Flat) (ks : List Kind) (all : List Standing) where
     agree_all f.no_statement first next rest w h a = tt
     agree_all (f.statement_and y more) first next rest w h a =
         let later : List f.Statement = opened_all more ++ rest in
-        let behind = has_back all first (count y) (standings y later) (all_standings more rest) (length-standings y later) h in
+        let behind = has_suffix all first (count y) (standings y later) (all_standings more rest) (length-standings y later) h in
         agree_append all _ _ _ _
-        (agree y first (entry (statements_count more) (first + count y) next) later w.0 (has_front all first (standings y later) (all_standings more rest) h)
+        (agree y first (entry (statements_count more) (first + count y) next) later w.0 (has_prefix all first (standings y later) (all_standings more rest) h)
         (enters_all more (first + count y) next rest w.1 behind a))
         (agree_all more (first + count y) next rest w.1 behind a)
 
@@ -292,22 +294,22 @@ module _ (x : f.Flat) (ks : List Kind) (all : List Standing) where
     agree_arms f.no_arm place otherwise last first next rest w h l a = tt
     agree_arms (f.arm_and condition body arms) place otherwise last first next rest w h l a =
         let inner = has_tail all first _ _ h in
-        let front = has_front all (suc first) (all_standings body rest) (arms_standings arms place otherwise rest) inner in
-        let behind = has_back all (suc first) (statements_count body) (all_standings body rest) (arms_standings arms place otherwise rest)
+        let prefix = has_prefix all (suc first) (all_standings body rest) (arms_standings arms place otherwise rest) inner in
+        let behind = has_suffix all (suc first) (statements_count body) (all_standings body rest) (arms_standings arms place otherwise rest)
         (length-all_standings body rest) inner in
         let more = suc first + statements_count body in (
-          chooses place body arms otherwise rest refl (enters_all body (suc first) next rest w.1 front a)
+          chooses place body arms otherwise rest refl (enters_all body (suc first) next rest w.1 prefix a)
               (enters_arms arms place otherwise more last rest behind l),
-          agree_append all _ _ _ _ (agree_all body (suc first) next rest w.1 front a) (agree_arms arms place otherwise last more next rest w.2 behind l a),
+          agree_append all _ _ _ _ (agree_all body (suc first) next rest w.1 prefix a) (agree_arms arms place otherwise last more next rest w.2 behind l a),
         )
 
   agree_thread : (t : f.Thread) (first : ℕ) → AreFlatStatements x ks t.body → Has all first (thread_standings t) →
       Agree all (thread_nodes t first) (thread_standings t)
   agree_thread t first w h =
       let end = first + statements_count t.body in
-      let there = has_head all end _ [] (has_back all first (statements_count t.body) (all_standings t.body []) (free [] ∷ [])
+      let there = has_head all end _ [] (has_suffix all first (statements_count t.body) (all_standings t.body []) (free [] ∷ [])
       (length-all_standings t.body []) h) in
-      agree_append all _ _ _ _ (agree_all t.body first end [] w (has_front all first _ _ h) there) (refl, tt)
+      agree_append all _ _ _ _ (agree_all t.body first end [] w (has_prefix all first _ _ h) there) (refl, tt)
 
 -- ---- The whole graph
 
@@ -321,8 +323,8 @@ agree_threads : (x : f.Flat) (all : List Standing) (ts : List f.Thread) (first :
     Agree all (threads_nodes ts first) (threads_standings ts)
 agree_threads x all [] first w h = tt
 agree_threads x all (t ∷ ts) first w h =
-    agree_append all _ _ _ _ (agree_thread x t.locals all t first w.0 (has_front all first _ _ h))
-    (agree_threads x all ts (first + thread_count t) w.1 (has_back all first (thread_count t) (thread_standings t) (threads_standings ts)
+    agree_append all _ _ _ _ (agree_thread x t.locals all t first w.0 (has_prefix all first _ _ h))
+    (agree_threads x all ts (first + thread_count t) w.1 (has_suffix all first (thread_count t) (thread_standings t) (threads_standings ts)
     (length-thread_standings t) h))
 
 pub agrees : (x : f.Flat) → AreThreads x x.threads → Agree (threads_standings x.threads) (threads_nodes x.threads 0) (threads_standings x.threads)
@@ -340,18 +342,18 @@ begin_threads x all (u ∷ us) first zero p t w h g i =
     let same : u ≡ t = cc in
     let here : part u first ≡ p = cc in
     let end = first + statements_count u.body in
-    let own = has_front all first (thread_standings u) (threads_standings us) h in
-    let there = has_head all end _ [] (has_back all first (statements_count u.body) (all_standings u.body []) (free [] ∷ [])
+    let own = has_prefix all first (thread_standings u) (threads_standings us) h in
+    let there = has_head all end _ [] (has_suffix all first (statements_count u.body) (all_standings u.body []) (free [] ∷ [])
     (length-all_standings u.body []) own) in
     let begun : At all first (free (opened_all u.body ++ [])) =
     begun_at (statements_count u.body) first all _
-    (enters_all x u.locals all u.body first end [] w.0 (has_front all first (all_standings u.body []) (free [] ∷ []) own) there) in
+    (enters_all x u.locals all u.body first end [] w.0 (has_prefix all first (all_standings u.body []) (free [] ∷ []) own) there) in
     let whole : At all first (free (opened_all u.body)) = at_as all first _ (opened_all u.body) (append-nil (opened_all u.body)) begun in
     let P : f.Thread → Type 0 = λ v. At all first (free (opened_all v.body)) in
     at_same all first p.first _ (ap (λ (q : Part). q.first) here) (subst P same whole)
 begin_threads x all (u ∷ us) first (suc k) p t w h g i =
     begin_threads x all us (first + thread_count u) k p t w.1
-    (has_back all first (thread_count u) (thread_standings u) (threads_standings us) (length-thread_standings u) h) g i
+    (has_suffix all first (thread_count u) (thread_standings u) (threads_standings us) (length-thread_standings u) h) g i
 
 pub begins : (x : f.Flat) (k : ℕ) (p : Part) (t : f.Thread) → AreThreads x x.threads → slice_get (parts x.threads 0) k ≡ Some p →
     slice_get x.threads k ≡ Some t →

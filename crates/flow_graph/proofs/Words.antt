@@ -1,5 +1,7 @@
 -- The words of sets of locals.
-use Rattle.std.proofs.Common.{◌≡◌, ◌≢◌, ◌⊎◌, ◌↔◌, inl, inr, ℕ, zero, suc, ◌+◌, ◌-◌, ◌*◌, ◌/◌, ◌%◌, ◌^◌, ◌<◌, ◌≤◌, max, Bool, true, false, List, [], ◌∷◌, ◌++◌, length, get_or, set, replicate, refl, ap, sym, subst, ◌∙◌, arith, w64, bit_and, bit_or, length-set, get_or-set_same, get_or-set_other}
+use Rattle.std.proofs.Common.{◌≡◌, ◌≢◌, ◌⊎◌, ◌↔◌, inl, inr, ℕ, zero, suc, ◌+◌, ◌-◌, ◌*◌, ◌/◌, ◌%◌, ◌^◌, ◌<◌, ◌≤◌, max}
+use Rattle.std.proofs.Common.{Bool, true, false, List, [], ◌∷◌, ◌++◌, length, get_or, set, replicate, refl, ap, sym}
+use Rattle.std.proofs.Common.{subst, ◌∙◌, arith, w64, bit_and, bit_or, length-set, get_or-set_same, get_or-set_other}
 use Rattle.std.specs.Prelude.{IsTrue, nat_eq, Contains}
 use Rattle.std.specs.List.Sorted.{IsStrictlyIncreasing}
 use Rattle.std.specs.Int.{bit_at, bit_not}
@@ -81,7 +83,8 @@ inserted words local other lt =
     elim (same_or_other other local) [
       | inl e ↦ (λ _. inr e, λ _. subst (λ (v : ℕ). Has (set words (local / 64) (with_bit old local)) v) (sym e) here)
       | inr ne ↦
-          let same = at_other words local (with_bit old local) other lt (λ e. bit_at_set_other w64 old (local % 64) (bit_of local) (other % 64) (other_bit other local ne e)) in
+          let same = at_other words local (with_bit old local) other lt
+          (λ e. bit_at_set_other w64 old (local % 64) (bit_of local) (other % 64) (other_bit other local ne e)) in
           (λ h. inl (sym same ∙ h), λ d. elim d [ inl h ↦ same ∙ h | inr e ↦ absurd (ne e) ])
     ]
 
@@ -100,7 +103,8 @@ removed words local other lt =
         λ d. absurd (d.1 e),
       )
       | inr ne ↦
-          let same = at_other words local (without_bit old local) other lt (λ e. bit_at_clear_other w64 old (local % 64) (bit_of local) (other % 64) (bit_of other) (other_bit other local ne e)) in
+          let same = at_other words local (without_bit old local) other lt
+          (λ e. bit_at_clear_other w64 old (local % 64) (bit_of local) (other % 64) (bit_of other) (other_bit other local ne e)) in
           (λ h. (sym same ∙ h, ne), λ d. same ∙ d.0)
     ]
 
@@ -154,7 +158,8 @@ joins_same old added now i grows j e =
     record {
       long = j.long;
       joined = λ k le. elim (same_or_other k i) [
-        | inl is ↦ ap (λ m. get_or now m 0) is ∙ sym e ∙ ap (λ w. bit_or w (get_or added i 0)) first ∙ ap (λ m. bit_or (get_or old m 0) (get_or added m 0)) (sym is)
+        | inl is ↦ ap (λ m. get_or now m 0) is ∙ sym e ∙ ap (λ w. bit_or w (get_or added i 0)) first
+            ∙ ap (λ m. bit_or (get_or old m 0) (get_or added m 0)) (sym is)
         | inr other ↦ j.joined k (omega arith)
       ];
       rest = λ k le. j.rest k (omega arith);
@@ -169,7 +174,8 @@ either n x y e lx ly = (
 )
 
 pub joins_write : (old added now to : List ℕ) (i word other : ℕ) (grows : Bool) → Joins old added now i grows → i < length now →
-    to ≡ set now i (bit_or word other) → word ≡ get_or now i 0 → other ≡ get_or added i 0 → bit_or word other ≢ word → word < 2 ^ 64 → Joins old added to (i + 1) true
+    to ≡ set now i (bit_or word other) → word ≡ get_or now i 0 → other ≡ get_or added i 0 → bit_or word other ≢ word → word < 2 ^ 64 →
+    Joins old added to (i + 1) true
 joins_write old added now to i word other grows j lt written e e' ne fits =
     let P : ℕ → ℕ → Type 0 = λ w o. bit_or w o ≢ w → w < 2 ^ 64 → Joins old added (set now i (bit_or w o)) (i + 1) true in
     let h : P word other = subst (λ (w : ℕ). P w other) (sym e) (subst (λ (o : ℕ). P (get_or now i 0) o) (sym e') (joins_more old added now i grows j lt)) in
@@ -192,15 +198,18 @@ joined_all old added now count grows j le le' local =
       | inl lt ↦ j.joined i lt
       | inr past ↦ j.rest i past ∙ sym (ap (λ w. bit_or (get_or old i 0) w) (get_or_past added i 0 (omega arith)) ∙ or_zero_r (get_or old i 0))
     ] in
-    let bits : bit_at (get_or now i 0) b ≡ max (bit_at (get_or old i 0) b) (bit_at (get_or added i 0) b) = ap (λ w. bit_at w b) word ∙ bit_at_or (get_or old i 0) (get_or added i 0) b in
-    either (bit_at (get_or now i 0) b) (bit_at (get_or old i 0) b) (bit_at (get_or added i 0) b) bits (bit_at-lt (get_or old i 0) b) (bit_at-lt (get_or added i 0) b)
+    let bits : bit_at (get_or now i 0) b ≡ max (bit_at (get_or old i 0) b) (bit_at (get_or added i 0) b) =
+    ap (λ w. bit_at w b) word ∙ bit_at_or (get_or old i 0) (get_or added i 0) b in
+    either (bit_at (get_or now i 0) b) (bit_at (get_or old i 0) b) (bit_at (get_or added i 0) b) bits (bit_at-lt (get_or old i 0) b)
+    (bit_at-lt (get_or added i 0) b)
 
 -- ---- The test of one local
 
 pub tested : (words : List ℕ) (local word : ℕ) → word ≡ get_or words (local / 64) 0 → IsTrue (nat_eq (bit_and (word / 2 ^ (local % 64)) 1) 1) ↔ Has words local
 unfolding Has
 tested words local word is =
-    let same : bit_and (word / 2 ^ (local % 64)) 1 ≡ bit_at (get_or words (local / 64) 0) (local % 64) = shr_and_one word (local % 64) ∙ ap (λ w. bit_at w (local % 64)) is in
+    let same : bit_and (word / 2 ^ (local % 64)) 1 ≡ bit_at (get_or words (local / 64) 0) (local % 64) =
+    shr_and_one word (local % 64) ∙ ap (λ w. bit_at w (local % 64)) is in
     (λ t. sym same ∙ eqb-true (bit_and (word / 2 ^ (local % 64)) 1) 1 t, λ h. eq-eqb (bit_and (word / 2 ^ (local % 64)) 1) 1 (same ∙ h))
 
 -- ---- The locals one after another

@@ -145,7 +145,8 @@ section_writes = refl
 -- `if (1) { lock(m); } else if (2) { } else { unlock(m); } do { } while (3); while (4) { }`
 abbrev choices : List f.Statement
 choices =
-    f.If (at 10) (f.arm_and (placed 14 (int 1)) (all_of (f.Lock (at 19) 0 ∷ [])) (f.arm_and (placed 40 (int 2)) f.no_statement f.no_arm)) (all_of (f.Unlock (at 54) 0 ∷ [])) ∷
+    f.If (at 10) (f.arm_and (placed 14 (int 1)) (all_of (f.Lock (at 19) 0 ∷ [])) (f.arm_and (placed 40 (int 2)) f.no_statement f.no_arm))
+    (all_of (f.Unlock (at 54) 0 ∷ [])) ∷
     f.Do (at 67) f.no_statement (placed 80 (int 3)) ∷
     f.While (at 84) (placed 91 (int 4)) f.no_statement ∷ []
 

@@ -1,10 +1,12 @@
 -- Worked rows: intervals of locals, registers that clash, and a node that too many intervals hold.
-use Rattle.std.proofs.Common.{◌≡◌, ◌≢◌, ◌⊎◌, inl, inr, ℕ, zero, suc, ◌+◌, ◌<◌, ◌≤◌, List, [], ◌∷◌, Some, None, length, refl, sym, ap, ◌∙◌, subst, slice_get, get_or, Contains, arith}
+use Rattle.std.proofs.Common.{◌≡◌, ◌≢◌, ◌⊎◌, inl, inr, ℕ, zero, suc, ◌+◌, ◌<◌, ◌≤◌, List, [], ◌∷◌, Some}
+use Rattle.std.proofs.Common.{None, length, refl, sym, ap, ◌∙◌, subst, slice_get, get_or, Contains, arith}
 use Rattle.std.proofs.lemmas.Option.{same_Some, slice_get-get_or}
 use Rattle.ido_base.specs.declared.place.Place.{Place}
 use Rattle.flow_graph.specs.declared.graph.Part.{Part}
 use Rattle.flow_graph.specs.Nodes.{Node, Graph, Lock, End, successors}
-use Rattle.flow_graph.specs.Liveness.{NodeAt, IsLive, is_read, is_read_later, IsAssigned, Touches, Spans, AreSpanning, IsFirstCrowded, Colouring, Clash, IsFirstClash}
+use Rattle.flow_graph.specs.Liveness.{NodeAt, IsLive, is_read, is_read_later, IsAssigned, Touches, Spans}
+use Rattle.flow_graph.specs.Liveness.{AreSpanning, IsFirstCrowded, Colouring, Clash, IsFirstClash}
 
 abbrev at : ℕ → Place
 at place = record { 0 = place }
@@ -37,7 +39,8 @@ first_at_second =
 
 second_at_second : Spans two (part 3 2) 1 1
 second_at_second =
-    let touched : Touches two (part 3 2) 1 1 = record { from_first = omega arith; below_end = omega arith; is = inr (record { is = assigning 1 2; at = refl; assigns = refl }) } in
+    let touched : Touches two (part 3 2) 1 1 =
+    record { from_first = omega arith; below_end = omega arith; is = inr (record { is = assigning 1 2; at = refl; assigns = refl }) } in
     record { low = 1; high = 1; from_low = omega arith; to_high = omega arith; at_low = touched; at_high = touched }
 
 clash : Clash two one_register 1 0 1
@@ -104,7 +107,8 @@ first_clash = record { is = clash; first = later; least = λ c d x. omega arith;
     later : (other c d : ℕ) → Clash two one_register other c d → 1 ≤ other
     later zero c d x =
         let low : x.second.low ≡ 0 = omega (arith, x.second.from_low) in
-        let touched : Touches two (part 3 2) d 0 = subst (λ p. Touches two p d 0) (own_part x.thread x.part x.own) (subst (λ n. Touches two x.part d n) low x.second.at_low) in
+        let touched : Touches two (part 3 2) d 0 =
+        subst (λ p. Touches two p d 0) (own_part x.thread x.part x.own) (subst (λ n. Touches two x.part d n) low x.second.at_low) in
         absurd (untouched_at_first d (omega (arith, x.different)) touched)
     later (suc n) c d x = omega arith
 
@@ -134,11 +138,13 @@ abbrev crowd : Graph
 crowd = record { nodes = reading (numbers 19 0) ∷ []; threads = part 1 19 ∷ [] }
 
 one_of_them : (local : ℕ) → local < 19 → Contains (numbers 19 0) local
-one_of_them local h = (local, omega arith, same_Some _ _ (sym (slice_get-get_or (numbers 19 0) local local (omega arith)) ∙ number_at 19 0 local h ∙ ap Some (omega arith)))
+one_of_them local h =
+    (local, omega arith, same_Some _ _ (sym (slice_get-get_or (numbers 19 0) local local (omega arith)) ∙ number_at 19 0 local h ∙ ap Some (omega arith)))
 
 held : (local : ℕ) → local < 19 → Spans crowd (part 1 19) local 0
 held local h =
-    let touched : Touches crowd (part 1 19) local 0 = record { from_first = omega arith; below_end = omega arith; is = inl (is_read _ refl (one_of_them local h)) } in
+    let touched : Touches crowd (part 1 19) local 0 =
+    record { from_first = omega arith; below_end = omega arith; is = inl (is_read _ refl (one_of_them local h)) } in
     record { low = 0; high = 0; from_low = omega arith; to_high = omega arith; at_low = touched; at_high = touched }
 
 spanning : AreSpanning crowd (part 1 19) 0 19

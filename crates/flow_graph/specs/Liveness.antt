@@ -1,6 +1,7 @@
 -- Which locals are live where, and the intervals of nodes that they take.
 use Rattle.std.specs.Prelude.{◌≡◌, ◌≢◌, ◌⊎◌, ◌↔◌, ◌≤◌, ◌<◌, ℕ, List, length, slice_get, Contains, Some}
 use Rattle.ido_base.specs.declared.place.Place.{Place}
+use Rattle.ido_base.specs.declared.limits.TheConstants.{LOCAL_REGISTERS}
 use Rattle.flow_graph.specs.declared.graph.Part.{Part}
 use Rattle.flow_graph.specs.Nodes.{Node, Graph, successors}
 
@@ -46,13 +47,9 @@ pub record AreSpanning (g : Graph) (part : Part) (node wanted : ℕ) : Type 0 wh
 
 -- ---- Registers for locals
 
--- how many registers there are
-abbrev pub registers : ℕ
-registers = 18
-
 -- no node is held by more intervals than that
 abbrev pub HasRoom : Graph → Type 0
-HasRoom g = (part : Part) (node wanted : ℕ) → Contains g.threads part → AreSpanning g part node wanted → wanted ≤ registers
+HasRoom g = (part : Part) (node wanted : ℕ) → Contains g.threads part → AreSpanning g part node wanted → wanted ≤ LOCAL_REGISTERS
 
 -- the first node that is has this place, and so many hold it
 pub record IsFirstCrowded (g : Graph) (place : Place) (wanted : ℕ) : Type 0 where
@@ -63,8 +60,8 @@ pub record IsFirstCrowded (g : Graph) (place : Place) (wanted : ℕ) : Type 0 wh
   pub at : NodeAt g node is
   pub there : place ≡ is.place
   pub spanning : AreSpanning g part node wanted
-  pub crowded : registers < wanted
-  pub first : (other : Part) (earlier fewer : ℕ) → earlier < node → Contains g.threads other → AreSpanning g other earlier fewer → fewer ≤ registers
+  pub crowded : LOCAL_REGISTERS < wanted
+  pub first : (other : Part) (earlier fewer : ℕ) → earlier < node → Contains g.threads other → AreSpanning g other earlier fewer → fewer ≤ LOCAL_REGISTERS
 
 -- of each thread the registers of its locals, which are counted from 0
 abbrev pub Colouring : Type 0
@@ -97,5 +94,6 @@ pub record IsFirstClash (g : Graph) (colours : Colouring) (node a b : ℕ) : Typ
 -- each local of each thread has one of the registers
 pub record AreRegisters (g : Graph) (colours : Colouring) : Type 0 where
   pub threads : length colours ≡ length g.threads
-  pub locals : (thread : ℕ) (part : Part) (own : List ℕ) → slice_get g.threads thread ≡ Some part → slice_get colours thread ≡ Some own → length own ≡ part.locals
-  pub exist : (thread register : ℕ) (own : List ℕ) → slice_get colours thread ≡ Some own → Contains own register → register < registers
+  pub locals : (thread : ℕ) (part : Part) (own : List ℕ) → slice_get g.threads thread ≡ Some part → slice_get colours thread ≡ Some own →
+      length own ≡ part.locals
+  pub exist : (thread register : ℕ) (own : List ℕ) → slice_get colours thread ≡ Some own → Contains own register → register < LOCAL_REGISTERS

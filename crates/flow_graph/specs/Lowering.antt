@@ -89,7 +89,8 @@ abbrev pub plain_node : Place → Action → Node
 plain_node place action = record { place = place; action = action; uses = []; assigns = None; reads = []; writes = None }
 
 abbrev pub store_node : Place → (variable : ℕ) → Kind → Location → (next : ℕ) → Node
-store_node place variable kind location next = record { place = place; action = Store variable kind next; uses = []; assigns = None; reads = []; writes = Some location }
+store_node place variable kind location next =
+    record { place = place; action = Store variable kind next; uses = []; assigns = None; reads = []; writes = Some location }
 
 -- an assignment of a variable has a second node, the store
 abbrev pub assign_nodes : Place → e.Target → e.Placed → (first next : ℕ) → List Node
@@ -97,7 +98,8 @@ assign_nodes place (e.ToLocal local kind) value first next = eval_node place (e.
 assign_nodes place (e.ToVariable name variable kind) value first next =
     eval_node place (e.ToVariable name variable kind) value (suc first) ∷ store_node place variable kind (scalar variable) next ∷ []
 assign_nodes place (e.ToElement name variable kind index) value first next =
-    eval_node place (e.ToElement name variable kind index) value (suc first) ∷ store_node place variable kind (elements variable (range_of index.expr)) next ∷ []
+    eval_node place (e.ToElement name variable kind index) value (suc first) ∷
+    store_node place variable kind (elements variable (range_of index.expr)) next ∷ []
 
 -- ---- How many nodes
 
@@ -139,7 +141,8 @@ abbrev mutual
   pub statement_nodes : f.Statement → (first next : ℕ) → List Node
   statement_nodes (f.Assign place target value) first next = assign_nodes place target value first next
   statement_nodes (f.If place arms otherwise) first next =
-      arms_nodes arms place (entry (statements_count otherwise) (first + arms_count arms) next) first next ++ statements_nodes otherwise (first + arms_count arms) next
+      arms_nodes arms place (entry (statements_count otherwise) (first + arms_count arms) next) first next
+      ++ statements_nodes otherwise (first + arms_count arms) next
   -- the body goes back to the test
   statement_nodes (f.While place condition body) first next =
       test_node place condition (entry (statements_count body) (suc first) first) next ∷ statements_nodes body (suc first) first

@@ -19,4 +19,5 @@ pub record IsAccepted (text : List ℕ) (flat : Flat) : Type 0 where
 pub data IsRefusedBy (text : List ℕ) (found : Rule) (place : Place) : Type 0 where
   faulty : IsFaulty text found place → IsRefusedBy text found place
   crowded : (flat : Flat) (wanted : ℕ) → IsChecked text flat → IsFirstCrowded (lowered flat) place wanted → found ≡ rule.Locals → IsRefusedBy text found place
-  too_deep : (flat : Flat) → IsChecked text flat → HasRoom (lowered flat) → temporaries_fault flat ≡ Some place → found ≡ rule.Temporaries → IsRefusedBy text found place
+  too_deep : (flat : Flat) → IsChecked text flat → HasRoom (lowered flat) → temporaries_fault flat ≡ Some place → found ≡ rule.Temporaries →
+      IsRefusedBy text found place

@@ -4,7 +4,7 @@ ghost use Rattle.std.specs.List.Sorted.{IsStrictlyIncreasing};
 ghost use Rattle.flow_graph.specs.LocalSets.{HasAt};
 
 use crate::local_set::LocalSet;
-use ido_base::memory::Memory;
+use ido_base::memory::OutOfMemory;
 use std::alloc::Global;
 use std::marker::Model;
 
@@ -41,7 +41,7 @@ impl LiveSets {
     }
 
     /// The locals that are live at the entry of the node, in ascending order; none where there is no such node.
-    pub fn locals(&self, alloc: Global, node: usize) -> Result<Vec<u32>, Memory>
+    pub fn locals(&self, alloc: Global, node: usize) -> Result<Vec<u32>, OutOfMemory>
         ensures ascending { IfOk result (λ v. IsStrictlyIncreasing v.items) }
         ensures each { IfOk result (λ v. (local : ℕ) → Contains v.items local ↔ HasAt self.now node local) }
     {

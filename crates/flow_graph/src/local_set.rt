@@ -4,7 +4,7 @@ ghost use Rattle.std.specs.List.Sorted.{IsStrictlyIncreasing};
 ghost use Rattle.flow_graph.specs.LocalSets.{Has};
 ghost use Rattle.flow_graph.specs.links.Room.{room};
 
-use ido_base::memory::Memory;
+use ido_base::memory::OutOfMemory;
 use std::alloc::Global;
 use std::marker::Model;
 
@@ -25,7 +25,7 @@ impl Model for LocalSet {
     ghost invariant = { λ s. length s.words.items ≤ 2 ^ 26 };
 }
 
-// The word of a local.
+/// The word of a local.
 fn word_of(local: usize) -> usize
     ensures { result ≡ local / 64 }
 {
@@ -34,7 +34,7 @@ fn word_of(local: usize) -> usize
 
 impl LocalSet {
     /// No local, with room for those up to this one.
-    pub fn none(alloc: Global, most: u32) -> Result<LocalSet, Memory>
+    pub fn none(alloc: Global, most: u32) -> Result<LocalSet, OutOfMemory>
         ensures none { IfOk result (λ s. (local : ℕ) → ¬ (Has s local)) }
         ensures long { IfOk result (λ s. length s ≡ most / 64 + 1) }
     {
@@ -99,7 +99,7 @@ impl LocalSet {
     }
 
     /// The locals in the set, in ascending order.
-    pub fn locals(&self, alloc: Global) -> Result<Vec<u32>, Memory>
+    pub fn locals(&self, alloc: Global) -> Result<Vec<u32>, OutOfMemory>
         ensures ascending { IfOk result (λ v. IsStrictlyIncreasing v.items) }
         ensures each { IfOk result (λ v. (local : ℕ) → Contains v.items local ↔ Has self.now local) }
     {

@@ -18,7 +18,8 @@ pub record Collects (x : Node) (sets : List (List ℕ)) (none one both : List �
 abbrev Behind : Node → List (List ℕ) → ℕ → Type 0
 Behind x sets local = HasBehind sets (next_of x.action) local ⊎ HasBehind sets (other_of x.action) local
 
-collected_from : (x : Node) (sets : List (List ℕ)) (none one both : List ℕ) (next other : Option ℕ) → Collects x sets none one both next other → (local : ℕ) → Has both local → Behind x sets local
+collected_from : (x : Node) (sets : List (List ℕ)) (none one both : List ℕ) (next other : Option ℕ) → Collects x sets none one both next other → (local : ℕ) →
+    Has both local → Behind x sets local
 collected_from x sets none one both next other c local h = elim ((c.second local).0 h) [
   | inl earlier ↦ elim ((c.first local).0 earlier) [
     | inl before ↦ absurd (c.empty local before)
@@ -27,7 +28,8 @@ collected_from x sets none one both next other c local h = elim ((c.second local
   | inr there ↦ inr (subst (λ (n : Option ℕ). HasBehind sets n local) c.to_other there)
 ]
 
-collected_to : (x : Node) (sets : List (List ℕ)) (none one both : List ℕ) (next other : Option ℕ) → Collects x sets none one both next other → (local : ℕ) → Behind x sets local → Has both local
+collected_to : (x : Node) (sets : List (List ℕ)) (none one both : List ℕ) (next other : Option ℕ) → Collects x sets none one both next other → (local : ℕ) →
+    Behind x sets local → Has both local
 collected_to x sets none one both next other c local d = elim d [
   | inl there ↦ (c.second local).1 (inl ((c.first local).1 (inr (subst (λ (n : Option ℕ). HasBehind sets n local) (sym c.to_next) there))))
   | inr there ↦ (c.second local).1 (inr (subst (λ (n : Option ℕ). HasBehind sets n local) (sym c.to_other) there))
@@ -39,14 +41,16 @@ same_local a b e = cc
 none_some : (a : ℕ) → None ≡ Some a → ⊥
 none_some a e = cc
 
-pub unassigned : (x : Node) (sets : List (List ℕ)) (none one both : List ℕ) (next other : Option ℕ) → Collects x sets none one both next other → x.assigns ≡ None →
+pub unassigned : (x : Node) (sets : List (List ℕ)) (none one both : List ℕ) (next other : Option ℕ) → Collects x sets none one both next other →
+    x.assigns ≡ None →
     (local : ℕ) → Has both local ↔ Comes x sets local
 unassigned x sets none one both next other c free local = (
   λ h. comes_from x sets local (λ e. none_some local (sym free ∙ e)) (collected_from x sets none one both next other c local h),
   λ k. collected_to x sets none one both next other c local (comes_to x sets local k),
 )
 
-pub assigned : (x : Node) (sets : List (List ℕ)) (none one both : List ℕ) (next other : Option ℕ) → Collects x sets none one both next other → (to : List ℕ) (taken : ℕ) → x.assigns ≡ Some taken →
+pub assigned : (x : Node) (sets : List (List ℕ)) (none one both : List ℕ) (next other : Option ℕ) → Collects x sets none one both next other →
+    (to : List ℕ) (taken : ℕ) → x.assigns ≡ Some taken →
     ((local : ℕ) → Has to local ↔ (Has both local × (local ≢ taken))) → (local : ℕ) → Has to local ↔ Comes x sets local
 assigned x sets none one both next other c to taken is has local = (
   λ h. let d = (has local).0 h in
@@ -55,8 +59,10 @@ assigned x sets none one both next other c to taken is has local = (
 )
 
 -- the set of a node, with what was collected added
-pub grown : (x : Node) (number : ℕ) (sets : List (List ℕ)) (old coming to : List ℕ) (grows : Bool) → number < length sets → old ≡ get_or sets number [] → length to ≡ length old →
-    ((local : ℕ) → Has to local ↔ (Has old local ⊎ Has coming local)) → ((local : ℕ) → Has coming local ↔ Comes x sets local) → MatchBool grows (room to < room old) (to ≡ old) →
+pub grown : (x : Node) (number : ℕ) (sets : List (List ℕ)) (old coming to : List ℕ) (grows : Bool) → number < length sets → old ≡ get_or sets number [] →
+    length to ≡ length old →
+    ((local : ℕ) → Has to local ↔ (Has old local ⊎ Has coming local)) → ((local : ℕ) → Has coming local ↔ Comes x sets local) →
+    MatchBool grows (room to < room old) (to ≡ old) →
     Grows x number sets to grows
 grown x number sets old coming to grows lt e long has comes new = record {
   within = lt;

@@ -38,7 +38,8 @@ pub record AreReadUpTo (nodes : List code.Node) (sets : List (List ℕ)) (count 
 pub read_none : (nodes : List code.Node) → AreReadUpTo nodes [] 0
 read_none nodes = record { long = refl; only = λ n local h. absurd (none_empty local h); each = λ n local lt. absurd (omega arith) }
 
-pub read_more : (nodes : List code.Node) (sets : List (List ℕ)) (count : ℕ) (x : code.Node) (to : List ℕ) → slice_get nodes count ≡ Some x → AreReadUpTo nodes sets count →
+pub read_more : (nodes : List code.Node) (sets : List (List ℕ)) (count : ℕ) (x : code.Node) (to : List ℕ) → slice_get nodes count ≡ Some x →
+    AreReadUpTo nodes sets count →
     ((local : ℕ) → Has to local ↔ Contains x.uses.items local) → AreReadUpTo nodes (sets ++ to ∷ []) (count + 1)
 read_more nodes sets count x to at r is = record {
   long = length_push sets to ∙ ap (λ n. n + 1) r.long;
@@ -48,20 +49,23 @@ read_more nodes sets count x to at r is = record {
         record { is = x; at = ap (λ k. slice_get nodes k) e ∙ at; reads = (is local).0 here })
     | inr other ↦ elim (below_or_past n count) [
       | inl lt ↦ r.only n local (subst (λ (s : List ℕ). Has s local) (below sets to n (omega (arith, r.long))) h)
-      | inr past ↦ absurd (none_empty local (subst (λ (s : List ℕ). Has s local) (get_or_past (sets ++ to ∷ []) n [] (omega (arith, length_push sets to, r.long))) h))
+      | inr past ↦
+          absurd (none_empty local (subst (λ (s : List ℕ). Has s local) (get_or_past (sets ++ to ∷ []) n [] (omega (arith, length_push sets to, r.long))) h))
     ]
   ];
   each = λ n local lt reads. elim (same_or_other n count) [
     | inl e ↦ (
         let same : x ≡ reads.is = some_same nodes n count x reads.is e at reads.at in
-        subst (λ (s : List ℕ). Has s local) (sym (get_or_push sets to [] n (r.long ∙ sym e))) ((is local).1 (subst (λ (y : code.Node). Contains y.uses.items local) (sym same) reads.reads)))
+        subst (λ (s : List ℕ). Has s local) (sym (get_or_push sets to [] n (r.long ∙ sym e)))
+        ((is local).1 (subst (λ (y : code.Node). Contains y.uses.items local) (sym same) reads.reads)))
     | inr other ↦ (
         let less : n < count = omega arith in
         subst (λ (s : List ℕ). Has s local) (sym (below sets to n (omega (arith, r.long)))) (r.each n local less reads))
   ];
 }
 
-pub read_all : (nodes : List code.Node) (sets : List (List ℕ)) (count : ℕ) → length nodes ≤ count → count ≤ length nodes → AreReadUpTo nodes sets count → AreRead nodes sets
+pub read_all : (nodes : List code.Node) (sets : List (List ℕ)) (count : ℕ) → length nodes ≤ count → count ≤ length nodes → AreReadUpTo nodes sets count →
+    AreRead nodes sets
 read_all nodes sets count le le' r = record {
   count = omega (arith, r.long);
   has = λ n local. (r.only n local, λ reads. r.each n local (omega (arith, slice_get_within nodes n reads.is reads.at)) reads);
@@ -98,7 +102,8 @@ first_all set uses count h le local = (
 
 -- ---- The greatest local that is read
 
-pub up_to_more : (nodes : List code.Node) (i : ℕ) (y : code.Node) (uses : List ℕ) (before after : ℕ) → slice_get nodes i ≡ Some y → uses ≡ y.uses.items → before ≤ after →
+pub up_to_more : (nodes : List code.Node) (i : ℕ) (y : code.Node) (uses : List ℕ) (before after : ℕ) → slice_get nodes i ≡ Some y → uses ≡ y.uses.items →
+    before ≤ after →
     ((local : ℕ) → Contains uses local → local ≤ after) →
     ((n local : ℕ) (x : code.Node) → n < i → slice_get nodes n ≡ Some x → Contains x.uses.items local → local ≤ before) →
     (n local : ℕ) (x : code.Node) → n < i + 1 → slice_get nodes n ≡ Some x → Contains x.uses.items local → local ≤ after

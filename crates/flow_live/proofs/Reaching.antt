@@ -1,5 +1,6 @@
 -- Passes lead to the live locals: what they add is live, and where none is added all that are live are there.
-use Rattle.std.proofs.Common.{◌≡◌, ◌≢◌, ◌⊎◌, ◌↔◌, inl, inr, ℕ, zero, suc, ◌+◌, ◌<◌, ◌≤◌, Bool, true, false, List, [], ◌∷◌, ◌++◌, length, get_or, set, take, drop, map, Some, None, refl, ap, sym, subst, ◌∙◌, arith, length-set, get_or-set_same, get_or-set_other}
+use Rattle.std.proofs.Common.{◌≡◌, ◌≢◌, ◌⊎◌, ◌↔◌, inl, inr, ℕ, zero, suc, ◌+◌, ◌<◌, ◌≤◌, Bool, true, false, List, [], ◌∷◌, ◌++◌, length, get_or}
+use Rattle.std.proofs.Common.{set, take, drop, map, Some, None, refl, ap, sym, subst, ◌∙◌, arith, length-set, get_or-set_same, get_or-set_other}
 use Rattle.std.specs.Prelude.{Contains, slice_get}
 use Rattle.std.specs.Option.{option_map}
 use Rattle.std.proofs.lemmas.Option.{slice_get-map, slice_get_cases, slice_get_within}
@@ -61,7 +62,8 @@ sound_read g nodes sets e read n local h =
 
 sound_coming : (g : Graph) (nodes : List code.Node) (sets : List (List ℕ)) (n local : ℕ) (x : code.Node) → g.nodes ≡ map node_of nodes → AreSound g sets →
     slice_get nodes n ≡ Some x → Comes (node_of x) sets local → IsLive g local n
-sound_coming g nodes sets n local x e sound at c = is_read_later {m = c.behind} (node_of x) (node_at g nodes n x e at) c.keeps c.goes (sound c.behind local c.has)
+sound_coming g nodes sets n local x e sound at c =
+    is_read_later {m = c.behind} (node_of x) (node_at g nodes n x e at) c.keeps c.goes (sound c.behind local c.has)
 
 -- ---- A pass
 
@@ -75,7 +77,8 @@ at_most_added : (x : Node) (number : ℕ) (before after : List (List ℕ)) (grow
 at_most_added x number before after true a = omega (arith, a.fewer refl)
 at_most_added x number before after false a = omega (arith, ap rooms (a.same refl))
 
-at_most_passed : (nodes : List code.Node) (from : ℕ) (before after : List (List ℕ)) (grows : Bool) → Passes nodes from before after grows → rooms after ≤ rooms before
+at_most_passed : (nodes : List code.Node) (from : ℕ) (before after : List (List ℕ)) (grows : Bool) → Passes nodes from before after grows →
+    rooms after ≤ rooms before
 at_most_passed nodes from before after true p = omega (arith, p.fewer refl)
 at_most_passed nodes from before after false p = omega (arith, ap rooms (p.same refl))
 
@@ -116,11 +119,13 @@ pass_more nodes number x before now after grows step grown at p a neither either
 }
 
 pub pass_grown : (nodes : List code.Node) (number : ℕ) (x : code.Node) (before now after : List (List ℕ)) (grows step : Bool) →
-    slice_get nodes number ≡ Some x → Passes nodes (number + 1) before now grows → Adds (node_of x) number now after step → step ≡ true → Passes nodes number before after true
+    slice_get nodes number ≡ Some x → Passes nodes (number + 1) before now grows → Adds (node_of x) number now after step → step ≡ true →
+    Passes nodes number before after true
 pass_grown nodes number x before now after grows step at p a is = pass_more nodes number x before now after grows step true at p a (λ no. cc) (λ _. inr is)
 
 pub pass_kept : (nodes : List code.Node) (number : ℕ) (x : code.Node) (before now after : List (List ℕ)) (grows step : Bool) →
-    slice_get nodes number ≡ Some x → Passes nodes (number + 1) before now grows → Adds (node_of x) number now after step → step ≡ false → Passes nodes number before after grows
+    slice_get nodes number ≡ Some x → Passes nodes (number + 1) before now grows → Adds (node_of x) number now after step → step ≡ false →
+    Passes nodes number before after grows
 pass_kept nodes number x before now after grows step at p a is = pass_more nodes number x before now after grows step grows at p a (λ no. (no, is)) (λ t. inl t)
 
 -- a node once more
@@ -143,15 +148,20 @@ pass_again nodes from number x before now after grows step grown at p a neither 
 }
 
 pub again_grown : (nodes : List code.Node) (from number : ℕ) (x : code.Node) (before now after : List (List ℕ)) (grows step : Bool) →
-    slice_get nodes number ≡ Some x → Passes nodes from before now grows → Adds (node_of x) number now after step → step ≡ true → Passes nodes from before after true
-again_grown nodes from number x before now after grows step at p a is = pass_again nodes from number x before now after grows step true at p a (λ off. cc) (λ _. inr is)
+    slice_get nodes number ≡ Some x → Passes nodes from before now grows → Adds (node_of x) number now after step → step ≡ true →
+    Passes nodes from before after true
+again_grown nodes from number x before now after grows step at p a is =
+    pass_again nodes from number x before now after grows step true at p a (λ off. cc) (λ _. inr is)
 
 pub again_kept : (nodes : List code.Node) (from number : ℕ) (x : code.Node) (before now after : List (List ℕ)) (grows step : Bool) →
-    slice_get nodes number ≡ Some x → Passes nodes from before now grows → Adds (node_of x) number now after step → step ≡ false → Passes nodes from before after grows
-again_kept nodes from number x before now after grows step at p a is = pass_again nodes from number x before now after grows step grows at p a (λ off. (off, is)) (λ t. inl t)
+    slice_get nodes number ≡ Some x → Passes nodes from before now grows → Adds (node_of x) number now after step → step ≡ false →
+    Passes nodes from before after grows
+again_kept nodes from number x before now after grows step at p a is =
+    pass_again nodes from number x before now after grows step grows at p a (λ off. (off, is)) (λ t. inl t)
 
 -- two passes
-pass_both : (nodes : List code.Node) (from more : ℕ) (before now after : List (List ℕ)) (first second grown : Bool) → Passes nodes from before now first → Passes nodes more now after second →
+pass_both : (nodes : List code.Node) (from more : ℕ) (before now after : List (List ℕ)) (first second grown : Bool) → Passes nodes from before now first →
+    Passes nodes more now after second →
     (grown ≡ false → (first ≡ false) × (second ≡ false)) → (grown ≡ true → (first ≡ true) ⊎ (second ≡ true)) → Passes nodes from before after grown
 pass_both nodes from more before now after first' second' grown p q neither either = record {
   long = λ w h. q.long w (p.long w h);
@@ -166,7 +176,8 @@ pass_both nodes from more before now after first' second' grown p q neither eith
 }
 
 -- the second of two passes says whether any is new, where the first has added none
-pub pass_second : (nodes : List code.Node) (from more : ℕ) (before now after : List (List ℕ)) (first second : Bool) → first ≡ false → Passes nodes from before now first → Passes nodes more now after second →
+pub pass_second : (nodes : List code.Node) (from more : ℕ) (before now after : List (List ℕ)) (first second : Bool) → first ≡ false →
+    Passes nodes from before now first → Passes nodes more now after second →
     Passes nodes from before after second
 pass_second nodes from more before now after f s is p q = pass_both nodes from more before now after f s s p q (λ off. (is, off)) (λ t. inr t)
 
@@ -193,7 +204,8 @@ two_behind l m sets local k (zero, lt, is) h = inl (subst (λ (j : ℕ). HasAt s
 two_behind l m sets local k (suc zero, lt, is) h = inr (subst (λ (j : ℕ). HasAt sets j local) (sym is) h)
 two_behind l m sets local k (suc (suc i), lt, is) h = absurd (omega arith)
 
-pub behind_from : (action : Action) (sets : List (List ℕ)) (local : ℕ) → GoesOn action sets local → HasBehind sets (next_of action) local ⊎ HasBehind sets (other_of action) local
+pub behind_from : (action : Action) (sets : List (List ℕ)) (local : ℕ) → GoesOn action sets local →
+    HasBehind sets (next_of action) local ⊎ HasBehind sets (other_of action) local
 behind_from (Eval target value next) sets local g = one_behind next sets local g.behind g.goes g.has
 behind_from (Store variable kind next) sets local g = one_behind next sets local g.behind g.goes g.has
 behind_from (Test condition holds fails) sets local g = two_behind holds fails sets local g.behind g.goes g.has
@@ -201,10 +213,12 @@ behind_from (Lock mutex next) sets local g = one_behind next sets local g.behind
 behind_from (Unlock mutex next) sets local g = one_behind next sets local g.behind g.goes g.has
 behind_from End sets local g = absurd (omega (arith, g.goes.1))
 
-to_first : (action : Action) (m : ℕ) (rest : List ℕ) (sets : List (List ℕ)) (local : ℕ) → successors action ≡ m ∷ rest → HasAt sets m local → GoesOn action sets local
+to_first : (action : Action) (m : ℕ) (rest : List ℕ) (sets : List (List ℕ)) (local : ℕ) → successors action ≡ m ∷ rest → HasAt sets m local →
+    GoesOn action sets local
 to_first action m rest sets local e h = record { behind = m; goes = subst (λ (ms : List ℕ). Contains ms m) (sym e) (first m rest); has = h }
 
-pub behind_to : (action : Action) (sets : List (List ℕ)) (local : ℕ) → HasBehind sets (next_of action) local ⊎ HasBehind sets (other_of action) local → GoesOn action sets local
+pub behind_to : (action : Action) (sets : List (List ℕ)) (local : ℕ) → HasBehind sets (next_of action) local ⊎ HasBehind sets (other_of action) local →
+    GoesOn action sets local
 behind_to (Eval target value next) sets local (inl h) = to_first (Eval target value next) next [] sets local refl h
 behind_to (Eval target value next) sets local (inr h) = absurd h
 behind_to (Store variable kind next) sets local (inl h) = to_first (Store variable kind next) next [] sets local refl h
@@ -218,12 +232,14 @@ behind_to (Unlock mutex next) sets local (inr h) = absurd h
 behind_to End sets local (inl h) = absurd h
 behind_to End sets local (inr h) = absurd h
 
-pub comes_from : (x : Node) (sets : List (List ℕ)) (local : ℕ) → x.assigns ≢ Some local → HasBehind sets (next_of x.action) local ⊎ HasBehind sets (other_of x.action) local → Comes x sets local
+pub comes_from : (x : Node) (sets : List (List ℕ)) (local : ℕ) → x.assigns ≢ Some local →
+    HasBehind sets (next_of x.action) local ⊎ HasBehind sets (other_of x.action) local → Comes x sets local
 comes_from x sets local keeps d =
     let g = behind_to x.action sets local d in
     record { keeps = keeps; behind = g.behind; goes = g.goes; has = g.has }
 
-pub comes_to : (x : Node) (sets : List (List ℕ)) (local : ℕ) → Comes x sets local → HasBehind sets (next_of x.action) local ⊎ HasBehind sets (other_of x.action) local
+pub comes_to : (x : Node) (sets : List (List ℕ)) (local : ℕ) → Comes x sets local →
+    HasBehind sets (next_of x.action) local ⊎ HasBehind sets (other_of x.action) local
 comes_to x sets local c = behind_from x.action sets local (record { behind = c.behind; goes = c.goes; has = c.has })
 
 -- ---- One set
@@ -236,11 +252,13 @@ pub record Grows (x : Node) (number : ℕ) (sets : List (List ℕ)) (to : List �
   pub same : grows ≡ false → to ≡ get_or sets number []
   pub fewer : grows ≡ true → room to < room (get_or sets number [])
 
-pub adds : (x : Node) (number : ℕ) (sets : List (List ℕ)) (to : List ℕ) (grows : Bool) → Grows x number sets to grows → Adds x number sets (set sets number to) grows
+pub adds : (x : Node) (number : ℕ) (sets : List (List ℕ)) (to : List ℕ) (grows : Bool) → Grows x number sets to grows →
+    Adds x number sets (set sets number to) grows
 adds x number sets to grows g = record {
   long = λ w h. record {
     each = λ n lt. elim (same_or_other n number) [
-      | inl e ↦ ap (λ (k : ℕ). length (get_or (set sets number to) k [])) e ∙ ap length (get_or-set_same sets number to [] g.within) ∙ g.long ∙ h.each number g.within
+      | inl e ↦ ap (λ (k : ℕ). length (get_or (set sets number to) k [])) e ∙ ap length (get_or-set_same sets number to [] g.within) ∙ g.long
+          ∙ h.each number g.within
       | inr other ↦ ap length (get_or-set_other sets number n to [] other) ∙ h.each n (omega (arith, length-set sets number to))
     ];
   };
@@ -278,10 +296,13 @@ pub record Reached (g : Graph) (nodes : List code.Node) (sets : List (List ℕ))
   pub sound : AreSound g sets
   pub reads : (n local : ℕ) → Reads nodes n local → HasAt sets n local
 
-pub reached_first : (g : Graph) (nodes : List code.Node) (sets : List (List ℕ)) (words : ℕ) → g.nodes ≡ map node_of nodes → AreRead nodes sets → AreLong sets words → Reached g nodes sets words
-reached_first g nodes sets words e r long = record { count = r.count; long = long; sound = sound_read g nodes sets e r; reads = λ n local h. (r.has n local).1 h }
+pub reached_first : (g : Graph) (nodes : List code.Node) (sets : List (List ℕ)) (words : ℕ) → g.nodes ≡ map node_of nodes → AreRead nodes sets →
+    AreLong sets words → Reached g nodes sets words
+reached_first g nodes sets words e r long =
+    record { count = r.count; long = long; sound = sound_read g nodes sets e r; reads = λ n local h. (r.has n local).1 h }
 
-pub reached_more : (g : Graph) (nodes : List code.Node) (before after : List (List ℕ)) (words : ℕ) (grows : Bool) → g.nodes ≡ map node_of nodes → length after ≡ length before →
+pub reached_more : (g : Graph) (nodes : List code.Node) (before after : List (List ℕ)) (words : ℕ) (grows : Bool) → g.nodes ≡ map node_of nodes →
+    length after ≡ length before →
     Reached g nodes before words → Passes nodes 0 before after grows → Reached g nodes after words
 reached_more g nodes before after words grows e same r p = record {
   count = same ∙ r.count;

@@ -8,11 +8,11 @@ use crate::reading::{greatest_read, read_by_each};
 use flow_graph::graph::Graph;
 use flow_graph::live_sets::LiveSets;
 use flow_graph::local_set::LocalSet;
-use ido_base::memory::Memory;
+use ido_base::memory::OutOfMemory;
 use std::alloc::Global;
 
 /// Of each node the locals that are live at its entry: those that a path from it reads before it assigns them.
-pub fn live(alloc: Global, graph: &Graph) -> Result<LiveSets, Memory>
+pub fn live(alloc: Global, graph: &Graph) -> Result<LiveSets, OutOfMemory>
     ensures { IfOk result (AreLive (graph_of graph.now)) }
 {
     let most = greatest_read(&graph.nodes);

@@ -7,7 +7,7 @@ ghost use Rattle.flow_live.specs.links.Passes.{AreLong, HasBehind, Comes, Adds, 
 use flow_graph::graph::Node;
 use flow_graph::local_set::LocalSet;
 
-// Adds the locals of a node's set, if there is that node.
+/// Adds the locals of a node's set, if there is that node.
 fn add_behind(locals: &mut LocalSet, sets: &[LocalSet], behind: Option<usize>)
     requires { AreLong sets.now (length locals.old) }
     ensures has { (local : ℕ) → Has locals.new local ↔ (Has locals.old local ⊎ HasBehind sets.now behind local) }
@@ -24,7 +24,7 @@ fn add_behind(locals: &mut LocalSet, sets: &[LocalSet], behind: Option<usize>)
     }
 }
 
-// The locals that come to a node's entry from those behind it.
+/// The locals that come to a node's entry from those behind it.
 fn collect(locals: &mut LocalSet, sets: &[LocalSet], node: &Node)
     requires { AreLong sets.now (length locals.old) }
     ensures has { (local : ℕ) → Has locals.new local ↔ Comes (node_of node.now) sets.now local }
@@ -38,7 +38,7 @@ fn collect(locals: &mut LocalSet, sets: &[LocalSet], node: &Node)
     }
 }
 
-// Adds to a node's set the locals that come to its entry. Whether any is new. What `coming` has before doesn't matter.
+/// Adds to a node's set the locals that come to its entry. Whether any is new. What `coming` has before doesn't matter.
 fn add_coming(sets: &mut [LocalSet], number: usize, node: &Node, coming: &mut LocalSet) -> bool
     requires number { number < length sets.old }
     requires long { AreLong sets.old (length coming.old) }
@@ -49,7 +49,7 @@ fn add_coming(sets: &mut [LocalSet], number: usize, node: &Node, coming: &mut Lo
     sets[number].add_all(coming)
 }
 
-// Adds to each node's set the locals that come to its entry, from the last node to the first. Whether any is new.
+/// Adds to each node's set the locals that come to its entry, from the last node to the first. Whether any is new.
 fn add_backwards(sets: &mut [LocalSet], nodes: &[Node], coming: &mut LocalSet) -> bool
     requires count { length sets.old ≡ length nodes.now }
     requires long { AreLong sets.old (length coming.old) }
@@ -65,7 +65,7 @@ fn add_backwards(sets: &mut [LocalSet], nodes: &[Node], coming: &mut LocalSet) -
     grows
 }
 
-// The same from the first node to the last.
+/// The same from the first node to the last.
 fn add_forwards(sets: &mut [LocalSet], nodes: &[Node], coming: &mut LocalSet) -> bool
     requires count { length sets.old ≡ length nodes.now }
     requires long { AreLong sets.old (length coming.old) }

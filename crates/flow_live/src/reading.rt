@@ -5,10 +5,10 @@ ghost use Rattle.flow_live.specs.links.Passes.{AreLong, AreUpTo, AreRead};
 
 use flow_graph::graph::Node;
 use flow_graph::local_set::LocalSet;
-use ido_base::memory::Memory;
+use ido_base::memory::OutOfMemory;
 use std::alloc::Global;
 
-// The greatest of these locals, or another that is no less.
+/// The greatest of these locals, or another that is no less.
 fn greatest(locals: &[u32], least: u32) -> u32
     ensures from { least ≤ result }
     ensures to { (local : ℕ) → Contains locals.now local → local ≤ result }
@@ -33,8 +33,8 @@ pub(crate) fn greatest_read(nodes: &[Node]) -> u32
     most
 }
 
-// The locals that a node reads.
-fn read_by(alloc: Global, node: &Node, most: u32) -> Result<LocalSet, Memory>
+/// The locals that a node reads.
+fn read_by(alloc: Global, node: &Node, most: u32) -> Result<LocalSet, OutOfMemory>
     requires { (local : ℕ) → Contains node.now.uses.items local → local ≤ most }
     ensures has { IfOk result (λ s. (local : ℕ) → Has s local ↔ Contains node.now.uses.items local) }
     ensures long { IfOk result (λ s. length s ≡ most / 64 + 1) }
@@ -51,7 +51,7 @@ pub(crate) fn read_by_each(
     alloc: Global,
     nodes: &[Node],
     most: u32,
-) -> Result<Vec<LocalSet>, Memory>
+) -> Result<Vec<LocalSet>, OutOfMemory>
     requires { AreUpTo nodes.now most }
     ensures read { IfOk result (λ sets. AreRead nodes.now sets.items) }
     ensures long { IfOk result (λ sets. AreLong sets.items (most / 64 + 1)) }

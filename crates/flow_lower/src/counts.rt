@@ -6,16 +6,16 @@ ghost use Rattle.flow_graph.specs.Lowering.{assign_count, count, statements_coun
 
 use c_tree::expr::Target;
 use c_tree::flat::{Arm, Statement};
-use ido_base::memory::Memory;
+use ido_base::memory::OutOfMemory;
 
 /// The number that is so much greater.
-pub(crate) fn sum(number: usize, more: usize) -> Result<usize, Memory>
+pub(crate) fn sum(number: usize, more: usize) -> Result<usize, OutOfMemory>
     ensures { IfOk result (λ n. n ≡ number + more) }
 {
-    number.checked_add(more).ok_or(Memory)
+    number.checked_add(more).ok_or(OutOfMemory)
 }
 
-// An assignment of a variable has two nodes.
+/// An assignment of a variable has two nodes.
 fn count_assignment(target: &Target) -> usize
     ensures { result ≡ assign_count (target_of target.now) }
 {
@@ -27,7 +27,7 @@ fn count_assignment(target: &Target) -> usize
 
 /// The nodes of a statement.
 #[cycle(counts)]
-pub(crate) fn count(statement: &Statement) -> Result<usize, Memory>
+pub(crate) fn count(statement: &Statement) -> Result<usize, OutOfMemory>
     ensures { IfOk result (λ n. n ≡ count (statement_of statement.now)) }
 {
     match statement {
@@ -47,9 +47,9 @@ pub(crate) fn count(statement: &Statement) -> Result<usize, Memory>
     }
 }
 
-// The nodes of a loop: its test and its body.
+/// The nodes of a loop: its test and its body.
 #[cycle(counts)]
-fn count_loop(body: &[Statement]) -> Result<usize, Memory>
+fn count_loop(body: &[Statement]) -> Result<usize, OutOfMemory>
     ensures { IfOk result (λ n. n ≡ suc (statements_count (statements_of body.now))) }
 {
     let body = count_all(body)?;
@@ -58,7 +58,7 @@ fn count_loop(body: &[Statement]) -> Result<usize, Memory>
 
 /// The nodes of statements.
 #[cycle(counts)]
-pub(crate) fn count_all(statements: &[Statement]) -> Result<usize, Memory>
+pub(crate) fn count_all(statements: &[Statement]) -> Result<usize, OutOfMemory>
     ensures { IfOk result (λ n. n ≡ statements_count (statements_of statements.now)) }
 {
     let mut total = 0;
@@ -71,7 +71,7 @@ pub(crate) fn count_all(statements: &[Statement]) -> Result<usize, Memory>
 
 /// The nodes of the arms of an `if`.
 #[cycle(counts)]
-pub(crate) fn count_arms(arms: &[Arm]) -> Result<usize, Memory>
+pub(crate) fn count_arms(arms: &[Arm]) -> Result<usize, OutOfMemory>
     ensures { IfOk result (λ n. n ≡ arms_count (arms_list_of arms.now)) }
 {
     let mut total = 0;

@@ -7,9 +7,9 @@ ghost use Rattle.flow_graph.specs.Lowering.{element_number, elements, expr_local
 use c_ranges::range;
 use c_tree::expr::Expr;
 use ido_base::location::Location;
-use ido_base::memory::Memory;
+use ido_base::memory::OutOfMemory;
 
-// The number of an element, kept within 32 bits.
+/// The number of an element, kept within 32 bits.
 fn element_number(number: i128) -> u32
     ensures { result ≡ element_number number }
 {
@@ -35,7 +35,7 @@ pub(crate) fn elements(variable: u32, index: &Expr) -> Location
 }
 
 /// Adds the locals that an expression reads, from left to right.
-pub(crate) fn add_locals(locals: &mut Vec<u32>, expr: &Expr) -> Result<(), Memory>
+pub(crate) fn add_locals(locals: &mut Vec<u32>, expr: &Expr) -> Result<(), OutOfMemory>
     ensures { IfOk result (λ _. locals.new.items ≡ locals.old.items ++ expr_locals (expr_of expr.now)) }
 {
     match expr {
@@ -64,7 +64,7 @@ pub(crate) fn add_locals(locals: &mut Vec<u32>, expr: &Expr) -> Result<(), Memor
 }
 
 /// Adds the elements of variables that an expression reads, from left to right.
-pub(crate) fn add_reads(reads: &mut Vec<Location>, expr: &Expr) -> Result<(), Memory>
+pub(crate) fn add_reads(reads: &mut Vec<Location>, expr: &Expr) -> Result<(), OutOfMemory>
     ensures { IfOk result (λ _. reads.new.items ≡ reads.old.items ++ expr_reads (expr_of expr.now)) }
 {
     match expr {

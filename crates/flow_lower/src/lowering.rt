@@ -11,24 +11,24 @@ use crate::nodes::{add_assignment, plain, test};
 use c_tree::expr::Placed;
 use c_tree::flat::{Arm, Flat, Statement, Thread};
 use flow_graph::graph::{Action, Graph, Node, Part};
-use ido_base::memory::Memory;
+use ido_base::memory::OutOfMemory;
 use ido_base::place::Place;
 use std::alloc::Global;
 
-// Where a part begins that ends at `end`: one without nodes is passed over.
+/// Where a part begins that ends at `end`: one without nodes is passed over.
 fn entry(first: usize, end: usize, next: usize) -> usize
     ensures { (count : ℕ) → end ≡ first + count → result ≡ entry count first next }
 {
     if first == end { next } else { first }
 }
 
-// Where the last part of an `if` begins.
+/// Where the last part of an `if` begins.
 fn last_part(
     first: usize,
     arms: &[Arm],
     otherwise: &[Statement],
     next: usize,
-) -> Result<usize, Memory>
+) -> Result<usize, OutOfMemory>
     ensures { IfOk result (λ last. last ≡ entry (statements_count (statements_of otherwise.now)) (first + arms_count (arms_list_of arms.now)) next) }
 {
     let chosen = count_arms(arms)?;
@@ -38,14 +38,14 @@ fn last_part(
     Ok(entry(after, end, next))
 }
 
-// The nodes of a statement, behind which the thread goes on at `next`.
+/// The nodes of a statement, behind which the thread goes on at `next`.
 #[cycle(lowering)]
 fn lower_statement<'a>(
     alloc: Global,
     nodes: &mut Vec<Node<'a>>,
     statement: &'a Statement,
     next: usize,
-) -> Result<(), Memory>
+) -> Result<(), OutOfMemory>
     ensures { IfOk result (λ _. Adds nodes.old.items nodes.new.items (statement_nodes (statement_of statement.now) (length nodes.old.items) next)) }
 {
     match statement {
@@ -92,7 +92,7 @@ fn lower_statement<'a>(
     }
 }
 
-// The nodes of a `while`: its test, and then its body, which goes back to the test.
+/// The nodes of a `while`: its test, and then its body, which goes back to the test.
 #[cycle(lowering)]
 fn lower_while<'a>(
     alloc: Global,
@@ -101,8 +101,9 @@ fn lower_while<'a>(
     condition: &'a Placed,
     body: &'a [Statement],
     next: usize,
-) -> Result<(), Memory>
-    ensures { IfOk result (λ _. Adds nodes.old.items nodes.new.items (statement_nodes (While place (placed_of condition.now) (statements_of body.now)) (length nodes.old.items) next)) }
+) -> Result<(), OutOfMemory>
+    ensures { IfOk result (λ _. Adds nodes.old.items nodes.new.items
+        (statement_nodes (While place (placed_of condition.now) (statements_of body.now)) (length nodes.old.items) next)) }
 {
     let first = nodes.len();
     let inside = sum(first, 1)?;
@@ -113,7 +114,7 @@ fn lower_while<'a>(
     lower_all(alloc, nodes, body, first)
 }
 
-// The nodes of a `do`: its body, and then its test.
+/// The nodes of a `do`: its body, and then its test.
 #[cycle(lowering)]
 fn lower_do<'a>(
     alloc: Global,
@@ -122,8 +123,9 @@ fn lower_do<'a>(
     condition: &'a Placed,
     body: &'a [Statement],
     next: usize,
-) -> Result<(), Memory>
-    ensures { IfOk result (λ _. Adds nodes.old.items nodes.new.items (statement_nodes (Do place (statements_of body.now) (placed_of condition.now)) (length nodes.old.items) next)) }
+) -> Result<(), OutOfMemory>
+    ensures { IfOk result (λ _. Adds nodes.old.items nodes.new.items
+        (statement_nodes (Do place (statements_of body.now) (placed_of condition.now)) (length nodes.old.items) next)) }
 {
     let first = nodes.len();
     let count = count_all(body)?;
@@ -133,14 +135,14 @@ fn lower_do<'a>(
     Ok(())
 }
 
-// The nodes of statements, each of which goes on at the next one that has any.
+/// The nodes of statements, each of which goes on at the next one that has any.
 #[cycle(lowering)]
 fn lower_all<'a>(
     alloc: Global,
     nodes: &mut Vec<Node<'a>>,
     statements: &'a [Statement],
     next: usize,
-) -> Result<(), Memory>
+) -> Result<(), OutOfMemory>
     ensures { IfOk result (λ _. Adds nodes.old.items nodes.new.items (statements_nodes (statements_of statements.now) (length nodes.old.items) next)) }
 {
     let all = count_all(statements)?;
@@ -153,7 +155,7 @@ fn lower_all<'a>(
     Ok(())
 }
 
-// The nodes of the arms of an `if`; where no condition holds the thread goes on at `last`.
+/// The nodes of the arms of an `if`; where no condition holds the thread goes on at `last`.
 #[cycle(lowering)]
 fn lower_arms<'a>(
     alloc: Global,
@@ -162,7 +164,7 @@ fn lower_arms<'a>(
     arms: &'a [Arm],
     last: usize,
     next: usize,
-) -> Result<(), Memory>
+) -> Result<(), OutOfMemory>
     ensures { IfOk result (λ _. Adds nodes.old.items nodes.new.items (arms_nodes (arms_list_of arms.now) place last (length nodes.old.items) next)) }
 {
     let all = count_arms(arms)?;
@@ -179,12 +181,12 @@ fn lower_arms<'a>(
     Ok(())
 }
 
-// The nodes of a thread, and which they are.
+/// The nodes of a thread, and which they are.
 fn lower_thread<'a>(
     alloc: Global,
     nodes: &mut Vec<Node<'a>>,
     thread: &'a Thread,
-) -> Result<Part, Memory>
+) -> Result<Part, OutOfMemory>
     ensures nodes { IfOk result (λ _. Adds nodes.old.items nodes.new.items (thread_nodes (thread_of thread.now) (length nodes.old.items))) }
     ensures part { IfOk result (λ p. p ≡ part (thread_of thread.now) (length nodes.old.items)) }
 {
@@ -201,7 +203,7 @@ fn lower_thread<'a>(
 }
 
 /// The flow graph of a flat form: one node for each step of the source, numbered from 0 through all threads.
-pub fn lower<'a>(alloc: Global, flat: &'a Flat) -> Result<Graph<'a>, Memory>
+pub fn lower<'a>(alloc: Global, flat: &'a Flat) -> Result<Graph<'a>, OutOfMemory>
     ensures { IfOk result (λ graph. graph_of graph ≡ lowered (flat_of flat.now)) }
 {
     let mut nodes = Vec::new(alloc);

@@ -10,7 +10,7 @@ use crate::expressions::{add_locals, add_reads, elements};
 use c_tree::expr::{Placed, Target};
 use flow_graph::graph::{Action, Node};
 use ido_base::location::Location;
-use ido_base::memory::Memory;
+use ido_base::memory::OutOfMemory;
 use ido_base::place::Place;
 use ido_ints::Kind;
 use std::alloc::Global;
@@ -29,14 +29,14 @@ pub(crate) fn plain<'a>(alloc: Global, place: Place, action: Action<'a>) -> Node
     }
 }
 
-// The node that evaluates a value for a target.
+/// The node that evaluates a value for a target.
 fn eval<'a>(
     alloc: Global,
     place: Place,
     target: &'a Target,
     value: &'a Placed,
     next: usize,
-) -> Result<Node<'a>, Memory>
+) -> Result<Node<'a>, OutOfMemory>
     ensures { IfOk result (λ node. node_of node ≡ eval_node place (target_of target.now) (placed_of value.now) next) }
 {
     let mut uses = Vec::new(alloc);
@@ -73,7 +73,7 @@ pub(crate) fn test<'a>(
     condition: &'a Placed,
     holds: usize,
     fails: usize,
-) -> Result<Node<'a>, Memory>
+) -> Result<Node<'a>, OutOfMemory>
     ensures { IfOk result (λ node. node_of node ≡ test_node place (placed_of condition.now) holds fails) }
 {
     let mut uses = Vec::new(alloc);
@@ -94,7 +94,7 @@ pub(crate) fn test<'a>(
     })
 }
 
-// The node of a store.
+/// The node of a store.
 fn store<'a>(
     alloc: Global,
     place: Place,
@@ -126,8 +126,9 @@ pub(crate) fn add_assignment<'a>(
     target: &'a Target,
     value: &'a Placed,
     next: usize,
-) -> Result<(), Memory>
-    ensures { IfOk result (λ _. Adds nodes.old.items nodes.new.items (assign_nodes place (target_of target.now) (placed_of value.now) (length nodes.old.items) next)) }
+) -> Result<(), OutOfMemory>
+    ensures { IfOk result (λ _. Adds nodes.old.items nodes.new.items
+        (assign_nodes place (target_of target.now) (placed_of value.now) (length nodes.old.items) next)) }
 {
     match target {
         Target::Local { .. } => nodes.push(eval(alloc, place, target, value, next)?)?,

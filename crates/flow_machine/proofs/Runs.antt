@@ -1,5 +1,6 @@
 -- A step of a whole state, and the state at the start.
-use Rattle.std.proofs.Common.{◌≡◌, refl, ℕ, zero, suc, ◌+◌, List, [], ◌∷◌, length, map, replicate, sym, ◌∙◌, ap, subst, arith, add-zero, Option, Some, None, slice_set}
+use Rattle.std.proofs.Common.{◌≡◌, refl, ℕ, zero, suc, ◌+◌, List, [], ◌∷◌, length, map, replicate}
+use Rattle.std.proofs.Common.{sym, ◌∙◌, ap, subst, arith, add-zero, Option, Some, None, slice_set}
 use Rattle.std.specs.Prelude.{slice_get}
 use Rattle.std.proofs.lemmas.List.{length-map, length-replicate, get_or-replicate}
 use Rattle.c_tree.specs.Flats as f
@@ -10,13 +11,14 @@ use Rattle.c_tree.specs.declared.program.Variable as variable
 use Rattle.flow_graph.specs.Nodes.{Graph, graph_of}
 use Rattle.flow_graph.specs.Actions as g
 use Rattle.flow_graph.specs.Actions.{graph_step, graph_start}
-use Rattle.source_machine.specs.Sections.{AreCounted, ends}
+use Rattle.source_machine.specs.Sections.{AreCounted}
+use Rattle.source_machine.specs.links.Ends.{ends}
 use Rattle.source_machine.specs.declared.answers.Stepped.{Stepped}
 use Rattle.source_machine.proofs.Ends.{ends_same, counted_as}
 use Rattle.flow_machine.specs.Answers.{answer_of}
 use Rattle.flow_machine.specs.declared.walker.Walker.{Walker}
 use Rattle.flow_machine.specs.declared.state.FlowState.{FlowState}
-use Rattle.flow_machine.specs.Walkers.{walker_of}
+use Rattle.flow_machine.specs.links.Walkers.{walker_of}
 use Rattle.flow_machine.specs.Flows.{state_of, IsAt, IsAfter}
 use Rattle.flow_machine.specs.links.Hands.{hand, state_in, reached, IsMade}
 use Rattle.flow_machine.proofs.Steps.{found_in_map}

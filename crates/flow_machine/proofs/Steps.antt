@@ -72,8 +72,11 @@ pub eval_made : (t : Target) (x : Placed) (next number : ℕ) (h : Hand) (walker
     effect_step (state_in h walkers) number h.walker (effect_of (Eval t x next) (seen_by (state_in h walkers) h.walker)) ≡
     Some (with_walker (state_in h walkers) number (record { at = next; locals = thread.locals; pending = thread.pending; ended = h.walker.ended }))
 eval_made (ToLocal local kind) x next number h walkers thread is =
-    ap (λ (e : m.Thread). Some (with_walker (state_in h walkers) number (record { at = next; locals = e.locals; pending = e.pending; ended = h.walker.ended }))) (sym is)
+    ap (λ (e : m.Thread). Some (with_walker (state_in h walkers) number (record { at = next; locals = e.locals; pending = e.pending; ended = h.walker.ended })))
+    (sym is)
 eval_made (ToVariable place variable kind) x next number h walkers thread is =
-    ap (λ (e : m.Thread). Some (with_walker (state_in h walkers) number (record { at = next; locals = e.locals; pending = e.pending; ended = h.walker.ended }))) (sym is)
+    ap (λ (e : m.Thread). Some (with_walker (state_in h walkers) number (record { at = next; locals = e.locals; pending = e.pending; ended = h.walker.ended })))
+    (sym is)
 eval_made (ToElement place variable kind index) x next number h walkers thread is =
-    ap (λ (e : m.Thread). Some (with_walker (state_in h walkers) number (record { at = next; locals = e.locals; pending = e.pending; ended = h.walker.ended }))) (sym is)
+    ap (λ (e : m.Thread). Some (with_walker (state_in h walkers) number (record { at = next; locals = e.locals; pending = e.pending; ended = h.walker.ended })))
+    (sym is)

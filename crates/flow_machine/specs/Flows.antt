@@ -6,7 +6,7 @@ use Rattle.source_machine.specs.Sections.{AreCounted}
 use Rattle.source_machine.specs.declared.answers.Stepped.{Stepped}
 use Rattle.flow_machine.specs.declared.state.FlowState.{FlowState}
 use Rattle.flow_machine.specs.Answers.{flow_stepped}
-use Rattle.flow_machine.specs.Walkers.{walker_of}
+use Rattle.flow_machine.specs.links.Walkers.{walker_of}
 
 abbrev pub threads_in : FlowState → ℕ
 threads_in state = length state.walkers.items

@@ -1,5 +1,4 @@
 pub mod Answers
-pub mod Walkers
 pub mod links
 pub mod Flows
 pub mod Lockstep

@@ -4,7 +4,7 @@ ghost use Rattle.std.specs.Prelude.{◌≡◌, vec_len};
 use crate::walker::Walker;
 use c_tree::flat::Flat;
 use flow_graph::graph::Graph;
-use ido_base::memory::Memory;
+use ido_base::memory::OutOfMemory;
 use source_machine::variables::Variables;
 use source_machine::{Stepped, locks};
 use std::alloc::Global;
@@ -33,7 +33,7 @@ impl<'a, 'b> FlowState<'a, 'b> {
         alloc: Global,
         graph: &'a Graph<'b>,
         flat: &Flat,
-    ) -> Result<FlowState<'a, 'b>, Memory>
+    ) -> Result<FlowState<'a, 'b>, OutOfMemory>
         ensures { IfOk result (λ state. IsAt state (graph_of graph.now) (graph_start (graph_of graph.now) (flat_of flat.now)) (λ _. 0)) }
     {
         let variables = Variables::new(alloc, &flat.variables)?;

@@ -1,15 +1,16 @@
 //! A thread on its way through a graph.
 ghost use Rattle.std.specs.Prelude.{◌≡◌, ℕ, ◌+◌, IfOk};
 ghost use Rattle.c_tree.specs.Exprs.{placed_of, target_of};
-ghost use Rattle.source_machine.specs.Sections.{AreCounted, ends};
+ghost use Rattle.source_machine.specs.Sections.{AreCounted};
+ghost use Rattle.source_machine.specs.links.Ends.{ends};
 ghost use Rattle.flow_graph.specs.Nodes.{Eval};
 ghost use Rattle.flow_graph.specs.Actions.{walker_start};
-ghost use Rattle.flow_machine.specs.Walkers.{walker_of};
+ghost use Rattle.flow_machine.specs.links.Walkers.{walker_of};
 ghost use Rattle.flow_machine.specs.links.Hands.{hand_of, DoesEval, StepIsMade};
 
 use c_tree::expr::{Placed, Target};
 use flow_graph::graph::{Action, Graph, Part};
-use ido_base::memory::Memory;
+use ido_base::memory::OutOfMemory;
 use source_machine::assignment::{Pending, assign};
 use source_machine::evaluation::evaluate;
 use source_machine::variables::Variables;
@@ -27,7 +28,7 @@ pub(crate) struct Walker {
 
 impl Walker {
     /// A thread at its first node.
-    pub(crate) fn start(alloc: Global, part: Part) -> Result<Walker, Memory>
+    pub(crate) fn start(alloc: Global, part: Part) -> Result<Walker, OutOfMemory>
         ensures { IfOk result (λ walker. walker_of walker ≡ walker_start part) }
     {
         let locals = vec![in alloc; 0; part.locals]?;
@@ -104,7 +105,7 @@ impl Walker {
         }
     }
 
-    // Evaluates a value for a target, and goes on: a local has it, or the store of a variable is pending.
+    /// Evaluates a value for a target, and goes on: a local has it, or the store of a variable is pending.
     fn evaluate_for(&mut self, target: &Target, value: &Placed, variables: &Variables, next: usize)
         ensures { DoesEval (Eval (target_of target.now) (placed_of value.now) next) (walker_of self.old) (walker_of self.new) variables.now }
     {

@@ -4,10 +4,10 @@ use Rattle.std.proofs.lemmas.List.{length-set}
 use Rattle.ido_base.specs.declared.event.Reply.{Reply}
 use Rattle.ido_base.specs.Words.{Word, Entry}
 use Rattle.line_memory.specs.declared.queue.Queue.{Queue}
-use Rattle.line_memory.specs.Queues.{QueueStands}
-use Rattle.line_memory.specs.Stands.{Stands, threads_of}
+use Rattle.line_memory.specs.links.Queues.{QueueStands}
+use Rattle.line_memory.specs.links.Stands.{Stands, threads_of}
 use Rattle.rv64_isa.specs.Machine.{Hart as HartModel, World}
-use Rattle.hart_core.specs.Harts.{HartStands}
+use Rattle.hart_core.specs.links.Harts.{HartStands}
 use Rattle.hart_core.specs.Steps.{Parts, PartsStand, PartsEnd}
 
 -- what stands in a list, written again, changes nothing
@@ -23,7 +23,8 @@ found_set (z ∷ zs) zero x y e = refl
 found_set (z ∷ zs) (suc n) x y e = found_set zs n x y e
 
 -- nothing changes
-pub same_end : (parts : Parts) (reply : Reply) (number : ℕ) (w : World) (model : HartModel) → PartsStand parts number w model → PartsEnd parts reply number w (w, reply)
+pub same_end : (parts : Parts) (reply : Reply) (number : ℕ) (w : World) (model : HartModel) → PartsStand parts number w model →
+    PartsEnd parts reply number w (w, reply)
 same_end parts reply number w model s = record {
   replied = refl;
   model = model;
@@ -34,7 +35,11 @@ same_end parts reply number w model s = record {
 }
 
 -- the hart is another one from now on, the words and the holders are others
-pub changed_end : (parts after : Parts) (reply : Reply) (number : ℕ) (w : World) (model next : HartModel) (words : List Word) (holders : List (Option ℕ)) → PartsStand parts number w model → Stands after.memory words → threads_of after.memory ≡ threads_of parts.memory → holders ≡ after.locks → next.phase ≡ after.phase → HartStands after.hart next words → ((any : Queue) (entries : List Entry) → QueueStands any entries w.words → QueueStands any entries words) → PartsEnd after reply number w (record { words = words; harts = slice_set w.harts number next; holders = holders; recovering = w.recovering }, reply)
+pub changed_end : (parts after : Parts) (reply : Reply) (number : ℕ) (w : World) (model next : HartModel) (words : List Word) (holders : List (Option ℕ)) →
+    PartsStand parts number w model → Stands after.memory words → threads_of after.memory ≡ threads_of parts.memory → holders ≡ after.locks →
+    next.phase ≡ after.phase → HartStands after.hart next words →
+    ((any : Queue) (entries : List Entry) → QueueStands any entries w.words → QueueStands any entries words) →
+    PartsEnd after reply number w (record { words = words; harts = slice_set w.harts number next; holders = holders; recovering = w.recovering }, reply)
 changed_end parts after reply number w model next words holders s stand threads locks phase hart queues = record {
   replied = refl;
   model = next;

@@ -1,6 +1,7 @@
 -- What the effects in the code stand for.
 use Rattle.std.specs.Prelude.{ℕ, List, Option, Some, None}
-use Rattle.rv64_isa.specs.Rows.{Effect as Meaning, GoesOn, Loads as TheLoad, Stores as TheStore, Cleans as TheClean, Fences as TheFence, Calls as TheCall, written, load_bytes, load_signed, store_bytes}
+use Rattle.rv64_isa.specs.Rows.{Effect as Meaning, GoesOn, Loads as TheLoad, Stores as TheStore, Cleans as TheClean}
+use Rattle.rv64_isa.specs.Rows.{Fences as TheFence, Calls as TheCall, written, load_bytes, load_signed, store_bytes}
 use Rattle.hart_core.specs.declared.effects.Effect.{Effect}
 use Rattle.hart_core.specs.declared.effects.Effect.TheVariants.{Writes, Goes, Loads, Stores, Cleans, Fences, Calls}
 

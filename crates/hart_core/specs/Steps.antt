@@ -1,18 +1,15 @@
 -- What a step does to the parts of a machine, by what it does to the world that they stand for.
-use Rattle.std.specs.Prelude.{◌≡◌, ℕ, List, length, slice_get, slice_set, Option, Some, None, if◌then◌else◌}
+use Rattle.std.specs.Prelude.{◌≡◌, ℕ, List, length, slice_get, slice_set, Option, Some}
 use Rattle.ido_base.specs.declared.event.Reply.{Reply}
-use Rattle.ido_base.specs.declared.event.Cause.{Cause}
-use Rattle.ido_base.specs.declared.event.Cause.TheVariants.{Outside, Unaligned}
-use Rattle.ido_base.specs.Layout.{in_range, aligned}
 use Rattle.ido_base.specs.Words.{Entry}
 use Rattle.line_memory.specs.declared.memory.LineMemory.{LineMemory}
 use Rattle.line_memory.specs.declared.queue.Queue.{Queue}
-use Rattle.line_memory.specs.Queues.{QueueStands}
-use Rattle.line_memory.specs.Stands.{Stands, threads_of}
+use Rattle.line_memory.specs.links.Queues.{QueueStands}
+use Rattle.line_memory.specs.links.Stands.{Stands, threads_of}
 use Rattle.rv64_isa.specs.declared.phase.Phase.{Phase}
 use Rattle.rv64_isa.specs.Machine.{Hart as HartModel, World, Outcome}
 use Rattle.hart_core.specs.declared.hart.Hart.{Hart}
-use Rattle.hart_core.specs.Harts.{HartStands}
+use Rattle.hart_core.specs.links.Harts.{HartStands}
 
 -- what one hart can reach of a machine: its phase, itself, the memory and the holders of locks
 pub record Parts : Type 0 where
@@ -43,7 +40,3 @@ pub record PartsEnd (parts : Parts) (reply : Reply) (number : ℕ) (w : World) (
 -- a step of the hart of that number, from these parts to those
 pub record IsStep (step : World → HartModel → Outcome) (number : ℕ) (before after : Parts) (reply : Reply) : Type 0 where
   pub each : (w : World) (model : HartModel) → PartsStand before number w model → PartsEnd after reply number w (step w model)
-
--- why an access of so many bytes is refused, if it is
-abbrev pub refusal : (threads address bytes : ℕ) → Option Cause
-refusal threads address bytes = if in_range threads address bytes then (if aligned address bytes then None else Some (Unaligned address)) else Some (Outside address)

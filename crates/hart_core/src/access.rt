@@ -2,12 +2,13 @@
 ghost use Rattle.std.specs.Prelude.{◌≡◌, ◌==◌, ◌&&◌, ℕ, ◌+◌, ◌<◌, ◌≤◌, ◌^◌, List, Option, IfNone, IsTrue};
 ghost use Rattle.ido_base.specs.Layout.{in_range as is_in_range, aligned as is_aligned, point_at, word_number};
 ghost use Rattle.line_memory.specs.Access.{is_width};
-ghost use Rattle.line_memory.specs.Stands.{threads_of, stores_of};
+ghost use Rattle.line_memory.specs.links.Stands.{threads_of, stores_of};
 ghost use Rattle.rv64_isa.specs.declared.phase.Phase.{Phase};
 ghost use Rattle.rv64_isa.specs.Rows.{Effect, Loads, Stores, Cleans, Fences, load_bytes, load_signed, store_bytes};
 ghost use Rattle.rv64_isa.specs.Machine.{applied};
 ghost use Rattle.line_memory.specs.declared.memory.LineMemory.{LineMemory};
-ghost use Rattle.hart_core.specs.Steps.{Parts, IsStep, refusal};
+ghost use Rattle.hart_core.specs.Steps.{Parts, IsStep};
+ghost use Rattle.hart_core.specs.links.Refusals.{refusal};
 
 use crate::hart::Hart;
 use crate::signs;
@@ -62,7 +63,8 @@ pub(crate) fn is_point_store(
     address: u64,
     memory: &LineMemory,
 ) -> bool
-    ensures { result ≡ ((is_in_range (threads_of memory.now) address (store_bytes kind) && is_aligned address (store_bytes kind)) && (word_number address == word_number (point_at number))) }
+    ensures { result ≡ ((is_in_range (threads_of memory.now) address (store_bytes kind) && is_aligned address (store_bytes kind))
+        && (word_number address == word_number (point_at number))) }
 {
     let bytes = store_width(kind);
     memory.in_range(address, bytes)

@@ -19,7 +19,7 @@ pub struct Hart {
 impl Hart {
     ghost use Rattle.std.specs.Prelude.{◌≡◌, List, [], replicate};
     ghost use Rattle.ido_base.specs.Words.{Word};
-    ghost use Rattle.line_memory.specs.Queues.{queue_length, QueueStands};
+    ghost use Rattle.line_memory.specs.links.Queues.{queue_length, QueueStands};
     ghost use Rattle.rv64_isa.specs.Rows.{written, next};
 
     /// A hart with all registers 0 and nothing queued.

@@ -1,9 +1,11 @@
 //! Code as a machine runs it: decoded once.
 ghost use Rattle.std.specs.Prelude.{◌≡◌, ℕ, ◌+◌, ◌*◌, ◌<◌, ◌≤◌, List, map, length, IfOk, sum_by};
+ghost use Rattle.ido_base.specs.declared.limits.TheConstants.{MOST_THREADS};
 ghost use Rattle.rv64_isa.specs.Programs.{slot_of, program_of, code_start, fetched};
-ghost use Rattle.hart_core.specs.Objects.{IsWithinLimits, AreStarts};
+ghost use Rattle.hart_core.specs.Objects.{IsWithinLimits};
+ghost use Rattle.hart_core.specs.links.Starts.{AreStarts};
 
-use ido_base::memory::Memory;
+use ido_base::memory::OutOfMemory;
 use rv64_isa::object::{Object, Slot};
 use std::alloc::Global;
 use std::marker::Model;
@@ -19,19 +21,20 @@ pub struct Program {
 }
 
 impl Model for Program {
+    ghost use Rattle.ido_base.specs.declared.limits.TheConstants.{MOST_THREADS};
     ghost use Rattle.std.specs.Prelude.{List, map, length, ◌≤◌};
     ghost use Rattle.rv64_isa.specs.declared.object.Slot.{Slot};
-    ghost use Rattle.hart_core.specs.Objects.{AreStarts};
+    ghost use Rattle.hart_core.specs.links.Starts.{AreStarts};
 
     ghost Value = { List (List Slot) };
 
     ghost view = { λ p. map (λ c. c.items) p.code.items };
 
-    ghost invariant = { λ p. AreStarts p.starts.items (map (λ c. c.items) p.code.items) × (length p.code.items ≤ 8) };
+    ghost invariant = { λ p. AreStarts p.starts.items (map (λ c. c.items) p.code.items) × (length p.code.items ≤ MOST_THREADS) };
 }
 
 /// What a machine keeps of code words.
-fn slots_of(alloc: Global, words: &[u32]) -> Result<Vec<Slot>, Memory>
+fn slots_of(alloc: Global, words: &[u32]) -> Result<Vec<Slot>, OutOfMemory>
     ensures { IfOk result (λ slots. slots.items ≡ map slot_of words.now) }
 {
     let slots: Vec<Slot> = words
@@ -43,7 +46,7 @@ fn slots_of(alloc: Global, words: &[u32]) -> Result<Vec<Slot>, Memory>
 
 impl Program {
     /// The code of an object.
-    pub fn of(alloc: Global, object: &Object) -> Result<Program, Memory>
+    pub fn of(alloc: Global, object: &Object) -> Result<Program, OutOfMemory>
         requires { IsWithinLimits object.now }
         ensures { IfOk result (λ program. program ≡ program_of object.now) }
     {
@@ -61,7 +64,7 @@ impl Program {
     /// The number of threads.
     pub fn threads(&self) -> u32
         ensures count { result ≡ length self.now }
-        ensures few { result ≤ 8 }
+        ensures few { result ≤ MOST_THREADS }
     {
         self.code.len() as u32
     }

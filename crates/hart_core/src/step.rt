@@ -1,7 +1,7 @@
 //! The step of a hart.
 ghost use Rattle.std.specs.Prelude.{◌≡◌, ◌⊎◌, ℕ, ◌+◌, ◌^◌, ◌<◌, ◌≤◌, List, Option, length};
 ghost use Rattle.line_memory.specs.declared.memory.LineMemory.{LineMemory};
-ghost use Rattle.line_memory.specs.Stands.{threads_of, stores_of};
+ghost use Rattle.line_memory.specs.links.Stands.{threads_of, stores_of};
 ghost use Rattle.rv64_isa.specs.declared.phase.Phase.{Phase};
 ghost use Rattle.rv64_isa.specs.declared.phase.Phase.TheVariants.{Ended};
 ghost use Rattle.rv64_isa.specs.Rows.{Effect as Meaning, GoesOn, written};

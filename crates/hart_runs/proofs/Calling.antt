@@ -10,7 +10,8 @@ use Rattle.rv64_isa.specs.declared.object.Slot.{Slot}
 use Rattle.rv64_isa.specs.declared.phase.Phase.{Phase}
 use Rattle.rv64_isa.specs.declared.phase.Phase.TheVariants.{Run, Done, Ended}
 use Rattle.rv64_isa.specs.Rows.{row}
-use Rattle.rv64_isa.specs.Machine.{Hart, World, Outcome, moved, with_hart, with_holder, gone_on, called, acquired, released, ended, applied, over_after, done_if_over, happens}
+use Rattle.rv64_isa.specs.Machine.{Hart, World, Outcome, moved, with_hart, with_holder, gone_on, called}
+use Rattle.rv64_isa.specs.Machine.{acquired, released, ended, applied, over_after, done_if_over, happens}
 use Rattle.rv64_isa.proofs.Frames.{get-set_same}
 use Rattle.hart_runs.specs.Calls.{IsAtCall, lock_asked, phase_behind}
 use Rattle.hart_runs.proofs.Worlds.{none_some, some_same, if_true, not_over, done_not_over, runs_by}

@@ -1,5 +1,6 @@
 -- How many steps are left of a run.
-use Rattle.std.proofs.Common.{◌≡◌, ◌≢◌, ◌⊎◌, inl, inr, ℕ, zero, suc, ◌+◌, ◌≤◌, List, [], ◌∷◌, ◌++◌, length, refl, ap, arith, sym, ◌∙◌, subst, cond, Bool, true, false}
+use Rattle.std.proofs.Common.{◌≡◌, ◌≢◌, ◌⊎◌, inl, inr, ℕ, zero, suc, ◌+◌, ◌≤◌, List, [], ◌∷◌, ◌++◌}
+use Rattle.std.proofs.Common.{length, refl, ap, arith, sym, ◌∙◌, subst, cond, Bool, true, false}
 use Rattle.std.specs.Prelude.{◌==◌}
 use Rattle.std.specs.List.{list_any}
 use Rattle.std.proofs.lemmas.Bool.{cases_eq, cond_both}
@@ -16,7 +17,7 @@ use Rattle.code_runs.specs.Running.{Moment}
 use Rattle.code_runs.specs.Walks.{Setting, Sight, Mark, Does, outside, marked}
 use Rattle.hart_runs.specs.Standing.{Agrees, IsAt, StandsOn, OnRun}
 use Rattle.hart_runs.specs.Steps.{Contents, Changes, GoesForward, Drains, cleans_in, steps_left}
-use Rattle.hart_runs.specs.Laws.{IsOfOthers, StandsAsBefore, IsNearer, AreCrashless, is_step_of, own_steps, AgreesOnTheWay, Comes}
+use Rattle.hart_runs.specs.Laws.{IsOfOthers, stretch, StandsAsBefore, IsNearer, AreCrashless, is_step_of, own_steps, AgreesOnTheWay, Comes}
 use Rattle.hart_runs.proofs.Going.{steps_go_on}
 use Rattle.hart_runs.proofs.Others.{others_keep_runs}
 
@@ -80,24 +81,25 @@ there w h s seen to on = record { hart = on.hart; here = on.here; runs = on.runs
 
 at_once : (program : List (List Slot)) (w : World) (h : ℕ) (s : Setting) (seen : List Sight) (to : Moment) (events : List Event) (most : ℕ) →
     StandsOn w h s 0 seen to → Comes program w h events to most
-at_once program w h s seen to events most on = record { front = []; back = events; parts = refl; at = there w h s seen to on; soon = omega arith }
+at_once program w h s seen to events most on = record { prefix = []; suffix = events; parts = refl; at = there w h s seen to on; soon = omega arith }
 
 later : (program : List (List Slot)) (w : World) (h : ℕ) (event : Event) (events : List Event) (to : Moment) (own less most : ℕ) →
     ((more : List Event) → own_steps h (event ∷ more) ≡ own + own_steps h more) → own + less ≤ most →
     Comes program (after_event program w event) h events to less →
     Comes program w h (event ∷ events) to most
 later program w h event events to own less most counted fits c = record {
-  front = event ∷ c.front;
-  back = c.back;
+  prefix = event ∷ c.prefix;
+  suffix = c.suffix;
   parts = ap (λ (x : List Event). event ∷ x) c.parts;
   at = c.at;
-  soon = (let count : own_steps h (event ∷ c.front) ≡ own + own_steps h c.front = counted c.front in let soon = c.soon in omega (arith, count, soon, fits));
+  soon = (let count : own_steps h (event ∷ c.prefix) ≡ own + own_steps h c.prefix = counted c.prefix in let soon = c.soon in omega (arith, count, soon, fits));
 }
 
 agrees_later : (program : List (List Slot)) (w : World) (h : ℕ) (s : Setting) (to : Moment) (event : Event) (events : List Event) →
     AgreesOnTheWay program w h s to (event ∷ events) →
     AgreesOnTheWay program (after_event program w event) h s to events
-agrees_later program w h s to event events a front back parts steps seen on = a (event ∷ front) back (ap (λ (x : List Event). event ∷ x) parts) steps seen on
+agrees_later program w h s to event events a prefix suffix parts steps seen on =
+    a (event ∷ prefix) suffix (ap (λ (x : List Event). event ∷ x) parts) steps seen on
 
 -- an event is a step of the hart, or leaves it as it is
 kind_of : (h : ℕ) (event : Event) → event ≢ Crash → (event ≡ Step h) ⊎ (IsOfOthers h event × (is_step_of h event ≡ false))
@@ -131,7 +133,7 @@ module _ (program : List (List Slot)) (w : World) (h : ℕ) (s : Setting) (steps
       (omega (arith, near.less))
       (rest_comes near.steps near.seen near.on (omega (arith, near.less, count, left)))
   goes_on agrees left rest_comes (inr other) =
-      let kept : StandsAsBefore (after_event program w event) h s (suc steps) seen to on.hart =
+      let kept : StandsAsBefore (after_event program w event) h (stretch s (suc steps) seen to) on.hart =
       others_keep_runs program w h event sound other.0 s (suc steps) seen to on in
       let counted : (more : List Event) → own_steps h (event ∷ more) ≡ 0 + own_steps h more =
       λ more. ap (λ (b : Bool). cond b 1 0 + own_steps h more) other.1 in

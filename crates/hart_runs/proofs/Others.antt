@@ -1,5 +1,5 @@
 -- What other events leave, and runs one behind the other.
-use Rattle.std.proofs.Common.{◌≡◌, ℕ, zero, suc, ◌+◌, List, [], ◌++◌, length, refl, ap, arith, sym, ◌∙◌, subst, Some, zero-add, append_assoc}
+use Rattle.std.proofs.Common.{◌≡◌, ℕ, zero, suc, ◌+◌, ◌-◌, List, [], ◌++◌, length, refl, ap, arith, sym, ◌∙◌, subst, Some, zero-add, append_assoc}
 use Rattle.std.specs.Prelude.{slice_get}
 use Rattle.ido_base.specs.declared.event.Event.{Event}
 use Rattle.ido_base.specs.declared.event.Event.TheVariants.{Step, Evict, Crash}
@@ -12,7 +12,7 @@ use Rattle.code_runs.specs.Running.{Moment, moment}
 use Rattle.code_runs.specs.Walks.{Setting, Sight, Walk, Answers}
 use Rattle.code_runs.proofs.Walking.{along, walk_answers}
 use Rattle.hart_runs.specs.Standing.{IsAt, MayGo, StandsOn}
-use Rattle.hart_runs.specs.Laws.{IsOfOthers, StandsAsBefore, StandsOnFirst}
+use Rattle.hart_runs.specs.Laws.{IsOfOthers, stretch, StandsAsBefore, StandsOnFirst}
 use Rattle.hart_runs.proofs.Going.{may_left, may_right, may_both}
 
 pub others_leave : (program : List (List Slot)) (w : World) (h : ℕ) (event : Event) → IsSound w → IsOfOthers h event →
@@ -26,7 +26,7 @@ others_leave program w h Crash sound other = absurd other
 
 pub others_keep_runs : (program : List (List Slot)) (w : World) (h : ℕ) (event : Event) → IsSound w → IsOfOthers h event →
     (s : Setting) (steps : ℕ) (seen : List Sight) (to : Moment) (on : StandsOn w h s steps seen to) →
-    StandsAsBefore (after_event program w event) h s steps seen to on.hart
+    StandsAsBefore (after_event program w event) h (stretch s steps seen to) on.hart
 others_keep_runs program w h event sound other s steps seen to on =
     let leave : (slice_get (after_event program w event).harts h ≡ slice_get w.harts h) × (length (after_event program w event).harts ≡ length w.harts) =
     others_leave program w h event sound other in
@@ -88,17 +88,18 @@ in_parts s (suc n) k m seen to w =
     }
 
 pub runs_split : (w : World) (h : ℕ) (s : Setting) (n k : ℕ) (seen : List Sight) (to : Moment) → StandsOn w h s (n + k) seen to →
-    StandsOnFirst w h s n k seen to
+    StandsOnFirst w h n (stretch s (n + k) seen to)
 runs_split w h s n k seen to on =
     let p : InParts s n k (moment on.hart.registers on.hart.pc) seen to = in_parts s n k (moment on.hart.registers on.hart.pc) seen to on.walks in
     let may : MayGo (length w.harts) (p.first ++ p.later) = subst (λ (x : List Sight). MayGo (length w.harts) x) p.seen_is on.may in
+    let left : k ≡ n + k - n = omega arith in
     record {
       by = p.by;
       first = p.first;
       later = p.later;
       seen_is = p.seen_is;
       on = record { hart = on.hart; here = on.here; runs = on.runs; walks = p.before; may = may_left (length w.harts) p.first p.later may };
-      behind = p.behind;
+      behind = subst (λ (i : ℕ). Walk s i p.by p.later to) left p.behind;
       may = may_right (length w.harts) p.first p.later may;
     }
 
@@ -121,7 +122,7 @@ moved_harts_begin program w v h old after here does runs =
     (record { hart = after; here = get-set_same v.harts h after old here; runs = runs; is = refl })
 
 pub runs_stay_on : (w : World) (h : ℕ) (s z : Setting) (steps : ℕ) (seen : List Sight) (to : Moment) → Answers s z → (on : StandsOn w h s steps seen to) →
-    StandsAsBefore w h z steps seen to on.hart
+    StandsAsBefore w h (stretch z steps seen to) on.hart
 runs_stay_on w h s z steps seen to answers on = record {
   on = record {
     hart = on.hart;

@@ -1,5 +1,6 @@
 -- No queue has more entries than it may.
-use Rattle.std.proofs.Common.{◌≡◌, ◌⊎◌, inl, inr, ℕ, zero, suc, ◌+◌, ◌/◌, ◌<◌, ◌≤◌, List, [], ◌∷◌, ◌++◌, length, map, refl, ap, arith, sym, ◌∙◌, subst, set, Option, Some, None}
+use Rattle.std.proofs.Common.{◌≡◌, ◌⊎◌, inl, inr, ℕ, zero, suc, ◌+◌, ◌/◌, ◌<◌, ◌≤◌, List, [], ◌∷◌, ◌++◌}
+use Rattle.std.proofs.Common.{length, map, refl, ap, arith, sym, ◌∙◌, subst, set, Option, Some, None}
 use Rattle.std.specs.Prelude.{slice_get, nat_lt, ◌==◌}
 use Rattle.std.proofs.lemmas.Bool.{cases_eq, cond_both, ltb-true}
 use Rattle.std.proofs.Math.ListN.{length-append}
@@ -14,7 +15,9 @@ use Rattle.rv64_isa.specs.declared.phase.Phase.{Phase}
 use Rattle.rv64_isa.specs.declared.phase.Phase.TheVariants.{Take, Wait, Resume, Run, Done, Ended}
 use Rattle.rv64_isa.specs.Rows.{Effect, GoesOn, Loads, Stores, Cleans, Fences, Calls, row, read, next}
 use Rattle.rv64_isa.specs.Programs.{fetched}
-use Rattle.rv64_isa.specs.Machine.{Hart, World, Outcome, with_hart, with_holder, drain_one, access, cleaned, fenced, acquired, released, ended, called, applied, executed, hart_step, taken, waited, taking_from, record_of, resumed, over_after, done_if_over, phase_step, stepped, happens, after_event, durable_point, phase_after_crash, start_of, after_crash_of, fresh_hart, numbers_from}
+use Rattle.rv64_isa.specs.Machine.{Hart, World, Outcome, with_hart, with_holder, drain_one, access, cleaned, fenced, acquired, released, ended, called}
+use Rattle.rv64_isa.specs.Machine.{applied, executed, hart_step, taken, waited, taking_from, record_of, resumed, over_after, done_if_over, phase_step}
+use Rattle.rv64_isa.specs.Machine.{stepped, happens, after_event, durable_point, phase_after_crash, start_of, after_crash_of, fresh_hart, numbers_from}
 use Rattle.rv64_isa.proofs.Frames.{get-set_same, get-set_other}
 use Rattle.hart_runs.specs.Laws.{AreShort}
 use Rattle.hart_runs.proofs.Worlds.{none_some, some_same, same_there, took}

@@ -1,5 +1,6 @@
 -- What the steps of recovery do.
-use Rattle.std.proofs.Common.{◌≡◌, ◌≢◌, ◌⊎◌, inl, inr, ℕ, zero, suc, ◌+◌, ◌<◌, List, [], ◌∷◌, length, map, refl, ap, arith, sym, ◌∙◌, subst, get_or, Bool, true, false, Option, Some, None, add-zero}
+use Rattle.std.proofs.Common.{◌≡◌, ◌≢◌, ◌⊎◌, inl, inr, ℕ, zero, suc, ◌+◌, ◌<◌, List, [], ◌∷◌, length, map, refl}
+use Rattle.std.proofs.Common.{ap, arith, sym, ◌∙◌, subst, get_or, Bool, true, false, Option, Some, None, add-zero}
 use Rattle.std.specs.Prelude.{slice_get, not, ◌==◌, ◌&&◌}
 use Rattle.std.proofs.lemmas.Bool.{cond_both, eqb-true, and_parts}
 use Rattle.ido_base.specs.declared.event.Event.TheVariants.{Step}
@@ -8,7 +9,8 @@ use Rattle.ido_base.specs.Locks.{is_held_by, has_lock, missing_from}
 use Rattle.rv64_isa.specs.declared.object.Slot.{Slot}
 use Rattle.rv64_isa.specs.declared.phase.Phase.{Phase}
 use Rattle.rv64_isa.specs.declared.phase.Phase.TheVariants.{Take, Wait, Resume, Run, Done, Ended}
-use Rattle.rv64_isa.specs.Machine.{Hart, World, moved, taken, waited, taking_from, is_taking, record_of, durable_point, resume_of, resumed_register, numbers_from, happens}
+use Rattle.rv64_isa.specs.Machine.{Hart, World, moved, taken, waited, taking_from, is_taking, record_of}
+use Rattle.rv64_isa.specs.Machine.{durable_point, resume_of, resumed_register, numbers_from, happens}
 use Rattle.hart_runs.specs.Calls.{IsIn, IsRecorded, Takes, AwaitsOthers, IsResumed}
 use Rattle.hart_runs.proofs.Others.{moved_harts_begin}
 use Rattle.hart_runs.proofs.Worlds.{none_some, some_same, took, by_phase}

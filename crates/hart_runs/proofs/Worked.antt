@@ -165,7 +165,7 @@ module _ (ws : List Word) (size : length ws ≡ word_count 1) where
   unfolding before on
   comes_whatever events crashless enough =
       harts_come program before 0 (s no_loads) 3 seen to events refl sound on crashless
-      (λ front back parts steps later stands. agrees (after_events program before front)) enough
+      (λ prefix suffix parts steps later stands. agrees (after_events program before prefix)) enough
 
 -- ---- What comes of it
 

@@ -11,7 +11,8 @@ use Rattle.rv64_isa.specs.declared.phase.Phase.{Phase}
 use Rattle.rv64_isa.specs.declared.phase.Phase.TheVariants.{Run, Done}
 use Rattle.rv64_isa.specs.Programs.{fetched}
 use Rattle.rv64_isa.specs.Rows.{Effect, row}
-use Rattle.rv64_isa.specs.Machine.{Hart, World, Outcome, moved, with_hart, with_holder, happens, stepped, phase_step, hart_step, applied, executed, over_after, done_if_over}
+use Rattle.rv64_isa.specs.Machine.{Hart, World, Outcome, moved, with_hart, with_holder, happens, stepped}
+use Rattle.rv64_isa.specs.Machine.{phase_step, hart_step, applied, executed, over_after, done_if_over}
 use Rattle.rv64_isa.specs.Schedule.{effect_at}
 use Rattle.hart_runs.specs.Standing.{instr_of, instr_at}
 

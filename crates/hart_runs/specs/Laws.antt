@@ -1,5 +1,6 @@
 -- Laws of harts that stand on runs: what each event does to them.
-use Rattle.std.specs.Prelude.{◌≡◌, ◌≢◌, ◌⊎◌, ℕ, suc, ◌+◌, ◌*◌, ◌/◌, ◌<◌, ◌≤◌, List, [], ◌∷◌, ◌++◌, length, slice_get, slice_set, Option, Some, None, Bool, true, false, ◌==◌, ◌&&◌, if◌then◌else◌}
+use Rattle.std.specs.Prelude.{◌≡◌, ◌≢◌, ◌⊎◌, ℕ, suc, ◌+◌, ◌-◌, ◌*◌, ◌/◌, ◌<◌, ◌≤◌, List, [], ◌∷◌, ◌++◌, length, slice_get}
+use Rattle.std.specs.Prelude.{slice_set, Option, Some, None, Bool, true, false, ◌==◌, ◌&&◌, if◌then◌else◌}
 use Rattle.ido_base.specs.declared.event.Event.{Event}
 use Rattle.ido_base.specs.declared.event.Event.TheVariants.{Step, Evict, Crash}
 use Rattle.ido_base.specs.declared.event.Reply.TheVariants.{Waits, Still, Stuck}
@@ -13,7 +14,8 @@ use Rattle.rv64_isa.specs.declared.phase.Phase.{Phase}
 use Rattle.rv64_isa.specs.declared.phase.Phase.TheVariants.{Take, Wait, Resume, Run, Done, Ended}
 use Rattle.rv64_isa.specs.Rows.{Effect, GoesOn, Loads, Stores, Cleans, Fences, Calls}
 use Rattle.rv64_isa.specs.Programs.{code_start, code_of}
-use Rattle.rv64_isa.specs.Machine.{Hart, World, queue_limit, after_event, after_events, reply_to, happens, moved, with_holder, gone_on, start_of, after_crash_of, fresh_hart, phase_after_crash, durable_point}
+use Rattle.rv64_isa.specs.Machine.{Hart, World, queue_limit, after_event, after_events, reply_to, happens, moved, with_holder}
+use Rattle.rv64_isa.specs.Machine.{gone_on, start_of, after_crash_of, fresh_hart, phase_after_crash, durable_point}
 use Rattle.rv64_isa.specs.Frames.{IsSound}
 use Rattle.rv64_isa.specs.Schedule.{has_moved, is_running, is_mark, is_point_store, is_fence, passes_mark, stores_point, finishes_fence}
 use Rattle.code_runs.specs.Running.{Moment, moment}
@@ -64,15 +66,25 @@ abbrev pub OthersLeave : Type 0
 OthersLeave = (program : List (List Slot)) (w : World) (h : ℕ) (event : Event) → IsSound w → IsOfOthers h event →
     (slice_get (after_event program w event).harts h ≡ slice_get w.harts h) × (length (after_event program w event).harts ≡ length w.harts)
 
+-- so many instructions that lead to a moment, and what is seen on the way
+pub record Stretch : Type 0 where
+  pub setting : Setting
+  pub steps : ℕ
+  pub seen : List Sight
+  pub to : Moment
+
+abbrev pub stretch : Setting → (steps : ℕ) → (seen : List Sight) → (to : Moment) → Stretch
+stretch s steps seen to = record { setting = s; steps = steps; seen = seen; to = to }
+
 -- so it stands where it stood, on the same run
-pub record StandsAsBefore (v : World) (h : ℕ) (s : Setting) (steps : ℕ) (seen : List Sight) (to : Moment) (hart : Hart) : Type 0 where
-  pub on : StandsOn v h s steps seen to
+pub record StandsAsBefore (v : World) (h : ℕ) (way : Stretch) (hart : Hart) : Type 0 where
+  pub on : StandsOn v h way.setting way.steps way.seen way.to
   pub same : on.hart ≡ hart
 
 abbrev pub OthersKeepRuns : Type 0
 OthersKeepRuns = (program : List (List Slot)) (w : World) (h : ℕ) (event : Event) → IsSound w → IsOfOthers h event →
     (s : Setting) (steps : ℕ) (seen : List Sight) (to : Moment) (on : StandsOn w h s steps seen to) →
-    StandsAsBefore (after_event program w event) h s steps seen to on.hart
+    StandsAsBefore (after_event program w event) h (stretch s steps seen to) on.hart
 
 -- ---- What is counted: marks that are passed, stores of the hart's point, fences
 
@@ -215,22 +227,24 @@ RunsJoin = (w : World) (h : ℕ) (s : Setting) (n k : ℕ) (first later : List S
     MayGo (length w.harts) later →
     StandsOn w h s (n + k) (first ++ later) to
 
-pub record StandsOnFirst (w : World) (h : ℕ) (s : Setting) (n k : ℕ) (seen : List Sight) (to : Moment) : Type 0 where
+-- it stands on the first instructions, so many, and the others lead on from there
+pub record StandsOnFirst (w : World) (h n : ℕ) (way : Stretch) : Type 0 where
   pub by : Moment
   pub first : List Sight
   pub later : List Sight
-  pub seen_is : seen ≡ first ++ later
-  pub on : StandsOn w h s n first by
-  pub behind : Walk s k by later to
+  pub seen_is : way.seen ≡ first ++ later
+  pub on : StandsOn w h way.setting n first by
+  pub behind : Walk way.setting (way.steps - n) by later way.to
   pub may : MayGo (length w.harts) later
 
 abbrev pub RunsSplit : Type 0
-RunsSplit = (w : World) (h : ℕ) (s : Setting) (n k : ℕ) (seen : List Sight) (to : Moment) → StandsOn w h s (n + k) seen to → StandsOnFirst w h s n k seen to
+RunsSplit = (w : World) (h : ℕ) (s : Setting) (n k : ℕ) (seen : List Sight) (to : Moment) → StandsOn w h s (n + k) seen to →
+    StandsOnFirst w h n (stretch s (n + k) seen to)
 
 -- a hart stands on a run in every setting whose loads are answered alike
 abbrev pub RunsStayOn : Type 0
 RunsStayOn = (w : World) (h : ℕ) (s z : Setting) (steps : ℕ) (seen : List Sight) (to : Moment) → Answers s z → (on : StandsOn w h s steps seen to) →
-    StandsAsBefore w h z steps seen to on.hart
+    StandsAsBefore w h (stretch z steps seen to) on.hart
 
 -- ---- Delay
 
@@ -262,17 +276,17 @@ own_steps h (event ∷ events) = (if is_step_of h event then 1 else 0) + own_ste
 
 -- as long as the hart stands before the end of the run, memory agrees
 abbrev pub AgreesOnTheWay : List (List Slot) → World → (h : ℕ) → Setting → (to : Moment) → List Event → Type 0
-AgreesOnTheWay program w h s to events = (front back : List Event) → events ≡ front ++ back → (steps : ℕ) (seen : List Sight) →
-    StandsOn (after_events program w front) h s (suc steps) seen to →
-    Agrees program (after_events program w front) h s
+AgreesOnTheWay program w h s to events = (prefix suffix : List Event) → events ≡ prefix ++ suffix → (steps : ℕ) (seen : List Sight) →
+    StandsOn (after_events program w prefix) h s (suc steps) seen to →
+    Agrees program (after_events program w prefix) h s
 
 -- the hart comes to the moment, by so many of its steps at most
 pub record Comes (program : List (List Slot)) (w : World) (h : ℕ) (events : List Event) (to : Moment) (most : ℕ) : Type 0 where
-  pub front : List Event
-  pub back : List Event
-  pub parts : events ≡ front ++ back
-  pub at : IsAt (after_events program w front) h to
-  pub soon : own_steps h front ≤ most
+  pub prefix : List Event
+  pub suffix : List Event
+  pub parts : events ≡ prefix ++ suffix
+  pub at : IsAt (after_events program w prefix) h to
+  pub soon : own_steps h prefix ≤ most
 
 -- a hart comes to the end of its run by as many of its steps as are left, whatever happens between them but for crashes
 abbrev pub HartsCome : Type 0

@@ -1,7 +1,7 @@
 //! The program `ido`, over standard input and standard output. It writes nothing to standard error.
 #![tactic(auto)]
 
-use ido_base::memory::Memory;
+use ido_base::memory::OutOfMemory;
 use ido_outside::{OpenGate, Reading, Writing};
 use std::alloc::Global;
 use std::env::{Env, FillError};
@@ -14,7 +14,7 @@ const OUT_OF_MEMORY: u8 = 7;
 const NAME: &str = "ido";
 
 /// The bytes of a word of the command line, where it exists.
-fn bytes_of<R: Env>(rt: &R, alloc: Global, number: usize) -> Result<Option<Vec<u8>>, Memory> {
+fn bytes_of<R: Env>(rt: &R, alloc: Global, number: usize) -> Result<Option<Vec<u8>>, OutOfMemory> {
     let mut room = 256usize;
     for _ in 0..usize::BITS {
         let mut bytes = vec![in alloc; 0u8; room]?;
@@ -27,12 +27,12 @@ fn bytes_of<R: Env>(rt: &R, alloc: Global, number: usize) -> Result<Option<Vec<u
             Err(FillError::TooLong) => room = room.saturating_mul(2),
         }
     }
-    Err(Memory)
+    Err(OutOfMemory)
 }
 
 /// The words of the command line, the program's path first. Where another one isn't UTF-8 there are
 /// none, which no command takes.
-fn words_of<R: Env>(rt: &R, alloc: Global) -> Result<Vec<String>, Memory> {
+fn words_of<R: Env>(rt: &R, alloc: Global) -> Result<Vec<String>, OutOfMemory> {
     let mut words = Vec::new(alloc);
     for number in 0..usize::MAX {
         let Some(bytes) = bytes_of(rt, alloc, number)? else {
@@ -52,7 +52,7 @@ fn main(rt: HostRuntime) -> ExitCode {
     let mut output = Writing::new(rt.stdout());
     let status = match words_of(&rt, rt.alloc()) {
         Ok(words) => ido_cli::ido(&rt, rt.alloc(), &words, &mut input, &mut output, &OpenGate),
-        Err(Memory) => OUT_OF_MEMORY,
+        Err(OutOfMemory) => OUT_OF_MEMORY,
     };
     ExitCode::from(status)
 }

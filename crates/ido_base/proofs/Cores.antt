@@ -11,6 +11,7 @@ module _ {M : Type 0} (b : Behaviour M) where
   pub played-more : (m : M) (es : List Event) (e : Event) → played b m (es ++ e ∷ []) ≡ b.next (played b m es) e
   played-more m es e = played-append m es (e ∷ [])
 
-  pub passed_count-more : (test : M → Event → Bool) (m : M) (es : List Event) (e : Event) → passed_count b test m (es ++ e ∷ []) ≡ passed_count b test m es + cond (test (played b m es) e) 1 0
+  pub passed_count-more : (test : M → Event → Bool) (m : M) (es : List Event) (e : Event) →
+      passed_count b test m (es ++ e ∷ []) ≡ passed_count b test m es + cond (test (played b m es) e) 1 0
   passed_count-more test m [] e = omega arith
   passed_count-more test m (d ∷ es) e = let more = passed_count-more test (b.next m d) es e in omega (arith, more)

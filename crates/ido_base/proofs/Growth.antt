@@ -1,10 +1,13 @@
 -- How words change between crashes, and what stays.
-use Rattle.std.proofs.Common.{◌≡◌, ◌≢◌, ◌⊎◌, inl, inr, ℕ, zero, suc, ◌+◌, ◌-◌, ◌*◌, ◌/◌, ◌%◌, ◌<◌, ◌≤◌, max, List, [], ◌∷◌, ◌++◌, length, refl, ap, arith, sym, ◌∙◌, subst, take, drop, get_or, set, eqb, cond, add-zero}
+use Rattle.std.proofs.Common.{◌≡◌, ◌≢◌, ◌⊎◌, inl, inr, ℕ, zero, suc, ◌+◌, ◌-◌, ◌*◌, ◌/◌, ◌%◌, ◌<◌, ◌≤◌, max, List, [], ◌∷◌}
+use Rattle.std.proofs.Common.{◌++◌, length, refl, ap, arith, sym, ◌∙◌, subst, take, drop, get_or, set, eqb, cond, add-zero}
 use Rattle.std.proofs.lemmas.Bool.{cases_lt, cases_eq, cond_both}
 use Rattle.std.proofs.lemmas.List.{get_or-set_same, get_or-set_other, get_or-map, get_or-take, get_or-drop, length-take-le, length-map, length-drop, set_past}
 use Rattle.std.proofs.Math.ListN.{length-set, length-append}
-use Rattle.ido_base.specs.Words.{Word, Entry, word_of, word_at, last_position, with_value, written_back, part, with_part, live_value, stored, entry_of, raised, drained, evicted_from, evicted}
-use Rattle.ido_base.specs.Growth.{IsRaised, AreRaised, IsChanged, AreChanged, drained_all, Reaches, IsEntry, AreEntries, EvictionsRaise, WriteBacksRaise, StoresChange, StableStays, EntriesStay, ReachStays, CleansReach}
+use Rattle.ido_base.specs.Words.{Word, Entry, word_of, word_at, last_position, with_value, written_back, part}
+use Rattle.ido_base.specs.Words.{with_part, live_value, stored, entry_of, raised, drained, evicted_from, evicted}
+use Rattle.ido_base.specs.Growth.{IsRaised, AreRaised, IsChanged, AreChanged, drained_all, Reaches, IsEntry, AreEntries}
+use Rattle.ido_base.specs.Growth.{EvictionsRaise, WriteBacksRaise, StoresChange, StableStays, EntriesStay, ReachStays, CleansReach}
 
 -- ---- One word
 
@@ -54,10 +57,12 @@ pub word_other : (ws : List Word) (i j : ℕ) (w : Word) → j ≢ i → word_at
 word_other ws i j w h = get_or-set_other ws i j w (word_of 0) h
 
 -- what holds of a word and what is set in its place, and of a word and itself, holds of each word
-pub each_by_set : (P : Word → Word → Type 0) (ws : List Word) (i : ℕ) (w : Word) → ((u : Word) → P u u) → P (word_at ws i) w → (j : ℕ) → P (word_at ws j) (word_at (set ws i w) j)
+pub each_by_set : (P : Word → Word → Type 0) (ws : List Word) (i : ℕ) (w : Word) → ((u : Word) → P u u) → P (word_at ws i) w → (j : ℕ) →
+    P (word_at ws j) (word_at (set ws i w) j)
 each_by_set P ws i w same there j = elim (cases_eq j i) [
   | inl is ↦ elim (cases_lt i (length ws)) [
-    | inl inside ↦ subst (λ (k : ℕ). P (word_at ws k) (word_at (set ws i w) k)) (sym is) (subst (λ (v : Word). P (word_at ws i) v) (sym (word_same ws i w inside)) there)
+    | inl inside ↦ subst (λ (k : ℕ). P (word_at ws k) (word_at (set ws i w) k)) (sym is)
+        (subst (λ (v : Word). P (word_at ws i) v) (sym (word_same ws i w inside)) there)
     | inr past ↦ subst (λ (vs : List Word). P (word_at ws j) (word_at vs j)) (sym (set_past ws i w past)) (same (word_at ws j))
   ]
   | inr other ↦ subst (λ (v : Word). P (word_at ws j) v) (sym (word_other ws i j w other)) (same (word_at ws j))
@@ -86,7 +91,8 @@ stores_change words number count value =
 
 -- ---- Evictions
 
-one_raised : (words : List Word) (at position : ℕ) → position ≤ last_position (word_at words at) → AreRaised words (set words at (written_back (word_at words at) position))
+one_raised : (words : List Word) (at position : ℕ) → position ≤ last_position (word_at words at) →
+    AreRaised words (set words at (written_back (word_at words at) position))
 one_raised words at position h = record {
   size = length-set words at (written_back (word_at words at) position);
   each = each_by_set IsRaised words at (written_back (word_at words at) position) raised_refl (written_back_raised (word_at words at) position h);
@@ -98,14 +104,16 @@ evicted_at words at mask = cond (eqb (mask % 2) 1) (set words at (written_back (
 evicted_at_raised : (words : List Word) (at mask : ℕ) → AreRaised words (evicted_at words at mask)
 unfolding evicted_at
 evicted_at_raised words at mask =
-    cond_both (eqb (mask % 2) 1) (set words at (written_back (word_at words at) (last_position (word_at words at)))) words (λ (ws : List Word). AreRaised words ws)
+    cond_both (eqb (mask % 2) 1) (set words at (written_back (word_at words at) (last_position (word_at words at)))) words
+    (λ (ws : List Word). AreRaised words ws)
     (λ _. one_raised words at (last_position (word_at words at)) (omega arith)) (λ _. are_raised_refl words)
 
 evicted_from_raised : (words : List Word) (at mask count : ℕ) → AreRaised words (evicted_from words at mask count)
 unfolding evicted_at
 evicted_from_raised words at mask zero = are_raised_refl words
 evicted_from_raised words at mask (suc count) =
-    are_raised_trans words (evicted_at words at mask) _ (evicted_at_raised words at mask) (evicted_from_raised (evicted_at words at mask) (at + 1) (mask / 2) count)
+    are_raised_trans words (evicted_at words at mask) _ (evicted_at_raised words at mask)
+    (evicted_from_raised (evicted_at words at mask) (at + 1) (mask / 2) count)
 
 pub evictions_raise : EvictionsRaise
 evictions_raise words line mask = evicted_from_raised words (8 * line) mask 8
@@ -130,7 +138,8 @@ raised_raised ws at (p ∷ ps) within =
     are_raised_trans ws (set ws at (written_back (word_at ws at) p)) (raised ws at (p ∷ ps)) one
     (raised_raised (set ws at (written_back (word_at ws at) p)) (at + 1) ps (λ k below.
     let e : at + 1 + k ≡ at + suc k = omega arith in
-    let same : last_position (word_at (set ws at (written_back (word_at ws at) p)) (at + 1 + k)) ≡ last_position (word_at ws (at + 1 + k)) = same_last _ _ (one.each (at + 1 + k)) in
+    let same : last_position (word_at (set ws at (written_back (word_at ws at) p)) (at + 1 + k)) ≡ last_position (word_at ws (at + 1 + k)) =
+    same_last _ _ (one.each (at + 1 + k)) in
     let later : get_or ps k 0 ≤ last_position (word_at ws (at + suc k)) = within (suc k) (omega (arith, below)) in
     let later' : get_or ps k 0 ≤ last_position (word_at ws (at + 1 + k)) = subst (λ (i : ℕ). get_or ps k 0 ≤ last_position (word_at ws i)) (sym e) later in
     omega (arith, later', same)))
@@ -166,33 +175,44 @@ pub record NoLower (old new : List Word) : Type 0 where
 no_lower_trans : (us vs ws : List Word) → NoLower us vs → NoLower vs ws → NoLower us ws
 no_lower_trans us vs ws a b = record { size = b.size ∙ a.size; each = λ j. omega (arith, a.each j, b.each j) }
 
-no_lower_raised_at : (old new : List Word) (at p : ℕ) → NoLower old new → NoLower (set old at (written_back (word_at old at) p)) (set new at (written_back (word_at new at) p))
+no_lower_raised_at : (old new : List Word) (at p : ℕ) → NoLower old new →
+    NoLower (set old at (written_back (word_at old at) p)) (set new at (written_back (word_at new at) p))
 no_lower_raised_at old new at p n = record {
   size = length-set new at (written_back (word_at new at) p) ∙ n.size ∙ sym (length-set old at (written_back (word_at old at) p));
   each = λ j. elim (cases_eq j at) [
     | inl is ↦ elim (cases_lt at (length old)) [
       | inl inside ↦
-          let a : (word_at (set old at (written_back (word_at old at) p)) at).durable ≡ max (word_at old at).durable p = ap (λ (w : Word). w.durable) (word_same old at (written_back (word_at old at) p) inside) in
-          let b : (word_at (set new at (written_back (word_at new at) p)) at).durable ≡ max (word_at new at).durable p = ap (λ (w : Word). w.durable) (word_same new at (written_back (word_at new at) p) (omega (arith, inside, n.size))) in
-          let le : (word_at (set old at (written_back (word_at old at) p)) at).durable ≤ (word_at (set new at (written_back (word_at new at) p)) at).durable = omega (arith, a, b, n.each at) in
-          subst (λ (k : ℕ). (word_at (set old at (written_back (word_at old at) p)) k).durable ≤ (word_at (set new at (written_back (word_at new at) p)) k).durable) (sym is) le
+          let a : (word_at (set old at (written_back (word_at old at) p)) at).durable ≡ max (word_at old at).durable p =
+          ap (λ (w : Word). w.durable) (word_same old at (written_back (word_at old at) p) inside) in
+          let b : (word_at (set new at (written_back (word_at new at) p)) at).durable ≡ max (word_at new at).durable p =
+          ap (λ (w : Word). w.durable) (word_same new at (written_back (word_at new at) p) (omega (arith, inside, n.size))) in
+          let le : (word_at (set old at (written_back (word_at old at) p)) at).durable ≤ (word_at (set new at (written_back (word_at new at) p)) at).durable =
+          omega (arith, a, b, n.each at) in
+          subst (λ (k : ℕ). (word_at (set old at (written_back (word_at old at) p)) k).durable
+          ≤ (word_at (set new at (written_back (word_at new at) p)) k).durable) (sym is) le
       | inr past ↦
           let a : set old at (written_back (word_at old at) p) ≡ old = set_past old at (written_back (word_at old at) p) past in
           let b : set new at (written_back (word_at new at) p) ≡ new = set_past new at (written_back (word_at new at) p) (omega (arith, past, n.size)) in
-          let c : (word_at (set old at (written_back (word_at old at) p)) j).durable ≡ (word_at old j).durable = ap (λ (ws : List Word). (word_at ws j).durable) a in
-          let d : (word_at (set new at (written_back (word_at new at) p)) j).durable ≡ (word_at new j).durable = ap (λ (ws : List Word). (word_at ws j).durable) b in
+          let c : (word_at (set old at (written_back (word_at old at) p)) j).durable ≡ (word_at old j).durable =
+          ap (λ (ws : List Word). (word_at ws j).durable) a in
+          let d : (word_at (set new at (written_back (word_at new at) p)) j).durable ≡ (word_at new j).durable =
+          ap (λ (ws : List Word). (word_at ws j).durable) b in
           omega (arith, c, d, n.each j)
     ]
     | inr other ↦
-        let c : (word_at (set old at (written_back (word_at old at) p)) j).durable ≡ (word_at old j).durable = ap (λ (w : Word). w.durable) (word_other old at j (written_back (word_at old at) p) other) in
-        let d : (word_at (set new at (written_back (word_at new at) p)) j).durable ≡ (word_at new j).durable = ap (λ (w : Word). w.durable) (word_other new at j (written_back (word_at new at) p) other) in
+        let c : (word_at (set old at (written_back (word_at old at) p)) j).durable ≡ (word_at old j).durable =
+        ap (λ (w : Word). w.durable) (word_other old at j (written_back (word_at old at) p) other) in
+        let d : (word_at (set new at (written_back (word_at new at) p)) j).durable ≡ (word_at new j).durable =
+        ap (λ (w : Word). w.durable) (word_other new at j (written_back (word_at new at) p) other) in
         omega (arith, c, d, n.each j)
   ];
 }
 
 no_lower_raised : (old new : List Word) (at : ℕ) (ps : List ℕ) → NoLower old new → NoLower (raised old at ps) (raised new at ps)
 no_lower_raised old new at [] n = n
-no_lower_raised old new at (p ∷ ps) n = no_lower_raised (set old at (written_back (word_at old at) p)) (set new at (written_back (word_at new at) p)) (at + 1) ps (no_lower_raised_at old new at p n)
+no_lower_raised old new at (p ∷ ps) n =
+    no_lower_raised (set old at (written_back (word_at old at) p)) (set new at (written_back (word_at new at) p)) (at + 1) ps
+    (no_lower_raised_at old new at p n)
 
 pub no_lower_drained : (old new : List Word) (queue : List Entry) → NoLower old new → NoLower (drained_all old queue) (drained_all new queue)
 no_lower_drained old new [] n = n
@@ -222,14 +242,17 @@ reach_stays old new queue more j position c reached =
     let n : NoLower old new = record { size = c.size; each = λ i. durable_later (word_at old i) (word_at new i) (c.each i) } in
     let here = (no_lower_drained old new queue n).each j in
     let behind = (higher_all (drained_all new queue) more).each j in
-    let same : (word_at (drained_all new (queue ++ more)) j).durable ≡ (word_at (drained_all (drained_all new queue) more) j).durable = ap (λ (ws : List Word). (word_at ws j).durable) (drained_append new queue more) in
+    let same : (word_at (drained_all new (queue ++ more)) j).durable ≡ (word_at (drained_all (drained_all new queue) more) j).durable =
+    ap (λ (ws : List Word). (word_at ws j).durable) (drained_append new queue more) in
     omega (arith, reached, here, behind, same)
 
 -- ---- Cleans
 
-pub position_of : (ws : List Word) (line k : ℕ) → 8 * line + 8 ≤ length ws → k < 8 → get_or (entry_of ws line).positions k 0 ≡ last_position (word_at ws (8 * line + k))
+pub position_of : (ws : List Word) (line k : ℕ) → 8 * line + 8 ≤ length ws → k < 8 →
+    get_or (entry_of ws line).positions k 0 ≡ last_position (word_at ws (8 * line + k))
 position_of ws line k h l =
-    get_or-map last_position (take 8 (drop (8 * line) ws)) k (word_of 0) 0 (omega (arith, length-take-le 8 (drop (8 * line) ws) (omega (arith, length-drop (8 * line) ws))))
+    get_or-map last_position (take 8 (drop (8 * line) ws)) k (word_of 0) 0
+    (omega (arith, length-take-le 8 (drop (8 * line) ws) (omega (arith, length-drop (8 * line) ws))))
     ∙ ap last_position (get_or-take 8 (drop (8 * line) ws) k (word_of 0) l ∙ get_or-drop (8 * line) ws k (word_of 0))
 
 pub clean_entry : (ws : List Word) (line : ℕ) → 8 * line + 8 ≤ length ws → IsEntry ws (entry_of ws line)
@@ -240,18 +263,21 @@ clean_entry ws line h = record {
 }
 
 -- a write-back reaches its positions
-raised_reaches : (ws : List Word) (at : ℕ) (ps : List ℕ) (k : ℕ) → at + length ps ≤ length ws → k < length ps → get_or ps k 0 ≤ (word_at (raised ws at ps) (at + k)).durable
+raised_reaches : (ws : List Word) (at : ℕ) (ps : List ℕ) (k : ℕ) → at + length ps ≤ length ws → k < length ps →
+    get_or ps k 0 ≤ (word_at (raised ws at ps) (at + k)).durable
 raised_reaches ws at [] k h u = absurd (let z : ⊥ = omega arith in z)
 raised_reaches ws at (p ∷ ps) zero h u =
     let first = set ws at (written_back (word_at ws at) p) in
-    let is : (word_at first at).durable ≡ max (word_at ws at).durable p = ap (λ (w : Word). w.durable) (word_same ws at (written_back (word_at ws at) p) (omega arith)) in
+    let is : (word_at first at).durable ≡ max (word_at ws at).durable p =
+    ap (λ (w : Word). w.durable) (word_same ws at (written_back (word_at ws at) p) (omega arith)) in
     let up : (word_at first at).durable ≤ (word_at (raised first (at + 1) ps) at).durable = (higher first (at + 1) ps).each at in
     let le : p ≤ (word_at (raised first (at + 1) ps) at).durable = omega (arith, is, up) in
     subst (λ (i : ℕ). p ≤ (word_at (raised first (at + 1) ps) i).durable) (sym (add-zero at)) le
 raised_reaches ws at (p ∷ ps) (suc k) h u =
     let first = set ws at (written_back (word_at ws at) p) in
     let e : at + 1 + k ≡ at + suc k = omega arith in
-    let le : get_or ps k 0 ≤ (word_at (raised first (at + 1) ps) (at + 1 + k)).durable = raised_reaches first (at + 1) ps k (omega (arith, length-set ws at (written_back (word_at ws at) p))) (omega arith) in
+    let le : get_or ps k 0 ≤ (word_at (raised first (at + 1) ps) (at + 1 + k)).durable =
+    raised_reaches first (at + 1) ps k (omega (arith, length-set ws at (written_back (word_at ws at) p))) (omega arith) in
     subst (λ (i : ℕ). get_or ps k 0 ≤ (word_at (raised first (at + 1) ps) i).durable) e le
 
 length-drained_all : (ws : List Word) (queue : List Entry) → length (drained_all ws queue) ≡ length ws
@@ -263,7 +289,8 @@ cleans_reach words queue line k exists below entries =
     let e = entry_of words line in
     let i : IsEntry words e = clean_entry words line exists in
     let queued = drained_all words queue in
-    let same : (word_at (drained_all words (queue ++ e ∷ [])) (8 * line + k)).durable ≡ (word_at (drained queued e) (8 * line + k)).durable = ap (λ (ws : List Word). (word_at ws (8 * line + k)).durable) (drained_append words queue (e ∷ [])) in
+    let same : (word_at (drained_all words (queue ++ e ∷ [])) (8 * line + k)).durable ≡ (word_at (drained queued e) (8 * line + k)).durable =
+    ap (λ (ws : List Word). (word_at ws (8 * line + k)).durable) (drained_append words queue (e ∷ [])) in
     let reach : get_or e.positions k 0 ≤ (word_at (drained queued e) (8 * line + k)).durable =
     raised_reaches queued (8 * line) e.positions k (omega (arith, i.eight, exists, length-drained_all words queue)) (omega (arith, i.eight, below)) in
     (i, omega (arith, same, reach, position_of words line k exists below))

@@ -68,7 +68,9 @@ EntriesStay = (old new : List Word) (queue : List Entry) → AreChanged old new 
 
 -- how far a queue reaches stays where words change, whoever changes them, and where more is queued behind it
 abbrev pub ReachStays : Type 0
-ReachStays = (old new : List Word) (queue more : List Entry) (j position : ℕ) → AreChanged old new → Reaches old queue j position → Reaches new (queue ++ more) j position
+ReachStays =
+    (old new : List Word) (queue more : List Entry) (j position : ℕ) → AreChanged old new → Reaches old queue j position →
+    Reaches new (queue ++ more) j position
 
 -- a clean queues an entry, by which each word of its line reaches its last position
 abbrev pub CleansReach : Type 0

@@ -1,11 +1,13 @@
 -- Where things stand in memory: the variables' lines, and behind them the lines of a log for each thread.
-use Rattle.std.specs.Prelude.{ℕ, zero, suc, ◌+◌, ◌-◌, ◌*◌, ◌/◌, ◌%◌, List, [], ◌∷◌, ◌++◌, take, drop, replicate, Bool, nat_lt, nat_le, ◌==◌, ◌&&◌, ◌||◌, if◌then◌else◌}
+use Rattle.std.specs.Prelude.{ℕ, zero, suc, ◌+◌, ◌-◌, ◌*◌, ◌/◌, ◌%◌, List, [], ◌∷◌, ◌++◌, take, drop}
+use Rattle.std.specs.Prelude.{replicate, Bool, nat_lt, nat_le, ◌==◌, ◌&&◌, ◌||◌, if◌then◌else◌}
 use Rattle.std.specs.Int.{w64, from_le_bytes}
 use Rattle.ido_base.specs.declared.location.Shape.{Shape}
+use Rattle.ido_base.specs.declared.limits.TheConstants.{LINE_BYTES, VARIABLE_LINES, LOG_LINES}
 
 -- bytes of a line
 abbrev pub line_bytes : ℕ
-line_bytes = 64
+line_bytes = LINE_BYTES
 
 -- the address of the first variable
 abbrev pub variables_base : ℕ
@@ -17,11 +19,11 @@ logs_base = 0x2000_0000
 
 -- the variables' lines, 0 to 1023
 abbrev pub variable_lines : ℕ
-variable_lines = 1024
+variable_lines = VARIABLE_LINES
 
 -- lines of a thread's log
 abbrev pub log_lines : ℕ
-log_lines = 16
+log_lines = LOG_LINES
 
 -- how many lines there are
 abbrev pub line_count : (threads : ℕ) → ℕ
@@ -33,7 +35,9 @@ word_count threads = 8 * line_count threads
 
 -- each of the count bytes from the address on lies in a line of the variables, or each in a line of a log
 abbrev pub in_range : (threads address count : ℕ) → Bool
-in_range threads address count = (nat_le variables_base address && nat_le (address + count) (variables_base + line_bytes * variable_lines)) || (nat_le logs_base address && nat_le (address + count) (logs_base + line_bytes * log_lines * threads))
+in_range threads address count =
+    (nat_le variables_base address && nat_le (address + count) (variables_base + line_bytes * variable_lines))
+    || (nat_le logs_base address && nat_le (address + count) (logs_base + line_bytes * log_lines * threads))
 
 -- an access of count bytes is aligned to its size
 abbrev pub aligned : (address count : ℕ) → Bool

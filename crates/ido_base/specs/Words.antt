@@ -1,5 +1,6 @@
 -- Words of memory with a history: what a line may still lose, and what it can't.
-use Rattle.std.specs.Prelude.{ℕ, zero, suc, ◌+◌, ◌-◌, ◌*◌, ◌/◌, ◌%◌, ◌^◌, max, List, [], ◌∷◌, ◌++◌, map, length, take, drop, slice_index, slice_index_or, slice_set, ◌==◌, if◌then◌else◌}
+use Rattle.std.specs.Prelude.{ℕ, zero, suc, ◌+◌, ◌-◌, ◌*◌, ◌/◌, ◌%◌, ◌^◌, max, List, [], ◌∷◌, ◌++◌, map}
+use Rattle.std.specs.Prelude.{length, take, drop, slice_index, slice_index_or, slice_set, ◌==◌, if◌then◌else◌}
 
 -- an 8-byte word: its values since the start or the last crash, the oldest first, and which of them is the durable one
 pub record Word : Type 0 where
@@ -51,7 +52,8 @@ loaded words number count = part (live_value (word_at words (number / 8))) (numb
 
 -- a store of count bytes at the byte of that number
 abbrev pub stored : List Word → (number count value : ℕ) → List Word
-stored words number count value = slice_set words (number / 8) (with_value (word_at words (number / 8)) (with_part (live_value (word_at words (number / 8))) (number % 8) count value))
+stored words number count value =
+    slice_set words (number / 8) (with_value (word_at words (number / 8)) (with_part (live_value (word_at words (number / 8))) (number % 8) count value))
 
 -- a queued line, with the position that each of its eight words had when it was cleaned
 pub record Entry : Type 0 where
@@ -77,7 +79,9 @@ drained words e = raised words (8 * e.line) e.positions
 -- of count words from `at` on, those that the mask chooses (bit i the i-th) are written back to their last position
 abbrev pub evicted_from : List Word → (at mask count : ℕ) → List Word
 evicted_from words at mask zero = words
-evicted_from words at mask (suc count) = evicted_from (if mask % 2 == 1 then slice_set words at (written_back (word_at words at) (last_position (word_at words at))) else words) (at + 1) (mask / 2) count
+evicted_from words at mask (suc count) =
+    evicted_from (if mask % 2 == 1 then slice_set words at (written_back (word_at words at) (last_position (word_at words at))) else words) (at + 1)
+    (mask / 2) count
 
 -- a line is evicted
 abbrev pub evicted : List Word → (line mask : ℕ) → List Word

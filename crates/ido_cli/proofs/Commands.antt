@@ -1,5 +1,6 @@
 -- What `clap` tells of words.
-use Rattle.std.proofs.Common.{◌≡◌, refl, ℕ, ◌-◌, ◌^◌, ◌<◌, ◌≤◌, List, [], ◌∷◌, sym, ◌∙◌, ap, ap₂, subst, Bool, true, false, Option, Some, None, Result, Ok, Err, inl, inr, length, ◌==◌, arith}
+use Rattle.std.proofs.Common.{◌≡◌, refl, ℕ, ◌-◌, ◌^◌, ◌<◌, ◌≤◌, List, [], ◌∷◌, sym, ◌∙◌, ap, ap₂, subst, Bool}
+use Rattle.std.proofs.Common.{true, false, Option, Some, None, Result, Ok, Err, inl, inr, length, ◌==◌, arith}
 use Rattle.std.proofs.lemmas.Bool.{eqb-true}
 use Rattle.std.specs.Prelude.{option_and_then, option_map, Box, if◌then◌else◌}
 use Rattle.std.specs.Box.{box_value}
@@ -7,7 +8,8 @@ use Rattle.std.specs.Str.Parse.{ParsesUnsigned, digits_value, without_leading_pl
 use Rattle.clap.specs.Matches.{ReadsOne}
 use Rattle.clap.specs.Values.{IsUnsignedIn}
 use Rattle.clap.specs.ValueTests.{is_unsigned_in}
-use Rattle.clap.specs.Words.{App, HasKind, HasMatchesOf, IsAmong, Kinds, Row, Text, fault_of, is_simple, is_simple_and_free, kind_of, subcommand_name_of, subcommand_of, subcommand_rows, subcommand_rows_of}
+use Rattle.clap.specs.Words.{App, HasKind, HasMatchesOf, IsAmong, Kinds, Row, Text, fault_of, is_simple, is_simple_and_free}
+use Rattle.clap.specs.Words.{kind_of, subcommand_name_of, subcommand_of, subcommand_rows, subcommand_rows_of}
 use Rattle.clap.specs.Walk.{is_empty}
 use Rattle.clap.specs.declared.builder.value_parser.ValueParser.TheVariants as parser
 use Rattle.clap.specs.declared.error.Error.{Error}
@@ -65,14 +67,16 @@ read_turns gives parses (Some t) value none some = read_number gives parses t va
 abbrev named : Option (Text × List Row) → Option c.Command
 named o = option_and_then (λ p. command_by_name p.0 p.1) o
 
-name_of_rows : {Z : Type 0} (o : Option (Box SubCommand Z)) → option_map (λ b. (out-SubCommand (box_value b)).name.now) o ≡ option_map (λ p. p.0) (subcommand_rows o)
+name_of_rows : {Z : Type 0} (o : Option (Box SubCommand Z)) →
+    option_map (λ b. (out-SubCommand (box_value b)).name.now) o ≡ option_map (λ p. p.0) (subcommand_rows o)
 name_of_rows None = refl
 name_of_rows (Some b) = refl
 
 named_by_rows : (m : ArgMatches) → subcommand_name_of m ≡ option_map (λ p. p.0) (subcommand_rows_of m)
 named_by_rows m = name_of_rows (out-ArgMatches m).subcommand
 
-both_of : (name : Text) (rows : List Row) (o : Option (Text × List Row)) → Some name ≡ option_map (λ p. p.0) o → Some rows ≡ option_map (λ p. p.1) o → command_by_name name rows ≡ named o
+both_of : (name : Text) (rows : List Row) (o : Option (Text × List Row)) → Some name ≡ option_map (λ p. p.0) o → Some rows ≡ option_map (λ p. p.1) o →
+    command_by_name name rows ≡ named o
 both_of name rows None n r = absurd (cc n)
 both_of name rows (Some p) n r =
     let names : name ≡ p.0 = cc in
@@ -83,7 +87,8 @@ none_of : (o : Option (Text × List Row)) → None ≡ option_map (λ p. p.0) o 
 none_of None n = refl
 none_of (Some p) n = absurd (cc n)
 
-met : (a : App) (words : List Text) (m : ArgMatches) → a ≡ table → HasMatchesOf a words m → (is_simple_and_free a ≡ true → fault_of a words ≡ []) → named (subcommand_rows_of m) ≡ command_of words
+met : (a : App) (words : List Text) (m : ArgMatches) → a ≡ table → HasMatchesOf a words m → (is_simple_and_free a ≡ true → fault_of a words ≡ []) →
+    named (subcommand_rows_of m) ≡ command_of words
 unfolding command_of
 met a words m is matches faultless =
     let none : fault_of table words ≡ [] = sym (ap (λ (x : App). fault_of x words) is) ∙ faultless (ap is_simple_and_free is ∙ free) in
@@ -112,10 +117,12 @@ some_fault k (x ∷ ks) o h = by (is_empty (x ∷ ks)) refl
     by true e = absurd (omega (arith, eqb-true (length (x ∷ ks)) 0 e))
     by false e = refl
 
-pub refused : (a : App) (words : List Text) (e : Error) → a ≡ table → (kind_of e ≡ kind.OutOfMemory → ⊥) → (is_simple_and_free a ≡ true → HasKind (fault_of a words) e) → None ≡ command_of words
+pub refused : (a : App) (words : List Text) (e : Error) → a ≡ table → (kind_of e ≡ kind.OutOfMemory → ⊥) →
+    (is_simple_and_free a ≡ true → HasKind (fault_of a words) e) → None ≡ command_of words
 unfolding command_of
 refused a words e is other fault = by (fault (ap is_simple_and_free is ∙ free))
   where
     by : HasKind (fault_of a words) e → None ≡ command_of words
     by (inl h) = absurd (other h)
-    by (inr h) = some_fault (kind_of e) (fault_of table words) (named (subcommand_of table words)) (subst (λ (x : App). IsAmong (kind_of e) (fault_of x words)) is h)
+    by (inr h) =
+        some_fault (kind_of e) (fault_of table words) (named (subcommand_of table words)) (subst (λ (x : App). IsAmong (kind_of e) (fault_of x words)) is h)

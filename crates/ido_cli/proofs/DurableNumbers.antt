@@ -24,7 +24,7 @@ use Rattle.variable_words.specs.Variables.{durable_variables, number_of_byte, va
 use Rattle.variable_words.proofs.Standing.{number_is, within_end}
 use Rattle.run_scripts.specs.Reports as r
 use Rattle.run_scripts.specs.declared.report.Variable as found
-use Rattle.run_scripts.specs.ReportViews as views
+use Rattle.run_scripts.specs.links.ReportViews as views
 use Rattle.ido_cli.specs.Runs.{named, variable_with}
 use Rattle.ido_cli.specs.Reports.{durable_elements}
 

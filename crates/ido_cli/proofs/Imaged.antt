@@ -62,7 +62,8 @@ module _ (flat : f.Flat) (object : Object) (marks : Marks) (cuts : Cuts) (life :
     logs_few = omega (arith, size, t.limits.threads)
 
   pub image_behind : (source : List ℕ) (status : ℕ) (output : List ℕ) → status ≡ 0 →
-      output ≡ spelling (contents source (take life.variable_words left) (drop life.variable_words left) (steps_in life).kept) → IsImageBehind source made events status output
+      output ≡ spelling (contents source (take life.variable_words left) (drop life.variable_words left) (steps_in life).kept) →
+      IsImageBehind source made events status output
   image_behind source status output done told = record {
     status_is = done;
     output_is = told

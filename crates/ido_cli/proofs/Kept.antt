@@ -7,7 +7,8 @@ use Rattle.ido_base.specs.declared.event.Event.TheVariants.{Step, Evict, Crash}
 use Rattle.ido_base.specs.Words.{Word, last_position, word_at}
 use Rattle.rv64_isa.specs.declared.object.Slot.{Slot}
 use Rattle.rv64_isa.specs.Machine.{World, after_event}
-use Rattle.rv64_isa.specs.Schedule.{HartSteps, Steps, first_steps, hart_steps, passes_mark, steps_after, steps_along, stores_point, with_begun, with_bound, with_all_kept}
+use Rattle.rv64_isa.specs.Schedule.{HartSteps, Steps, first_steps, hart_steps, passes_mark, steps_after}
+use Rattle.rv64_isa.specs.Schedule.{steps_along, stores_point, with_begun, with_bound, with_all_kept}
 use Rattle.run_tracker.specs.links.Accounts.{point_word, weight}
 use Rattle.run_tracker.proofs.Events.{begun_if, harts-noted, noted, weight-after, weight-noted, weightless}
 use Rattle.run_tracker.proofs.Weights.{weight-all_kept}
@@ -54,7 +55,11 @@ module _ (marks : List (List ℕ)) (program : List (List Slot)) where
       by (inr past) =
           let mark = passes_mark marks program w h in
           let point = stores_point program w (Step h) h in
-          omega (arith, weight-all_kept words (length s.harts) (noted mark point h position s) (omega (arith, harts-noted mark point h position s)), weight_past s h past mark point position)
+          omega (
+            arith,
+            weight-all_kept words (length s.harts) (noted mark point h position s) (omega (arith, harts-noted mark point h position s)),
+            weight_past s h past mark point position,
+          )
   one_event w (Evict line mask) s = omega (arith, weight-all_kept (after_event program w (Evict line mask)).words (length s.harts) s (omega arith))
   one_event w Crash s = weight-after marks program w Crash s tt
 

@@ -9,7 +9,8 @@ use Rattle.hart_core.specs.Objects.{IsWithinLimits}
 use Rattle.object_format.specs.Contents.{contents_of, items_of}
 use Rattle.object_format.specs.Spelling.{HasLengths}
 
-short_words : (code : List (Vec ℕ)) → AllByRecursion (λ words. length words.items ≤ 65536) code → AllByRecursion (λ words. length words < 2 ^ 32) (map items_of code)
+short_words : (code : List (Vec ℕ)) → AllByRecursion (λ words. length words.items ≤ 65536) code →
+    AllByRecursion (λ words. length words < 2 ^ 32) (map items_of code)
 short_words [] few = tt
 short_words (words ∷ code) few = (let h = few.0 in omega (arith, h), short_words code few.1)
 

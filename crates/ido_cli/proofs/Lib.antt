@@ -21,3 +21,4 @@ pub mod Imaged
 pub mod Turns
 pub mod Recovering
 pub mod ScriptAnswers
+pub mod RefusedSources

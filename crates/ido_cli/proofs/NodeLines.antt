@@ -1,5 +1,6 @@
 -- Lines of nodes, as they are added; the nodes of threads, and the boundaries among them.
-use Rattle.std.proofs.Common.{◌≡◌, refl, ℕ, zero, suc, ◌+◌, ◌-◌, ◌<◌, ◌≤◌, List, [], ◌∷◌, ◌++◌, length, map, drop, get_or, min, ⊎_elim, sym, ◌∙◌, ap, ap₂, Option, Some, arith, append_assoc, length-append}
+use Rattle.std.proofs.Common.{◌≡◌, refl, ℕ, zero, suc, ◌+◌, ◌-◌, ◌<◌, ◌≤◌, List, [], ◌∷◌, ◌++◌, length, map, drop}
+use Rattle.std.proofs.Common.{get_or, min, ⊎_elim, sym, ◌∙◌, ap, ap₂, Option, Some, arith, append_assoc, length-append}
 use Rattle.std.specs.Prelude.{slice_get, option_map}
 use Rattle.std.proofs.lemmas.Bool.{cases_lt}
 use Rattle.std.proofs.lemmas.List.{append-nil, drop_more, drop_all, length-map}
@@ -48,12 +49,14 @@ module _ (text : List ℕ) (g : Graph) (b : Boundaries) where
   abbrev left_of : List thread.Thread → List Part → (k : ℕ) → List ℕ
   left_of threads ps k = regions_of text g b (map f.thread_of (drop k threads)) (drop k ps)
 
-  pub thread_added : (threads : List thread.Thread) (ps : List Part) (k : ℕ) (t : thread.Thread) (p : Part) (out mid new whole : List ℕ) → k < length threads → k < length ps →
+  pub thread_added : (threads : List thread.Thread) (ps : List Part) (k : ℕ) (t : thread.Thread) (p : Part) (out mid new whole : List ℕ) →
+      k < length threads → k < length ps →
       t ≡ get_or threads k t → p ≡ get_or ps k p → mid ≡ out ++ thread_line (f.thread_of t) → new ≡ mid ++ node_lines text g b p →
       out ++ left_of threads ps k ≡ whole → new ++ left_of threads ps (k + 1) ≡ whole
   thread_added threads ps k t p out mid new whole below within thread_is part_is line_is lines_are so_far =
       let rest = left_of threads ps (k + 1) in
-      let one : drop k threads ≡ t ∷ drop (k + 1) threads = drop_more threads k t below ∙ ap (λ (z : thread.Thread). z ∷ drop (k + 1) threads) (sym thread_is) in
+      let one : drop k threads ≡ t ∷ drop (k + 1) threads =
+      drop_more threads k t below ∙ ap (λ (z : thread.Thread). z ∷ drop (k + 1) threads) (sym thread_is) in
       let two : drop k ps ≡ p ∷ drop (k + 1) ps = drop_more ps k p within ∙ ap (λ (z : Part). z ∷ drop (k + 1) ps) (sym part_is) in
       let both : left_of threads ps k ≡ thread_line (f.thread_of t) ++ node_lines text g b p ++ rest =
       ap₂ (λ (xs : List thread.Thread) (ys : List Part). regions_of text g b (map f.thread_of xs) ys) one two in
@@ -65,14 +68,16 @@ module _ (text : List ℕ) (g : Graph) (b : Boundaries) where
   none_left : (threads : List thread.Thread) (ps : List Part) (k : ℕ) → k ≡ min (length threads) (length ps) → left_of threads ps k ≡ []
   none_left threads ps k all = ⊎_elim
       (λ few. ap (λ (ts : List thread.Thread). regions_of text g b (map f.thread_of ts) (drop k ps)) (drop_all k threads (omega (arith, all, few))))
-      (λ many. ap (λ (qs : List Part). regions_of text g b (map f.thread_of (drop k threads)) qs) (drop_all k ps (omega (arith, all, many))) ∙ no_part (map f.thread_of (drop k threads)))
+      (λ many. ap (λ (qs : List Part). regions_of text g b (map f.thread_of (drop k threads)) qs) (drop_all k ps (omega (arith, all, many)))
+      ∙ no_part (map f.thread_of (drop k threads)))
       (cases_lt (length threads) (length ps))
     where
       no_part : (ts : List f.Thread) → regions_of text g b ts [] ≡ []
       no_part [] = refl
       no_part (t ∷ ts) = refl
 
-  pub left_whole : (threads : List thread.Thread) (ps : List Part) (k : ℕ) (out whole : List ℕ) → k ≡ min (length threads) (length ps) → out ++ left_of threads ps k ≡ whole → out ≡ whole
+  pub left_whole : (threads : List thread.Thread) (ps : List Part) (k : ℕ) (out whole : List ℕ) → k ≡ min (length threads) (length ps) →
+      out ++ left_of threads ps k ≡ whole → out ≡ whole
   left_whole threads ps k out whole all so_far = sym (append-nil out) ∙ ap (λ (zs : List ℕ). out ++ zs) (sym (none_left threads ps k all)) ∙ so_far
 
 -- ---- A thread's nodes are in the graph
@@ -99,7 +104,8 @@ thread_inside x number own g =
     let inside : own.end ≤ 0 + length (threads_nodes x.threads 0) = parts_inside x.threads 0 number own g in
     omega (arith, inside)
 
-pub part_inside : (x : f.Flat) (g : code.Graph) (k : ℕ) (own : Part) → graph_of g ≡ lowered x → k < length g.threads.items → own ≡ get_or g.threads.items k own →
+pub part_inside : (x : f.Flat) (g : code.Graph) (k : ℕ) (own : Part) → graph_of g ≡ lowered x → k < length g.threads.items →
+    own ≡ get_or g.threads.items k own →
     own.end ≤ length g.nodes.items
 part_inside x g k own is below at =
     let there : slice_get (graph_of g).threads k ≡ Some own = slice_get_read g.threads.items (length g.threads.items) k own refl below at in
@@ -111,11 +117,14 @@ nodes_as_many x g is = ap (λ (y : Graph). length y.nodes) (sym is) ∙ length-m
 
 -- ---- Of each node it is said whether a boundary stands before it
 
-pub cuts_long : (x : f.Flat) (object : Object) (marks : Marks) (cuts : Cuts) → IsTranslated x object marks cuts → length cuts.before.items ≡ length (lowered x).nodes
+pub cuts_long : (x : f.Flat) (object : Object) (marks : Marks) (cuts : Cuts) → IsTranslated x object marks cuts →
+    length cuts.before.items ≡ length (lowered x).nodes
 cuts_long x object marks cuts t =
     sym (ap (λ (b : Boundaries). length b.before) t.at_cuts) ∙ t.is.plan.at_writes.before_count
     ∙ ap (λ (y : Graph). length y.nodes) (t.is.plan.lowered ∙ ap lowered t.of_flat)
 
 -- the node that is read
-pub node_at : (g : code.Graph) (number : ℕ) (x : node.Node) → number < length g.nodes.items → x ≡ get_or g.nodes.items number x → slice_get (graph_of g).nodes number ≡ Some (node_of x)
-node_at g number x below is = slice_get-map node_of g.nodes.items number ∙ ap (option_map node_of) (slice_get_read g.nodes.items (length g.nodes.items) number x refl below is)
+pub node_at : (g : code.Graph) (number : ℕ) (x : node.Node) → number < length g.nodes.items → x ≡ get_or g.nodes.items number x →
+    slice_get (graph_of g).nodes number ≡ Some (node_of x)
+node_at g number x below is =
+    slice_get-map node_of g.nodes.items number ∙ ap (option_map node_of) (slice_get_read g.nodes.items (length g.nodes.items) number x refl below is)

@@ -1,9 +1,11 @@
 -- What is played of a compiled source: the machine and the kept steps of its translation, which are those of the source.
-use Rattle.std.proofs.Common.{◌≡◌, refl, ℕ, suc, ◌+◌, ◌≤◌, List, [], ◌∷◌, ◌++◌, length, map, take, sym, ◌∙◌, ap, ap₂, subst, true, Some, None, ◌-◌, ◌^◌, flat_map}
+use Rattle.std.proofs.Common.{◌≡◌, refl, ℕ, suc, ◌+◌, ◌≤◌, List, [], ◌∷◌, ◌++◌, length, map, take}
+use Rattle.std.proofs.Common.{sym, ◌∙◌, ap, ap₂, subst, true, Some, None, ◌-◌, ◌^◌, flat_map}
 use Rattle.std.specs.Prelude.{codes}
 use Rattle.std.proofs.lemmas.List.{length-map, take_all}
 use Rattle.ido_base.specs.declared.event.Event.{Event}
 use Rattle.ido_base.specs.Cores.{played}
+use Rattle.ido_base.specs.declared.limits.TheConstants.{MOST_EVENTS}
 use Rattle.c_tree.specs.Flats as f
 use Rattle.c_tree.specs.Source as m
 use Rattle.rv64_isa.specs.declared.object.Object.{Object}
@@ -26,7 +28,7 @@ use Rattle.flat_compile.specs.Translating.{IsTranslated}
 use Rattle.compilation.specs.Translations.{first_world, world, steps}
 use Rattle.compilation.specs.Compilations.{IsCompilation}
 use Rattle.run_scripts.specs.Reports as r
-use Rattle.run_scripts.specs.Plays.{excess_at, most_events, script_events}
+use Rattle.run_scripts.specs.Plays.{excess_at, script_events}
 use Rattle.run_scripts.specs.Scripts.{Line}
 use Rattle.run_tracker.specs.Lives.{Course, Moment, living, new_life, opening_of, steps_in, world_of}
 use Rattle.ido_compile.specs.Compiling.{translation_to}
@@ -40,13 +42,15 @@ use Rattle.ido_cli.proofs.Settled.{run_of}
 
 -- ---- Harts of a machine
 
-harts_stay : (program : List (List Slot)) (w : World) (es : List Event) → length program ≡ length w.harts → IsSound w → length (after_events program w es).harts ≡ length w.harts
+harts_stay : (program : List (List Slot)) (w : World) (es : List Event) → length program ≡ length w.harts → IsSound w →
+    length (after_events program w es).harts ≡ length w.harts
 harts_stay program w [] count sound = refl
 harts_stay program w (e ∷ es) count sound =
     let next = queues_stand program w e count sound in
     harts_stay program (after_event program w e) es (count ∙ sym next.1) next.0 ∙ next.1
 
-harts_count : (program : List (List Slot)) (locks : ℕ) (initial : List ℕ) (es : List Event) → length (after_events program (start_of program locks initial) es).harts ≡ length program
+harts_count : (program : List (List Slot)) (locks : ℕ) (initial : List ℕ) (es : List Event) →
+    length (after_events program (start_of program locks initial) es).harts ≡ length program
 harts_count program locks initial es =
     let starts = starts_stand program locks initial in
     harts_stay program (start_of program locks initial) es (sym starts.1) starts.0 ∙ starts.1
@@ -57,7 +61,8 @@ parts_count : (ts : List f.Thread) (first : ℕ) → length (parts ts first) ≡
 parts_count [] first = refl
 parts_count (t ∷ ts) first = ap suc (parts_count ts (first + thread_count t))
 
-pub as_many_threads : (flat : f.Flat) (object : Object) (marks : Marks) (cuts : Cuts) → IsTranslated flat object marks cuts → length object.code.items ≡ length flat.threads
+pub as_many_threads : (flat : f.Flat) (object : Object) (marks : Marks) (cuts : Cuts) → IsTranslated flat object marks cuts →
+    length object.code.items ≡ length flat.threads
 as_many_threads flat object marks cuts t =
     let y = t.system in
     sym (length-map object.code.items (λ code. map slot_of code.items)) ∙ sym (ap length t.runs) ∙ t.is.count
@@ -113,13 +118,15 @@ module _ (flat : f.Flat) (object : Object) (marks : Marks) (cuts : Cuts) (lines 
     has_played life opening journal none =
         let begin = opening_of (new_life object marks cap) in
         let here = subst (λ (x : Course). excess_at living (played living (opening_of x) x.journal) room lines ≡ None) is none in
-        let made = subst (λ (x : Course). life.journal ≡ x.journal ++ take room (script_events living (played living (opening_of x) x.journal) lines)) is journal in
+        let made = subst (λ (x : Course). life.journal
+        ≡ x.journal ++ take room (script_events living (played living (opening_of x) x.journal) lines)) is journal in
         record {
           begins = opening ∙ ap opening_of is;
           journal = made ∙ take_all room (script_events living begin lines) (events_fit living begin room lines here);
         }
 
-    pub fits : excess_at living (played living (opening_of old) old.journal) room lines ≡ None → length (events_by (translation_to flat object marks cuts) lines) ≤ room
+    pub fits : excess_at living (played living (opening_of old) old.journal) room lines ≡ None →
+        length (events_by (translation_to flat object marks cuts) lines) ≤ room
     fits none =
         let here = subst (λ (x : Course). excess_at living (played living (opening_of x) x.journal) room lines ≡ None) is none in
         events_fit living (beginning (translation_to flat object marks cuts)) room lines here
@@ -130,25 +137,30 @@ module _ (flat : f.Flat) (object : Object) (marks : Marks) (cuts : Cuts) (lines 
         subst (λ (x : Course). excess_at living (played living (opening_of x) x.journal) room lines ≡ Some place) is some
 
   pub refused : (Says : List Event → ℕ → List ℕ → Type 0) (input : List ℕ) (begins place status : ℕ) (output : List ℕ) →
-      excess_at living (beginning (translation_to flat object marks cuts)) most_events lines ≡ Some place → IsRefusedAt 6 (codes "E1") input (begins + place) status output →
-      ScriptAnswer (translation_to flat object marks cuts) Says lines input begins status output
+      excess_at living (beginning (translation_to flat object marks cuts)) MOST_EVENTS lines ≡ Some place →
+      IsRefusedAt 6 (codes "E1") input (begins + place) status output →
+      ScriptAnswer (translation_to flat object marks cuts) Says (record { lines = lines; input = input; begins = begins }) status output
   refused Says input begins place status output some told =
-      too_long (events_pass living (beginning (translation_to flat object marks cuts)) most_events place lines some) place some told
+      too_long (events_pass living (beginning (translation_to flat object marks cuts)) MOST_EVENTS place lines some) place some told
 
 -- ---- What is reported
 
 pub ended_is : SizesStay → (x : f.Flat) (schedule : List ℕ) → length schedule ≤ 2 ^ 64 - 1 →
-    counted (λ t. 0 + m.ended_from (m.start x) schedule t) (length (m.after_from (m.start x) schedule).threads) ≡ map (m.ended_from (m.start x) schedule) (numbers_from 0 (length x.threads))
+    counted (λ t. 0 + m.ended_from (m.start x) schedule t) (length (m.after_from (m.start x) schedule).threads)
+    ≡ map (m.ended_from (m.start x) schedule) (numbers_from 0 (length x.threads))
 unfolding run_state
 ended_is stay x schedule short =
     let after = m.after_from (m.start x) schedule in
     ap (λ (s : r.State). s.ended)
-    (reported_is stay x schedule (unsettled_threads after) (counted (λ t. 0 + m.ended_from (m.start x) schedule t) (length after.threads)) (taken x.variables (flat_map (λ ns. ns) after.variables)) refl refl refl short)
+    (reported_is stay x schedule (unsettled_threads after) (counted (λ t. 0 + m.ended_from (m.start x) schedule t) (length after.threads))
+    (taken x.variables (flat_map (λ ns. ns) after.variables)) refl refl refl short)
 
 pub machine_reported : (x : f.Flat) (w : World) (kept unsettled ended schedule : List ℕ) (variables : List r.Variable) → unsettled ≡ unsettled_harts w →
-    variables ≡ named x.variables (durable_variables w.words x.variables) → ended ≡ map (m.ended_from (m.start x) kept) (numbers_from 0 (length x.threads)) → schedule ≡ kept →
+    variables ≡ named x.variables (durable_variables w.words x.variables) → ended ≡ map (m.ended_from (m.start x) kept) (numbers_from 0 (length x.threads)) →
+    schedule ≡ kept →
     (let s : r.State = record { unsettled = unsettled; variables = variables; ended = ended; schedule = schedule } in s) ≡ machine_state x w kept
 unfolding machine_state
 machine_reported x w kept unsettled ended schedule variables u v e k =
     ap₂ (λ (us : List ℕ) (vs : List r.Variable). let s : r.State = record { unsettled = us; variables = vs; ended = ended; schedule = schedule } in s) u v
-    ∙ ap₂ (λ (es ks : List ℕ). let s : r.State = record { unsettled = unsettled_harts w; variables = named x.variables (durable_variables w.words x.variables); ended = es; schedule = ks } in s) e k
+    ∙ ap₂ (λ (es ks : List ℕ). let s : r.State =
+    record { unsettled = unsettled_harts w; variables = named x.variables (durable_variables w.words x.variables); ended = es; schedule = ks } in s) e k

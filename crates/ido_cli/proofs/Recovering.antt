@@ -1,5 +1,6 @@
 -- A run that goes on from an image's file.
-use Rattle.std.proofs.Common.{◌≡◌, ℕ, ◌+◌, ◌-◌, ◌*◌, ◌/◌, ◌≤◌, List, [], ◌∷◌, ◌++◌, length, map, take, drop, replicate, ap, ap₂, sym, subst, ◌∙◌, arith, length-append, length-drop, length-take, Ok}
+use Rattle.std.proofs.Common.{◌≡◌, ℕ, ◌+◌, ◌-◌, ◌*◌, ◌/◌, ◌≤◌, List, [], ◌∷◌, ◌++◌, length, map, take, drop}
+use Rattle.std.proofs.Common.{replicate, ap, ap₂, sym, subst, ◌∙◌, arith, length-append, length-drop, length-take, Ok}
 use Rattle.std.proofs.lemmas.List.{length-map, length-replicate}
 use Rattle.ido_base.specs.declared.event.Event.{Event}
 use Rattle.ido_base.specs.declared.event.Event.TheVariants.{Crash}
@@ -40,7 +41,8 @@ behind_crash crashes c is file journal status output told before left =
     let here : image_in c file ≡ image_of c before = ap (image_in c) left ∙ (is.in_file before).is_all in
     let crashed = crashes c before journal in
     let of_image = subst (λ (i : Image). IsReport (machine_state c.flat (world_from c i journal) (steps_from c i journal).kept) status output) here told in
-    let of_world = subst (λ (w : World). IsReport (machine_state c.flat w (steps_from c (image_of c before) journal).kept) status output) crashed.world_is of_image in
+    let of_world = subst (λ (w : World). IsReport (machine_state c.flat w (steps_from c (image_of c before) journal).kept) status output)
+    crashed.world_is of_image in
     run_of c is (before ++ Crash ∷ journal) status output
     (subst (λ (ks : List ℕ). IsReport (machine_state c.flat (world c (before ++ Crash ∷ journal)) ks) status output) crashed.kept_is of_world)
 
@@ -52,7 +54,18 @@ spread_size n threads words few size =
     let front = take n words in
     let zeros : List ℕ = replicate (8192 - n) 0 in
     let rest = drop n words in
-    omega (arith, length-append front (zeros ++ rest), length-append zeros rest, length-append (front ++ zeros) rest, length-append front zeros, length-replicate {A = ℕ} (8192 - n) 0, length-take n words, length-drop n words, few, size)
+    omega (
+      arith,
+      length-append front (zeros ++ rest),
+      length-append zeros rest,
+      length-append (front ++ zeros) rest,
+      length-append front zeros,
+      length-replicate {A = ℕ} (8192 - n) 0,
+      length-take n words,
+      length-drop n words,
+      few,
+      size,
+    )
 
 module _ (flat : f.Flat) (object : Object) (marks : Marks) (cuts : Cuts) (t : IsTranslated flat object marks cuts) (file : Image) (cap : ℕ) (begun : Course)
     (is : begun ≡ life_from object marks file.words file.kept cap) where
@@ -108,7 +121,8 @@ module _ (flat : f.Flat) (object : Object) (marks : Marks) (cuts : Cuts) (t : Is
           IsReport (machine_state flat (world_of life) (steps_in life).kept) status output → IsRecovery made file turns status output
       recovery crashes compilation turns status output leg told =
           let of_world = subst (λ (w : World). IsReport (machine_state flat w (steps_in life).kept) status output) same_world told in
-          let reported = subst (λ (s : Steps). IsReport (machine_state flat (world_from made (image_in made file) life.journal) s.kept) status output) same_steps of_world in
+          let reported = subst (λ (s : Steps). IsReport (machine_state flat (world_from made (image_in made file) life.journal) s.kept) status output)
+          same_steps of_world in
           record {
             journal = life.journal;
             leg = subst (λ (m : Moment). IsLeg living m (length m.program) turns most_leg_events life.journal) (sym same ∙ opens) leg;

@@ -9,7 +9,9 @@ use Rattle.ido_cli.specs.Inputs.{behind_mark, behind_mark_at, last_mark, mark, m
 some_is : {X : Type 0} (a b : X) → Some a ≡ Some b → a ≡ b
 some_is a b h = cc
 
-by_marks : (a b c : Bool) (text rest : List ℕ) → (let o : Option (List ℕ) = if a then Some (drop 3 text) else if b then Some (drop 4 text) else if c then Some [] else None in o ≡ Some rest) → length rest ≤ length text
+by_marks : (a b c : Bool) (text rest : List ℕ) →
+    (let o : Option (List ℕ) = if a then Some (drop 3 text) else if b then Some (drop 4 text) else if c then Some [] else None in o ≡ Some rest) →
+    length rest ≤ length text
 by_marks true b c text rest h = let e = ap length (some_is (drop 3 text) rest h) in omega (arith, e, length-drop 3 text)
 by_marks false true c text rest h = let e = ap length (some_is (drop 4 text) rest h) in omega (arith, e, length-drop 4 text)
 by_marks false false true text rest h = let e = ap length (some_is [] rest h) in omega (arith, e)
@@ -29,7 +31,8 @@ rest_by c cs o = elim o [
   | None ↦ rest_from (c == line_feed) cs
 ]
 
-from_by : (begins : Bool) (c : ℕ) (cs : List ℕ) (o : Option (List ℕ)) → behind_mark_at begins (c ∷ cs) ≡ o → length (rest_from (c == line_feed) cs) ≤ length cs → length (rest_by c cs o) ≤ length (c ∷ cs)
+from_by : (begins : Bool) (c : ℕ) (cs : List ℕ) (o : Option (List ℕ)) → behind_mark_at begins (c ∷ cs) ≡ o →
+    length (rest_from (c == line_feed) cs) ≤ length cs → length (rest_by c cs o) ≤ length (c ∷ cs)
 from_by begins c cs (Some rest) e more = at_short begins (c ∷ cs) rest e
 from_by begins c cs None e more = omega (arith, more)
 

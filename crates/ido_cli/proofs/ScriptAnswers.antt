@@ -2,43 +2,36 @@
 use Rattle.std.proofs.Common.{◌≡◌, ℕ, ◌+◌, ◌-◌, List, length, sym, ap, ◌∙◌, subst, Option, Some, None, IfSome, IsSome, All}
 use Rattle.ido_base.specs.declared.event.Event.{Event}
 use Rattle.c_tree.specs.Flats as f
-use Rattle.flow_graph.specs.Refusals.{IsAccepted, IsRefusedBy}
+use Rattle.flow_graph.specs.Refusals.{IsAccepted}
 use Rattle.run_scripts.specs.Scripts as e
 use Rattle.run_scripts.specs.Scripts.{IsDoable, IsEviction}
 use Rattle.run_scripts.specs.declared.script.Line.{Line}
 use Rattle.compilation.specs.Translations.{Translation}
-use Rattle.std.specs.Prelude.{Err}
-use Rattle.ido_compile.specs.Compiling.{IsCompileAnswer}
-use Rattle.ido_compile.specs.declared.error.CompileError.{CompileError}
-use Rattle.ido_compile.specs.declared.error.CompileError.TheVariants as error
-use Rattle.ido_cli.specs.links.Uncompiled.{TellsRefusal}
-use Rattle.ido_cli.specs.Answers.{ScriptedAnswer, no_script, of_script, unplayed}
+use Rattle.ido_cli.specs.Answers.{ScriptedAnswer, no_script, of_script}
 use Rattle.ido_cli.specs.Inputs.{rest_of, source_of}
 use Rattle.ido_cli.specs.Plays.{IsTranslationOf, ScriptAnswer}
-use Rattle.ido_cli.specs.Refusals.{IsRefusedAt, code_of, line_at, script_fault_code, script_fault_place}
+use Rattle.ido_cli.specs.Refusals.{IsRefusedAt, script_fault_code, script_fault_place}
 
-module _ (input rest : List ℕ) (flat : f.Flat) (harts : ℕ) (is : rest ≡ rest_of input) (many : harts ≡ length flat.threads) (accepted : IsAccepted (source_of input) flat)
+module _ (input rest : List ℕ) (flat : f.Flat) (harts : ℕ) (is : rest ≡ rest_of input) (many : harts ≡ length flat.threads)
+    (accepted : IsAccepted (source_of input) flat)
     (Says : Translation → List Event → ℕ → List ℕ → Type 0) where
   read_is : e.read (length flat.threads) (rest_of input) ≡ e.read harts rest
   read_is = ap (λ (n : ℕ). e.read n (rest_of input)) (sym many) ∙ sym (ap (e.read harts) is)
 
   pub script_fault_answer : (o : Option e.Fault) (status : ℕ) (output : List ℕ) → IsSome o → IfSome o (λ x. e.read harts rest ≡ e.Refused x) →
-      IfSome o (λ x. IsRefusedAt 6 (script_fault_code x) input (length input - length rest + script_fault_place x) status output) → ScriptedAnswer Says input status output
+      IfSome o (λ x. IsRefusedAt 6 (script_fault_code x) input (length input - length rest + script_fault_place x) status output) →
+      ScriptedAnswer Says input status output
   script_fault_answer (Some x) status output some read said =
-      no_script flat accepted x (read_is ∙ read) (subst (λ (r : List ℕ). IsRefusedAt 6 (script_fault_code x) input (length input - length r + script_fault_place x) status output) is said)
+      no_script flat accepted x (read_is ∙ read)
+      (subst (λ (r : List ℕ). IsRefusedAt 6 (script_fault_code x) input (length input - length r + script_fault_place x) status output) is said)
   script_fault_answer None status output some read said = absurd (cc some)
 
   pub script_run_answer : (lines : List e.Line) (c : Translation) (status : ℕ) (output : List ℕ) → e.read harts rest ≡ e.Lines lines → IsTranslationOf flat c →
-      ScriptAnswer c (Says c) lines input (length input - length rest) status output → ScriptedAnswer Says input status output
+      ScriptAnswer c (Says c) (record { lines = lines; input = input; begins = length input - length rest }) status output →
+      ScriptedAnswer Says input status output
   script_run_answer lines c status output read translation answer =
-      of_script flat accepted lines (read_is ∙ read) c translation (subst (λ (r : List ℕ). ScriptAnswer c (Says c) lines input (length input - length r) status output) is answer)
-
--- a source that isn't compiled
-pub source_refused : (Says : Translation → List Event → ℕ → List ℕ → Type 0) (source input : List ℕ) → source ≡ source_of input → (found : CompileError) →
-    IsCompileAnswer source (Err found) → (status : ℕ) (output : List ℕ) → TellsRefusal found source status output → ScriptedAnswer Says input status output
-source_refused Says source input is (error.Refused found place) refused status output (one, told) =
-    unplayed found place (subst (λ (text : List ℕ). IsRefusedBy text found place) is refused) (one, told ∙ ap (λ (text : List ℕ). line_at (code_of found) text place.0) is)
-source_refused Says source input is error.Memory refused status output none = absurd none
+      of_script flat accepted lines (read_is ∙ read) c translation
+      (subst (λ (r : List ℕ). ScriptAnswer c (Says c) (record { lines = lines; input = input; begins = length input - length r }) status output) is answer)
 
 -- what exists at so many harts
 pub all_doable : (harts many : ℕ) (lines : List Line) → harts ≡ many → All (λ (line : Line). IsDoable harts (IsEviction harts) line.command) lines →

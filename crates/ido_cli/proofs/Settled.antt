@@ -1,5 +1,6 @@
 -- Where a machine is settled, its report is that of the source's own run of its kept schedule.
-use Rattle.std.proofs.Common.{◌≡◌, ◌⊎◌, inl, inr, refl, ℕ, zero, suc, ◌+◌, ◌<◌, ◌≤◌, List, [], ◌∷◌, length, map, filter, not, Bool, true, false, sym, ap, ap₂, ◌∙◌, subst, ℤ, arith}
+use Rattle.std.proofs.Common.{◌≡◌, ◌⊎◌, inl, inr, refl, ℕ, zero, suc, ◌+◌, ◌<◌, ◌≤◌, List, [], ◌∷◌, length}
+use Rattle.std.proofs.Common.{map, filter, not, Bool, true, false, sym, ap, ap₂, ◌∙◌, subst, ℤ, arith}
 use Rattle.std.proofs.lemmas.Bool.{cases_lt}
 use Rattle.ido_base.specs.declared.event.Event.{Event}
 use Rattle.c_tree.specs.Flats as f
@@ -47,7 +48,8 @@ settled_below w (suc n) each = rw (settled_below w n (λ h below. each h (omega 
 
 pub settled_by_none : (w : World) → unsettled_harts w ≡ [] → is_settled w ≡ true
 settled_by_none w none =
-    settled_below w (length w.harts) (λ h below. not_false (is_settled_hart w h) (none_of (λ g. not (is_settled_hart w g)) 0 (length w.harts) h none (omega arith) (omega (arith, below))))
+    settled_below w (length w.harts) (λ h below.
+    not_false (is_settled_hart w h) (none_of (λ g. not (is_settled_hart w g)) 0 (length w.harts) h none (omega arith) (omega (arith, below))))
 
 none_by_status : (unsettled : List ℕ) (status : ℕ) → status ≡ status_by unsettled → status ≡ 0 → unsettled ≡ []
 none_by_status [] status e settled = refl
@@ -59,7 +61,13 @@ same_state : (x : f.Flat) (w : World) (kept : List ℕ) → unsettled_harts w �
     → durable_variables w.words x.variables ≡ (m.after_from (m.start x) kept).variables → machine_state x w kept ≡ run_state x kept
 unfolding machine_state run_state
 same_state x w kept none between same =
-    ap₂ (λ (us : List ℕ) (numbers : List (List ℤ)). let s : r.State = record { unsettled = us; variables = named x.variables numbers; ended = map (m.ended_from (m.start x) kept) (numbers_from 0 (length x.threads)); schedule = kept } in s)
+    ap₂ (λ (us : List ℕ) (numbers : List (List ℤ)). let s : r.State =
+    record {
+      unsettled = us;
+      variables = named x.variables numbers;
+      ended = map (m.ended_from (m.start x) kept) (numbers_from 0 (length x.threads));
+      schedule = kept;
+    } in s)
     (none ∙ sym between) same
 
 pub settled_run : (c : Translation) → IsCompilation c → (events : List Event) (status : ℕ) (output : List ℕ) →
@@ -74,7 +82,9 @@ settled_run c is events status output told done =
     record {
       runs = k.runs;
       between = between;
-      output_is = told.output_is ∙ ap report (same_state c.flat w (steps c events).kept none (all_between (source c (steps c events).kept) between) (k.variables settled));
+      output_is =
+          told.output_is ∙ ap report
+          (same_state c.flat w (steps c events).kept none (all_between (source c (steps c events).kept) between) (k.variables settled));
     }
 
 -- all that is said of a run, of a translation and whatever events

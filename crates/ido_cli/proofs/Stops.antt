@@ -16,5 +16,6 @@ pub fault_answer : (input rest : List ℕ) (flat : f.Flat) (o : Option s.Fault) 
     IfSome o (λ x. s.read rest ≡ s.Refused x) → IfSome o (λ x. IsRefusedAt 6 (fault_code x) input (length input - length rest + fault_place x) status output) →
     IsAccepted (source_of input) flat → SourceAnswer input status output
 fault_answer input rest flat (Some x) status output is some read said accepted =
-    no_schedule flat accepted x (sym (ap s.read is) ∙ read) (subst (λ (r : List ℕ). IsRefusedAt 6 (fault_code x) input (length input - length r + fault_place x) status output) is said)
+    no_schedule flat accepted x (sym (ap s.read is) ∙ read)
+    (subst (λ (r : List ℕ). IsRefusedAt 6 (fault_code x) input (length input - length r + fault_place x) status output) is said)
 fault_answer input rest flat None status output is some read said accepted = absurd (cc some)

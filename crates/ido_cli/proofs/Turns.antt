@@ -1,5 +1,6 @@
 -- Legs that are made in rounds.
-use Rattle.std.proofs.Common.{◌≡◌, ◌≢◌, ◌⊎◌, inl, inr, refl, ℕ, ◌+◌, ◌<◌, ◌≤◌, List, [], ◌∷◌, ◌++◌, length, Bool, true, false, cond, sym, ap, ap₂, ◌∙◌, subst, arith, length-append, ◌||◌, ◌==◌}
+use Rattle.std.proofs.Common.{◌≡◌, ◌≢◌, ◌⊎◌, inl, inr, refl, ℕ, ◌+◌, ◌<◌, ◌≤◌, List, [], ◌∷◌, ◌++◌, length, Bool}
+use Rattle.std.proofs.Common.{true, false, cond, sym, ap, ap₂, ◌∙◌, subst, arith, length-append, ◌||◌, ◌==◌}
 use Rattle.std.specs.Prelude.{count_by, if◌then◌else◌, nat_le, nat_lt, Option}
 use Rattle.std.proofs.lemmas.Bool.{cases_eq, cases_lt, eq-eqb, ne_eqb, le-leb, leb-true, lt-ltb, ltb-true}
 use Rattle.std.proofs.lemmas.List.Sums.{sum_by_push}
@@ -24,9 +25,11 @@ sound_along program w (e ∷ es) count sound =
     (all.0, all.1 ∙ next.1)
 
 -- a hart that is stopped stays so while others step
-stopped_stays : (program : List (List Slot)) (w : World) (k h : ℕ) → IsSound w → h ≢ k → is_stopped w h ≡ true → is_stopped (after_event program w (Step k)) h ≡ true
+stopped_stays : (program : List (List Slot)) (w : World) (k h : ℕ) → IsSound w → h ≢ k → is_stopped w h ≡ true →
+    is_stopped (after_event program w (Step k)) h ≡ true
 stopped_stays program w k h sound other stopped =
-    ap (λ (o : Option Hart). elim o [ Option.Some hart ↦ is_stopped_phase hart.phase | Option.None ↦ false ]) ((steps_touch program w k sound).others h other) ∙ stopped
+    ap (λ (o : Option Hart). elim o [ Option.Some hart ↦ is_stopped_phase hart.phase | Option.None ↦ false ])
+    ((steps_touch program w k sound).others h other) ∙ stopped
 
 -- ---- Lists of events
 
@@ -83,7 +86,8 @@ module _ (opening : Moment) (harts turns : ℕ) where
 
   -- each event so far is a turn, and of each hart so many are made
   pub record AreMade (made : ℕ → ℕ) (journal : List Event) : Type 0 where
-    pub each : (before behind : List Event) (event : Event) → journal ≡ before ++ event ∷ behind → IsTurn living opening turns most_leg_events harts before event
+    pub each : (before behind : List Event) (event : Event) → journal ≡ before ++ event ∷ behind →
+        IsTurn living opening turns most_leg_events harts before event
     pub done : (h : ℕ) → h < harts → IsDone (made h) journal h
 
   pub none_made : AreMade (λ h. 0) []
@@ -143,7 +147,8 @@ module _ (opening : Moment) (harts turns : ℕ) where
         done = λ h below. by_place h below (cases_eq h k);
       }
         where
-          by_cut : (before behind : List Event) (event : Event) → ((journal ≡ before) × (Step k ≡ event)) ⊎ ((rest : List Event) × (journal ≡ before ++ event ∷ rest)) →
+          by_cut : (before behind : List Event) (event : Event) →
+              ((journal ≡ before) × (Step k ≡ event)) ⊎ ((rest : List Event) × (journal ≡ before ++ event ∷ rest)) →
               IsTurn living opening turns most_leg_events harts before event
           by_cut before behind event (inl (all, last)) =
               subst (λ (e : Event). IsTurn living opening turns most_leg_events harts before e) last
@@ -162,7 +167,8 @@ module _ (opening : Moment) (harts turns : ℕ) where
     ends = λ h below. by h (are.done h below);
   }
     where
-      is_stop : (h : ℕ) (a b c : Bool) → is_stopped (world_behind journal) h ≡ a → nat_le turns (turns_of h journal) ≡ b → nat_le most_leg_events (length journal) ≡ c →
+      is_stop : (h : ℕ) (a b c : Bool) → is_stopped (world_behind journal) h ≡ a → nat_le turns (turns_of h journal) ≡ b →
+          nat_le most_leg_events (length journal) ≡ c →
           (a || (b || c)) ≡ true → has_stop living opening turns most_leg_events journal h ≡ true
       is_stop h a b c e f g is =
           ap₂ (λ (x y : Bool). x || y) (ap (λ (m : Moment). is_stopped m.world h) (played_is opening journal) ∙ e) (ap₂ (λ (x y : Bool). x || y) f g) ∙ is

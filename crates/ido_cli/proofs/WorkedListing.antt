@@ -52,6 +52,7 @@ unfolding word_line thread_line of_three hex_word digits decoded
 two_words = refl
 
 -- the second thread's code stands behind the first's
-two_threads : listing ((0x0330_000F ∷ []) ∷ (0x0000_006F ∷ []) ∷ []) ≡ codes "thread 0\n00010000 0330000f fence rw, rw\nthread 1\n00010004 0000006f jal x0, 00010004\n"
+two_threads : listing ((0x0330_000F ∷ []) ∷ (0x0000_006F ∷ []) ∷ [])
+    ≡ codes "thread 0\n00010000 0330000f fence rw, rw\nthread 1\n00010004 0000006f jal x0, 00010004\n"
 unfolding word_line thread_line of_jump hex_word digits decoded
 two_threads = refl

@@ -2,8 +2,9 @@
 use Rattle.std.specs.Prelude.{◌≡◌, ◌⊎◌, ℕ, ◌+◌, ◌-◌, ◌<◌, List, [], ◌++◌, length, Option, Some, None, Ok, Err, codes, IfSome, IsSome}
 use Rattle.ido_base.specs.declared.event.Event.{Event}
 use Rattle.ido_base.specs.declared.place.Place.{Place}
+use Rattle.ido_base.specs.declared.limits.TheConstants.{MOST_INPUT_BYTES, MOST_SOURCE_BYTES}
 use Rattle.ido_outside.specs.Causes.{Rose}
-use Rattle.ido_outside.specs.Sink.{Adds, AddsFront}
+use Rattle.ido_outside.specs.Sink.{Adds, AddsPrefix}
 use Rattle.c_tree.specs.Flats as f
 use Rattle.c_tree.specs.declared.rule.Rule as r
 use Rattle.rv64_isa.specs.declared.object.Object.{Object}
@@ -33,30 +34,23 @@ use Rattle.ido_cli.specs.Inputs.{source_of, rest_of}
 use Rattle.ido_cli.specs.Listing.{listing}
 use Rattle.ido_cli.specs.Plays.{IsRunBy, IsTranslationOf, ScriptAnswer}
 use Rattle.ido_cli.specs.Recoveries.{IsRecovery}
-use Rattle.ido_cli.specs.Refusals.{IsRefusedAt, code_of, fault_code, fault_place, image_line, line_at_byte, object_fault_code, object_fault_place, script_fault_code, script_fault_place}
+use Rattle.ido_cli.specs.Refusals.{IsRefusedAt, code_of, fault_code, fault_place, image_line, line_at_byte}
+use Rattle.ido_cli.specs.Refusals.{object_fault_code, object_fault_place, script_fault_code, script_fault_place}
 use Rattle.ido_cli.specs.Regions.{regions}
 use Rattle.ido_cli.specs.Runs.{RunAnswer}
 
--- bytes that are read
-abbrev pub most_bytes : ℕ
-most_bytes = 67108864
-
--- bytes of a source text
-abbrev pub most_source_bytes : ℕ
-most_source_bytes = 1048576
-
 -- the whole input, or the source text in it
 abbrev pub IsSourcePastLimits : (input : List ℕ) → Type 0
-IsSourcePastLimits input = (most_bytes < length input) ⊎ (most_source_bytes < length (source_of input))
+IsSourcePastLimits input = (MOST_INPUT_BYTES < length input) ⊎ (MOST_SOURCE_BYTES < length (source_of input))
 
 abbrev pub IsPastLimits : Command → (input : List ℕ) → Type 0
-IsPastLimits command.Compile input = most_source_bytes < length input
-IsPastLimits command.Regions input = most_source_bytes < length input
+IsPastLimits command.Compile input = MOST_SOURCE_BYTES < length input
+IsPastLimits command.Regions input = MOST_SOURCE_BYTES < length input
 IsPastLimits command.Play input = IsSourcePastLimits input
 IsPastLimits command.Source input = IsSourcePastLimits input
-IsPastLimits command.List input = most_bytes < length input
+IsPastLimits command.List input = MOST_INPUT_BYTES < length input
 IsPastLimits command.Image input = IsSourcePastLimits input
-IsPastLimits (command.Recover turns) input = most_bytes < length input
+IsPastLimits (command.Recover turns) input = MOST_INPUT_BYTES < length input
 
 -- a status and an output: `refused` and what is refused
 abbrev pub Refuses : (refused status : ℕ) → (what output : List ℕ) → Type 0
@@ -70,31 +64,43 @@ rest_begins input = length input - length (rest_of input)
 
 -- what an input of a source and a schedule is answered: status and output
 pub data SourceAnswer (input : List ℕ) (status : ℕ) (output : List ℕ) : Type 0 where
-  unaccepted : (found : r.Rule) (place : Place) → IsRefusedBy (source_of input) found place → IsRefusedAt 1 (code_of found) (source_of input) place.0 status output → SourceAnswer input status output
-  no_schedule : (flat : f.Flat) → IsAccepted (source_of input) flat → (x : s.Fault) → s.read (rest_of input) ≡ s.Refused x → IsRefusedAt 6 (fault_code x) input (rest_begins input + fault_place x) status output → SourceAnswer input status output
-  of_schedule : (flat : f.Flat) → IsAccepted (source_of input) flat → (schedule : List ℕ) → s.read (rest_of input) ≡ s.Steps schedule → RunAnswer flat schedule status output → SourceAnswer input status output
+  unaccepted : (found : r.Rule) (place : Place) → IsRefusedBy (source_of input) found place →
+      IsRefusedAt 1 (code_of found) (source_of input) place.0 status output → SourceAnswer input status output
+  no_schedule : (flat : f.Flat) → IsAccepted (source_of input) flat → (x : s.Fault) → s.read (rest_of input) ≡ s.Refused x →
+      IsRefusedAt 6 (fault_code x) input (rest_begins input + fault_place x) status output → SourceAnswer input status output
+  of_schedule : (flat : f.Flat) → IsAccepted (source_of input) flat → (schedule : List ℕ) → s.read (rest_of input) ≡ s.Steps schedule →
+      RunAnswer flat schedule status output → SourceAnswer input status output
 
 -- ---- `compile`
 
 -- what a source is answered: the bytes of its object
 pub data CompileAnswer (source : List ℕ) (status : ℕ) (output : List ℕ) : Type 0 where
-  uncompiled : (found : r.Rule) (place : Place) → IsRefusedBy source found place → IsRefusedAt 1 (code_of found) source place.0 status output → CompileAnswer source status output
-  compiled : (flat : f.Flat) → IsAccepted source flat → (object : Object) (marks : Marks) (cuts : Cuts) → IsTranslated flat object marks cuts → status ≡ 0 → output ≡ spelling (contents_of object) → CompileAnswer source status output
+  uncompiled : (found : r.Rule) (place : Place) → IsRefusedBy source found place → IsRefusedAt 1 (code_of found) source place.0 status output →
+      CompileAnswer source status output
+  compiled : (flat : f.Flat) → IsAccepted source flat → (object : Object) (marks : Marks) (cuts : Cuts) → IsTranslated flat object marks cuts → status ≡ 0 →
+      output ≡ spelling (contents_of object) → CompileAnswer source status output
 
 -- ---- `regions`
 
 -- what a source is answered: the nodes of its graph, and the boundaries that are chosen among them
 pub data RegionsAnswer (source : List ℕ) (status : ℕ) (output : List ℕ) : Type 0 where
-  uncut : (found : r.Rule) (place : Place) → IsRefusedBy source found place → IsRefusedAt 1 (code_of found) source place.0 status output → RegionsAnswer source status output
-  cut : (flat : f.Flat) → IsAccepted source flat → (object : Object) (marks : Marks) (cuts : Cuts) → IsTranslated flat object marks cuts → status ≡ 0 → output ≡ regions source (lowered flat) (boundaries_of cuts) flat.threads → RegionsAnswer source status output
+  uncut : (found : r.Rule) (place : Place) → IsRefusedBy source found place → IsRefusedAt 1 (code_of found) source place.0 status output →
+      RegionsAnswer source status output
+  cut : (flat : f.Flat) → IsAccepted source flat → (object : Object) (marks : Marks) (cuts : Cuts) → IsTranslated flat object marks cuts → status ≡ 0 →
+      output ≡ regions source (lowered flat) (boundaries_of cuts) flat.threads → RegionsAnswer source status output
 
 -- ---- `play` and `image`
 
 -- what an input of a source and a script is answered, by what is to be said of a translation and the script's events
-pub data ScriptedAnswer (Says : Translation → List Event → (status : ℕ) → (output : List ℕ) → Type 0) (input : List ℕ) (status : ℕ) (output : List ℕ) : Type 0 where
-  unplayed : (found : r.Rule) (place : Place) → IsRefusedBy (source_of input) found place → IsRefusedAt 1 (code_of found) (source_of input) place.0 status output → ScriptedAnswer Says input status output
-  no_script : (flat : f.Flat) → IsAccepted (source_of input) flat → (x : e.Fault) → e.read (length flat.threads) (rest_of input) ≡ e.Refused x → IsRefusedAt 6 (script_fault_code x) input (rest_begins input + script_fault_place x) status output → ScriptedAnswer Says input status output
-  of_script : (flat : f.Flat) → IsAccepted (source_of input) flat → (lines : List e.Line) → e.read (length flat.threads) (rest_of input) ≡ e.Lines lines → (c : Translation) → IsTranslationOf flat c → ScriptAnswer c (Says c) lines input (rest_begins input) status output → ScriptedAnswer Says input status output
+pub data ScriptedAnswer (Says : Translation → List Event → (status : ℕ) → (output : List ℕ) → Type 0) (input : List ℕ) (status : ℕ)
+    (output : List ℕ) : Type 0 where
+  unplayed : (found : r.Rule) (place : Place) → IsRefusedBy (source_of input) found place →
+      IsRefusedAt 1 (code_of found) (source_of input) place.0 status output → ScriptedAnswer Says input status output
+  no_script : (flat : f.Flat) → IsAccepted (source_of input) flat → (x : e.Fault) → e.read (length flat.threads) (rest_of input) ≡ e.Refused x →
+      IsRefusedAt 6 (script_fault_code x) input (rest_begins input + script_fault_place x) status output → ScriptedAnswer Says input status output
+  of_script : (flat : f.Flat) → IsAccepted (source_of input) flat → (lines : List e.Line) → e.read (length flat.threads) (rest_of input) ≡ e.Lines lines →
+      (c : Translation) → IsTranslationOf flat c →
+      ScriptAnswer c (Says c) (record { lines = lines; input = input; begins = rest_begins input }) status output → ScriptedAnswer Says input status output
 
 -- the report of the script's run
 abbrev pub PlayAnswer : (input : List ℕ) → (status : ℕ) → (output : List ℕ) → Type 0
@@ -113,13 +119,15 @@ file_in image = record { words = image.words.items; kept = image.schedule.items 
 -- what an input of an image is answered: its first fault, or what is said of a run that goes on from it
 pub data RecoverAnswer (turns : ℕ) (input : List ℕ) (status : ℕ) (output : List ℕ) : Type 0 where
   no_image : (error : ImageError) → IsImageAnswer input (Err error) → status ≡ 6 → image_line error ≡ Some output → RecoverAnswer turns input status output
-  of_image : (image : i.Image) → IsImageAnswer input (Ok image) → IsRecovery (translation_in image.compiled) (file_in image) turns status output → RecoverAnswer turns input status output
+  of_image : (image : i.Image) → IsImageAnswer input (Ok image) → IsRecovery (translation_in image.compiled) (file_in image) turns status output →
+      RecoverAnswer turns input status output
 
 -- ---- `list`
 
 -- what an input of an object is answered: its listing, or its first fault
 pub data ListAnswer (input : List ℕ) (status : ℕ) (output : List ℕ) : Type 0 where
-  no_object : (fault : o.Fault) → o.read input ≡ Err fault → status ≡ 6 → output ≡ line_at_byte (object_fault_code fault) (object_fault_place fault) → ListAnswer input status output
+  no_object : (fault : o.Fault) → o.read input ≡ Err fault → status ≡ 6 → output ≡ line_at_byte (object_fault_code fault) (object_fault_place fault) →
+      ListAnswer input status output
   of_object : (object : Contents) → o.read input ≡ Ok object → status ≡ 0 → output ≡ listing object.code → ListAnswer input status output
 
 -- ---- All commands
@@ -168,8 +176,10 @@ pub data IsAnswered (words : List (List ℕ)) (o : Outside) (status : ℕ) : Typ
   -- the answer, and all of it
   answered : (output : List ℕ) → IsAnswer words o.left status output → Adds o.written_before o.written output → IsAnswered words o status
   -- words were taken, the source failed, and nothing was written
-  source_failed : IsSome (command_of words) → status ≡ 4 → Rose o.source_faults_before o.source_faults → Adds o.written_before o.written [] → IsAnswered words o status
+  source_failed : IsSome (command_of words) → status ≡ 4 → Rose o.source_faults_before o.source_faults → Adds o.written_before o.written [] →
+      IsAnswered words o status
   -- the sink failed, and a front of the answer was written
-  sink_failed : (output : List ℕ) (answer : ℕ) → status ≡ 5 → Rose o.sink_faults_before o.sink_faults → IsAnswer words o.left answer output → AddsFront o.written_before o.written output → IsAnswered words o status
+  sink_failed : (output : List ℕ) (answer : ℕ) → status ≡ 5 → Rose o.sink_faults_before o.sink_faults → IsAnswer words o.left answer output →
+      AddsPrefix o.written_before o.written output → IsAnswered words o status
   -- want of memory, and nothing was written
   no_memory : status ≡ 7 → Adds o.written_before o.written [] → IsAnswered words o status

@@ -3,9 +3,11 @@ use Rattle.std.specs.Prelude.{ℕ, suc, ◌+◌, ◌-◌, ◌/◌, ◌%◌, ◌^
 use Rattle.std.specs.Fmt.{digits, signed_decimal}
 use Rattle.rv64_isa.specs.Rows.{displaced}
 use Rattle.rv64_isa.specs.declared.instr.Instr.{Instr}
-use Rattle.rv64_isa.specs.declared.instr.Instr.TheVariants.{Lui, Auipc, Jal, Jalr, Branch, Load, Store, OpImmediate, ShiftImmediate, ShiftImmediateWord, Op, CboClean, Fence, Ecall}
+use Rattle.rv64_isa.specs.declared.instr.Instr.TheVariants.{Lui, Auipc, Jal, Jalr, Branch, Load, Store, OpImmediate}
+use Rattle.rv64_isa.specs.declared.instr.Instr.TheVariants.{ShiftImmediate, ShiftImmediateWord, Op, CboClean, Fence, Ecall}
 use Rattle.rv64_isa.specs.declared.instr.Operation.{Operation}
-use Rattle.rv64_isa.specs.declared.instr.Operation.TheVariants.{Add, Sub, Sll, Slt, Sltu, Xor, Srl, Sra, Or, And, Mul, Mulh, Mulhsu, Mulhu, Div, Divu, Rem, Remu, Addw, Subw, Sllw, Srlw, Sraw, Mulw, Divw, Divuw, Remw, Remuw}
+use Rattle.rv64_isa.specs.declared.instr.Operation.TheVariants.{Add, Sub, Sll, Slt, Sltu, Xor, Srl, Sra, Or, And, Mul, Mulh, Mulhsu, Mulhu, Div}
+use Rattle.rv64_isa.specs.declared.instr.Operation.TheVariants.{Divu, Rem, Remu, Addw, Subw, Sllw, Srlw, Sraw, Mulw, Divw, Divuw, Remw, Remuw}
 use Rattle.rv64_isa.specs.declared.instr.ImmediateOperation.{ImmediateOperation}
 use Rattle.rv64_isa.specs.declared.instr.ImmediateOperation.TheVariants.{Addi, Slti, Sltiu, Xori, Ori, Andi, Addiw}
 use Rattle.rv64_isa.specs.declared.instr.ShiftOperation.{ShiftOperation}
@@ -124,7 +126,8 @@ of_three name first second third = name ++ codes " " ++ register first ++ codes 
 
 -- `ld x5, 0(x28)`: a name, a register, and a base with its offset
 unfoldable pub of_base : (name : List ℕ) → (first base offset : ℕ) → List ℕ
-of_base name first base offset = name ++ codes " " ++ register first ++ codes ", " ++ signed_decimal (signed 12 offset) ++ codes "(" ++ register base ++ codes ")"
+of_base name first base offset =
+    name ++ codes " " ++ register first ++ codes ", " ++ signed_decimal (signed 12 offset) ++ codes "(" ++ register base ++ codes ")"
 
 -- `lui x5, 0x20000`
 unfoldable pub of_upper : (name : List ℕ) → (rd immediate : ℕ) → List ℕ

@@ -31,7 +31,8 @@ TakesScript (Some command.Source) = ⊥
 TakesScript (Some command.Image) = Unit {0}
 TakesScript (Some (command.Recover turns)) = ⊥
 
--- What is said stands on no compilation: the command compiles nothing, or what it is asked is refused before, since the input is past the limits, its source breaks
+-- What is said stands on no compilation: the command compiles nothing, or what it is asked is refused before, since the input is past the limits, its source
+-- breaks
 -- a rule, which status 1 says, or its script isn't spelled as one.
 pub data IsUncompiled (c : Option Command) (input : List ℕ) (status : ℕ) : Type 0 where
   plain : IsPlain c → IsUncompiled c input status

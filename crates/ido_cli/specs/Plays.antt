@@ -1,6 +1,7 @@
 -- What is said of a run of a compiled source by a script.
 use Rattle.std.specs.Prelude.{◌≡◌, ℕ, ◌+◌, ◌/◌, ◌<◌, ◌≤◌, List, [], length, true, Some, codes}
 use Rattle.ido_base.specs.declared.event.Event.{Event}
+use Rattle.ido_base.specs.declared.limits.TheConstants.{MOST_EVENTS}
 use Rattle.c_tree.specs.Flats as f
 use Rattle.c_tree.specs.Source.{start, after_from, is_between, runs_from}
 use Rattle.rv64_isa.specs.declared.object.Object.{Object}
@@ -10,7 +11,7 @@ use Rattle.flat_compile.specs.Translating.{IsTranslated}
 use Rattle.compilation.specs.Translations.{Translation, first_world, world, steps}
 use Rattle.compilation.specs.Compilation.{AreSectionsKept}
 use Rattle.compilation.specs.Compilations.{IsCompilation}
-use Rattle.run_scripts.specs.Plays.{script_events, excess_at, most_events}
+use Rattle.run_scripts.specs.Plays.{script_events, excess_at}
 use Rattle.run_scripts.specs.Reports.{report}
 use Rattle.run_scripts.specs.Scripts.{Line}
 use Rattle.run_tracker.specs.Lives.{Moment, living}
@@ -52,9 +53,16 @@ pub record IsRunBy (c : Translation) (events : List Event) (status : ℕ) (outpu
   pub settled : status ≡ 0 → IsSourceRun c.flat (steps c events).kept output
   pub sections : AreSectionsKept c events
 
--- What a script is answered that begins at a place of an input: a refusal exactly where its lines make more than 4,000,000 events, at the line whose events
--- are the first past that, else what is to be said of its events.
-pub data ScriptAnswer (c : Translation) (Says : List Event → (status : ℕ) → (output : List ℕ) → Type 0) (lines : List Line) (input : List ℕ) (begins status : ℕ) (output : List ℕ) : Type 0 where
-  too_long : most_events < length (events_by c lines) → (place : ℕ) → excess_at living (beginning c) most_events lines ≡ Some place →
-      IsRefusedAt 6 (codes "E1") input (begins + place) status output → ScriptAnswer c Says lines input begins status output
-  ran : length (events_by c lines) ≤ most_events → Says (events_by c lines) status output → ScriptAnswer c Says lines input begins status output
+-- a script that begins at a place of an input
+pub record PlacedScript : Type 0 where
+  pub lines : List Line
+  pub input : List ℕ
+  pub begins : ℕ
+
+-- What it is answered: a refusal exactly where its lines make more than 4,000,000 events, at the line whose events are the first past that, else what is to
+-- be said of its events.
+pub data ScriptAnswer (c : Translation) (Says : List Event → (status : ℕ) → (output : List ℕ) → Type 0) (script : PlacedScript) (status : ℕ)
+    (output : List ℕ) : Type 0 where
+  too_long : MOST_EVENTS < length (events_by c script.lines) → (place : ℕ) → excess_at living (beginning c) MOST_EVENTS script.lines ≡ Some place →
+      IsRefusedAt 6 (codes "E1") script.input (script.begins + place) status output → ScriptAnswer c Says script status output
+  ran : length (events_by c script.lines) ≤ MOST_EVENTS → Says (events_by c script.lines) status output → ScriptAnswer c Says script status output

@@ -1,5 +1,6 @@
 -- The listing of a graph: its nodes, and the boundaries that are chosen among them.
-use Rattle.std.specs.Prelude.{ℕ, zero, suc, ◌+◌, ◌-◌, List, [], ◌∷◌, ◌++◌, codes, decimal, slice_index_or, slice_get, Option, Some, None, Bool, true, false, not, ◌&&◌}
+use Rattle.std.specs.Prelude.{ℕ, zero, suc, ◌+◌, ◌-◌, List, [], ◌∷◌, ◌++◌, codes, decimal, slice_index_or}
+use Rattle.std.specs.Prelude.{slice_get, Option, Some, None, Bool, true, false, not, ◌&&◌}
 use Rattle.ido_base.specs.Places.{column_of, line_of}
 use Rattle.c_tree.specs.Flats.{Thread}
 use Rattle.flow_graph.specs.declared.graph.Part.{Part}
@@ -34,7 +35,8 @@ cut_mark false = []
 -- `2 store 1:56 cut`
 unfoldable pub node_line : (text : List ℕ) → (number : ℕ) → Node → (chosen : Bool) → List ℕ
 node_line text number x chosen =
-    line (decimal number ++ codes " " ++ action_name x.action ++ codes " " ++ decimal (line_of text x.place.0) ++ codes ":" ++ decimal (column_of text x.place.0) ++ cut_mark chosen)
+    line (decimal number ++ codes " " ++ action_name x.action ++ codes " " ++ decimal (line_of text x.place.0) ++ codes ":"
+    ++ decimal (column_of text x.place.0) ++ cut_mark chosen)
 
 abbrev pub line_at : (text : List ℕ) → Boundaries → (number : ℕ) → Option Node → List ℕ
 line_at text b number None = []

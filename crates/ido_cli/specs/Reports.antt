@@ -29,4 +29,5 @@ machine_state x w kept = record {
 
 -- the elements of a variable whose first one stands at this byte of the variables
 abbrev pub durable_elements : List Word → p.Variable → (first : ℕ) → List ℤ
-durable_elements words v first = map (λ element. number_of_byte durable_value words v.kind (first + bytes_of v.kind * element)) (numbers_from 0 (elements_in v.length))
+durable_elements words v first =
+    map (λ element. number_of_byte durable_value words v.kind (first + bytes_of v.kind * element)) (numbers_from 0 (elements_in v.length))

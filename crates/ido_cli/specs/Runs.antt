@@ -45,7 +45,8 @@ pub record IsReport (s : r.State) (status : ℕ) (output : List ℕ) : Type 0 wh
 -- what is said of a schedule: the report of its run, or the first step that can't be made
 pub data RunAnswer (x : f.Flat) (schedule : List ℕ) (status : ℕ) (output : List ℕ) : Type 0 where
   ran : runs_from (start x) schedule ≡ true → IsReport (run_state x schedule) status output → RunAnswer x schedule status output
-  stopped : (stop : Refused) → IsRefused stop (start x) schedule → status ≡ 6 → output ≡ line_at_step (stop_code stop.kind) stop.step → RunAnswer x schedule status output
+  stopped : (stop : Refused) → IsRefused stop (start x) schedule → status ≡ 6 → output ≡ line_at_step (stop_code stop.kind) stop.step →
+      RunAnswer x schedule status output
 
 -- ---- As the code finds it
 

@@ -1,7 +1,8 @@
 //! The answer to an input.
 ghost use Rattle.std.specs.Prelude.{◌≤◌, length, IfOk};
+ghost use Rattle.ido_base.specs.declared.limits.TheConstants.{MOST_INPUT_BYTES};
 ghost use Rattle.ido_cli.specs.declared.command.Command.TheVariants as command;
-ghost use Rattle.ido_cli.specs.Answers.{AnswerToInput, most_bytes};
+ghost use Rattle.ido_cli.specs.Answers.{AnswerToInput};
 ghost use Rattle.ido_cli.specs.links.Asking.{command_asking};
 
 use crate::command::Command;
@@ -14,15 +15,13 @@ use crate::refusal::refused;
 use crate::regions::regions_answer;
 use crate::said::Said;
 use crate::source::source_answer;
-use ido_base::memory::Memory;
+use ido_base::limits::MOST_SOURCE_BYTES;
+use ido_base::memory::OutOfMemory;
 use std::alloc::Global;
 
-/// Bytes of a source text.
-const MOST_SOURCE_BYTES: usize = 1_048_576;
-
 /// The answer to an input of `compile`.
-fn compile_input(alloc: Global, input: &[u8]) -> Result<Said, Memory>
-    requires { length input.now ≤ most_bytes }
+fn compile_input(alloc: Global, input: &[u8]) -> Result<Said, OutOfMemory>
+    requires { length input.now ≤ MOST_INPUT_BYTES }
     ensures { IfOk result (λ said. AnswerToInput command.Compile input.now said.status said.output.items) }
 {
     if input.len() > MOST_SOURCE_BYTES {
@@ -32,8 +31,8 @@ fn compile_input(alloc: Global, input: &[u8]) -> Result<Said, Memory>
 }
 
 /// The answer to an input of `regions`.
-fn regions_input(alloc: Global, input: &[u8]) -> Result<Said, Memory>
-    requires { length input.now ≤ most_bytes }
+fn regions_input(alloc: Global, input: &[u8]) -> Result<Said, OutOfMemory>
+    requires { length input.now ≤ MOST_INPUT_BYTES }
     ensures { IfOk result (λ said. AnswerToInput command.Regions input.now said.status said.output.items) }
 {
     if input.len() > MOST_SOURCE_BYTES {
@@ -43,8 +42,8 @@ fn regions_input(alloc: Global, input: &[u8]) -> Result<Said, Memory>
 }
 
 /// The answer to an input of `play` or of `image`.
-fn scripted_input(alloc: Global, asked: Asked, input: &[u8]) -> Result<Said, Memory>
-    requires { length input.now ≤ most_bytes }
+fn scripted_input(alloc: Global, asked: Asked, input: &[u8]) -> Result<Said, OutOfMemory>
+    requires { length input.now ≤ MOST_INPUT_BYTES }
     ensures { IfOk result (λ said. AnswerToInput (command_asking asked) input.now said.status said.output.items) }
 {
     let (source, script) = split(input);
@@ -55,8 +54,8 @@ fn scripted_input(alloc: Global, asked: Asked, input: &[u8]) -> Result<Said, Mem
 }
 
 /// The answer to an input of `source`.
-fn source_input(alloc: Global, input: &[u8]) -> Result<Said, Memory>
-    requires { length input.now ≤ most_bytes }
+fn source_input(alloc: Global, input: &[u8]) -> Result<Said, OutOfMemory>
+    requires { length input.now ≤ MOST_INPUT_BYTES }
     ensures { IfOk result (λ said. AnswerToInput command.Source input.now said.status said.output.items) }
 {
     let (source, schedule) = split(input);
@@ -67,8 +66,8 @@ fn source_input(alloc: Global, input: &[u8]) -> Result<Said, Memory>
 }
 
 /// The answer to an input of a command.
-pub fn answer(alloc: Global, command: Command, input: &[u8]) -> Result<Said, Memory>
-    requires { length input.now ≤ most_bytes }
+pub fn answer(alloc: Global, command: Command, input: &[u8]) -> Result<Said, OutOfMemory>
+    requires { length input.now ≤ MOST_INPUT_BYTES }
     ensures { IfOk result (λ said. AnswerToInput command input.now said.status said.output.items) }
 {
     match command {

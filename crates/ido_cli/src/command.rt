@@ -8,7 +8,7 @@ ghost use Rattle.ido_cli.specs.Commands.{command_by_name, command_of, recover_sh
 
 use clap::error::ErrorKind;
 use clap::{Arg, ArgMatches};
-use ido_base::memory::Memory;
+use ido_base::memory::OutOfMemory;
 use std::alloc::{AllocError, Global};
 
 /// A command of the program.
@@ -94,7 +94,7 @@ fn command_by_name(name: &str, matches: &ArgMatches) -> Option<Command>
 }
 
 /// The command that words name, the program's name first; none where they aren't taken.
-pub fn command_of(alloc: Global, words: &[String]) -> Result<Option<Command>, Memory>
+pub fn command_of(alloc: Global, words: &[String]) -> Result<Option<Command>, OutOfMemory>
     ensures { IfOk result (λ c. c ≡ command_of (map string_bytes words.now)) }
 {
     match table(alloc)?.try_get_matches_from(words) {
@@ -103,7 +103,7 @@ pub fn command_of(alloc: Global, words: &[String]) -> Result<Option<Command>, Me
             None => Ok(None),
         },
         Err(error) => match error.kind() {
-            ErrorKind::OutOfMemory => Err(Memory),
+            ErrorKind::OutOfMemory => Err(OutOfMemory),
             _ => Ok(None),
         },
     }

@@ -1,6 +1,7 @@
 //! The variables that a crash would leave.
 ghost use Rattle.std.specs.Prelude.{◌≡◌, ◌+◌, ◌*◌, ◌<◌, ◌≤◌, IfOk, map};
 ghost use Rattle.ido_base.specs.Words.{durable_value};
+ghost use Rattle.ido_base.specs.declared.limits.TheConstants.{MOST_VARIABLE_BYTES};
 ghost use Rattle.ido_ints.specs.Kinds.{bytes_of};
 ghost use Rattle.c_tree.specs.Programs.{variable_of};
 ghost use Rattle.c_tree.specs.WellFormed.{elements_in};
@@ -8,11 +9,11 @@ ghost use Rattle.resumption.specs.Elements.{number_in};
 ghost use Rattle.run_tracker.specs.Lives.{world_of};
 ghost use Rattle.variable_layout.specs.Placing.{HaveRoom};
 ghost use Rattle.variable_words.specs.Variables.{durable_variables, number_of_byte};
-ghost use Rattle.run_scripts.specs.ReportViews as views;
+ghost use Rattle.run_scripts.specs.links.ReportViews as views;
 ghost use Rattle.ido_cli.specs.Runs.{named, variable_with};
 ghost use Rattle.ido_cli.specs.Reports.{durable_elements};
 
-use ido_base::memory::Memory;
+use ido_base::memory::OutOfMemory;
 use ido_ints::{Kind, Value};
 use log_layout::variables::VARIABLES_BASE;
 use run_scripts::report::Variable;
@@ -32,7 +33,7 @@ fn number_in(word: u64, kind: Kind, byte: u32) -> i128
 /// The number of an element of this kind that stands at this byte of the variables, as a crash would leave it.
 #[tactic(auto, using(crate::proofs::DurableNumbers::word_of_byte))]
 fn durable_number(life: &Life, kind: Kind, byte: u32) -> i128
-    requires { byte < 65536 }
+    requires { byte < MOST_VARIABLE_BYTES }
     ensures { result ≡ number_of_byte durable_value (world_of life.now).words kind byte }
 {
     let word = life.durable_word(byte / 64, byte % 64 / 8);
@@ -45,8 +46,8 @@ fn durable_elements(
     life: &Life,
     declared: &c_tree::program::Variable,
     first: u32,
-) -> Result<Vec<i128>, Memory>
-    requires { first + bytes_of declared.now.kind * elements_in declared.now.length ≤ 65536 }
+) -> Result<Vec<i128>, OutOfMemory>
+    requires { first + bytes_of declared.now.kind * elements_in declared.now.length ≤ MOST_VARIABLE_BYTES }
     ensures { IfOk result (λ numbers. numbers.items ≡ durable_elements (world_of life.now).words (variable_of declared.now) first) }
 {
     let size = declared.kind.bytes();
@@ -63,8 +64,8 @@ fn durable_variable(
     life: &Life,
     declared: &c_tree::program::Variable,
     first: u32,
-) -> Result<Variable, Memory>
-    requires { first + bytes_of declared.now.kind * elements_in declared.now.length ≤ 65536 }
+) -> Result<Variable, OutOfMemory>
+    requires { first + bytes_of declared.now.kind * elements_in declared.now.length ≤ MOST_VARIABLE_BYTES }
     ensures { IfOk result (λ x. views.variable_of x ≡
         variable_with (variable_of declared.now) (durable_elements (world_of life.now).words (variable_of declared.now) first)) }
 {
@@ -79,7 +80,7 @@ pub fn durable(
     alloc: Global,
     life: &Life,
     declared: &[c_tree::program::Variable],
-) -> Result<Vec<Variable>, Memory>
+) -> Result<Vec<Variable>, OutOfMemory>
     requires { HaveRoom (map variable_of declared.now) }
     ensures { IfOk result (λ found. map views.variable_of found.items ≡
         named (map variable_of declared.now) (durable_variables (world_of life.now).words (map variable_of declared.now))) }

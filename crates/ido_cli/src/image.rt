@@ -1,24 +1,30 @@
 //! What a crash would leave of a life, as the bytes of an image.
 ghost use Rattle.std.specs.Prelude.{◌≡◌, ◌+◌, ◌/◌, ◌≤◌, drop, length, take, IfOk};
-ghost use Rattle.crash_images.specs.Contents.{contents, most_logs, most_source, most_steps, most_variables};
+ghost use Rattle.ido_base.specs.declared.limits.TheConstants.{MOST_SOURCE_BYTES, VARIABLE_WORDS, MOST_STEPS};
+ghost use Rattle.crash_images.specs.Contents.{contents, most_logs};
 ghost use Rattle.crash_images.specs.Spelling.{spelling};
 ghost use Rattle.run_tracker.specs.Lives.{left_words, steps_in, world_of};
 
 use crate::said::Said;
 use crash_images::writing::write_image;
-use ido_base::memory::Memory;
+use ido_base::memory::OutOfMemory;
 use run_tracker::life::Life;
 use rv64_isa::object::Object;
 use std::alloc::Global;
 
 /// The image that a crash would leave now of the life of a source's object.
-pub fn image(alloc: Global, source: &[u8], object: &Object, life: &Life) -> Result<Said, Memory>
-    requires source { length source.now ≤ most_source }
-    requires variables { life.now.variable_words ≤ most_variables }
+pub fn image(
+    alloc: Global,
+    source: &[u8],
+    object: &Object,
+    life: &Life,
+) -> Result<Said, OutOfMemory>
+    requires source { length source.now ≤ MOST_SOURCE_BYTES }
+    requires variables { life.now.variable_words ≤ VARIABLE_WORDS }
     requires object { life.now.variable_words ≡ length object.now.initial.items / 8 }
     requires within { life.now.variable_words ≤ length (left_words life.now.variable_words (world_of life.now).words) }
     requires logs { length (left_words life.now.variable_words (world_of life.now).words) ≤ life.now.variable_words + most_logs }
-    requires schedule { length (steps_in life.now).kept ≤ most_steps }
+    requires schedule { length (steps_in life.now).kept ≤ MOST_STEPS }
     ensures status { IfOk result (λ said. said.status ≡ 0) }
     ensures output { IfOk result (λ said.
         let words = left_words life.now.variable_words (world_of life.now).words in

@@ -7,13 +7,13 @@ use crate::mnemonic::{
     condition_name, immediate_name, load_name, operation_name, shift_name, store_name,
     word_shift_name,
 };
-use ido_base::memory::Memory;
+use ido_base::memory::OutOfMemory;
 use rv64_isa::field::{BranchOffset, Immediate, JumpOffset, Register, UpperImmediate};
 use rv64_isa::instr::Instr;
 use std::alloc::Global;
 
 /// Adds bytes.
-pub fn put(out: &mut Vec<u8>, bytes: &[u8]) -> Result<(), Memory>
+pub fn put(out: &mut Vec<u8>, bytes: &[u8]) -> Result<(), OutOfMemory>
     ensures { OnOk result (out.new.items ≡ out.old.items ++ bytes.now) }
 {
     out.extend_from_slice(bytes)?;
@@ -91,7 +91,7 @@ fn put_three(
     name: &str,
     registers: (Register, Register),
     third: &[u8],
-) -> Result<(), Memory>
+) -> Result<(), OutOfMemory>
     ensures { OnOk result (out.new.items ≡ out.old.items ++ of_three name.now registers.0 registers.1 third.now) }
 {
     let first = registers.0.number();
@@ -108,7 +108,7 @@ fn put_immediate(
     name: &str,
     registers: (Register, Register),
     immediate: Immediate,
-) -> Result<(), Memory>
+) -> Result<(), OutOfMemory>
     ensures { OnOk result (out.new.items ≡ out.old.items ++ of_three name.now registers.0 registers.1 (signed_decimal (signed 12 immediate))) }
 {
     let number = signed(immediate);
@@ -123,7 +123,7 @@ fn put_count(
     name: &str,
     registers: (Register, Register),
     count: u8,
-) -> Result<(), Memory>
+) -> Result<(), OutOfMemory>
     ensures { OnOk result (out.new.items ≡ out.old.items ++ of_three name.now registers.0 registers.1 (decimal count)) }
 {
     let text = format!(in alloc; "{count}")?;
@@ -137,7 +137,7 @@ fn put_registers(
     name: &str,
     registers: (Register, Register),
     third: Register,
-) -> Result<(), Memory>
+) -> Result<(), OutOfMemory>
     ensures { OnOk result (out.new.items ≡ out.old.items ++ of_three name.now registers.0 registers.1 (register third)) }
 {
     let number = third.number();
@@ -153,7 +153,7 @@ fn put_base(
     name: &str,
     registers: (Register, Register),
     offset: Immediate,
-) -> Result<(), Memory>
+) -> Result<(), OutOfMemory>
     ensures { OnOk result (out.new.items ≡ out.old.items ++ of_base name.now registers.0 registers.1 offset) }
 {
     let first = registers.0.number();
@@ -171,7 +171,7 @@ fn put_upper(
     name: &str,
     rd: Register,
     immediate: UpperImmediate,
-) -> Result<(), Memory>
+) -> Result<(), OutOfMemory>
     ensures { OnOk result (out.new.items ≡ out.old.items ++ of_upper name.now rd immediate) }
 {
     let rd = rd.number();
@@ -188,7 +188,7 @@ fn put_jump(
     address: u32,
     rd: Register,
     offset: JumpOffset,
-) -> Result<(), Memory>
+) -> Result<(), OutOfMemory>
     ensures { OnOk result (out.new.items ≡ out.old.items ++ of_jump address rd offset) }
 {
     let rd = rd.number();
@@ -199,7 +199,7 @@ fn put_jump(
 
 /// Adds `cbo.clean (x31)`.
 #[tactic(auto, unfolding(crate::specs::Instructions::of_clean))]
-fn put_clean(alloc: Global, out: &mut Vec<u8>, rs1: Register) -> Result<(), Memory>
+fn put_clean(alloc: Global, out: &mut Vec<u8>, rs1: Register) -> Result<(), OutOfMemory>
     ensures { OnOk result (out.new.items ≡ out.old.items ++ of_clean rs1) }
 {
     let rs1 = rs1.number();
@@ -213,7 +213,7 @@ pub fn put_instruction(
     out: &mut Vec<u8>,
     address: u32,
     instr: Instr,
-) -> Result<(), Memory>
+) -> Result<(), OutOfMemory>
     ensures { OnOk result (out.new.items ≡ out.old.items ++ instruction_text address instr) }
 {
     match instr {

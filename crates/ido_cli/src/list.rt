@@ -1,19 +1,20 @@
 //! The command `list`: the listing of an object.
 ghost use Rattle.std.specs.Prelude.{◌≡◌, ◌≤◌, length, IfOk};
-ghost use Rattle.ido_cli.specs.Answers.{ListAnswer, most_bytes};
+ghost use Rattle.ido_base.specs.declared.limits.TheConstants.{MOST_INPUT_BYTES};
+ghost use Rattle.ido_cli.specs.Answers.{ListAnswer};
 
 use crate::listing::listing;
 use crate::refusal::{VERSION_PLACE, refused_at_byte};
 use crate::said::Said;
-use ido_base::memory::Memory;
+use ido_base::memory::OutOfMemory;
 use ido_base::place::Place;
 use object_format::error::ReadError;
 use object_format::reading::read_object;
 use std::alloc::Global;
 
 /// The answer to an input of `list`.
-pub fn list_answer(alloc: Global, input: &[u8]) -> Result<Said, Memory>
-    requires { length input.now ≤ most_bytes }
+pub fn list_answer(alloc: Global, input: &[u8]) -> Result<Said, OutOfMemory>
+    requires { length input.now ≤ MOST_INPUT_BYTES }
     ensures { IfOk result (λ said. ListAnswer input.now said.status said.output.items) }
 {
     match read_object(alloc, input) {
@@ -26,6 +27,6 @@ pub fn list_answer(alloc: Global, input: &[u8]) -> Result<Said, Memory>
         Err(ReadError::Cut(place)) => refused_at_byte(alloc, "O3", place),
         Err(ReadError::Field(place)) => refused_at_byte(alloc, "O4", place),
         Err(ReadError::Rest(place)) => refused_at_byte(alloc, "O5", place),
-        Err(ReadError::Memory) => Err(Memory),
+        Err(ReadError::Memory) => Err(OutOfMemory),
     }
 }

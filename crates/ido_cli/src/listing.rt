@@ -1,10 +1,11 @@
 //! Listings.
 ghost use Rattle.std.specs.Prelude.{◌≡◌, ◌≤◌, ◌+◌, ◌*◌, ◌++◌, ◌<◌, ◌^◌, length, map, IfOk, OnOk, All};
-ghost use Rattle.object_format.specs.Contents.{IsWithinLimits, contents_of, items_of, most_words, most_threads};
+ghost use Rattle.ido_base.specs.declared.limits.TheConstants.{MOST_THREADS, MOST_CODE_WORDS};
+ghost use Rattle.object_format.specs.Contents.{IsWithinLimits, contents_of, items_of};
 ghost use Rattle.ido_cli.specs.Listing.{word_line, word_lines, thread_line, thread_lines, listing};
 
 use crate::instruction::{hex_word, put, put_instruction};
-use ido_base::memory::Memory;
+use ido_base::memory::OutOfMemory;
 use rv64_isa::object::Object;
 use rv64_isa::word::decode;
 use std::alloc::Global;
@@ -14,7 +15,7 @@ const CODE_BASE: u32 = 0x0001_0000;
 
 /// Adds the line of a word.
 #[tactic(auto, unfolding(crate::specs::Listing::word_line))]
-fn put_word(alloc: Global, out: &mut Vec<u8>, address: u32, word: u32) -> Result<(), Memory>
+fn put_word(alloc: Global, out: &mut Vec<u8>, address: u32, word: u32) -> Result<(), OutOfMemory>
     ensures { OnOk result (out.new.items ≡ out.old.items ++ word_line address word) }
 {
     put(out, &hex_word(address))?;
@@ -28,7 +29,12 @@ fn put_word(alloc: Global, out: &mut Vec<u8>, address: u32, word: u32) -> Result
 }
 
 /// Adds the lines of words from an address on.
-fn put_words(alloc: Global, out: &mut Vec<u8>, address: u32, words: &[u32]) -> Result<(), Memory>
+fn put_words(
+    alloc: Global,
+    out: &mut Vec<u8>,
+    address: u32,
+    words: &[u32],
+) -> Result<(), OutOfMemory>
     requires { address + 4 * length words.now < 2 ^ 32 }
     ensures { OnOk result (out.new.items ≡ out.old.items ++ word_lines address words.now) }
 {
@@ -42,7 +48,7 @@ fn put_words(alloc: Global, out: &mut Vec<u8>, address: u32, words: &[u32]) -> R
 
 /// Adds the line of a thread.
 #[tactic(auto, unfolding(crate::specs::Listing::thread_line))]
-fn put_thread(alloc: Global, out: &mut Vec<u8>, thread: u32) -> Result<(), Memory>
+fn put_thread(alloc: Global, out: &mut Vec<u8>, thread: u32) -> Result<(), OutOfMemory>
     ensures { OnOk result (out.new.items ≡ out.old.items ++ thread_line thread) }
 {
     let text = format!(in alloc; "thread {thread}\n")?;
@@ -50,9 +56,9 @@ fn put_thread(alloc: Global, out: &mut Vec<u8>, thread: u32) -> Result<(), Memor
 }
 
 /// Adds the code of threads.
-fn put_code(alloc: Global, out: &mut Vec<u8>, code: &[Vec<u32>]) -> Result<(), Memory>
-    requires threads { length code.now ≤ most_threads }
-    requires words { All (λ words. length words.items ≤ most_words) code.now }
+fn put_code(alloc: Global, out: &mut Vec<u8>, code: &[Vec<u32>]) -> Result<(), OutOfMemory>
+    requires threads { length code.now ≤ MOST_THREADS }
+    requires words { All (λ words. length words.items ≤ MOST_CODE_WORDS) code.now }
     ensures { OnOk result (out.new.items ≡ out.old.items ++ listing (map items_of code.now)) }
 {
     let mut address = CODE_BASE;
@@ -69,7 +75,7 @@ fn put_code(alloc: Global, out: &mut Vec<u8>, code: &[Vec<u32>]) -> Result<(), M
 /// The listing of an object: for each thread the line `thread T`, and a line for each word with its
 /// address, the word and its instruction.
 #[tactic(auto, using(crate::proofs::Listed::few_threads, crate::proofs::Listed::few_words))]
-pub fn listing(alloc: Global, object: &Object) -> Result<Vec<u8>, Memory>
+pub fn listing(alloc: Global, object: &Object) -> Result<Vec<u8>, OutOfMemory>
     requires { IsWithinLimits (contents_of object.now) }
     ensures { IfOk result (λ text. text.items ≡ listing (contents_of object.now).code) }
 {

@@ -1,5 +1,6 @@
 //! The commands `play` and `image`: a run of the compiled source by a script.
 ghost use Rattle.std.specs.Prelude.{◌≡◌, ◌+◌, ◌≤◌, All, length, map, IfOk, IfSome, IsSome};
+ghost use Rattle.ido_base.specs.declared.limits.TheConstants.{MOST_INPUT_BYTES, MOST_SOURCE_BYTES};
 ghost use Rattle.c_tree.specs.Flats.{flat_of};
 ghost use Rattle.flat_compile.specs.Translating.{IsTranslated};
 ghost use Rattle.rv64_isa.specs.Machine.{IsEviction};
@@ -7,26 +8,23 @@ ghost use Rattle.run_scripts.specs.Scripts.{IsDoable};
 ghost use Rattle.run_scripts.specs.links.ScriptViews as scripts;
 ghost use Rattle.compilation.specs.Compilations.{IsCompilation};
 ghost use Rattle.ido_compile.specs.Compiling.{IsCompiled, translation_in};
-ghost use Rattle.ido_cli.specs.Answers.{ScriptedAnswer, most_bytes, most_source_bytes};
+ghost use Rattle.ido_cli.specs.Answers.{ScriptedAnswer};
 ghost use Rattle.ido_cli.specs.Inputs.{source_of, rest_of};
 ghost use Rattle.ido_cli.specs.Plays.{ScriptAnswer};
 ghost use Rattle.ido_cli.specs.Refusals.{IsRefusedAt, script_fault_code, script_fault_place};
 ghost use Rattle.ido_cli.specs.links.Asking.{Says};
-ghost use Rattle.ido_cli.specs.links.Uncompiled.{TellsRefusal};
 
 use crate::image::image;
-use crate::refusal::{code_of, refused_at};
+use crate::refusal::{refused_at, source_refused};
 use crate::report::say;
 use crate::said::Said;
-use ido_base::memory::Memory;
-use ido_compile::{CompileError, Compiled, compile};
+use ido_base::limits::MOST_EVENTS;
+use ido_base::memory::OutOfMemory;
+use ido_compile::{Compiled, compile};
 use run_scripts::play::play;
 use run_scripts::script::{Script, ScriptError, ScriptFault, read_script};
 use run_tracker::life::Life;
 use std::alloc::Global;
-
-/// Events that a script may have.
-const MOST_EVENTS: u64 = 4_000_000;
 
 /// What is asked of the run of a script.
 #[derive(Clone, Copy, Debug)]
@@ -45,14 +43,16 @@ fn script_answer(
     script: &Script,
     input: &[u8],
     begins: u64,
-) -> Result<Said, Memory>
-    requires short { length input.now ≤ most_bytes }
+) -> Result<Said, OutOfMemory>
+    requires short { length input.now ≤ MOST_INPUT_BYTES }
     requires within { begins ≤ length input.now }
     requires translated { IsTranslated (flat_of compiled.now.flat) compiled.now.object compiled.now.marks compiled.now.cuts }
     requires compilation { IsCompilation (translation_in compiled.now) }
-    requires short_source { length compiled.now.text.items ≤ most_source_bytes }
-    requires doable { All (λ line. IsDoable (length compiled.now.object.code.items) (IsEviction (length compiled.now.object.code.items)) line.command) script.now.lines.items }
-    ensures { IfOk result (λ said. ScriptAnswer (translation_in compiled.now) (Says asked compiled.now.text.items (translation_in compiled.now)) (map scripts.line_of script.now.lines.items) input.now begins said.status said.output.items) }
+    requires short_source { length compiled.now.text.items ≤ MOST_SOURCE_BYTES }
+    requires doable { All (λ line. IsDoable (length compiled.now.object.code.items) (IsEviction (length compiled.now.object.code.items)) line.command)
+        script.now.lines.items }
+    ensures { IfOk result (λ said. ScriptAnswer (translation_in compiled.now) (Says asked compiled.now.text.items (translation_in compiled.now))
+        (record { lines = map scripts.line_of script.now.lines.items; input = input.now; begins = begins }) said.status said.output.items) }
 {
     let mut life = Life::new(alloc, &compiled.object, &compiled.marks, MOST_EVENTS)?;
     match play(script, &mut life) {
@@ -70,8 +70,8 @@ fn script_refused(
     input: &[u8],
     begins: u64,
     error: ScriptError,
-) -> Result<Said, Memory>
-    requires short { length input.now ≤ most_bytes }
+) -> Result<Said, OutOfMemory>
+    requires short { length input.now ≤ MOST_INPUT_BYTES }
     requires within { begins ≤ length input.now }
     ensures fault { IfOk result (λ said. IsSome (scripts.refused_fault error)) }
     ensures said { IfOk result (λ said. IfSome (scripts.refused_fault error) (λ x.
@@ -82,7 +82,7 @@ fn script_refused(
         ScriptError::Refused(ScriptFault::Number(place)) => ("E3", place),
         ScriptError::Refused(ScriptFault::Hart(place)) => ("E4", place),
         ScriptError::Refused(ScriptFault::Line(place)) => ("E5", place),
-        ScriptError::Memory => return Err(Memory),
+        ScriptError::Memory => return Err(OutOfMemory),
     };
     refused_at(alloc, 6, code, input, begins + u64::from(place.0))
 }
@@ -94,10 +94,10 @@ fn compiled_answer(
     compiled: &Compiled,
     input: &[u8],
     rest: &[u8],
-) -> Result<Said, Memory>
-    requires short { length input.now ≤ most_bytes }
+) -> Result<Said, OutOfMemory>
+    requires short { length input.now ≤ MOST_INPUT_BYTES }
     requires rest { rest.now ≡ rest_of input.now }
-    requires short_source { length (source_of input.now) ≤ most_source_bytes }
+    requires short_source { length (source_of input.now) ≤ MOST_SOURCE_BYTES }
     requires compiled { IsCompiled (source_of input.now) compiled.now }
     ensures { IfOk result (λ said. ScriptedAnswer (Says asked (source_of input.now)) input.now said.status said.output.items) }
 {
@@ -108,19 +108,6 @@ fn compiled_answer(
     }
 }
 
-/// What is said of a source that isn't compiled.
-fn source_refused(alloc: Global, source: &[u8], error: CompileError) -> Result<Said, Memory>
-    requires { length source.now ≤ most_source_bytes }
-    ensures { IfOk result (λ said. TellsRefusal error source.now said.status said.output.items) }
-{
-    match error {
-        CompileError::Refused { rule, place } => {
-            refused_at(alloc, 1, code_of(rule), source, u64::from(place.0))
-        }
-        CompileError::Memory => Err(Memory),
-    }
-}
-
 /// The answer to an input of `play` or of `image`, from its source text and what stands behind it.
 pub fn scripted_answer(
     alloc: Global,
@@ -128,9 +115,9 @@ pub fn scripted_answer(
     input: &[u8],
     source: &[u8],
     rest: &[u8],
-) -> Result<Said, Memory>
-    requires short { length input.now ≤ most_bytes }
-    requires short_source { length source.now ≤ most_source_bytes }
+) -> Result<Said, OutOfMemory>
+    requires short { length input.now ≤ MOST_INPUT_BYTES }
+    requires short_source { length source.now ≤ MOST_SOURCE_BYTES }
     requires source { source.now ≡ source_of input.now }
     requires rest { rest.now ≡ rest_of input.now }
     ensures { IfOk result (λ said. ScriptedAnswer (Says asked (source_of input.now)) input.now said.status said.output.items) }

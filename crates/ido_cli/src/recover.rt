@@ -1,9 +1,10 @@
 //! The command `recover`: a run that goes on from what a crash has left.
 ghost use Rattle.std.specs.Prelude.{◌≡◌, ◌+◌, ◌*◌, ◌/◌, ◌≤◌, length, IfOk, Some};
+ghost use Rattle.ido_base.specs.declared.limits.TheConstants.{MOST_INPUT_BYTES};
 ghost use Rattle.c_tree.specs.Flats.{flat_of};
 ghost use Rattle.compilation.specs.Compilations.{IsCompilation};
 ghost use Rattle.flat_compile.specs.Translating.{IsTranslated};
-ghost use Rattle.ido_cli.specs.Answers.{RecoverAnswer, file_in, most_bytes};
+ghost use Rattle.ido_cli.specs.Answers.{RecoverAnswer, file_in};
 ghost use Rattle.ido_cli.specs.Recoveries.{IsRecovery};
 ghost use Rattle.ido_cli.specs.Refusals.{image_line};
 ghost use Rattle.ido_compile.specs.Compiling.{translation_in};
@@ -18,14 +19,14 @@ use crate::said::Said;
 use compilation::laws::images_are_crashes;
 use crash_images::error::ImageError;
 use crash_images::image::{Image, read_image};
-use ido_base::memory::Memory;
+use ido_base::memory::OutOfMemory;
 use ido_base::place::Place;
 use ido_compile::laws::files_begin;
 use run_tracker::life::Life;
 use std::alloc::Global;
 
 /// The refusal of bytes that are no image from which a run can go on.
-fn image_refused(alloc: Global, error: ImageError) -> Result<Said, Memory>
+fn image_refused(alloc: Global, error: ImageError) -> Result<Said, OutOfMemory>
     ensures status { IfOk result (λ said. said.status ≡ 6) }
     ensures output { IfOk result (λ said. image_line error ≡ Some said.output.items) }
 {
@@ -46,12 +47,12 @@ fn image_refused(alloc: Global, error: ImageError) -> Result<Said, Memory>
         ImageError::Slot { thread, register } => {
             refused_at_register(alloc, "I10", thread, register)
         }
-        ImageError::Memory => Err(Memory),
+        ImageError::Memory => Err(OutOfMemory),
     }
 }
 
 /// What is said of a run that goes on from an image by so many turns of each hart.
-fn recovered(alloc: Global, image: &Image, turns: u32) -> Result<Said, Memory>
+fn recovered(alloc: Global, image: &Image, turns: u32) -> Result<Said, OutOfMemory>
     requires translated { IsTranslated (flat_of image.now.compiled.flat) image.now.compiled.object image.now.compiled.marks image.now.compiled.cuts }
     requires compilation { IsCompilation (translation_in image.now.compiled) }
     requires words { length image.now.words.items ≡ length image.now.compiled.object.initial.items / 8 + 128 * length image.now.compiled.object.code.items }
@@ -73,8 +74,8 @@ fn recovered(alloc: Global, image: &Image, turns: u32) -> Result<Said, Memory>
 }
 
 /// The answer to an input of `recover`.
-pub fn recover_answer(alloc: Global, input: &[u8], turns: u32) -> Result<Said, Memory>
-    requires { length input.now ≤ most_bytes }
+pub fn recover_answer(alloc: Global, input: &[u8], turns: u32) -> Result<Said, OutOfMemory>
+    requires { length input.now ≤ MOST_INPUT_BYTES }
     ensures { IfOk result (λ said. RecoverAnswer turns input.now said.status said.output.items) }
 {
     match read_image(alloc, input) {

@@ -1,13 +1,17 @@
 //! Lines that say what is refused.
-ghost use Rattle.std.specs.Prelude.{◌≡◌, ◌<◌, ◌^◌, length, IfOk};
+ghost use Rattle.std.specs.Prelude.{◌≡◌, ◌<◌, ◌≤◌, ◌^◌, length, IfOk};
 ghost use Rattle.ido_base.specs.Places.{column_of, line_of};
-ghost use Rattle.ido_cli.specs.Refusals.{code_of, fault_code, fault_place, line_at, line_at_byte, line_at_register, line_at_step, line_at_thread, line_of_threads, stop_code};
+ghost use Rattle.ido_base.specs.declared.limits.TheConstants.{MOST_SOURCE_BYTES};
+ghost use Rattle.ido_cli.specs.Refusals.{code_of, fault_code, fault_place, line_at, line_at_byte, line_at_register};
+ghost use Rattle.ido_cli.specs.Refusals.{line_at_step, line_at_thread, line_of_threads, stop_code};
+ghost use Rattle.ido_cli.specs.links.Uncompiled.{TellsRefusal};
 ghost use Rattle.run_scripts.specs.Schedules as s;
 
 use crate::said::Said;
 use c_tree::rule::Rule;
-use ido_base::memory::Memory;
+use ido_base::memory::OutOfMemory;
 use ido_base::place::{Place, line_column};
+use ido_compile::CompileError;
 use source_machine::RefusedKind;
 use std::alloc::Global;
 
@@ -15,7 +19,7 @@ use std::alloc::Global;
 pub const VERSION_PLACE: Place = Place(8);
 
 /// A refusal.
-pub fn refused(alloc: Global, status: u8, line: &[u8]) -> Result<Said, Memory>
+pub fn refused(alloc: Global, status: u8, line: &[u8]) -> Result<Said, OutOfMemory>
     ensures status { IfOk result (λ said. said.status ≡ status) }
     ensures output { IfOk result (λ said. said.output.items ≡ line.now) }
 {
@@ -82,7 +86,7 @@ pub fn refused_at(
     code: &str,
     text: &[u8],
     place: u64,
-) -> Result<Said, Memory>
+) -> Result<Said, OutOfMemory>
     requires { length text.now < 2 ^ 31 }
     ensures status { IfOk result (λ said. said.status ≡ status) }
     ensures output { IfOk result (λ said. said.output.items ≡ line_at code.now text.now place) }
@@ -97,7 +101,7 @@ pub fn refused_at(
 
 /// The refusal by a code at a step of a schedule.
 #[tactic(auto, unfolding(crate::specs::Refusals::line_at_step))]
-pub fn refused_at_step(alloc: Global, code: &str, step: u64) -> Result<Said, Memory>
+pub fn refused_at_step(alloc: Global, code: &str, step: u64) -> Result<Said, OutOfMemory>
     ensures status { IfOk result (λ said. said.status ≡ 6) }
     ensures output { IfOk result (λ said. said.output.items ≡ line_at_step code.now step) }
 {
@@ -110,7 +114,7 @@ pub fn refused_at_step(alloc: Global, code: &str, step: u64) -> Result<Said, Mem
 
 /// The refusal by a code at a byte of the input.
 #[tactic(auto, unfolding(crate::specs::Refusals::line_at_byte))]
-pub fn refused_at_byte(alloc: Global, code: &str, place: Place) -> Result<Said, Memory>
+pub fn refused_at_byte(alloc: Global, code: &str, place: Place) -> Result<Said, OutOfMemory>
     ensures status { IfOk result (λ said. said.status ≡ 6) }
     ensures output { IfOk result (λ said. said.output.items ≡ line_at_byte code.now place.0) }
 {
@@ -122,9 +126,30 @@ pub fn refused_at_byte(alloc: Global, code: &str, place: Place) -> Result<Said, 
     })
 }
 
+/// The refusal of a source that isn't compiled.
+pub fn source_refused(
+    alloc: Global,
+    source: &[u8],
+    error: CompileError,
+) -> Result<Said, OutOfMemory>
+    requires { length source.now ≤ MOST_SOURCE_BYTES }
+    ensures { IfOk result (λ said. TellsRefusal error source.now said.status said.output.items) }
+{
+    match error {
+        CompileError::Refused(refusal) => refused_at(
+            alloc,
+            1,
+            code_of(refusal.rule),
+            source,
+            u64::from(refusal.place.0),
+        ),
+        CompileError::Memory => Err(OutOfMemory),
+    }
+}
+
 /// The refusal by a code that names a thread.
 #[tactic(auto, unfolding(crate::specs::Refusals::line_at_thread))]
-pub fn refused_at_thread(alloc: Global, code: &str, thread: u32) -> Result<Said, Memory>
+pub fn refused_at_thread(alloc: Global, code: &str, thread: u32) -> Result<Said, OutOfMemory>
     ensures status { IfOk result (λ said. said.status ≡ 6) }
     ensures output { IfOk result (λ said. said.output.items ≡ line_at_thread code.now thread) }
 {
@@ -142,7 +167,7 @@ pub fn refused_at_register(
     code: &str,
     thread: u32,
     register: u8,
-) -> Result<Said, Memory>
+) -> Result<Said, OutOfMemory>
     ensures status { IfOk result (λ said. said.status ≡ 6) }
     ensures output { IfOk result (λ said. said.output.items ≡ line_at_register code.now thread register) }
 {
@@ -160,7 +185,7 @@ pub fn refused_of_threads(
     code: &str,
     lock: u32,
     threads: (u32, u32),
-) -> Result<Said, Memory>
+) -> Result<Said, OutOfMemory>
     ensures status { IfOk result (λ said. said.status ≡ 6) }
     ensures output { IfOk result (λ said. said.output.items ≡ line_of_threads code.now lock threads.0 threads.1) }
 {

@@ -1,21 +1,22 @@
 //! The command `regions`: the nodes of a source's graph, and the boundaries that are chosen among them.
 ghost use Rattle.std.specs.Prelude.{◌≡◌, ◌<◌, ◌≤◌, ◌++◌, ◌^◌, length, IfOk, OnOk};
+ghost use Rattle.ido_base.specs.declared.limits.TheConstants.{MOST_SOURCE_BYTES};
 ghost use Rattle.c_tree.specs.Flats.{flat_of, thread_of};
 ghost use Rattle.flow_graph.specs.Nodes.{action_of, graph_of, node_of};
 ghost use Rattle.flow_graph.specs.Cutting.{boundaries_of};
 ghost use Rattle.flow_graph.specs.Lowering.{lowered};
-ghost use Rattle.ido_cli.specs.Answers.{RegionsAnswer, most_source_bytes};
+ghost use Rattle.ido_cli.specs.Answers.{RegionsAnswer};
 ghost use Rattle.ido_cli.specs.Regions.{action_name, cut_mark, is_chosen, node_line, node_lines, regions, thread_line};
 
 use crate::instruction::put;
-use crate::refusal::{code_of, place_in, refused_at};
+use crate::refusal::{place_in, source_refused};
 use crate::said::Said;
 use c_tree::flat::{Flat, Thread};
 use flow_graph::cuts::Cuts;
 use flow_graph::graph::{Action, Graph, Node, Part};
 use flow_lower::lower;
-use ido_base::memory::Memory;
-use ido_compile::{CompileError, compile};
+use ido_base::memory::OutOfMemory;
+use ido_compile::compile;
 use std::alloc::Global;
 
 /// The name of what a node does.
@@ -56,7 +57,7 @@ fn put_node(
     number: usize,
     node: &Node<'_>,
     chosen: bool,
-) -> Result<(), Memory>
+) -> Result<(), OutOfMemory>
     requires { length text.now < 2 ^ 31 }
     ensures { OnOk result (out.new.items ≡ out.old.items ++ node_line text.now number (node_of node.now) chosen) }
 {
@@ -75,7 +76,7 @@ fn put_nodes(
     graph: &Graph<'_>,
     cuts: &Cuts,
     part: Part,
-) -> Result<(), Memory>
+) -> Result<(), OutOfMemory>
     requires short { length text.now < 2 ^ 31 }
     requires nodes { part.end ≤ length graph.now.nodes.items }
     requires cuts { length cuts.now.before.items ≡ length graph.now.nodes.items }
@@ -91,7 +92,7 @@ fn put_nodes(
 
 /// Adds the line of a thread.
 #[tactic(auto, unfolding(crate::specs::Regions::thread_line))]
-fn put_thread(out: &mut Vec<u8>, thread: &Thread) -> Result<(), Memory>
+fn put_thread(out: &mut Vec<u8>, thread: &Thread) -> Result<(), OutOfMemory>
     ensures { OnOk result (out.new.items ≡ out.old.items ++ thread_line (thread_of thread.now)) }
 {
     put(out, b"thread ")?;
@@ -100,7 +101,7 @@ fn put_thread(out: &mut Vec<u8>, thread: &Thread) -> Result<(), Memory>
 }
 
 /// The nodes of a flat form, thread after thread.
-fn regions(alloc: Global, text: &[u8], flat: &Flat, cuts: &Cuts) -> Result<Vec<u8>, Memory>
+fn regions(alloc: Global, text: &[u8], flat: &Flat, cuts: &Cuts) -> Result<Vec<u8>, OutOfMemory>
     requires short { length text.now < 2 ^ 31 }
     requires cuts { length cuts.now.before.items ≡ length (lowered (flat_of flat.now)).nodes }
     ensures { IfOk result (λ said. said.items ≡ regions text.now (lowered (flat_of flat.now)) (boundaries_of cuts.now) (flat_of flat.now).threads) }
@@ -115,8 +116,8 @@ fn regions(alloc: Global, text: &[u8], flat: &Flat, cuts: &Cuts) -> Result<Vec<u
 }
 
 /// The answer to a source text.
-pub fn regions_answer(alloc: Global, source: &[u8]) -> Result<Said, Memory>
-    requires { length source.now ≤ most_source_bytes }
+pub fn regions_answer(alloc: Global, source: &[u8]) -> Result<Said, OutOfMemory>
+    requires { length source.now ≤ MOST_SOURCE_BYTES }
     ensures { IfOk result (λ said. RegionsAnswer source.now said.status said.output.items) }
 {
     match compile(alloc, source) {
@@ -124,9 +125,6 @@ pub fn regions_answer(alloc: Global, source: &[u8]) -> Result<Said, Memory>
             let output = regions(alloc, source, &compiled.flat, &compiled.cuts)?;
             Ok(Said { status: 0, output })
         }
-        Err(CompileError::Refused { rule, place }) => {
-            refused_at(alloc, 1, code_of(rule), source, u64::from(place.0))
-        }
-        Err(CompileError::Memory) => Err(Memory),
+        Err(error) => source_refused(alloc, source, error),
     }
 }

@@ -3,7 +3,7 @@ ghost use Rattle.std.specs.Prelude.{◌≡◌, ◌≤◌, length, map, IfOk};
 ghost use Rattle.c_tree.specs.Flats.{flat_of};
 ghost use Rattle.c_tree.specs.Source as m;
 ghost use Rattle.rv64_isa.specs.Machine.{numbers_from};
-ghost use Rattle.run_scripts.specs.ReportViews as views;
+ghost use Rattle.run_scripts.specs.links.ReportViews as views;
 ghost use Rattle.run_tracker.specs.Lives.{world_of, steps_in};
 ghost use Rattle.variable_layout.specs.Placing.{HaveRoom};
 ghost use Rattle.ido_cli.specs.Reports.{machine_state, unsettled_harts};
@@ -13,7 +13,7 @@ use crate::durable::durable;
 use crate::said::Said;
 use crate::source::ended;
 use c_tree::flat::Flat;
-use ido_base::memory::Memory;
+use ido_base::memory::OutOfMemory;
 use run_scripts::report::{Reported, report};
 use run_tracker::life::Life;
 use source_machine::SourceState;
@@ -21,7 +21,7 @@ use source_machine::laws::sizes_stay;
 use std::alloc::Global;
 
 /// The harts that aren't settled, ascending.
-fn unsettled(alloc: Global, life: &Life) -> Result<Vec<u32>, Memory>
+fn unsettled(alloc: Global, life: &Life) -> Result<Vec<u32>, OutOfMemory>
     requires { length (world_of life.now).harts ≡ length life.now.program }
     ensures { IfOk result (λ harts. harts.items ≡ unsettled_harts (world_of life.now)) }
 {
@@ -35,7 +35,7 @@ fn unsettled(alloc: Global, life: &Life) -> Result<Vec<u32>, Memory>
 }
 
 /// How many sections of each thread the source ends by a schedule, up to its first step that can't be made.
-fn ended_by(alloc: Global, flat: &Flat, schedule: &[u32]) -> Result<Vec<u64>, Memory>
+fn ended_by(alloc: Global, flat: &Flat, schedule: &[u32]) -> Result<Vec<u64>, OutOfMemory>
     requires few { length flat.now.threads.items ≤ 8 }
     ensures { IfOk result (λ sections. sections.items ≡
         map (m.ended_from (m.start (flat_of flat.now)) schedule.now) (numbers_from 0 (length flat.now.threads.items))) }
@@ -48,7 +48,7 @@ fn ended_by(alloc: Global, flat: &Flat, schedule: &[u32]) -> Result<Vec<u64>, Me
 }
 
 /// What is reported of a life.
-fn reported(alloc: Global, flat: &Flat, life: &Life) -> Result<Reported, Memory>
+fn reported(alloc: Global, flat: &Flat, life: &Life) -> Result<Reported, OutOfMemory>
     requires few { length flat.now.threads.items ≤ 8 }
     requires room { HaveRoom (flat_of flat.now).variables }
     requires harts { length (world_of life.now).harts ≡ length life.now.program }
@@ -68,7 +68,7 @@ fn reported(alloc: Global, flat: &Flat, life: &Life) -> Result<Reported, Memory>
 }
 
 /// What is said of a life: its report, with the status that says whether it is settled.
-pub fn say(alloc: Global, flat: &Flat, life: &Life) -> Result<Said, Memory>
+pub fn say(alloc: Global, flat: &Flat, life: &Life) -> Result<Said, OutOfMemory>
     requires few { length flat.now.threads.items ≤ 8 }
     requires room { HaveRoom (flat_of flat.now).variables }
     requires harts { length (world_of life.now).harts ≡ length life.now.program }

@@ -1,22 +1,23 @@
 //! The command `source`: the source's own run.
 ghost use Rattle.std.specs.Prelude.{◌≡◌, ◌+◌, ◌-◌, ◌<◌, ◌≤◌, ◌^◌, ℕ, length, map, take, drop, IfOk, IfSome, IsSome};
+ghost use Rattle.ido_base.specs.declared.limits.TheConstants.{MOST_INPUT_BYTES, MOST_SOURCE_BYTES};
 ghost use Rattle.flow_graph.specs.Refusals.{IsAccepted};
 ghost use Rattle.c_tree.specs.Flats.{flat_of};
 ghost use Rattle.c_tree.specs.Programs.{variable_of};
 ghost use Rattle.c_tree.specs.Source as m;
-ghost use Rattle.run_scripts.specs.ReportViews as views;
-ghost use Rattle.run_scripts.specs.WordLengths as words;
-ghost use Rattle.source_machine.specs.Runs.{Stands, threads_in};
-ghost use Rattle.ido_cli.specs.Answers.{SourceAnswer, most_bytes, most_source_bytes};
+ghost use Rattle.run_scripts.specs.links.ReportViews as views;
+ghost use Rattle.run_scripts.specs.links.WordLengths as words;
+ghost use Rattle.source_machine.specs.links.States.{Stands, threads_in};
+ghost use Rattle.ido_cli.specs.Answers.{SourceAnswer};
 ghost use Rattle.ido_cli.specs.Inputs.{source_of, rest_of};
 ghost use Rattle.ido_cli.specs.Refusals.{IsRefusedAt, fault_code, fault_place};
 ghost use Rattle.ido_cli.specs.Runs.{IsReport, RunAnswer, counted, run_state, taken, unsettled_threads, variable_with};
 
-use crate::refusal::{code_of, refused_at, refused_at_step, stop_code};
+use crate::refusal::{refused_at, refused_at_step, source_refused, stop_code};
 use crate::said::Said;
 use c_tree::flat::Flat;
-use ido_base::memory::Memory;
-use ido_compile::{CompileError, front};
+use ido_base::memory::OutOfMemory;
+use ido_compile::front;
 use run_scripts::report::{Reported, Variable, report};
 use run_scripts::schedule::{ScheduleError, read_schedule};
 use source_machine::SourceState;
@@ -24,7 +25,7 @@ use source_machine::laws::sizes_stay;
 use std::alloc::Global;
 
 /// The threads that hold a mutex, ascending.
-fn unsettled(alloc: Global, state: &SourceState) -> Result<Vec<u32>, Memory>
+fn unsettled(alloc: Global, state: &SourceState) -> Result<Vec<u32>, OutOfMemory>
     requires { threads_in state.now < 2 ^ 32 }
     ensures { IfOk result (λ threads. (s : m.State) (ended : ℕ → ℕ) → Stands state.now s ended → threads.items ≡ unsettled_threads s) }
 {
@@ -38,7 +39,7 @@ fn unsettled(alloc: Global, state: &SourceState) -> Result<Vec<u32>, Memory>
 }
 
 /// How many sections of each thread have ended.
-pub fn ended(alloc: Global, state: &SourceState) -> Result<Vec<u64>, Memory>
+pub fn ended(alloc: Global, state: &SourceState) -> Result<Vec<u64>, OutOfMemory>
     requires { threads_in state.now < 2 ^ 32 }
     ensures { IfOk result (λ sections. (s : m.State) (ended : ℕ → ℕ) → Stands state.now s ended → sections.items ≡ counted ended (length s.threads)) }
 {
@@ -51,8 +52,8 @@ pub fn ended(alloc: Global, state: &SourceState) -> Result<Vec<u64>, Memory>
 
 /// The first so many elements, or all where there are fewer, and those behind them.
 #[tactic(auto, using(crate::proofs::Gathered::take_min, crate::proofs::Gathered::drop_min))]
-fn split_front(elements: &[i128], count: usize) -> (&[i128], &[i128])
-    ensures front { result.0.now ≡ take count elements.entry.now }
+fn split_prefix(elements: &[i128], count: usize) -> (&[i128], &[i128])
+    ensures prefix { result.0.now ≡ take count elements.entry.now }
     ensures behind { result.1.now ≡ drop count elements.entry.now }
 {
     elements.split_at(count.min(elements.len()))
@@ -63,7 +64,7 @@ fn with_elements(
     alloc: Global,
     declared: &c_tree::program::Variable,
     elements: &[i128],
-) -> Result<Variable, Memory>
+) -> Result<Variable, OutOfMemory>
     ensures { IfOk result (λ x. views.variable_of x ≡ variable_with (variable_of declared.now) elements.now) }
 {
     Ok(Variable {
@@ -77,13 +78,13 @@ fn variables(
     alloc: Global,
     declared: &[c_tree::program::Variable],
     elements: &[i128],
-) -> Result<Vec<Variable>, Memory>
+) -> Result<Vec<Variable>, OutOfMemory>
     ensures { IfOk result (λ found. map views.variable_of found.items ≡ taken (map variable_of declared.now) elements.now) }
 {
     let mut found = Vec::new(alloc);
     let mut rest = elements;
     for variable in declared {
-        let (own, behind) = split_front(rest, variable.initial.len());
+        let (own, behind) = split_prefix(rest, variable.initial.len());
         found.push(with_elements(alloc, variable, own)?)?;
         rest = behind;
     }
@@ -96,9 +97,10 @@ fn reported(
     flat: &Flat,
     state: &SourceState,
     schedule: Vec<u32>,
-) -> Result<Reported, Memory>
+) -> Result<Reported, OutOfMemory>
     requires few { length flat.now.threads.items ≤ 8 }
-    requires stands { Stands state.now (m.after_from (m.start (flat_of flat.now)) schedule.items) (λ thread. 0 + m.ended_from (m.start (flat_of flat.now)) schedule.items thread) }
+    requires stands { Stands state.now (m.after_from (m.start (flat_of flat.now)) schedule.items)
+        (λ thread. 0 + m.ended_from (m.start (flat_of flat.now)) schedule.items thread) }
     ensures { IfOk result (λ x. views.state_of x ≡ run_state (flat_of flat.now) schedule.items) }
 {
     sizes_stay();
@@ -119,9 +121,10 @@ fn say_run(
     flat: &Flat,
     state: &SourceState,
     schedule: Vec<u32>,
-) -> Result<Said, Memory>
+) -> Result<Said, OutOfMemory>
     requires few { length flat.now.threads.items ≤ 8 }
-    requires stands { Stands state.now (m.after_from (m.start (flat_of flat.now)) schedule.items) (λ thread. 0 + m.ended_from (m.start (flat_of flat.now)) schedule.items thread) }
+    requires stands { Stands state.now (m.after_from (m.start (flat_of flat.now)) schedule.items)
+        (λ thread. 0 + m.ended_from (m.start (flat_of flat.now)) schedule.items thread) }
     ensures { IfOk result (λ said. IsReport (run_state (flat_of flat.now) schedule.items) said.status said.output.items) }
 {
     let state = reported(alloc, flat, state, schedule)?;
@@ -131,7 +134,7 @@ fn say_run(
 }
 
 /// What is said of the run of a schedule.
-fn run_answer(alloc: Global, flat: &Flat, schedule: Vec<u32>) -> Result<Said, Memory>
+fn run_answer(alloc: Global, flat: &Flat, schedule: Vec<u32>) -> Result<Said, OutOfMemory>
     requires few { length flat.now.threads.items ≤ 8 }
     ensures { IfOk result (λ said. RunAnswer (flat_of flat.now) schedule.items said.status said.output.items) }
 {
@@ -148,25 +151,26 @@ fn schedule_refused(
     input: &[u8],
     begins: u64,
     error: ScheduleError,
-) -> Result<Said, Memory>
-    requires short { length input.now ≤ most_bytes }
+) -> Result<Said, OutOfMemory>
+    requires short { length input.now ≤ MOST_INPUT_BYTES }
     requires within { begins ≤ length input.now }
     ensures fault { IfOk result (λ said. IsSome (words.fault_of error)) }
-    ensures said { IfOk result (λ said. IfSome (words.fault_of error) (λ x. IsRefusedAt 6 (fault_code x) input.now (begins + fault_place x) said.status said.output.items)) }
+    ensures said { IfOk result (λ said.
+        IfSome (words.fault_of error) (λ x. IsRefusedAt 6 (fault_code x) input.now (begins + fault_place x) said.status said.output.items)) }
 {
     let (code, place) = match error {
         ScheduleError::Many(place) => ("E1", place),
         ScheduleError::Word(place) => ("E2", place),
         ScheduleError::Number(place) => ("E3", place),
-        ScheduleError::Memory => return Err(Memory),
+        ScheduleError::Memory => return Err(OutOfMemory),
     };
     refused_at(alloc, 6, code, input, begins + u64::from(place.0))
 }
 
 /// What is said of a flat form and the text of a schedule, which ends an input.
-fn flat_answer(alloc: Global, flat: &Flat, input: &[u8], rest: &[u8]) -> Result<Said, Memory>
+fn flat_answer(alloc: Global, flat: &Flat, input: &[u8], rest: &[u8]) -> Result<Said, OutOfMemory>
     requires few { length flat.now.threads.items ≤ 8 }
-    requires short { length input.now ≤ most_bytes }
+    requires short { length input.now ≤ MOST_INPUT_BYTES }
     requires rest { rest.now ≡ rest_of input.now }
     ensures { IfOk result (λ said. IsAccepted (source_of input.now) (flat_of flat.now) → SourceAnswer input.now said.status said.output.items) }
 {
@@ -182,18 +186,15 @@ pub fn source_answer(
     input: &[u8],
     source: &[u8],
     rest: &[u8],
-) -> Result<Said, Memory>
-    requires short { length input.now ≤ most_bytes }
-    requires short_source { length source.now ≤ most_source_bytes }
+) -> Result<Said, OutOfMemory>
+    requires short { length input.now ≤ MOST_INPUT_BYTES }
+    requires short_source { length source.now ≤ MOST_SOURCE_BYTES }
     requires source { source.now ≡ source_of input.now }
     requires rest { rest.now ≡ rest_of input.now }
     ensures { IfOk result (λ said. SourceAnswer input.now said.status said.output.items) }
 {
     match front(alloc, source) {
         Ok(flat) => flat_answer(alloc, &flat, input, rest),
-        Err(CompileError::Refused { rule, place }) => {
-            refused_at(alloc, 1, code_of(rule), source, u64::from(place.0))
-        }
-        Err(CompileError::Memory) => Err(Memory),
+        Err(error) => source_refused(alloc, source, error),
     }
 }

@@ -9,14 +9,12 @@ use crate::answer::answer;
 use crate::command::{Command, command_of};
 use crate::refusal::refused;
 use crate::said::Said;
-use ido_base::memory::Memory;
+use ido_base::limits::MOST_INPUT_BYTES;
+use ido_base::memory::OutOfMemory;
 use ido_outside::{Failed, Gate, InFault, Sink, Source, read_all, write_all};
 use std::alloc::Global;
 use std::sync::Wait;
 use std::thread::Threads;
-
-/// Bytes that are read.
-const MOST_BYTES: u64 = 67_108_864;
 
 /// Why nothing is said.
 #[derive(Debug, Drop)]
@@ -27,12 +25,12 @@ enum Unsaid {
     Memory,
 }
 
-impl From<Memory> for Unsaid {
+impl From<OutOfMemory> for Unsaid {
     ghost use Rattle.ido_cli.specs.declared.top.Unsaid.TheVariants.{Memory as Unremembered};
 
     ghost from_gives = { λ _ e. e ≡ Unremembered };
 
-    fn from(_: Memory) -> Self {
+    fn from(_: OutOfMemory) -> Self {
         Unsaid::Memory
     }
 }
@@ -43,7 +41,7 @@ fn say_to_input<S: Source>(alloc: Global, command: Command, input: &mut S) -> Re
     ensures said { IfOk result (λ said. IsSaidToInput command (S.left input.old) said) }
     ensures failed { IsErrOf result Unsaid.Failed → Rose (S.faults input.old) (S.faults input.new) }
 {
-    match read_all(alloc, input, MOST_BYTES) {
+    match read_all(alloc, input, MOST_INPUT_BYTES) {
         Ok(bytes) => {
             let said = answer(alloc, command, &bytes)?;
             Ok(said)

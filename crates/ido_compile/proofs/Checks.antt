@@ -1,13 +1,14 @@
 -- What a text that keeps the rules of names has: few mutexes and few threads.
 use Rattle.std.proofs.Common.{◌≡◌, refl, ℕ, zero, suc, ◌≤◌, List, [], ◌∷◌, ◌++◌, length, flat_map, ap, arith}
 use Rattle.std.proofs.lemmas.List.{length-map}
+use Rattle.ido_base.specs.declared.limits.TheConstants.{MOST_THREADS, MOST_MUTEXES}
 use Rattle.c_tree.specs.Flats as f
 use Rattle.c_tree.specs.Flats.{flat_of}
 use Rattle.c_tree.specs.Inlining.{flat_form, flat_thread}
 use Rattle.c_tree.specs.Names as n
 use Rattle.c_tree.specs.Programs as p
 use Rattle.c_tree.specs.Trees as t
-use Rattle.c_tree.specs.TypeRules.{mutex_names, past, thread_names, most_mutexes, most_threads, type_faults, twice_from, too_many_bytes, item_faults}
+use Rattle.c_tree.specs.TypeRules.{mutex_names, past, thread_names, type_faults, twice_from, too_many_bytes, item_faults}
 use Rattle.c_tree.specs.Views.{name_of}
 use Rattle.c_tree.specs.Typing.{program_from, typed_program}
 use Rattle.c_tree.specs.declared.rule.Rule as r
@@ -15,9 +16,9 @@ use Rattle.c_tree.specs.declared.rule.Rule.TheVariants as rule
 use Rattle.c_tree.specs.declared.flat.Flat.{Flat}
 use Rattle.flow_graph.specs.Refusals.{IsAccepted}
 
-no_front : {X : Type 0} (xs ys : List X) → xs ++ ys ≡ [] → xs ≡ []
-no_front [] ys h = refl
-no_front (x ∷ xs) ys h = absurd (cc h)
+no_prefix : {X : Type 0} (xs ys : List X) → xs ++ ys ≡ [] → xs ≡ []
+no_prefix [] ys h = refl
+no_prefix (x ∷ xs) ys h = absurd (cc h)
 
 no_back : {X : Type 0} (xs ys : List X) → xs ++ ys ≡ [] → ys ≡ []
 no_back [] ys h = h
@@ -42,20 +43,20 @@ threads_in gs (t.PersistentItem x ∷ xs) = threads_in gs xs
 threads_in gs (t.FunctionItem x ∷ xs) = threads_in gs xs
 threads_in gs (t.ThreadItem x ∷ xs) = ap suc (threads_in gs xs)
 
-few_of : (xs : List t.Item) → type_faults xs ≡ [] → (length (typed_program xs).threads ≤ most_threads) × (length (typed_program xs).mutexes ≤ most_mutexes)
+few_of : (xs : List t.Item) → type_faults xs ≡ [] → (length (typed_program xs).threads ≤ MOST_THREADS) × (length (typed_program xs).mutexes ≤ MOST_MUTEXES)
 unfolding type_faults typed_program
 few_of xs h =
     let twice = twice_from [] (n.globals_of xs) in
-    let of_threads = past rule.Threads most_threads (thread_names xs) in
-    let of_mutexes = past rule.Mutexes most_mutexes (mutex_names xs) in
-    let a = no_front (twice ++ of_threads ++ of_mutexes ++ too_many_bytes 0 xs) (flat_map (item_faults (n.globals_of xs)) xs) h in
-    let b = no_front (twice ++ of_threads ++ of_mutexes) (too_many_bytes 0 xs) a in
+    let of_threads = past rule.Threads MOST_THREADS (thread_names xs) in
+    let of_mutexes = past rule.Mutexes MOST_MUTEXES (mutex_names xs) in
+    let a = no_prefix (twice ++ of_threads ++ of_mutexes ++ too_many_bytes 0 xs) (flat_map (item_faults (n.globals_of xs)) xs) h in
+    let b = no_prefix (twice ++ of_threads ++ of_mutexes) (too_many_bytes 0 xs) a in
     let mutexes = no_back (twice ++ of_threads) of_mutexes b in
-    let threads = no_back twice of_threads (no_front (twice ++ of_threads) of_mutexes b) in
+    let threads = no_back twice of_threads (no_prefix (twice ++ of_threads) of_mutexes b) in
     let e = threads_in (n.globals_of xs) xs in
     let g = mutexes_in (n.globals_of xs) xs in
-    let t = few rule.Threads most_threads (thread_names xs) threads in
-    let m = few rule.Mutexes most_mutexes (mutex_names xs) mutexes in
+    let t = few rule.Threads MOST_THREADS (thread_names xs) threads in
+    let m = few rule.Mutexes MOST_MUTEXES (mutex_names xs) mutexes in
     (omega (arith, e, t), omega (arith, g, m))
 
 flat_counts : (x : p.Program) → (length (flat_form x).threads ≡ length x.threads) × (length (flat_form x).mutexes ≡ length x.mutexes)

@@ -9,12 +9,10 @@ use Rattle.c_tree.specs.Reading.{IsRead, IsRefused}
 use Rattle.c_tree.specs.Trees.{Item}
 use Rattle.c_tree.specs.declared.flat.Flat.{Flat}
 use Rattle.c_tree.specs.declared.rule.Rule.TheVariants as rule
-use Rattle.c_reader.specs.Readings.{fault_of}
-use Rattle.c_reader.specs.declared.reader.ReadError as read
-use Rattle.c_reader.specs.declared.reader.ReadError.TheVariants as read_error
+use Rattle.c_tree.specs.Refusals.{fault_in}
+use Rattle.c_tree.specs.declared.refusal.SourceError.{SourceError}
+use Rattle.c_tree.specs.declared.refusal.SourceError.TheVariants as source
 use Rattle.c_typer.specs.Answers.{Answers}
-use Rattle.c_typer.specs.declared.error.TypeError as typing
-use Rattle.c_typer.specs.declared.error.TypeError.TheVariants as type_error
 use Rattle.c_ranges.specs.Faults.{IsFaultOf}
 use Rattle.c_ranges.specs.declared.indexes.IndexError.{IndexError}
 use Rattle.c_inline.specs.Inline.{IsInlining}
@@ -31,20 +29,20 @@ use Rattle.lock_discipline.specs.declared.error.LockError.TheVariants as lock_er
 use Rattle.reg_colour.specs.Refusing as colouring
 use Rattle.reg_colour.specs.declared.colouring.ColourRefusal as colours
 use Rattle.reg_colour.specs.declared.colouring.ColourRefusal.TheVariants as colour_refusal
-use Rattle.ido_compile.specs.Fronts.{IsFrontAnswer, of_index, of_inline, of_lock, of_read, of_type, of_colours, of_temporaries}
+use Rattle.ido_compile.specs.links.Fronts.{IsFrontAnswer, of_index, of_inline, of_lock, of_source, of_colours, of_temporaries}
 use Rattle.ido_compile.specs.declared.error.CompileError.{CompileError}
 
 pub by_error : (text : List ℕ) (x : CompileError) (r : Result Flat CompileError) → IsErrAnd r (λ e. e ≡ x) → IsFrontAnswer text (Err x) → IsFrontAnswer text r
 by_error text x (Ok flat) h a = absurd h
 by_error text x (Err e) h a = subst (λ (y : CompileError). IsFrontAnswer text (Err y)) (sym h) a
 
-pub by_reading : (text : List ℕ) (e : read.ReadError) → IfSome (fault_of e) (λ x. IsRefused text x.rule x.place) → IsFrontAnswer text (Err (of_read e))
-by_reading text (read_error.Refused found place) h = faulty (unread h)
-by_reading text read_error.Memory h = tt
+pub by_reading : (text : List ℕ) (e : SourceError) → IfSome (fault_in e) (λ x. IsRefused text x.rule x.place) → IsFrontAnswer text (Err (of_source e))
+by_reading text (source.Refused x) h = faulty (unread h)
+by_reading text source.Memory h = tt
 
-pub by_typing : (text : List ℕ) (items : List Item) (e : typing.TypeError) → IsRead text items → Answers items (Err e) → IsFrontAnswer text (Err (of_type e))
-by_typing text items (type_error.Broken found place) is h = faulty (mistyped items is h)
-by_typing text items type_error.Memory is h = tt
+pub by_typing : (text : List ℕ) (items : List Item) (e : SourceError) → IsRead text items → Answers items (Err e) → IsFrontAnswer text (Err (of_source e))
+by_typing text items (source.Refused x) is h = faulty (mistyped items is h)
+by_typing text items source.Memory is h = tt
 
 pub by_index : (text : List ℕ) (x : p.Program) (e : IndexError) → IsTyped text x → IsFaultOf x e → IsFrontAnswer text (Err (of_index e))
 by_index text x e is h = faulty (unfit x h.index is h.first refl h.place)

@@ -40,5 +40,5 @@ pub record IsCompiled (text : List ℕ) (c : Compiled) : Type 0 where
 
 abbrev pub IsCompileAnswer : (text : List ℕ) → Result Compiled CompileError → Type 0
 IsCompileAnswer text (Ok c) = IsCompiled text c
-IsCompileAnswer text (Err (e.Refused found place)) = IsRefusedBy text found place
+IsCompileAnswer text (Err (e.Refused x)) = IsRefusedBy text x.rule x.place
 IsCompileAnswer text (Err e.Memory) = Unit {0}

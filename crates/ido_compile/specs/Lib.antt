@@ -1,5 +1,5 @@
-pub mod Fronts
 pub mod Compiling
 pub mod Verdicts
 pub mod FormLaws
 pub mod Files
+pub mod links

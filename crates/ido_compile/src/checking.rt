@@ -1,10 +1,11 @@
 //! The checks of a source text.
 ghost use Rattle.std.specs.Prelude.{◌≤◌, length, IfErr, IfOk};
+ghost use Rattle.ido_base.specs.declared.limits.TheConstants.{MOST_SOURCE_BYTES};
 ghost use Rattle.c_tree.specs.Flats.{flat_of};
 ghost use Rattle.flow_graph.specs.Liveness.{HasRoom};
 ghost use Rattle.flow_graph.specs.Lowering.{lowered};
 ghost use Rattle.reg_colour.specs.Refusing.{IsRefused};
-ghost use Rattle.ido_compile.specs.Fronts.{IsFrontAnswer};
+ghost use Rattle.ido_compile.specs.links.Fronts.{IsFrontAnswer};
 
 use crate::error::CompileError;
 use c_inline::inline::inline;
@@ -32,7 +33,7 @@ fn check_locals(alloc: Global, flat: &Flat) -> Result<(), ColourRefusal>
 /// The flat form of a text that keeps all rules of names, kinds, indexes, calls, locks, registers and temporaries; else
 /// the rule and the place of the first check that it fails.
 pub fn front(alloc: Global, text: &[u8]) -> Result<Flat, CompileError>
-    requires { length text.now ≤ 1048576 }
+    requires { length text.now ≤ MOST_SOURCE_BYTES }
     ensures { IsFrontAnswer text.now result }
 {
     let tree = read(alloc, text)?;

@@ -1,5 +1,6 @@
 //! Source texts, compiled.
 ghost use Rattle.std.specs.Prelude.{◌≡◌, ◌≤◌, length, IfOk};
+ghost use Rattle.ido_base.specs.declared.limits.TheConstants.{MOST_SOURCE_BYTES};
 ghost use Rattle.c_tree.specs.Flats.{flat_of};
 ghost use Rattle.flat_compile.specs.Accepting.{IsAcceptedForm};
 ghost use Rattle.flat_compile.specs.Translating.{IsTranslated, IsResumable};
@@ -13,7 +14,7 @@ use flat_compile::laws::accepted_forms;
 use flat_compile::resumes::Resume;
 use flat_compile::{Translated, translate};
 use flow_graph::cuts::Cuts;
-use ido_base::memory::Memory;
+use ido_base::memory::OutOfMemory;
 use rv64_isa::object::{Marks, Object};
 use std::alloc::Global;
 
@@ -33,7 +34,7 @@ pub struct Compiled {
 }
 
 /// An accepted flat form with its object.
-fn with_object(alloc: Global, text: &[u8], flat: Flat) -> Result<Compiled, Memory>
+fn with_object(alloc: Global, text: &[u8], flat: Flat) -> Result<Compiled, OutOfMemory>
     requires { IsAcceptedForm (flat_of flat) }
     ensures text { IfOk result (λ c. c.text.items ≡ text.now) }
     ensures flat { IfOk result (λ c. c.flat ≡ flat) }
@@ -60,7 +61,7 @@ fn with_object(alloc: Global, text: &[u8], flat: Flat) -> Result<Compiled, Memor
 /// The object of a text that keeps all rules, with its flat form, the addresses of its marks, and where boundaries stand; else
 /// the rule and the place of the first check that the text fails.
 pub fn compile(alloc: Global, text: &[u8]) -> Result<Compiled, CompileError>
-    requires { length text.now ≤ 1048576 }
+    requires { length text.now ≤ MOST_SOURCE_BYTES }
     ensures { IsCompileAnswer text.now result }
 {
     accepted_forms();

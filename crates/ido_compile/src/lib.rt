@@ -10,6 +10,3 @@ pub mod laws;
 pub use checking::front;
 pub use compiler::{Compiled, compile};
 pub use error::CompileError;
-
-#[cfg(test)]
-mod tests;

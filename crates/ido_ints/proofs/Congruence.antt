@@ -129,5 +129,6 @@ rem_euclid-mod z m n h s =
     let r = split z n h in
     let below = mod-lt m h in
     let in_range : (k : ℕ) → k < n → InRange (pos 0) n (pos k) = λ k l. record { low = omega (arith, ints); high = omega (arith, ints) } in
-    let same = Same_trans n (pos r.rest) z (pos (m % n)) r.same (Same_trans n z (pos m) (pos (m % n)) (Same_sym n (pos m) z s) (Same_sym n (pos (m % n)) (pos m) (Same-mod m n))) in
+    let same = Same_trans n (pos r.rest) z (pos (m % n)) r.same
+    (Same_trans n z (pos m) (pos (m % n)) (Same_sym n (pos m) z s) (Same_sym n (pos (m % n)) (pos m) (Same-mod m n))) in
     ap unsigned_abs (r.rest_is ∙ InRange_unique (pos 0) (pos r.rest) (pos (m % n)) n h (in_range r.rest r.below) (in_range (m % n) below) same)

@@ -1,6 +1,7 @@
 pub mod Congruence
 pub mod Exact
 pub mod LiteralKinds
+pub mod LowBits
 pub mod Promotion
 pub mod Reduced
 pub mod RegisterBits

@@ -22,7 +22,8 @@ each_promoted P i ui l ul Long = l
 each_promoted P i ui l ul UnsignedLong = ul
 
 -- the same, of two promoted kinds
-both_promoted : (P : Kind → Kind → Type 0) → ((k : Kind) → P Int (promoted k)) → ((k : Kind) → P UnsignedInt (promoted k)) → ((k : Kind) → P Long (promoted k)) → ((k : Kind) → P UnsignedLong (promoted k)) → (j k : Kind) → P (promoted j) (promoted k)
+both_promoted : (P : Kind → Kind → Type 0) → ((k : Kind) → P Int (promoted k)) → ((k : Kind) → P UnsignedInt (promoted k)) →
+    ((k : Kind) → P Long (promoted k)) → ((k : Kind) → P UnsignedLong (promoted k)) → (j k : Kind) → P (promoted j) (promoted k)
 both_promoted P i ui l ul j k = each_promoted (λ a. P a (promoted k)) (i k) (ui k) (l k) (ul k) j
 
 pub promoted-promoted : (k : Kind) → promoted (promoted k) ≡ promoted k
@@ -131,8 +132,10 @@ pub reduced-common_of : (j k : Kind) (z : ℤ) → Holds j z → (is_signed (com
 reduced-common_of j k z h either = reduced_held (common_of j k) z (Holds-common_of j k z h either)
 
 -- so the common kind keeps order where it is signed, or both numbers are at least 0
-pub common_of-order : (j k : Kind) (a b : ℤ) → Holds j a → Holds k b → (is_signed (common_of j k) ≡ true) ⊎ ((pos 0 ≤ℤ a) × (pos 0 ≤ℤ b)) → a <ℤ b → reduced (common_of j k) a <ℤ reduced (common_of j k) b
+pub common_of-order : (j k : Kind) (a b : ℤ) → Holds j a → Holds k b → (is_signed (common_of j k) ≡ true) ⊎ ((pos 0 ≤ℤ a) × (pos 0 ≤ℤ b)) → a <ℤ b →
+    reduced (common_of j k) a <ℤ reduced (common_of j k) b
 common_of-order j k a b h l either lt =
     let first = reduced-common_of j k a h (⊎_elim inl (λ n. inr n.0) either) in
-    let second = ap (λ c. reduced c b) (common_of-comm j k) ∙ reduced-common_of k j b l (⊎_elim (λ e. inl (ap is_signed (common_of-comm k j) ∙ e)) (λ n. inr n.1) either) in
+    let second = ap (λ c. reduced c b) (common_of-comm j k)
+    ∙ reduced-common_of k j b l (⊎_elim (λ e. inl (ap is_signed (common_of-comm k j) ∙ e)) (λ n. inr n.1) either) in
     rw (first, second) lt

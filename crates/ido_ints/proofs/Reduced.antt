@@ -1,13 +1,13 @@
 -- Laws of reduction into a kind.
-use Rattle.std.proofs.Common.{◌≡◌, refl, ℕ, ◌*◌, ◌^◌, ◌<◌, sym, arith}
+use Rattle.std.proofs.Common.{◌≡◌, refl, ℕ, ◌*◌, ◌^◌, ◌<◌, arith}
 use Rattle.std.specs.Prelude.{ℤ, pos, ◌+ℤ◌, ◌-ℤ◌, ◌*ℤ◌, neg_ℤ, ◌≤ℤ◌, ◌<ℤ◌}
-use Rattle.std.specs.Int.{int_rem_euclid}
 use Rattle.std.proofs.lemmas.Int.{ints}
 use Rattle.ido_ints.specs.declared.kinds.Kind.{Kind}
 use Rattle.ido_ints.specs.declared.kinds.Kind.TheVariants.{Char, UnsignedChar, SignedChar, Short, UnsignedShort, Int, UnsignedInt, Long, UnsignedLong}
-use Rattle.ido_ints.specs.Kinds.{Holds, least_of, greatest_of, modulus_of}
+use Rattle.ido_ints.specs.Kinds.{Holds, least_of, modulus_of}
 use Rattle.ido_ints.specs.Reduction.{reduced}
-use Rattle.ido_ints.proofs.Congruence.{Same, Same_refl, Same_trans, Same-add, Same-neg, Same-mul, Same-factor, InRange, from_least_on-InRange, from_least_on-Same, from_least_on-is, from_least_on-same, rem_euclid-Same}
+use Rattle.ido_ints.proofs.Congruence.{Same, Same_refl, Same-add, Same-neg, Same-mul, Same-factor, InRange}
+use Rattle.ido_ints.proofs.Congruence.{from_least_on-InRange, from_least_on-Same, from_least_on-is, from_least_on-same}
 
 -- the modulus of each kind is a factor of 2 ^ 64
 pub record Divides (n m : ℕ) : Type 0 where
@@ -73,14 +73,6 @@ Same-modulus k a b s =
     let d = modulus-Divides k in
     Same-factor (modulus_of k) d.times a b (rw d.product s)
 
--- a reduction to 64 bits on the way to any kind changes nothing
-pub reduced-long : (k : Kind) (z : ℤ) → reduced k (reduced Long z) ≡ reduced k z
-reduced-long k z = reduced-same k _ z (Same-modulus k _ z (Same-reduced Long z))
-
--- a product by way of the factors' residues nearest to 0
-pub reduced-mul_long : (k : Kind) (a b : ℤ) → reduced k (reduced Long a *ℤ reduced Long b) ≡ reduced k (a *ℤ b)
-reduced-mul_long k a b = reduced-same k _ _ (Same-modulus k _ _ (Same-mul (2 ^ 64) _ a _ b (Same-reduced Long a) (Same-reduced Long b)))
-
 -- 0 lies in the range of each kind
 pub Holds-zero : (k : Kind) → Holds k (pos 0)
 Holds-zero Char = record { from_least = omega (arith, ints); to_greatest = omega (arith, ints) }
@@ -93,26 +85,10 @@ Holds-zero UnsignedInt = record { from_least = omega (arith, ints); to_greatest 
 Holds-zero Long = record { from_least = omega (arith, ints); to_greatest = omega (arith, ints) }
 Holds-zero UnsignedLong = record { from_least = omega (arith, ints); to_greatest = omega (arith, ints) }
 
--- what the number is that z reduces to, from z modulo the modulus
+-- r is the number that z reduces to
 pub record Is (k : Kind) (z r : ℤ) : Type 0 where
   pub value : r ≡ reduced k z
   pub held : Holds k r
-
-pub rest_low : (k : Kind) (z y : ℤ) (m r : ℕ) → m ≡ modulus_of k → int_rem_euclid z (pos m) ≡ pos r → y ≡ pos r → y ≤ℤ greatest_of k → Is k z y
-rest_low k z y m r modulus e is h =
-    let zero = Holds-zero k in
-    let held : Holds k y = record { from_least = omega (arith, ints, zero.from_least); to_greatest = h } in
-    let same = rem_euclid-Same z (modulus_of k) r (modulus_pos k) (rw modulus at e) in
-    record { value = sym (reduced-is k z y held (rw is same)); held = held }
-
-pub rest_high : (k : Kind) (z y : ℤ) (m r : ℕ) → m ≡ modulus_of k → int_rem_euclid z (pos m) ≡ pos r → r < m → y ≡ pos r -ℤ pos m → greatest_of k <ℤ pos r → Is k z y
-rest_high k z y m r modulus e below is h =
-    let zero = Holds-zero k in
-    let positive = modulus_pos k in
-    let held : Holds k y = record { from_least = omega (arith, ints, h); to_greatest = omega (arith, ints, zero.to_greatest) } in
-    let same = rem_euclid-Same z (modulus_of k) r (modulus_pos k) (rw modulus at e) in
-    let back : Same (modulus_of k) y (pos r) = record { more = 1; less = 0; sums = omega (arith, ints) } in
-    record { value = sym (reduced-is k z y held (Same_trans (modulus_of k) y _ z back same)); held = held }
 
 -- every kind's numbers lie from -2 ^ 63 to 2 ^ 64 - 1
 pub record Bounded (z : ℤ) : Type 0 where

@@ -7,7 +7,8 @@ use Rattle.ido_ints.specs.declared.kinds.Kind.{Kind}
 use Rattle.ido_ints.specs.declared.kinds.Kind.TheVariants.{Int}
 use Rattle.ido_ints.specs.Kinds.{Holds, bits_of}
 use Rattle.ido_ints.specs.Operators.{bitwise}
-use Rattle.ido_ints.specs.Reduction.{residue, reduced, register_of, sign_extended}
+use Rattle.ido_ints.specs.Reduction.{residue, reduced, register_of}
+use Rattle.ido_ints.specs.links.Signs.{sign_extended}
 use Rattle.ido_ints.proofs.Congruence.{Same_refl}
 use Rattle.ido_ints.proofs.Reduced.{reduced_held}
 use Rattle.ido_ints.proofs.RegisterValues.{sign_extended-cases}
@@ -28,13 +29,25 @@ both_bits : (P : ℕ → ℕ → Type 0) → P 0 0 → P 0 1 → P 1 0 → P 1 1
 both_bits P p q r s a b h k = each_bit (λ x. P x b) (each_bit (P 0) p q b k) (each_bit (P 1) r s b k) a h
 
 pub Bitwise-and : Bitwise bit_and
-Bitwise-and = record { block = and_block; width = λ k a b h _. omega (arith, and_le_l a b); copies = both_bits (λ a b. bit_and (a * (2 ^ 33 - 1)) (b * (2 ^ 33 - 1)) ≡ bit_and a b * (2 ^ 33 - 1)) refl refl refl refl }
+Bitwise-and = record {
+  block = and_block;
+  width = λ k a b h _. omega (arith, and_le_l a b);
+  copies = both_bits (λ a b. bit_and (a * (2 ^ 33 - 1)) (b * (2 ^ 33 - 1)) ≡ bit_and a b * (2 ^ 33 - 1)) refl refl refl refl;
+}
 
 pub Bitwise-or : Bitwise bit_or
-Bitwise-or = record { block = or_block; width = or_lt; copies = both_bits (λ a b. bit_or (a * (2 ^ 33 - 1)) (b * (2 ^ 33 - 1)) ≡ bit_or a b * (2 ^ 33 - 1)) refl refl refl refl }
+Bitwise-or = record {
+  block = or_block;
+  width = or_lt;
+  copies = both_bits (λ a b. bit_or (a * (2 ^ 33 - 1)) (b * (2 ^ 33 - 1)) ≡ bit_or a b * (2 ^ 33 - 1)) refl refl refl refl;
+}
 
 pub Bitwise-xor : Bitwise bit_xor
-Bitwise-xor = record { block = xor_block; width = xor_lt; copies = both_bits (λ a b. bit_xor (a * (2 ^ 33 - 1)) (b * (2 ^ 33 - 1)) ≡ bit_xor a b * (2 ^ 33 - 1)) refl refl refl refl }
+Bitwise-xor = record {
+  block = xor_block;
+  width = xor_lt;
+  copies = both_bits (λ a b. bit_xor (a * (2 ^ 33 - 1)) (b * (2 ^ 33 - 1)) ≡ bit_xor a b * (2 ^ 33 - 1)) refl refl refl refl;
+}
 
 -- a sign extension, by blocks: the top bit of 32 and 32 copies of it, then 31 bits
 extended-block : (a r : ℕ) → a < 2 → r < 2 ^ 31 → sign_extended (a * 2 ^ 31 + r) ≡ a * (2 ^ 33 - 1) * 2 ^ 31 + r
@@ -46,7 +59,8 @@ extended-block a r h k = each_bit (λ x. sign_extended (x * 2 ^ 31 + r) ≡ x * 
     high : sign_extended (1 * 2 ^ 31 + r) ≡ 1 * (2 ^ 33 - 1) * 2 ^ 31 + r
     high = ⊎_elim (λ p. absurd (omega (arith, p.1))) (λ p. omega (arith, p.0)) (sign_extended-cases (1 * 2 ^ 31 + r) (omega arith))
 
-blocks : {f : ℕ → ℕ → ℕ} → Bitwise f → (a b r s : ℕ) → a < 2 → b < 2 → r < 2 ^ 31 → s < 2 ^ 31 → f (sign_extended (a * 2 ^ 31 + r)) (sign_extended (b * 2 ^ 31 + s)) ≡ sign_extended (f (a * 2 ^ 31 + r) (b * 2 ^ 31 + s))
+blocks : {f : ℕ → ℕ → ℕ} → Bitwise f → (a b r s : ℕ) → a < 2 → b < 2 → r < 2 ^ 31 → s < 2 ^ 31 →
+    f (sign_extended (a * 2 ^ 31 + r)) (sign_extended (b * 2 ^ 31 + s)) ≡ sign_extended (f (a * 2 ^ 31 + r) (b * 2 ^ 31 + s))
 blocks {f} w a b r s h k l m =
     (λ i. f (extended-block a r h l i) (extended-block b s k m i))
     ∙ w.block 31 (a * (2 ^ 33 - 1)) (b * (2 ^ 33 - 1)) r s l m
@@ -59,11 +73,13 @@ pub bitwise-extended : {f : ℕ → ℕ → ℕ} → Bitwise f → (p q : ℕ) �
 bitwise-extended {f} w p q h k =
     let first = div-add-mod' p (2 ^ 31) in
     let second = div-add-mod' q (2 ^ 31) in
-    let same = blocks w (p / 2 ^ 31) (q / 2 ^ 31) (p % 2 ^ 31) (q % 2 ^ 31) (div_below p (2 ^ 31) 2 (omega arith) h) (div_below q (2 ^ 31) 2 (omega arith) k) (mod-lt p (omega arith)) (mod-lt q (omega arith)) in
+    let same = blocks w (p / 2 ^ 31) (q / 2 ^ 31) (p % 2 ^ 31) (q % 2 ^ 31) (div_below p (2 ^ 31) 2 (omega arith) h) (div_below q (2 ^ 31) 2 (omega arith) k)
+    (mod-lt p (omega arith)) (mod-lt q (omega arith)) in
     sym (λ i. f (sign_extended (first i)) (sign_extended (second i))) ∙ same ∙ (λ i. sign_extended (f (first i) (second i)))
 
 -- on `long` and `unsigned long`, a bitwise instruction gives the operator's register form
-pub register-bitwise_64 : {f : ℕ → ℕ → ℕ} → Bitwise f → (c : Kind) → bits_of c ≡ 64 → (x y : ℤ) → register_of c (reduced c (bitwise f c x y)) ≡ f (register_of c x) (register_of c y)
+pub register-bitwise_64 : {f : ℕ → ℕ → ℕ} → Bitwise f → (c : Kind) → bits_of c ≡ 64 → (x y : ℤ) →
+    register_of c (reduced c (bitwise f c x y)) ≡ f (register_of c x) (register_of c y)
 register-bitwise_64 {f} w c b x y =
     let m = residue 64 x in
     let n = residue 64 y in
@@ -76,7 +92,8 @@ extended : (c : Kind) → bits_of c ≡ 32 → (x : ℤ) → Holds c x → sign_
 extended c b x h = sign_extended-is (residue 32 x) x (residue-Same 32 x) ∙ sym (register-reduced_32 c b x) ∙ ap (register_of c) (reduced_held c x h)
 
 -- and so it does on `int` and `unsigned int`
-pub register-bitwise_32 : {f : ℕ → ℕ → ℕ} → Bitwise f → (c : Kind) → bits_of c ≡ 32 → (x y : ℤ) → Holds c x → Holds c y → register_of c (reduced c (bitwise f c x y)) ≡ f (register_of c x) (register_of c y)
+pub register-bitwise_32 : {f : ℕ → ℕ → ℕ} → Bitwise f → (c : Kind) → bits_of c ≡ 32 → (x y : ℤ) → Holds c x → Holds c y →
+    register_of c (reduced c (bitwise f c x y)) ≡ f (register_of c x) (register_of c y)
 register-bitwise_32 {f} w c b x y h k =
     let m = residue 32 x in
     let n = residue 32 y in

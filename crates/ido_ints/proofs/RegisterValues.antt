@@ -11,7 +11,8 @@ use Rattle.ido_ints.specs.declared.kinds.Kind.{Kind}
 use Rattle.ido_ints.specs.declared.kinds.Kind.TheVariants.{Char, UnsignedChar, SignedChar, Short, UnsignedShort, Int, UnsignedInt, Long, UnsignedLong}
 use Rattle.ido_ints.specs.Kinds.{Holds, bits_of, is_signed, modulus_of}
 use Rattle.ido_ints.specs.Operators.{places}
-use Rattle.ido_ints.specs.Reduction.{residue, register_of, sign_extended}
+use Rattle.ido_ints.specs.Reduction.{residue, register_of}
+use Rattle.ido_ints.specs.links.Signs.{sign_extended}
 use Rattle.ido_ints.proofs.Congruence.{Same, Same_refl, Same-factor, rem_euclid-mod}
 use Rattle.ido_ints.proofs.Reduced.{Divides, modulus_pos, Holds-zero}
 use Rattle.ido_ints.proofs.Registers.{residue-is, register-Same, sign_extended-is}
@@ -63,7 +64,8 @@ register-unsigned_long n h = natural n h
 pub sign_extended-cases : (n : ℕ) → n < 2 ^ 32 → ((sign_extended n ≡ n) × (n < 2 ^ 31)) ⊎ ((sign_extended n ≡ n + (2 ^ 64 - 2 ^ 32)) × (2 ^ 31 ≤ n))
 sign_extended-cases n h = by (n % 2 ^ 32) (mod-eq_of_lt h) (nat_lt (n % 2 ^ 32) (2 ^ 31)) refl
   where
-    by : (m : ℕ) → m ≡ n → (t : Bool) → nat_lt m (2 ^ 31) ≡ t → ((cond t m (m + (2 ^ 64 - 2 ^ 32)) ≡ n) × (n < 2 ^ 31)) ⊎ ((cond t m (m + (2 ^ 64 - 2 ^ 32)) ≡ n + (2 ^ 64 - 2 ^ 32)) × (2 ^ 31 ≤ n))
+    by : (m : ℕ) → m ≡ n → (t : Bool) → nat_lt m (2 ^ 31) ≡ t →
+        ((cond t m (m + (2 ^ 64 - 2 ^ 32)) ≡ n) × (n < 2 ^ 31)) ⊎ ((cond t m (m + (2 ^ 64 - 2 ^ 32)) ≡ n + (2 ^ 64 - 2 ^ 32)) × (2 ^ 31 ≤ n))
     by m is true e = inl (is, omega (arith, ltb-true _ _ e))
     by m is false e = inr (omega arith, omega (arith, ltb-false _ _ e))
 
@@ -74,21 +76,25 @@ same_lt a b m n to from = same_from_decides (nat_lt a b) (nat_lt m n) (Decides-l
 pub sign_extended-lt : (m n : ℕ) → m < 2 ^ 32 → n < 2 ^ 32 → nat_lt (sign_extended m) (sign_extended n) ≡ nat_lt m n
 sign_extended-lt m n h k = by (sign_extended m) (sign_extended n) (sign_extended-cases m h) (sign_extended-cases n k)
   where
-    by : (a b : ℕ) → ((a ≡ m) × (m < 2 ^ 31)) ⊎ ((a ≡ m + (2 ^ 64 - 2 ^ 32)) × (2 ^ 31 ≤ m)) → ((b ≡ n) × (n < 2 ^ 31)) ⊎ ((b ≡ n + (2 ^ 64 - 2 ^ 32)) × (2 ^ 31 ≤ n)) → nat_lt a b ≡ nat_lt m n
+    by : (a b : ℕ) → ((a ≡ m) × (m < 2 ^ 31)) ⊎ ((a ≡ m + (2 ^ 64 - 2 ^ 32)) × (2 ^ 31 ≤ m)) →
+        ((b ≡ n) × (n < 2 ^ 31)) ⊎ ((b ≡ n + (2 ^ 64 - 2 ^ 32)) × (2 ^ 31 ≤ n)) → nat_lt a b ≡ nat_lt m n
     by a b (inl p) (inl q) = same_lt a b m n (λ l. omega arith) (λ l. omega arith)
     by a b (inl p) (inr q) = same_lt a b m n (λ l. omega arith) (λ l. omega arith)
     by a b (inr p) (inl q) = same_lt a b m n (λ l. omega arith) (λ l. omega arith)
     by a b (inr p) (inr q) = same_lt a b m n (λ l. omega arith) (λ l. omega arith)
 
 -- the register forms of an unsigned kind's numbers have their order
-pub register-lt : (k : Kind) → is_signed k ≡ false → (m n : ℕ) → Holds k (pos m) → Holds k (pos n) → nat_lt (register_of k (pos m)) (register_of k (pos n)) ≡ nat_lt m n
+pub register-lt : (k : Kind) → is_signed k ≡ false → (m n : ℕ) → Holds k (pos m) → Holds k (pos n) →
+    nat_lt (register_of k (pos m)) (register_of k (pos n)) ≡ nat_lt m n
 register-lt Char s m n h l = λ i. nat_lt (natural m (omega (arith, ints, h.to_greatest)) i) (natural n (omega (arith, ints, l.to_greatest)) i)
 register-lt UnsignedChar s m n h l = λ i. nat_lt (natural m (omega (arith, ints, h.to_greatest)) i) (natural n (omega (arith, ints, l.to_greatest)) i)
 register-lt SignedChar s m n h l = absurd (false≢true (sym s))
 register-lt Short s m n h l = absurd (false≢true (sym s))
 register-lt UnsignedShort s m n h l = λ i. nat_lt (natural m (omega (arith, ints, h.to_greatest)) i) (natural n (omega (arith, ints, l.to_greatest)) i)
 register-lt Int s m n h l = absurd (false≢true (sym s))
-register-lt UnsignedInt s m n h l = (λ i. nat_lt (register-unsigned_int m i) (register-unsigned_int n i)) ∙ sign_extended-lt m n (omega (arith, ints, h.to_greatest)) (omega (arith, ints, l.to_greatest))
+register-lt UnsignedInt s m n h l =
+    (λ i. nat_lt (register-unsigned_int m i) (register-unsigned_int n i))
+    ∙ sign_extended-lt m n (omega (arith, ints, h.to_greatest)) (omega (arith, ints, l.to_greatest))
 register-lt Long s m n h l = absurd (false≢true (sym s))
 register-lt UnsignedLong s m n h l = λ i. nat_lt (natural m (omega (arith, ints, h.to_greatest)) i) (natural n (omega (arith, ints, l.to_greatest)) i)
 

@@ -8,8 +8,10 @@ use borrow.Author.Tests.{ltb-true, ltb-false}
 use Rattle.ido_ints.specs.declared.kinds.Kind.{Kind}
 use Rattle.ido_ints.specs.declared.kinds.Kind.TheVariants.{Char, UnsignedChar, SignedChar, Short, UnsignedShort, Int, UnsignedInt, Long, UnsignedLong}
 use Rattle.ido_ints.specs.Kinds.{Holds, bits_of, modulus_of}
-use Rattle.ido_ints.specs.Reduction.{reduced, residue, register_of, sign_extended}
-use Rattle.ido_ints.proofs.Congruence.{Same, Same_refl, Same_sym, Same_trans, Same-add, Same-neg, Same-mul, Same-factor, Same-mod, InRange, InRange_unique, split}
+use Rattle.ido_ints.specs.Reduction.{reduced, residue, register_of}
+use Rattle.ido_ints.specs.links.Signs.{sign_extended}
+use Rattle.ido_ints.proofs.Congruence.{Same, Same_refl, Same_sym, Same_trans, Same-add, Same-neg}
+use Rattle.ido_ints.proofs.Congruence.{Same-mul, Same-factor, Same-mod, InRange, InRange_unique, split}
 use Rattle.ido_ints.proofs.Reduced.{Same-reduced, Same-modulus, reduced-is, reduced-same, reduced_held}
 
 -- ---- residues modulo 2 ^ w
@@ -27,13 +29,14 @@ pub residue-is : (w : ℕ) (z : ℤ) (n : ℕ) → n < 2 ^ w → Same (2 ^ w) (p
 residue-is w z n h s =
     let below = residue_below w z in
     let in_range : (m : ℕ) → m < 2 ^ w → InRange (pos 0) (2 ^ w) (pos m) = λ m l. record { low = omega (arith, ints); high = omega (arith, ints) } in
-    let same = InRange_unique (pos 0) (pos (residue w z)) (pos n) (2 ^ w) (pow_pos w) (in_range (residue w z) below) (in_range n h) (Same_trans (2 ^ w) _ z _ (residue-Same w z) (Same_sym (2 ^ w) _ z s)) in
+    let same = InRange_unique (pos 0) (pos (residue w z)) (pos n) (2 ^ w) (pow_pos w) (in_range (residue w z) below) (in_range n h)
+    (Same_trans (2 ^ w) _ z _ (residue-Same w z) (Same_sym (2 ^ w) _ z s)) in
     ap unsigned_abs same
 
 pub residue-same : (w : ℕ) (a b : ℤ) → Same (2 ^ w) a b → residue w a ≡ residue w b
 residue-same w a b s = residue-is w a (residue w b) (residue_below w b) (Same_trans (2 ^ w) _ b a (residue-Same w b) (Same_sym (2 ^ w) a b s))
 
-residue-mod : (w : ℕ) (z : ℤ) (n : ℕ) → Same (2 ^ w) (pos n) z → residue w z ≡ n % 2 ^ w
+pub residue-mod : (w : ℕ) (z : ℤ) (n : ℕ) → Same (2 ^ w) (pos n) z → residue w z ≡ n % 2 ^ w
 residue-mod w z n s = residue-is w z (n % 2 ^ w) (mod-lt n (pow_pos w)) (Same_trans (2 ^ w) _ (pos n) z (Same-mod n (2 ^ w)) s)
 
 -- residues of a sum, a difference and a product
@@ -44,7 +47,7 @@ pub residue-mul : (w : ℕ) (a b : ℤ) → residue w (a *ℤ b) ≡ (residue w 
 residue-mul w a b = residue-mod w (a *ℤ b) _ (Same-mul (2 ^ w) _ a _ b (residue-Same w a) (residue-Same w b))
 
 -- the difference of m and n modulo 2 ^ w, for an n of at most 2 ^ w
-Same-minus : (m n p : ℕ) → n ≤ p → Same p (pos (m + (p - n))) (pos m -ℤ pos n)
+pub Same-minus : (m n p : ℕ) → n ≤ p → Same p (pos (m + (p - n))) (pos m -ℤ pos n)
 Same-minus m n p h = record { more = 0; less = 1; sums = omega (arith, ints) }
 
 pub residue-sub : (w : ℕ) (a b : ℤ) → residue w (a -ℤ b) ≡ (residue w a + (2 ^ w - residue w b)) % 2 ^ w
@@ -118,7 +121,9 @@ register-mul_64 k w a b = register-reduced_64 k w (a *ℤ b) ∙ residue-mul 64 
 
 -- a product by a natural number, as a shift left makes it of 2 ^ p
 pub register-scale_64 : (k : Kind) → bits_of k ≡ 64 → (a : ℤ) (n : ℕ) → register_of k (reduced k (a *ℤ pos n)) ≡ (register_of k a * n) % 2 ^ 64
-register-scale_64 k w a n = register-reduced_64 k w (a *ℤ pos n) ∙ residue-mod 64 (a *ℤ pos n) _ (Same-mul (2 ^ 64) _ a _ (pos n) (residue-Same 64 a) (Same_refl (2 ^ 64) (pos n))) ∙ sym (λ i. (register-64 k w a i * n) % 2 ^ 64)
+register-scale_64 k w a n =
+    register-reduced_64 k w (a *ℤ pos n) ∙ residue-mod 64 (a *ℤ pos n) _ (Same-mul (2 ^ 64) _ a _ (pos n) (residue-Same 64 a) (Same_refl (2 ^ 64) (pos n)))
+    ∙ sym (λ i. (register-64 k w a i * n) % 2 ^ 64)
 
 -- ---- what a W instruction does, on the register forms of `int` and `unsigned int`
 
@@ -139,13 +144,16 @@ high_is m z h k s =
 pub sign_extended-is : (n : ℕ) (z : ℤ) → Same (2 ^ 32) (pos n) z → sign_extended n ≡ residue 64 (reduced Int z)
 sign_extended-is n z s = by (mod-lt n (omega arith)) (Same_trans (2 ^ 32) _ (pos n) z (Same-mod n (2 ^ 32)) s) (nat_lt (n % 2 ^ 32) (2 ^ 31)) refl
   where
-    by : n % 2 ^ 32 < 2 ^ 32 → Same (2 ^ 32) (pos (n % 2 ^ 32)) z → (t : Bool) → nat_lt (n % 2 ^ 32) (2 ^ 31) ≡ t → cond t (n % 2 ^ 32) (n % 2 ^ 32 + (2 ^ 64 - 2 ^ 32)) ≡ residue 64 (reduced Int z)
+    by : n % 2 ^ 32 < 2 ^ 32 → Same (2 ^ 32) (pos (n % 2 ^ 32)) z → (t : Bool) → nat_lt (n % 2 ^ 32) (2 ^ 31) ≡ t →
+        cond t (n % 2 ^ 32) (n % 2 ^ 32 + (2 ^ 64 - 2 ^ 32)) ≡ residue 64 (reduced Int z)
     by below same true e = low_is (n % 2 ^ 32) z (ltb-true _ _ e) same
     by below same false e = high_is (n % 2 ^ 32) z (ltb-false _ _ e) below same
 
 -- to take 64 bits first changes nothing
 pub sign_extended-mod : (n : ℕ) → sign_extended (n % 2 ^ 64) ≡ sign_extended n
-sign_extended-mod n = sign_extended-is (n % 2 ^ 64) (pos n) (Same-factor (2 ^ 32) (2 ^ 32) _ _ (Same-mod n (2 ^ 64))) ∙ sym (sign_extended-is n (pos n) (Same_refl (2 ^ 32) (pos n)))
+sign_extended-mod n =
+    sign_extended-is (n % 2 ^ 64) (pos n) (Same-factor (2 ^ 32) (2 ^ 32) _ _ (Same-mod n (2 ^ 64)))
+    ∙ sym (sign_extended-is n (pos n) (Same_refl (2 ^ 32) (pos n)))
 
 pub register-reduced_32 : (k : Kind) → bits_of k ≡ 32 → (z : ℤ) → register_of k (reduced k z) ≡ residue 64 (reduced Int z)
 register-reduced_32 Char b z = absurd (omega arith)
@@ -168,14 +176,17 @@ sign_extended-register k w z h = sign_extended-is (register_of k z) z (low k w z
 pub register-add_32 : (k : Kind) → bits_of k ≡ 32 → (a b : ℤ) → register_of k (reduced k (a +ℤ b)) ≡ sign_extended (register_of k a + register_of k b)
 register-add_32 k w a b = register-reduced_32 k w (a +ℤ b) ∙ sym (sign_extended-is _ (a +ℤ b) (Same-add (2 ^ 32) _ a _ b (low k w a) (low k w b)))
 
-pub register-sub_32 : (k : Kind) → bits_of k ≡ 32 → (a b : ℤ) → register_of k (reduced k (a -ℤ b)) ≡ sign_extended (register_of k a + (2 ^ 64 - register_of k b))
+pub register-sub_32 : (k : Kind) → bits_of k ≡ 32 → (a b : ℤ) →
+    register_of k (reduced k (a -ℤ b)) ≡ sign_extended (register_of k a + (2 ^ 64 - register_of k b))
 register-sub_32 k w a b =
     let below = register_below k b in
     let minus = Same-factor (2 ^ 32) (2 ^ 32) _ _ (Same-minus (register_of k a) (register_of k b) (2 ^ 64) (omega arith)) in
-    register-reduced_32 k w (a -ℤ b) ∙ sym (sign_extended-is _ (a -ℤ b) (Same_trans (2 ^ 32) _ _ _ minus (Same-add (2 ^ 32) _ a _ (neg_ℤ b) (low k w a) (Same-neg (2 ^ 32) _ b (low k w b)))))
+    register-reduced_32 k w (a -ℤ b)
+    ∙ sym (sign_extended-is _ (a -ℤ b) (Same_trans (2 ^ 32) _ _ _ minus (Same-add (2 ^ 32) _ a _ (neg_ℤ b) (low k w a) (Same-neg (2 ^ 32) _ b (low k w b)))))
 
 pub register-mul_32 : (k : Kind) → bits_of k ≡ 32 → (a b : ℤ) → register_of k (reduced k (a *ℤ b)) ≡ sign_extended (register_of k a * register_of k b)
 register-mul_32 k w a b = register-reduced_32 k w (a *ℤ b) ∙ sym (sign_extended-is _ (a *ℤ b) (Same-mul (2 ^ 32) _ a _ b (low k w a) (low k w b)))
 
 pub register-scale_32 : (k : Kind) → bits_of k ≡ 32 → (a : ℤ) (n : ℕ) → register_of k (reduced k (a *ℤ pos n)) ≡ sign_extended (register_of k a * n)
-register-scale_32 k w a n = register-reduced_32 k w (a *ℤ pos n) ∙ sym (sign_extended-is _ (a *ℤ pos n) (Same-mul (2 ^ 32) _ a _ (pos n) (low k w a) (Same_refl (2 ^ 32) (pos n))))
+register-scale_32 k w a n =
+    register-reduced_32 k w (a *ℤ pos n) ∙ sym (sign_extended-is _ (a *ℤ pos n) (Same-mul (2 ^ 32) _ a _ (pos n) (low k w a) (Same_refl (2 ^ 32) (pos n))))

@@ -9,7 +9,8 @@ use Rattle.ido_ints.specs.declared.kinds.Kind.TheVariants.{Int}
 use Rattle.ido_ints.specs.declared.operators.Unary.{Unary}
 use Rattle.ido_ints.specs.declared.operators.Unary.TheVariants.{Plus, Minus, Complement, Not}
 use Rattle.ido_ints.specs.declared.operators.Binary.{Binary}
-use Rattle.ido_ints.specs.declared.operators.Binary.TheVariants.{Mul, Div, Rem, Add, Sub, ShiftLeft, ShiftRight, Less, Greater, LessEqual, GreaterEqual, Equal, NotEqual, And, Xor, Or, LogicalAnd, LogicalOr}
+use Rattle.ido_ints.specs.declared.operators.Binary.TheVariants.{Mul, Div, Rem, Add, Sub, ShiftLeft, ShiftRight, Less, Greater, LessEqual}
+use Rattle.ido_ints.specs.declared.operators.Binary.TheVariants.{GreaterEqual, Equal, NotEqual, And, Xor, Or, LogicalAnd, LogicalOr}
 use Rattle.ido_ints.specs.Kinds.{Holds, promoted, common_of}
 use Rattle.ido_ints.specs.Operators.{truth, unary_kind, unary_number, binary_kind, binary_number}
 use Rattle.ido_ints.proofs.Reduced.{Holds-reduced, Holds-zero}

@@ -9,7 +9,8 @@ use Rattle.ido_ints.specs.declared.operators.Unary.TheVariants.{Minus, Complemen
 use Rattle.ido_ints.specs.Kinds.{least_of, greatest_of, promoted, common_of}
 use Rattle.ido_ints.specs.Literals.{literal_kind_of}
 use Rattle.ido_ints.specs.Operators.{unary_of, binary_of}
-use Rattle.ido_ints.specs.Reduction.{from_least_on, residue, register_of, sign_extended}
+use Rattle.ido_ints.specs.Reduction.{from_least_on, residue, register_of}
+use Rattle.ido_ints.specs.links.Signs.{sign_extended}
 use Rattle.ido_ints.specs.Typed.{typed, converted}
 
 char_unsigned : greatest_of Char ≡ pos 255

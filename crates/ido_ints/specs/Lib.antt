@@ -3,3 +3,4 @@ pub mod Literals
 pub mod Operators
 pub mod Reduction
 pub mod Typed
+pub mod links

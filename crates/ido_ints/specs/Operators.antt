@@ -1,5 +1,7 @@
--- The values of the operators (C11 6.5.3.3 and 6.5.5 to 6.5.14). What C leaves open is defined here: results wrap, a quotient by 0 has all bits set, a remainder by 0 is the dividend, and a count of places is taken modulo the width.
-use Rattle.std.specs.Prelude.{ℕ, ◌^◌, Bool, not, ◌&&◌, ◌||◌, if◌then◌else◌, ℤ, pos, negsuc, ◌+ℤ◌, ◌-ℤ◌, ◌*ℤ◌, neg_ℤ, int_lt, int_le, int_div, int_rem, bit_and, bit_or, bit_xor, unsigned_abs}
+-- The values of the operators (C11 6.5.3.3 and 6.5.5 to 6.5.14). What C leaves open is defined here: results wrap, a quotient by 0 has all bits set, a
+-- remainder by 0 is the dividend, and a count of places is taken modulo the width.
+use Rattle.std.specs.Prelude.{ℕ, ◌^◌, Bool, not, ◌&&◌, ◌||◌, if◌then◌else◌, ℤ, pos, negsuc, ◌+ℤ◌, ◌-ℤ◌, ◌*ℤ◌}
+use Rattle.std.specs.Prelude.{neg_ℤ, int_lt, int_le, int_div, int_rem, bit_and, bit_or, bit_xor, unsigned_abs}
 use Rattle.std.specs.Int.{int_rem_euclid, int_shr}
 use Rattle.std.specs.Ordering.{int_eq}
 use Rattle.ido_ints.specs.declared.kinds.Kind.{Kind}
@@ -7,7 +9,8 @@ use Rattle.ido_ints.specs.declared.kinds.Kind.TheVariants.{Int}
 use Rattle.ido_ints.specs.declared.operators.Unary.{Unary}
 use Rattle.ido_ints.specs.declared.operators.Unary.TheVariants.{Plus, Minus, Complement, Not}
 use Rattle.ido_ints.specs.declared.operators.Binary.{Binary}
-use Rattle.ido_ints.specs.declared.operators.Binary.TheVariants.{Mul, Div, Rem, Add, Sub, ShiftLeft, ShiftRight, Less, Greater, LessEqual, GreaterEqual, Equal, NotEqual, And, Xor, Or, LogicalAnd, LogicalOr}
+use Rattle.ido_ints.specs.declared.operators.Binary.TheVariants.{Mul, Div, Rem, Add, Sub, ShiftLeft, ShiftRight, Less, Greater, LessEqual}
+use Rattle.ido_ints.specs.declared.operators.Binary.TheVariants.{GreaterEqual, Equal, NotEqual, And, Xor, Or, LogicalAnd, LogicalOr}
 use Rattle.ido_ints.specs.Kinds.{bits_of, promoted, common_of}
 use Rattle.ido_ints.specs.Reduction.{residue, reduced}
 use Rattle.ido_ints.specs.Typed.{Typed, typed}

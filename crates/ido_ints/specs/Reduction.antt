@@ -1,5 +1,5 @@
 -- Reduction of a whole number modulo a power of two (C11 6.3.1.3), and the form in which a 64-bit register holds a number.
-use Rattle.std.specs.Prelude.{ℕ, ◌+◌, ◌-◌, ◌%◌, ◌^◌, nat_lt, if◌then◌else◌, ℤ, pos, ◌+ℤ◌, ◌-ℤ◌, unsigned_abs}
+use Rattle.std.specs.Prelude.{ℕ, ◌+◌, ◌-◌, ◌^◌, ℤ, pos, ◌+ℤ◌, ◌-ℤ◌, unsigned_abs}
 use Rattle.std.specs.Int.{int_rem_euclid}
 use Rattle.ido_ints.specs.declared.kinds.Kind.{Kind}
 use Rattle.ido_ints.specs.declared.kinds.Kind.TheVariants.{Int, UnsignedInt}
@@ -21,7 +21,3 @@ reduced k z = from_least_on (least_of k) (modulus_of k) z
 abbrev pub register_of : Kind → ℤ → ℕ
 register_of UnsignedInt z = residue 64 (reduced Int z)
 register_of k z = residue 64 z
-
--- the low 32 bits of n, sign-extended to 64
-abbrev pub sign_extended : ℕ → ℕ
-sign_extended n = if nat_lt (n % 2 ^ 32) (2 ^ 31) then n % 2 ^ 32 else n % 2 ^ 32 + (2 ^ 64 - 2 ^ 32)

@@ -1,26 +1,33 @@
 //! What the operators give.
-ghost use Rattle.std.specs.Prelude.{◌≡◌, not, ◌&&◌, ◌||◌, ◌<◌, ◌^◌, ◌+ℤ◌, ◌-ℤ◌, ◌*ℤ◌, ◌≤ℤ◌, pos, negsuc, neg_ℤ, bit_and, bit_or, bit_xor};
+ghost use Rattle.std.specs.Prelude.{◌≡◌, not, ◌&&◌, ◌||◌, ◌<◌, ◌-◌, ◌%◌, ◌^◌, if◌then◌else◌, pos, negsuc, ◌+ℤ◌};
+ghost use Rattle.std.specs.Prelude.{◌-ℤ◌, ◌*ℤ◌, neg_ℤ, int_lt, int_le, unsigned_abs, bit_and, bit_or, bit_xor};
 ghost use Rattle.std.specs.Ordering.{int_eq};
-ghost use Rattle.ido_ints.specs.declared.kinds.Kind.TheVariants.{Int, Long};
-ghost use Rattle.ido_ints.specs.Kinds.{bits_of, promoted};
+ghost use Rattle.ido_ints.specs.declared.kinds.Kind.TheVariants.{Int};
 ghost use Rattle.ido_ints.specs.Operators.{truth, is_zero, quotient, remainder, bitwise, places, shifted_left, shifted_right, unary_of, binary_of};
-ghost use Rattle.ido_ints.specs.Reduction.{residue, reduced};
+ghost use Rattle.ido_ints.specs.Reduction.{reduced};
 ghost use Rattle.ido_ints.specs.Typed.{typed, typed_reduced};
 
 use crate::kinds::{Kind, common, promote};
 use crate::operators::{Binary, Unary};
-use crate::values::{Value, convert, modulo};
+use crate::values::{Range, Value, residue};
 
 /// What the operator gives for its operand (C11 6.5.3.3).
 pub fn unary(op: Unary, operand: Value) -> Value
     ensures { result ≡ unary_of op operand }
 {
-    let kind = promote(operand.kind());
+    unary_of_number(op, operand.kind(), operand.number())
+}
+
+/// The same for a number that the kind need not hold.
+pub fn unary_of_number(op: Unary, kind: Kind, number: i128) -> Value
+    ensures { result ≡ unary_of op (typed kind number) }
+{
+    let range = Range::of(promote(kind));
     match op {
-        Unary::Plus => convert(operand, kind),
-        Unary::Minus => negative(kind, operand),
-        Unary::Complement => complement(kind, operand),
-        Unary::Not => of_truth(is_zero(operand)),
+        Unary::Plus => converted(range, number),
+        Unary::Minus => negative(range, number),
+        Unary::Complement => complement(range, number),
+        Unary::Not => of_truth(is_zero(number)),
     }
 }
 
@@ -28,41 +35,53 @@ pub fn unary(op: Unary, operand: Value) -> Value
 pub fn binary(op: Binary, left: Value, right: Value) -> Value
     ensures { result ≡ binary_of op left right }
 {
-    let kind = common(left.kind(), right.kind());
-    let (x, y) = (convert(left, kind), convert(right, kind));
+    binary_of_numbers(op, left.kind(), left.number(), right.kind(), right.number())
+}
+
+/// The same for numbers that their kinds need not hold.
+pub fn binary_of_numbers(
+    op: Binary,
+    left_kind: Kind,
+    left: i128,
+    right_kind: Kind,
+    right: i128,
+) -> Value
+    ensures { result ≡ binary_of op (typed left_kind left) (typed right_kind right) }
+{
+    let range = Range::of(common(left_kind, right_kind));
     match op {
-        Binary::Mul => product(x, y),
-        Binary::Div => quotient(x, y),
-        Binary::Rem => remainder(x, y),
-        Binary::Add => sum(x, y),
-        Binary::Sub => difference(x, y),
-        Binary::ShiftLeft => shift_left(convert(left, promote(left.kind())), right),
-        Binary::ShiftRight => shift_right(convert(left, promote(left.kind())), right),
-        Binary::Less => of_truth(x.number() < y.number()),
-        Binary::Greater => of_truth(y.number() < x.number()),
-        Binary::LessEqual => of_truth(x.number() <= y.number()),
-        Binary::GreaterEqual => of_truth(y.number() <= x.number()),
-        Binary::Equal => of_truth(is_equal(x.number(), y.number())),
-        Binary::NotEqual => of_truth(!is_equal(x.number(), y.number())),
-        Binary::And => bit_and(x, y),
-        Binary::Xor => bit_xor(x, y),
-        Binary::Or => bit_or(x, y),
-        Binary::LogicalAnd => logical_and(left, right),
-        Binary::LogicalOr => logical_or(left, right),
+        Binary::Mul => product(range, left, right),
+        Binary::Div => quotient(range, left, right),
+        Binary::Rem => remainder(range, left, right),
+        Binary::Add => sum(range, left, right),
+        Binary::Sub => difference(range, left, right),
+        Binary::ShiftLeft => shift_left(Range::of(promote(left_kind)), left, right),
+        Binary::ShiftRight => shift_right(Range::of(promote(left_kind)), left, right),
+        Binary::Less => of_truth(is_less(range, left, right)),
+        Binary::Greater => of_truth(is_less(range, right, left)),
+        Binary::LessEqual => of_truth(is_at_most(range, left, right)),
+        Binary::GreaterEqual => of_truth(is_at_most(range, right, left)),
+        Binary::Equal => of_truth(is_same(range, left, right)),
+        Binary::NotEqual => of_truth(!is_same(range, left, right)),
+        Binary::And => bit_and(range, left, right),
+        Binary::Xor => bit_xor(range, left, right),
+        Binary::Or => bit_or(range, left, right),
+        Binary::LogicalAnd => of_truth(!is_zero(left) && !is_zero(right)),
+        Binary::LogicalOr => of_truth(!is_zero(left) || !is_zero(right)),
     }
 }
 
-// `int` 1 or 0.
+/// `int` 1 or 0.
 fn of_truth(holds: bool) -> Value
     ensures { result ≡ typed Int (truth holds) }
 {
     Value::new(Kind::Int, if holds { 1 } else { 0 })
 }
 
-fn is_zero(value: Value) -> bool
-    ensures { result ≡ is_zero value.number }
+fn is_zero(number: i128) -> bool
+    ensures { result ≡ is_zero number }
 {
-    is_equal(value.number(), 0)
+    is_equal(number, 0)
 }
 
 fn is_equal(x: i128, y: i128) -> bool
@@ -71,146 +90,156 @@ fn is_equal(x: i128, y: i128) -> bool
     x == y
 }
 
-// `&&` of two values.
-fn logical_and(left: Value, right: Value) -> Value
-    ensures { result ≡ typed Int (truth (not (is_zero left.number) && not (is_zero right.number))) }
+/// A number in the kind.
+fn converted(range: Range, number: i128) -> Value
+    ensures { result ≡ typed_reduced range.kind number }
 {
-    if is_zero(left) {
-        of_truth(false)
+    range.value(residue(number))
+}
+
+/// `<` in the kind.
+fn is_less(range: Range, x: i128, y: i128) -> bool
+    ensures { result ≡ int_lt (reduced range.kind x) (reduced range.kind y) }
+{
+    converted(range, x).number() < converted(range, y).number()
+}
+
+/// `<=` in the kind.
+fn is_at_most(range: Range, x: i128, y: i128) -> bool
+    ensures { result ≡ int_le (reduced range.kind x) (reduced range.kind y) }
+{
+    converted(range, x).number() <= converted(range, y).number()
+}
+
+/// `==` in the kind.
+fn is_same(range: Range, x: i128, y: i128) -> bool
+    ensures { result ≡ int_eq (reduced range.kind x) (reduced range.kind y) }
+{
+    is_equal(converted(range, x).number(), converted(range, y).number())
+}
+
+/// The negative, in the kind.
+fn negative(range: Range, number: i128) -> Value
+    ensures { result ≡ typed_reduced range.kind (neg_ℤ number) }
+{
+    range.value(0u64.wrapping_sub(residue(number)))
+}
+
+/// The bitwise complement, in the kind.
+fn complement(range: Range, number: i128) -> Value
+    ensures { result ≡ typed_reduced range.kind (negsuc 0 -ℤ number) }
+{
+    range.value(!residue(number))
+}
+
+/// The sum, in the kind.
+fn sum(range: Range, x: i128, y: i128) -> Value
+    ensures { result ≡ typed_reduced range.kind (reduced range.kind x +ℤ reduced range.kind y) }
+{
+    range.value(residue(x).wrapping_add(residue(y)))
+}
+
+/// The difference, in the kind.
+fn difference(range: Range, x: i128, y: i128) -> Value
+    ensures { result ≡ typed_reduced range.kind (reduced range.kind x -ℤ reduced range.kind y) }
+{
+    range.value(residue(x).wrapping_sub(residue(y)))
+}
+
+/// The product, in the kind.
+fn product(range: Range, x: i128, y: i128) -> Value
+    ensures { result ≡ typed_reduced range.kind (reduced range.kind x *ℤ reduced range.kind y) }
+{
+    range.value(residue(x).wrapping_mul(residue(y)))
+}
+
+/// The quotient, in the kind.
+fn quotient(range: Range, x: i128, y: i128) -> Value
+    ensures { result ≡ typed_reduced range.kind (quotient (reduced range.kind x) (reduced range.kind y)) }
+{
+    let (x, y) = (converted(range, x), converted(range, y));
+    if is_zero(y.number()) {
+        return range.value(u64::MAX);
+    }
+    let is_negative = is_negative(x) != is_negative(y);
+    range.value(with_sign(is_negative, amount(x) / amount(y)))
+}
+
+/// The remainder, in the kind.
+fn remainder(range: Range, x: i128, y: i128) -> Value
+    ensures { result ≡ typed_reduced range.kind (remainder (reduced range.kind x) (reduced range.kind y)) }
+{
+    let (x, y) = (converted(range, x), converted(range, y));
+    if is_zero(y.number()) {
+        return x;
+    }
+    range.value(with_sign(is_negative(x), amount(x) % amount(y)))
+}
+
+fn is_negative(value: Value) -> bool
+    ensures { result ≡ int_lt value.number (pos 0) }
+{
+    value.number() < 0
+}
+
+/// The number without its sign.
+fn amount(value: Value) -> u64
+    ensures { result ≡ unsigned_abs value.number }
+{
+    value.number().unsigned_abs() as u64
+}
+
+/// The number of this amount, negative or not, modulo 2^64.
+fn with_sign(is_negative: bool, amount: u64) -> u64
+    ensures { result ≡ (if is_negative then (2 ^ 64 - amount) % 2 ^ 64 else amount) }
+{
+    if is_negative {
+        0u64.wrapping_sub(amount)
     } else {
-        of_truth(!is_zero(right))
+        amount
     }
 }
 
-// `||` of two values.
-fn logical_or(left: Value, right: Value) -> Value
-    ensures { result ≡ typed Int (truth (not (is_zero left.number) || not (is_zero right.number))) }
+/// `x` shifted left, in the kind.
+fn shift_left(range: Range, x: i128, count: i128) -> Value
+    ensures { result ≡ typed_reduced range.kind (shifted_left range.kind (reduced range.kind x) count) }
 {
-    if is_zero(left) {
-        of_truth(!is_zero(right))
-    } else {
-        of_truth(true)
-    }
+    range.value(residue(x) << places(range.kind(), count))
 }
 
-// The negative, in the kind.
-fn negative(kind: Kind, operand: Value) -> Value
-    ensures { result ≡ typed_reduced kind (neg_ℤ operand.number) }
+/// `x` shifted right, in the kind.
+fn shift_right(range: Range, x: i128, count: i128) -> Value
+    ensures { result ≡ typed_reduced range.kind (shifted_right range.kind (reduced range.kind x) count) }
 {
-    Value::reduce(kind, -operand.number())
+    let shifted = converted(range, x).number() >> places(range.kind(), count);
+    converted(range, shifted)
 }
 
-// The bitwise complement, in the kind.
-fn complement(kind: Kind, operand: Value) -> Value
-    ensures { result ≡ typed_reduced kind (negsuc 0 -ℤ operand.number) }
-{
-    Value::reduce(kind, -1 - operand.number())
-}
-
-// The sum, in the kind of `x`.
-fn sum(x: Value, y: Value) -> Value
-    ensures { result ≡ typed_reduced x.kind (x.number +ℤ y.number) }
-{
-    Value::reduce(x.kind(), x.number() + y.number())
-}
-
-// The difference, in the kind of `x`.
-fn difference(x: Value, y: Value) -> Value
-    ensures { result ≡ typed_reduced x.kind (x.number -ℤ y.number) }
-{
-    Value::reduce(x.kind(), x.number() - y.number())
-}
-
-// The product, in the kind of `x`. The factors' residues from -2^63 on have a product that fits.
-fn product(x: Value, y: Value) -> Value
-    ensures { result ≡ typed_reduced x.kind (x.number *ℤ y.number) }
-{
-    Value::reduce(x.kind(), long_residue(x) * long_residue(y))
-}
-
-// The number from -2^63 to 2^63 - 1 that differs from the value's by a multiple of 2^64.
-fn long_residue(value: Value) -> i128
-    ensures value { result ≡ reduced Long value.number }
-    ensures at_least { neg_ℤ (pos (2 ^ 63)) ≤ℤ result }
-    ensures at_most { result ≤ℤ pos (2 ^ 63) }
-{
-    convert(value, Kind::Long).number()
-}
-
-// The quotient, in the kind of `x`.
-fn quotient(x: Value, y: Value) -> Value
-    ensures { result ≡ typed_reduced x.kind (quotient x.number y.number) }
-{
-    if is_zero(y) {
-        Value::reduce(x.kind(), -1)
-    } else {
-        Value::reduce(x.kind(), x.number() / y.number())
-    }
-}
-
-// The remainder, in the kind of `x`.
-fn remainder(x: Value, y: Value) -> Value
-    ensures { result ≡ typed_reduced x.kind (remainder x.number y.number) }
-{
-    if is_zero(y) {
-        Value::reduce(x.kind(), x.number())
-    } else {
-        Value::reduce(x.kind(), x.number() % y.number())
-    }
-}
-
-// `x` shifted left, in its kind.
-fn shift_left(x: Value, count: Value) -> Value
-    ensures { result ≡ typed_reduced x.kind (shifted_left x.kind x.number count.number) }
-{
-    let factor = 1 << places(x.kind(), count);
-    Value::reduce(x.kind(), x.number() * factor)
-}
-
-// `x` shifted right, in its kind.
-fn shift_right(x: Value, count: Value) -> Value
-    ensures { result ≡ typed_reduced x.kind (shifted_right x.kind x.number count.number) }
-{
-    Value::reduce(x.kind(), x.number() >> places(x.kind(), count))
-}
-
-// The count modulo the width of the kind.
-fn places(kind: Kind, count: Value) -> u32
-    ensures value { result ≡ places kind count.number }
+/// The count modulo the width of the kind.
+fn places(kind: Kind, count: i128) -> u32
+    ensures value { result ≡ places kind count }
     ensures below { result < 64 }
 {
-    modulo(count.number(), u128::from(kind.bits())) as u32
+    (residue(count) & (kind.bits() as u64 - 1)) as u32
 }
 
-// `&` bit by bit, in the kind of `x`.
-fn bit_and(x: Value, y: Value) -> Value
-    ensures { result ≡ typed_reduced x.kind (bitwise bit_and x.kind x.number y.number) }
+/// `&` bit by bit, in the kind.
+fn bit_and(range: Range, x: i128, y: i128) -> Value
+    ensures { result ≡ typed_reduced range.kind (bitwise bit_and range.kind (reduced range.kind x) (reduced range.kind y)) }
 {
-    let kind = x.kind();
-    Value::reduce(kind, (pattern(kind, x) & pattern(kind, y)) as i128)
+    range.value(residue(x) & residue(y))
 }
 
-// `^` bit by bit, in the kind of `x`.
-fn bit_xor(x: Value, y: Value) -> Value
-    ensures { result ≡ typed_reduced x.kind (bitwise bit_xor x.kind x.number y.number) }
+/// `^` bit by bit, in the kind.
+fn bit_xor(range: Range, x: i128, y: i128) -> Value
+    ensures { result ≡ typed_reduced range.kind (bitwise bit_xor range.kind (reduced range.kind x) (reduced range.kind y)) }
 {
-    let kind = x.kind();
-    Value::reduce(kind, (pattern(kind, x) ^ pattern(kind, y)) as i128)
+    range.value(residue(x) ^ residue(y))
 }
 
-// `|` bit by bit, in the kind of `x`.
-fn bit_or(x: Value, y: Value) -> Value
-    ensures { result ≡ typed_reduced x.kind (bitwise bit_or x.kind x.number y.number) }
+/// `|` bit by bit, in the kind.
+fn bit_or(range: Range, x: i128, y: i128) -> Value
+    ensures { result ≡ typed_reduced range.kind (bitwise bit_or range.kind (reduced range.kind x) (reduced range.kind y)) }
 {
-    let kind = x.kind();
-    Value::reduce(kind, (pattern(kind, x) | pattern(kind, y)) as i128)
-}
-
-// The two's complement pattern of the value, in the width of the kind.
-#[tactic(auto, unfolding(crate::specs::Reduction::residue))]
-fn pattern(kind: Kind, value: Value) -> u128
-    ensures value { result ≡ residue (bits_of kind) value.number }
-    ensures below { result < 2 ^ 64 }
-{
-    modulo(value.number(), kind.modulus())
+    range.value(residue(x) | residue(y))
 }

@@ -137,10 +137,11 @@ pub fn promote(kind: Kind) -> Kind
 pub fn common(first: Kind, second: Kind) -> Kind
     ensures { result ≡ common_of first second }
 {
-    match (promote(first), promote(second)) {
-        (Kind::UnsignedLong, _) | (_, Kind::UnsignedLong) => Kind::UnsignedLong,
-        (Kind::Long, _) | (_, Kind::Long) => Kind::Long,
-        (Kind::UnsignedInt, _) | (_, Kind::UnsignedInt) => Kind::UnsignedInt,
-        _ => Kind::Int,
+    let (first, second) = (promote(first), promote(second));
+    // Of two promoted kinds the one that stands later is the common one.
+    if second as u8 > first as u8 {
+        second
+    } else {
+        first
     }
 }

@@ -12,8 +12,8 @@ mod literals;
 mod operators;
 mod values;
 
-pub use arithmetic::{binary, unary};
+pub use arithmetic::{binary, binary_of_numbers, unary, unary_of_number};
 pub use kinds::{Kind, common, promote};
 pub use literals::{Base, Suffix, literal, literal_kind};
 pub use operators::{Binary, Unary};
-pub use values::{Value, convert, register_form};
+pub use values::{Value, convert, register_form, residue};

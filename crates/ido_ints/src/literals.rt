@@ -48,7 +48,7 @@ pub fn literal(base: Base, suffix: Suffix, number: u128) -> Option<Value>
     }
 }
 
-// The kinds that a literal may have, in order.
+/// The kinds that a literal may have, in order.
 fn candidates(base: Base, suffix: Suffix) -> &'static [Kind]
     ensures { result.now ≡ kinds_of base suffix }
 {
@@ -62,7 +62,7 @@ fn candidates(base: Base, suffix: Suffix) -> &'static [Kind]
     }
 }
 
-// Whether the kind holds the number.
+/// Whether the kind holds the number.
 fn reaches(kind: Kind, number: u128) -> bool
     ensures { result ≡ holds kind (pos number) }
 {

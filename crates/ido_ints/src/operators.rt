@@ -1,4 +1,8 @@
-//! The operators on values.
+//! The operators on values, and the kinds of their results.
+ghost use Rattle.std.specs.Prelude.{◌≡◌};
+ghost use Rattle.ido_ints.specs.Operators.{unary_kind, binary_kind};
+
+use crate::kinds::{Kind, common, promote};
 
 /// An operator with one operand (C11 6.5.3.3).
 #[derive(Clone, Copy, PartialEq, Eq, Debug)]
@@ -56,4 +60,43 @@ pub enum Binary {
     /// `||`: `int` 1 where an operand is not 0, else 0. Where the left operand is not 0, the value
     /// is 1 whatever the right one is.
     LogicalOr,
+}
+
+impl Unary {
+    /// The kind of the result, by the operand's.
+    pub fn kind(self, operand: Kind) -> Kind
+        ensures { result ≡ unary_kind self operand }
+    {
+        match self {
+            Unary::Plus | Unary::Minus | Unary::Complement => promote(operand),
+            Unary::Not => Kind::Int,
+        }
+    }
+}
+
+impl Binary {
+    /// The kind of the result, by the operands'.
+    pub fn kind(self, left: Kind, right: Kind) -> Kind
+        ensures { result ≡ binary_kind self left right }
+    {
+        match self {
+            Binary::Mul
+            | Binary::Div
+            | Binary::Rem
+            | Binary::Add
+            | Binary::Sub
+            | Binary::And
+            | Binary::Xor
+            | Binary::Or => common(left, right),
+            Binary::ShiftLeft | Binary::ShiftRight => promote(left),
+            Binary::Less
+            | Binary::Greater
+            | Binary::LessEqual
+            | Binary::GreaterEqual
+            | Binary::Equal
+            | Binary::NotEqual
+            | Binary::LogicalAnd
+            | Binary::LogicalOr => Kind::Int,
+        }
+    }
 }

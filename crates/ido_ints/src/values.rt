@@ -1,7 +1,6 @@
 //! Values: a number with the kind that holds it, and conversion.
-ghost use Rattle.std.specs.Prelude.{◌≡◌, ◌<◌, ◌≤◌, ◌^◌, pos, neg_ℤ, ◌≤ℤ◌, ◌<ℤ◌};
-ghost use Rattle.std.specs.Int.{int_rem_euclid};
-ghost use Rattle.ido_ints.specs.Kinds.{Holds};
+ghost use Rattle.std.specs.Prelude.{◌≡◌, ◌-◌, ◌^◌, pos, neg_ℤ, ◌≤ℤ◌, ◌<ℤ◌};
+ghost use Rattle.ido_ints.specs.Kinds.{Holds, least_of, modulus_of};
 ghost use Rattle.ido_ints.specs.Reduction.{reduced, residue};
 ghost use Rattle.ido_ints.specs.Typed.{typed, typed_reduced, converted, register_form_of};
 
@@ -11,8 +10,8 @@ use std::marker::Model;
 /// A number that its kind holds.
 #[derive(Clone, Copy, PartialEq, Eq, Debug)]
 pub struct Value {
-    kind: Kind,
     number: i128,
+    kind: Kind,
 }
 
 impl Model for Value {
@@ -66,27 +65,73 @@ impl Value {
     }
 }
 
-// The number of the range of `kind` that differs from `number` by a multiple of 2 to the width.
+/// The number of the range of `kind` that differs from `number` by a multiple of 2 to the width.
 fn reduce(kind: Kind, number: i128) -> i128
     ensures value { result ≡ reduced kind number }
     ensures held { Holds kind result }
 {
-    let rest = modulo(number, kind.modulus()) as i128;
-    if rest <= kind.greatest() {
-        rest
-    } else {
-        rest - kind.modulus() as i128
+    Range::of(kind).narrow(residue(number))
+}
+
+// The numbers of a kind: the least one, and a one in each place of the width.
+#[derive(Clone, Copy)]
+pub(crate) struct Range {
+    kind: Kind,
+    least: i64,
+    mask: u64,
+    ghost begins: { least ≡ least_of kind },
+    ghost places: { mask ≡ modulus_of kind - 1 },
+}
+
+impl Range {
+    pub(crate) fn of(kind: Kind) -> Range
+        ensures { result.kind ≡ kind }
+    {
+        let (least, mask) = bounds(kind);
+        Range { kind, least, mask }
+    }
+
+    pub(crate) fn kind(self) -> Kind
+        ensures { result ≡ self.kind }
+    {
+        self.kind
+    }
+
+    // The value of a number of 64 bits.
+    pub(crate) fn value(self, number: u64) -> Value
+        ensures { result ≡ typed_reduced self.kind (pos number) }
+    {
+        Value {
+            number: self.narrow(number),
+            kind: self.kind,
+        }
+    }
+
+    /// Its number: it is above the least one by the low bits of what a number of 64 bits is above that.
+    fn narrow(self, number: u64) -> i128
+        ensures value { result ≡ reduced self.kind (pos number) }
+        ensures held { Holds self.kind result }
+    {
+        let above = number.wrapping_sub(self.least.cast_unsigned()) & self.mask;
+        self.least as i128 + above as i128
     }
 }
 
-// The number modulo `modulus`, at least 0 for a negative number too.
-pub(crate) fn modulo(number: i128, modulus: u128) -> u128
-    requires positive { 0 < modulus }
-    requires at_most { modulus ≤ 2 ^ 64 }
-    ensures value { int_rem_euclid number (pos modulus) ≡ pos result }
-    ensures below { result < modulus }
+/// The least number of a kind, and a one in each place of its width.
+fn bounds(kind: Kind) -> (i64, u64)
+    ensures least { result.0 ≡ least_of kind }
+    ensures mask { result.1 ≡ modulus_of kind - 1 }
 {
-    number.rem_euclid(modulus as i128) as u128
+    match kind {
+        Kind::Char | Kind::UnsignedChar => (0, 0xff),
+        Kind::SignedChar => (-0x80, 0xff),
+        Kind::Short => (-0x8000, 0xffff),
+        Kind::UnsignedShort => (0, 0xffff),
+        Kind::Int => (-0x8000_0000, 0xffff_ffff),
+        Kind::UnsignedInt => (0, 0xffff_ffff),
+        Kind::Long => (i64::MIN, u64::MAX),
+        Kind::UnsignedLong => (0, u64::MAX),
+    }
 }
 
 /// The value converted to another kind, as `Value::reduce` of its number (C11 6.3.1.3). A number that
@@ -108,10 +153,9 @@ pub fn register_form(value: Value) -> u64
     }
 }
 
-// The number modulo 2^64.
-#[tactic(auto, unfolding(crate::specs::Reduction::residue))]
-fn residue(number: i128) -> u64
+/// The number modulo 2^64.
+pub fn residue(number: i128) -> u64
     ensures { result ≡ residue 64 number }
 {
-    modulo(number, 1 << 64) as u64
+    (number.cast_unsigned() % (1 << 64)) as u64
 }

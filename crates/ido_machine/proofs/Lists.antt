@@ -1,5 +1,6 @@
 -- Places of lists.
-use Rattle.std.proofs.Common.{Vec, ◌≡◌, ◌≢◌, ℕ, zero, suc, ◌+◌, ◌<◌, List, [], ◌∷◌, ◌++◌, length, map, replicate, get_or, slice_get, slice_set, Some, ◌⊎◌, inl, inr, refl, sym, ◌∙◌, ap, subst, arith, get_or-set_same, get_or-set_other}
+use Rattle.std.proofs.Common.{Vec, ◌≡◌, ◌≢◌, ℕ, zero, suc, ◌+◌, ◌<◌, List, [], ◌∷◌, ◌++◌, length, map, replicate, get_or, slice_get}
+use Rattle.std.proofs.Common.{slice_set, Some, ◌⊎◌, inl, inr, refl, sym, ◌∙◌, ap, subst, arith, get_or-set_same, get_or-set_other}
 use Rattle.std.proofs.lemmas.Bool.{cases_eq}
 use Rattle.rv64_isa.specs.Machine.{numbers_from}
 
@@ -78,15 +79,18 @@ map_constant x at zero = refl
 map_constant x at (suc count) = ap (λ (xs : List _). x ∷ xs) (map_constant x (at + 1) count)
 
 -- a list whose places are those of a function of numbers
-pub from_each : {X : Type 0} (f : ℕ → X) (at : ℕ) (xs : List X) (d : X) → ((n : ℕ) → n < length xs → get_or xs n d ≡ f (at + n)) → xs ≡ map f (numbers_from at (length xs))
+pub from_each : {X : Type 0} (f : ℕ → X) (at : ℕ) (xs : List X) (d : X) → ((n : ℕ) → n < length xs → get_or xs n d ≡ f (at + n)) →
+    xs ≡ map f (numbers_from at (length xs))
 from_each f at [] d each = refl
 from_each f at (x ∷ xs) d each =
     let first : x ≡ f at = each 0 (omega arith) ∙ (let e : at + 0 ≡ at = omega arith in ap f e) in
-    let rest : xs ≡ map f (numbers_from (at + 1) (length xs)) = from_each f (at + 1) xs d (λ n below. each (suc n) (omega (arith, below)) ∙ (let e : at + suc n ≡ at + 1 + n = omega arith in ap f e)) in
+    let rest : xs ≡ map f (numbers_from (at + 1) (length xs)) =
+    from_each f (at + 1) xs d (λ n below. each (suc n) (omega (arith, below)) ∙ (let e : at + suc n ≡ at + 1 + n = omega arith in ap f e)) in
     ap (λ (y : _). y ∷ xs) first ∙ ap (λ (ys : List _). f at ∷ ys) rest
 
 -- one place more that has what a function of its number says
-pub set_next : {X : Type 0} (f : ℕ → X) (xs : List X) (n : ℕ) (x d : X) → n < length xs → x ≡ f n → ((i : ℕ) → i < n → get_or xs i d ≡ f i) → (i : ℕ) → i < n + 1 → get_or (slice_set xs n x) i d ≡ f i
+pub set_next : {X : Type 0} (f : ℕ → X) (xs : List X) (n : ℕ) (x d : X) → n < length xs → x ≡ f n → ((i : ℕ) → i < n → get_or xs i d ≡ f i) → (i : ℕ) →
+    i < n + 1 → get_or (slice_set xs n x) i d ≡ f i
 set_next f xs n x d within is before i below = elim (cases_eq i n) [
   | inl same ↦ subst (λ (j : ℕ). get_or (slice_set xs n x) j d ≡ f j) (sym same) (get_or-set_same xs n x d within ∙ is)
   | inr other ↦ get_or-set_other xs n i x d other ∙ before i (omega (arith, other, below))

@@ -1,22 +1,24 @@
 -- The start of a machine, and its state after a crash.
-use Rattle.std.proofs.Common.{◌≡◌, ℕ, zero, suc, ◌+◌, ◌<◌, List, [], ◌∷◌, ◌++◌, length, map, replicate, slice_get, slice_set, get_or, set, Option, Some, None, true, false, inl, inr, refl, sym, ◌∙◌, ap, subst, arith, get_or-set_same, get_or-set_other, length-set}
+use Rattle.std.proofs.Common.{◌≡◌, ℕ, zero, suc, ◌+◌, ◌<◌, List, [], ◌∷◌, ◌++◌, length, map, replicate, slice_get}
+use Rattle.std.proofs.Common.{slice_set, Some, None, true, false, inl, inr, sym, ◌∙◌, ap, subst, arith, length-set}
 use Rattle.std.proofs.lemmas.Bool.{cases_eq}
 use Rattle.std.proofs.lemmas.List.{length_push}
 use Rattle.ido_base.specs.Words.{Word, word_of}
 use Rattle.ido_base.specs.Layout.{initial_words}
-use Rattle.line_memory.specs.Stands.{Stands}
+use Rattle.line_memory.specs.links.Stands.{Stands}
 use Rattle.rv64_isa.specs.declared.object.Slot.{Slot}
 use Rattle.rv64_isa.specs.declared.phase.Phase.{Phase}
-use Rattle.rv64_isa.specs.declared.phase.Phase.TheVariants.{Run, Done}
+use Rattle.rv64_isa.specs.declared.phase.Phase.TheVariants.{Run}
 use Rattle.rv64_isa.specs.Machine.{Hart as HartModel, start_of, after_crash_of, fresh_hart, phase_after_crash, durable_point, numbers_from}
 use Rattle.hart_core.specs.declared.hart.Hart.{Hart}
-use Rattle.hart_core.specs.Harts.{HartStands}
+use Rattle.hart_core.specs.links.Harts.{HartStands}
 use Rattle.ido_machine.specs.Harts.{HartsStand, IsFresh, AreFresh}
 use Rattle.ido_machine.specs.Machines.{State, StateStands}
 use Rattle.ido_machine.proofs.Lists.{set_same, set_other, get_push, get_numbers, length-numbers, map_map, map_constant}
 
 -- one hart more
-pub AreFresh-push : (program : List (List Slot)) (harts : List Hart) (count : ℕ) (it : Hart) → AreFresh program harts count → IsFresh program count it → AreFresh program (harts ++ it ∷ []) (count + 1)
+pub AreFresh-push : (program : List (List Slot)) (harts : List Hart) (count : ℕ) (it : Hart) → AreFresh program harts count → IsFresh program count it →
+    AreFresh program (harts ++ it ∷ []) (count + 1)
 AreFresh-push program harts count it fresh new = record {
   size = length_push harts it ∙ ap (λ n. n + 1) fresh.size;
   each = λ thread one found. elim (get_push harts thread it one found) [
@@ -30,7 +32,8 @@ pub record AreRestarted (program : List (List Slot)) (harts : List Hart) (count 
   pub size : length harts ≡ length program
   pub each : (thread : ℕ) (it : Hart) → thread < count → slice_get harts thread ≡ Some it → IsFresh program thread it
 
-pub AreRestarted-set : (program : List (List Slot)) (harts : List Hart) (count : ℕ) (it : Hart) → AreRestarted program harts count → IsFresh program count it → AreRestarted program (slice_set harts count it) (count + 1)
+pub AreRestarted-set : (program : List (List Slot)) (harts : List Hart) (count : ℕ) (it : Hart) → AreRestarted program harts count → IsFresh program count it →
+    AreRestarted program (slice_set harts count it) (count + 1)
 AreRestarted-set program harts count it a new = record {
   size = length-set harts count it ∙ a.size;
   each = λ thread one below found. elim (cases_eq thread count) [
@@ -41,7 +44,8 @@ AreRestarted-set program harts count it a new = record {
   ];
 }
 
-pub AreFresh-all : (program : List (List Slot)) (harts : List Hart) (count : ℕ) → count ≡ length program → AreRestarted program harts count → AreFresh program harts (length program)
+pub AreFresh-all : (program : List (List Slot)) (harts : List Hart) (count : ℕ) → count ≡ length program → AreRestarted program harts count →
+    AreFresh program harts (length program)
 AreFresh-all program harts count all a = record {
   size = a.size;
   each = λ thread it found. a.each thread it (within harts thread it (all ∙ sym a.size) found) found;
@@ -56,7 +60,8 @@ AreFresh-all program harts count all a = record {
         below (z ∷ zs) (suc m) y there = omega (arith, below zs m y there)
 
 -- fresh harts stand for those of the definition, whatever their phases
-fresh_stand : (program : List (List Slot)) (phase : ℕ → Phase) (harts : List Hart) (words : List Word) → AreFresh program harts (length program) → HartsStand harts (map (λ thread. fresh_hart program (phase thread) thread) (numbers_from 0 (length program))) words
+fresh_stand : (program : List (List Slot)) (phase : ℕ → Phase) (harts : List Hart) (words : List Word) → AreFresh program harts (length program) →
+    HartsStand harts (map (λ thread. fresh_hart program (phase thread) thread) (numbers_from 0 (length program))) words
 fresh_stand program phase harts words fresh = record {
   count = length-numbers model 0 (length program) ∙ sym fresh.size;
   each = λ thread it m found there.
@@ -71,22 +76,30 @@ fresh_stand program phase harts words fresh = record {
     one : (thread : ℕ) (it : Hart) → IsFresh program thread it → HartStands it (fresh_hart program (phase thread) thread) words
     one thread it is = record { registers = sym is.registers; pc = sym is.pc; queue = is.queue words }
 
-pub start_stands : (program : List (List Slot)) (locks : ℕ) (initial : List ℕ) (state : State) → AreFresh program state.harts (length program) → state.phases ≡ replicate (length program) Run → Stands state.memory (map word_of (initial_words (length program) initial)) → state.locks ≡ replicate locks None → state.recovering ≡ false → StateStands state (start_of program locks initial)
+pub start_stands : (program : List (List Slot)) (locks : ℕ) (initial : List ℕ) (state : State) → AreFresh program state.harts (length program) →
+    state.phases ≡ replicate (length program) Run → Stands state.memory (map word_of (initial_words (length program) initial)) →
+    state.locks ≡ replicate locks None → state.recovering ≡ false → StateStands state (start_of program locks initial)
 unfolding start_of
 start_stands program locks initial state fresh phases stands free running = record {
   words = stands;
   holders = sym free;
-  phases = map_map (λ (hart : HartModel). hart.phase) (fresh_hart program Run) (numbers_from 0 (length program)) ∙ map_constant Run 0 (length program) ∙ sym phases;
+  phases =
+      map_map (λ (hart : HartModel). hart.phase) (fresh_hart program Run) (numbers_from 0 (length program)) ∙ map_constant Run 0 (length program) ∙ sym phases;
   standing = fresh_stand program (λ thread. Run) state.harts (map word_of (initial_words (length program) initial)) fresh;
   recovering = sym running;
 }
 
-pub crash_stands : (program : List (List Slot)) (locks : ℕ) (words : List ℕ) (state : State) → AreFresh program state.harts (length program) → state.phases ≡ map (λ thread. phase_after_crash (durable_point (map word_of words) thread)) (numbers_from 0 (length program)) → Stands state.memory (map word_of words) → state.locks ≡ replicate locks None → state.recovering ≡ true → StateStands state (after_crash_of program locks words)
+pub crash_stands : (program : List (List Slot)) (locks : ℕ) (words : List ℕ) (state : State) → AreFresh program state.harts (length program) →
+    state.phases ≡ map (λ thread. phase_after_crash (durable_point (map word_of words) thread)) (numbers_from 0 (length program)) →
+    Stands state.memory (map word_of words) → state.locks ≡ replicate locks None → state.recovering ≡ true →
+    StateStands state (after_crash_of program locks words)
 unfolding after_crash_of
 crash_stands program locks words state fresh phases stands free recovering = record {
   words = stands;
   holders = sym free;
-  phases = map_map (λ (hart : HartModel). hart.phase) (λ thread. fresh_hart program (phase_after_crash (durable_point (map word_of words) thread)) thread) (numbers_from 0 (length program)) ∙ sym phases;
+  phases =
+      map_map (λ (hart : HartModel). hart.phase) (λ thread. fresh_hart program (phase_after_crash (durable_point (map word_of words) thread)) thread)
+      (numbers_from 0 (length program)) ∙ sym phases;
   standing = fresh_stand program (λ thread. phase_after_crash (durable_point (map word_of words) thread)) state.harts (map word_of words) fresh;
   recovering = sym recovering;
 }

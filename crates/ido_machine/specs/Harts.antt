@@ -1,12 +1,12 @@
 -- What the harts in the code stand for.
 use Rattle.std.specs.Prelude.{◌≡◌, ℕ, List, [], length, slice_get, Some, replicate}
 use Rattle.ido_base.specs.Words.{Word}
-use Rattle.line_memory.specs.Queues.{QueueStands}
+use Rattle.line_memory.specs.links.Queues.{QueueStands}
 use Rattle.rv64_isa.specs.declared.object.Slot.{Slot}
 use Rattle.rv64_isa.specs.Programs.{code_start}
 use Rattle.rv64_isa.specs.Machine.{Hart as HartModel}
 use Rattle.hart_core.specs.declared.hart.Hart.{Hart}
-use Rattle.hart_core.specs.Harts.{HartStands}
+use Rattle.hart_core.specs.links.Harts.{HartStands}
 
 -- as many harts, and each stands for the one of its number
 pub record HartsStand (harts : List Hart) (models : List HartModel) (words : List Word) : Type 0 where

@@ -2,7 +2,7 @@
 use Rattle.std.specs.Prelude.{◌≡◌, ℕ, List, Option, Bool}
 use Rattle.ido_base.specs.declared.event.Reply.{Reply}
 use Rattle.line_memory.specs.declared.memory.LineMemory.{LineMemory}
-use Rattle.line_memory.specs.Stands.{Stands}
+use Rattle.line_memory.specs.links.Stands.{Stands}
 use Rattle.rv64_isa.specs.declared.object.Slot.{Slot}
 use Rattle.rv64_isa.specs.declared.phase.Phase.{Phase}
 use Rattle.rv64_isa.specs.Machine.{World, Outcome}

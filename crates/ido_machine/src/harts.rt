@@ -1,20 +1,20 @@
 //! The harts of a machine at its start and after a crash.
 ghost use Rattle.std.specs.Prelude.{◌≡◌, ℕ, List, length, map, IfOk};
 ghost use Rattle.ido_base.specs.Words.{Word};
-ghost use Rattle.line_memory.specs.Stands.{Stands, threads_of};
+ghost use Rattle.line_memory.specs.links.Stands.{Stands, threads_of};
 ghost use Rattle.rv64_isa.specs.Machine.{phase_after_crash, durable_point, numbers_from};
 ghost use Rattle.ido_machine.specs.Harts.{AreFresh};
 
 use hart_core::hart::Hart;
 use hart_core::program::Program;
-use ido_base::memory::Memory;
+use ido_base::memory::OutOfMemory;
 use line_memory::memory::LineMemory;
 use resume_recovery::phase_after_crash;
 use rv64_isa::phase::Phase;
 use std::alloc::Global;
 
 /// The harts at the start, each at the first word of its code.
-pub(crate) fn fresh(alloc: Global, program: &Program) -> Result<Vec<Hart>, Memory>
+pub(crate) fn fresh(alloc: Global, program: &Program) -> Result<Vec<Hart>, OutOfMemory>
     ensures { IfOk result (λ harts. AreFresh program.now harts.items (length program.now)) }
 {
     let mut harts = Vec::with_capacity(alloc, program.threads() as usize)?;

@@ -1,6 +1,6 @@
 //! The machine.
 ghost use Rattle.std.specs.Prelude.{◌≡◌, ◌≤◌, length, vec_len};
-ghost use Rattle.line_memory.specs.Stands.{threads_of, stores_of};
+ghost use Rattle.line_memory.specs.links.Stands.{threads_of, stores_of};
 
 use crate::harts;
 use crate::running::step_one;
@@ -8,7 +8,7 @@ use hart_core::completion;
 use hart_core::hart::Hart;
 use hart_core::program::Program;
 use ido_base::event::{Event, Reply};
-use ido_base::memory::Memory;
+use ido_base::memory::OutOfMemory;
 use line_memory::memory::LineMemory;
 use lock_table::LockTable;
 use rv64_isa::object::Object;
@@ -45,7 +45,7 @@ impl Machine {
     ghost use Rattle.ido_machine.specs.Machines.{program_in, events_of, MachineStands, IsAfter};
 
     /// The machine of an object at its start.
-    pub fn start(alloc: Global, object: &Object) -> Result<Machine, Memory>
+    pub fn start(alloc: Global, object: &Object) -> Result<Machine, OutOfMemory>
         requires { IsWithinLimits object.now }
         ensures stands { IfOk result (λ machine. MachineStands machine (machine_start object.now)) }
         ensures program { IfOk result (λ machine. program_in machine ≡ program_of object.now) }
@@ -69,7 +69,7 @@ impl Machine {
 
     /// The machine of an object after a crash that left these words of its variables and, behind them, of its
     /// logs.
-    pub fn of_words(alloc: Global, object: &Object, words: &[u64]) -> Result<Machine, Memory>
+    pub fn of_words(alloc: Global, object: &Object, words: &[u64]) -> Result<Machine, OutOfMemory>
         requires limits { IsWithinLimits object.now }
         requires count { length words.now ≡ length object.now.initial.items / 8 + 128 * length object.now.code.items }
         ensures stands { IfOk result (λ machine. MachineStands machine (machine_from object.now words.now [])) }
@@ -101,6 +101,13 @@ impl Machine {
         self.program.threads()
     }
 
+    /// What it runs.
+    pub fn program(&self) -> &Program
+        ensures { result.now ≡ program_in self.now }
+    {
+        &self.program
+    }
+
     /// Makes an event.
     pub fn event(&mut self, event: Event) -> Reply
         requires valid { IsValidEvent (length (program_in self.old)) event }
@@ -111,12 +118,14 @@ impl Machine {
     {
         match event {
             Event::Step(hart) => self.step(hart),
-            Event::Evict(line, mask) => self.evict(line, mask),
+            Event::Evict { line, mask } => self.evict(line, mask),
             Event::Crash => self.crash(),
         }
     }
 
-    fn step(&mut self, hart: u32) -> Reply
+    /// A step of a hart: what `event` does for it.
+    #[inline(always)]
+    pub fn step(&mut self, hart: u32) -> Reply
         requires exists { hart < length (program_in self.old) }
         requires room { events_of self.old < 2 ^ 63 }
         ensures world { (w : World) → MachineStands self.old w → IsAfter self.new result (happens (program_in self.old) w (Step hart)) }
@@ -136,7 +145,8 @@ impl Machine {
         reply
     }
 
-    fn evict(&mut self, line: u32, mask: u32) -> Reply
+    /// An eviction of the words of a line that the mask chooses: what `event` does for it.
+    pub fn evict(&mut self, line: u32, mask: u32) -> Reply
         requires exists { line < line_count (length (program_in self.old)) }
         requires mask { mask ≤ 255 }
         requires room { events_of self.old < 2 ^ 63 }
@@ -149,7 +159,8 @@ impl Machine {
         Reply::Device
     }
 
-    fn crash(&mut self) -> Reply
+    /// A crash: what `event` does for it.
+    pub fn crash(&mut self) -> Reply
         requires room { events_of self.old < 2 ^ 63 }
         ensures world { (w : World) → MachineStands self.old w → IsAfter self.new result (happens (program_in self.old) w Crash) }
         ensures program { program_in self.new ≡ program_in self.old }

@@ -2,7 +2,7 @@
 ghost use Rattle.std.specs.Prelude.{◌≡◌, ◌&&◌, ◌+◌, ◌^◌, ◌<◌, ◌≤◌, ℕ, not, length, slice_get};
 ghost use Rattle.ido_base.specs.declared.event.Event.TheVariants.{Step};
 ghost use Rattle.ido_base.specs.Locks.{holds_none};
-ghost use Rattle.line_memory.specs.Stands.{threads_of, stores_of};
+ghost use Rattle.line_memory.specs.links.Stands.{threads_of, stores_of};
 ghost use Rattle.rv64_isa.specs.Machine.{Hart as HartModel, World, happens, run_step};
 ghost use Rattle.hart_core.specs.Steps.{Parts, PartsStand, PartsEnd};
 ghost use Rattle.ido_machine.specs.Machines.{State, StateStands, StateEnds};
@@ -31,6 +31,7 @@ fn is_over(held: bool, number: u32, locks: &LockTable) -> bool
 }
 
 /// Makes the step; in recovery, a hart whose release leaves it with nothing is done.
+#[inline(always)]
 fn run(
     number: u32,
     program: &Program,
@@ -59,6 +60,7 @@ fn run(
 }
 
 /// A step of the hart of this number.
+#[inline(always)]
 pub(crate) fn step_one(
     number: u32,
     program: &Program,
@@ -74,7 +76,10 @@ pub(crate) fn step_one(
     requires sized { length harts.old ≡ length program.now }
     requires threads { threads_of memory.old ≡ length program.now }
     requires room { stores_of memory.old < 2 ^ 63 }
-    ensures step { (w : World) → StateStands (record { phases = phases.old; harts = harts.old; memory = memory.old; locks = locks.old; recovering = recovering }) w → StateEnds (record { phases = phases.new; harts = harts.new; memory = memory.new; locks = locks.new; recovering = recovering }) result (happens program.now w (Step number)) }
+    ensures step { (w : World) → StateStands
+        (record { phases = phases.old; harts = harts.old; memory = memory.old; locks = locks.old; recovering = recovering }) w →
+        StateEnds (record { phases = phases.new; harts = harts.new; memory = memory.new; locks = locks.new; recovering = recovering }) result
+        (happens program.now w (Step number)) }
     ensures threads { threads_of memory.new ≡ threads_of memory.old }
     ensures stores { stores_of memory.new ≤ stores_of memory.old + 1 }
 {

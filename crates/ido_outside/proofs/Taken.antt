@@ -1,12 +1,14 @@
 -- What was taken from a source, in several reads.
-use Rattle.std.proofs.Common.{◌≡◌, ℕ, ◌+◌, ◌-◌, ◌≤◌, ◌<◌, List, [], ◌++◌, length, None, Some, IfSome, IfErr, IsErrOf, Result, sym, ap, ◌∙◌, arith, append_assoc, append-nil, length-append}
+use Rattle.std.proofs.Common.{◌≡◌, ℕ, ◌+◌, ◌-◌, ◌≤◌, ◌<◌, List, [], ◌++◌, length, None, Some, IfSome, IfErr}
+use Rattle.std.proofs.Common.{IsErrOf, Result, sym, ap, ◌∙◌, arith, append_assoc, append-nil, length-append}
 use Rattle.std.specs.declared.option.Option.{Option}
 use Rattle.std.specs.Io.KnownBytes.{Consumes, IsAtEnd}
 use Rattle.std.proofs.KnownBytes.{Consumes-nil, Consumes-trans, Consumes-whole}
 use Rattle.std.proofs.lemmas.Result.{IfErr-at_err}
 use Rattle.ido_outside.specs.declared.faults.InFault.{InFault}
 use Rattle.ido_outside.specs.declared.faults.InFault.TheVariants.{Failed, TooLong, Memory}
-use Rattle.ido_outside.specs.Source.{Gathers, TakesExactly, TakenAtFault}
+use Rattle.ido_outside.specs.Source.{TakesExactly, TakenAtFault}
+use Rattle.ido_outside.specs.links.Gathering.{Gathers}
 
 -- where n + 1 bytes were taken, more than n were left
 pub TakesExactly-longer : (n : ℕ) (a b : Option (List ℕ))

@@ -17,5 +17,5 @@ abbrev pub TakesSome : {E : Type 0} → Result ℕ E → List ℕ → Type 0
 TakesSome result piece = IfOk result (λ n. 0 < length piece → 0 < n)
 
 -- a front of the bytes was added, and not all of them
-abbrev pub AddsFront : Option (List ℕ) → Option (List ℕ) → List ℕ → Type 0
-AddsFront old new bytes = (n : ℕ) × (n < length bytes) × Adds old new (take n bytes)
+abbrev pub AddsPrefix : Option (List ℕ) → Option (List ℕ) → List ℕ → Type 0
+AddsPrefix old new bytes = (n : ℕ) × (n < length bytes) × Adds old new (take n bytes)

@@ -1,5 +1,5 @@
 -- What is taken from a source, where it tells the bytes that are left.
-use Rattle.std.specs.Prelude.{◌≡◌, ℕ, ◌+◌, ◌≤◌, List, ◌++◌, length, Option}
+use Rattle.std.specs.Prelude.{◌≡◌, ℕ, ◌+◌, ◌≤◌, List, length, Option}
 use Rattle.std.specs.Io.KnownBytes.{Consumes}
 use Rattle.ido_outside.specs.declared.faults.InFault.{InFault}
 use Rattle.ido_outside.specs.declared.faults.InFault.TheVariants.{Failed, TooLong, Memory}
@@ -17,7 +17,3 @@ abbrev pub TakenAtFault : ℕ → Option (List ℕ) → Option (List ℕ) → In
 TakenAtFault limit old new TooLong = TakesExactly (limit + 1) old new
 TakenAtFault limit old new Failed = TakesAtMost limit old new
 TakenAtFault limit old new Memory = TakesAtMost limit old new
-
--- the front of what was left was taken, and stands now behind the bytes
-abbrev pub Gathers : Option (List ℕ) → Option (List ℕ) → List ℕ → List ℕ → Type 0
-Gathers old new before after = (taken : List ℕ) × Consumes old new taken × (after ≡ before ++ taken)

@@ -1,11 +1,12 @@
 //! Sinks in memory.
-ghost use Rattle.std.specs.Prelude.{◌≡◌, ◌≤◌, ◌<◌, ◌+◌, ◌-◌, ◌^◌, ◌++◌, ◌↔◌, ◌⊎◌, [], min, Contains, IsErr, IsSome, IfSome, List, ℕ, length, vec_len, vec_capacity, Some, None, IfOk, OnErr, IsTrue, take, if◌then◌else◌};
+ghost use Rattle.std.specs.Prelude.{◌≡◌, ◌≤◌, ◌<◌, ◌+◌, ◌-◌, ◌^◌, ◌++◌, ◌↔◌, ◌⊎◌, [], min, Contains, IsErr, IsSome, IfSome, List};
+ghost use Rattle.std.specs.Prelude.{ℕ, length, vec_len, vec_capacity, Some, None, IfOk, OnErr, IsTrue, take, if◌then◌else◌};
 ghost use Rattle.std.specs.Option.{option_copied};
 ghost use Rattle.std.specs.Bool.{OnTrue, OnFalse};
 
 use crate::plan::FaultPlan;
 use crate::{Failed, Sink};
-use ido_base::memory::Memory;
+use ido_base::memory::OutOfMemory;
 use std::alloc::{AllocError, Global};
 
 // Bytes in room that was reserved for them.
@@ -27,7 +28,7 @@ impl Reserve {
         Ok(Reserve { bytes, capacity })
     }
 
-    // Adds the piece, if it fits.
+    /// Adds the piece, if it fits.
     fn add(&mut self, piece: &[u8]) -> bool
         ensures fits { IsTrue result ↔ (vec_len self.old.bytes + length piece.now ≤ self.old.capacity) }
         ensures added { OnTrue result (self.new.bytes.items ≡ self.old.bytes.items ++ piece.now) }
@@ -39,8 +40,8 @@ impl Reserve {
     }
 }
 
-// The front of a piece, at most `most` bytes.
-fn front(piece: &[u8], most: u64) -> &[u8]
+/// The front of a piece, at most `most` bytes.
+fn prefix(piece: &[u8], most: u64) -> &[u8]
     ensures { result.now ≡ take most piece.now }
 {
     let count = most.min(piece.len() as u64) as usize;
@@ -58,14 +59,14 @@ pub struct SureSink {
 }
 
 impl SureSink {
-    ghost use Rattle.ido_outside.specs.SureSink.{capacity_of, piece_of, told_bytes};
+    ghost use Rattle.ido_outside.specs.links.SureSink.{capacity_of, piece_of, told_bytes};
 
     /// A sink with room for `capacity` bytes, which takes at most `piece` of them in a call.
     ///
     /// # Errors
     ///
-    /// `Memory`, where the room can't be had.
-    pub fn new(alloc: Global, capacity: u64, piece: u64) -> Result<Self, Memory>
+    /// `OutOfMemory`, where the room can't be had.
+    pub fn new(alloc: Global, capacity: u64, piece: u64) -> Result<Self, OutOfMemory>
         requires { 0 < piece }
         ensures told { IfOk result (λ sink. told_bytes sink ≡ Some []) }
         ensures capacity { IfOk result (λ sink. capacity_of sink ≡ capacity) }
@@ -96,7 +97,7 @@ impl Sink for SureSink {
     ghost use Rattle.std.specs.Io.{WritesAtMost};
     ghost use Rattle.ido_outside.specs.Causes.{HasCause};
     ghost use Rattle.ido_outside.specs.Sink.{TakesSome, WriteAdds};
-    ghost use Rattle.ido_outside.specs.SureSink.{capacity_of, piece_of, told_bytes};
+    ghost use Rattle.ido_outside.specs.links.SureSink.{capacity_of, piece_of, told_bytes};
 
     ghost written = { told_bytes };
 
@@ -116,7 +117,7 @@ impl Sink for SureSink {
         ensures capacity { capacity_of self.new ≡ capacity_of self.old }
         ensures piece { piece_of self.new ≡ piece_of self.old }
     {
-        let taken = front(piece, self.piece);
+        let taken = prefix(piece, self.piece);
         self.overflowed = self.overflowed || !self.kept.add(taken);
         Ok(taken.len())
     }
@@ -132,7 +133,7 @@ pub struct MemSink {
 }
 
 impl MemSink {
-    ghost use Rattle.ido_outside.specs.MemSink.{call_count, capacity_of, failing_calls, fault_count, held_bytes, piece_of};
+    ghost use Rattle.ido_outside.specs.links.MemSink.{call_count, capacity_of, failing_calls, fault_count, held_bytes, piece_of};
 
     /// A sink with room for `capacity` bytes, which takes at most `piece` of them in a call. The
     /// calls of `write` are counted from 1; those whose numbers stand in `fails` fail, and so
@@ -140,8 +141,13 @@ impl MemSink {
     ///
     /// # Errors
     ///
-    /// `Memory`, where the room can't be had.
-    pub fn new(alloc: Global, capacity: u64, piece: u64, fails: Vec<u64>) -> Result<Self, Memory>
+    /// `OutOfMemory`, where the room can't be had.
+    pub fn new(
+        alloc: Global,
+        capacity: u64,
+        piece: u64,
+        fails: Vec<u64>,
+    ) -> Result<Self, OutOfMemory>
         requires { 0 < piece }
         ensures written { IfOk result (λ sink. held_bytes sink ≡ []) }
         ensures faults { IfOk result (λ sink. fault_count sink ≡ 0) }
@@ -185,7 +191,7 @@ impl Sink for MemSink {
     ghost use Rattle.std.specs.Io.{WritesAtMost};
     ghost use Rattle.ido_outside.specs.Causes.{HasCause};
     ghost use Rattle.ido_outside.specs.Sink.{TakesSome, WriteAdds};
-    ghost use Rattle.ido_outside.specs.MemSink.{call_count, capacity_of, failing_calls, fault_count, held_bytes, piece_of};
+    ghost use Rattle.ido_outside.specs.links.MemSink.{call_count, capacity_of, failing_calls, fault_count, held_bytes, piece_of};
 
     ghost written = { λ s. Some (held_bytes s) };
 
@@ -206,7 +212,7 @@ impl Sink for MemSink {
         ensures piece { piece_of self.new ≡ piece_of self.old }
         ensures listed { failing_calls self.new ≡ failing_calls self.old }
     {
-        let taken = front(piece, self.piece);
+        let taken = prefix(piece, self.piece);
         if self.plan.next_fails() || !self.kept.add(taken) {
             self.plan.fault();
             return Err(Failed);

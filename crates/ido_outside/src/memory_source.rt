@@ -15,7 +15,7 @@ pub struct SureSource {
 }
 
 impl SureSource {
-    ghost use Rattle.ido_outside.specs.SureSource.{left_bytes, piece_of};
+    ghost use Rattle.ido_outside.specs.links.SureSource.{left_bytes, piece_of};
 
     /// A source of these bytes, which gives at most `piece` of them in a call.
     pub fn new(bytes: Vec<u8>, piece: u64) -> Self
@@ -37,14 +37,14 @@ impl SureSource {
         &self.bytes[self.next..]
     }
 
-    // Gives the front of the bytes left, and the number of its bytes.
+    /// Gives the front of the bytes left, and the number of its bytes.
     fn give(&mut self, buf: &mut [u8]) -> usize
         ensures count { result ≡ min (piece_of self.old) (min (length (left_bytes self.old)) (length buf.new)) }
         ensures taken { left_bytes self.old ≡ take result buf.new ++ left_bytes self.new }
         ensures end { result ≡ 0 → 0 < length buf.new → left_bytes self.new ≡ [] }
         ensures piece { piece_of self.new ≡ piece_of self.old }
     {
-        let count = copy_front(&self.bytes[self.next..], buf, self.piece);
+        let count = copy_prefix(&self.bytes[self.next..], buf, self.piece);
         self.next += count;
         count
     }
@@ -54,7 +54,7 @@ impl Source for SureSource {
     ghost use Rattle.std.specs.Io.{ReadsAtMost};
     ghost use Rattle.std.specs.Io.KnownBytes.{ReadConsumes};
     ghost use Rattle.ido_outside.specs.Causes.{HasCause};
-    ghost use Rattle.ido_outside.specs.SureSource.{left_bytes, piece_of};
+    ghost use Rattle.ido_outside.specs.links.SureSource.{left_bytes, piece_of};
 
     ghost left = { λ s. Some (left_bytes s) };
 
@@ -82,7 +82,7 @@ pub struct MemSource {
 }
 
 impl MemSource {
-    ghost use Rattle.ido_outside.specs.MemSource.{call_count, failing_calls, fault_count, left_bytes, piece_of};
+    ghost use Rattle.ido_outside.specs.links.MemSource.{call_count, failing_calls, fault_count, left_bytes, piece_of};
 
     /// A source of these bytes, which gives at most `piece` of them in a call. The calls of
     /// `read` are counted from 1; those whose numbers stand in `fails` fail and take nothing.
@@ -119,7 +119,7 @@ impl Source for MemSource {
     ghost use Rattle.std.specs.Io.{ReadsAtMost};
     ghost use Rattle.std.specs.Io.KnownBytes.{ReadConsumes};
     ghost use Rattle.ido_outside.specs.Causes.{HasCause};
-    ghost use Rattle.ido_outside.specs.MemSource.{call_count, failing_calls, fault_count, left_bytes, piece_of};
+    ghost use Rattle.ido_outside.specs.links.MemSource.{call_count, failing_calls, fault_count, left_bytes, piece_of};
 
     ghost left = { λ s. Some (left_bytes s) };
 
@@ -146,8 +146,8 @@ impl Source for MemSource {
     }
 }
 
-// Copies the front of `source` to the front of `target`, at most `most` bytes.
-fn copy_front(source: &[u8], target: &mut [u8], most: u64) -> usize
+/// Copies the front of `source` to the front of `target`, at most `most` bytes.
+fn copy_prefix(source: &[u8], target: &mut [u8], most: u64) -> usize
     ensures count { result ≡ min most (min (length source.now) (length target.old)) }
     ensures copied { take result target.new ≡ take result source.now }
 {

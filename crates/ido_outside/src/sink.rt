@@ -3,7 +3,7 @@ ghost use Rattle.std.specs.Prelude.{◌≡◌, List, ℕ, OnOk, OnErr};
 ghost use Rattle.std.specs.declared.option.Option.{Option};
 ghost use Rattle.std.specs.Io.{WritesAtMost};
 ghost use Rattle.ido_outside.specs.Causes.{HasCause};
-ghost use Rattle.ido_outside.specs.Sink.{Adds, AddsFront, TakesSome, WriteAdds};
+ghost use Rattle.ido_outside.specs.Sink.{Adds, AddsPrefix, TakesSome, WriteAdds};
 
 use crate::Failed;
 
@@ -34,7 +34,7 @@ pub trait Sink {
 /// and not all of them.
 pub fn write_all<K: Sink>(sink: &mut K, bytes: &[u8]) -> Result<(), Failed>
     ensures ok { OnOk result (Adds (K.written sink.old) (K.written sink.new) bytes.now) }
-    ensures err { OnErr result (AddsFront (K.written sink.old) (K.written sink.new) bytes.now) }
+    ensures err { OnErr result (AddsPrefix (K.written sink.old) (K.written sink.new) bytes.now) }
     ensures cause { HasCause (K.faults sink.old) (K.faults sink.new) result }
 {
     let mut done = 0;

@@ -1,10 +1,12 @@
 //! Where bytes come from.
-ghost use Rattle.std.specs.Prelude.{◌≡◌, ◌+◌, ◌-◌, ◌<◌, ◌≤◌, ◌++◌, max, List, ℕ, length, take, vec_len, vec_capacity, IfOk, IfErr, IfSome, OnOk, IsErrOf, IsTrue, false};
+ghost use Rattle.std.specs.Prelude.{◌≡◌, ◌+◌, ◌-◌, ◌<◌, ◌≤◌, ◌++◌, max, List, ℕ, length, take, vec_len};
+ghost use Rattle.std.specs.Prelude.{vec_capacity, IfOk, IfErr, IfSome, OnOk, IsErrOf, IsTrue, false};
 ghost use Rattle.std.specs.declared.option.Option.{Option};
 ghost use Rattle.std.specs.Io.{ReadsAtMost};
 ghost use Rattle.std.specs.Io.KnownBytes.{ReadConsumes, Consumes, IsAtEnd};
 ghost use Rattle.ido_outside.specs.Causes.{Rose, HasCause};
-ghost use Rattle.ido_outside.specs.Source.{Gathers, TakenAtFault};
+ghost use Rattle.ido_outside.specs.Source.{TakenAtFault};
+ghost use Rattle.ido_outside.specs.links.Gathering.{Gathers};
 
 use crate::{Failed, InFault};
 use std::alloc::{AllocError, Global};
@@ -57,7 +59,7 @@ pub fn read_all<S: Source>(alloc: Global, source: &mut S, limit: u64) -> Result<
     Ok(bytes)
 }
 
-// Reads piece after piece behind `bytes`, to the end of the source.
+/// Reads piece after piece behind `bytes`, to the end of the source.
 fn read_pieces<S: Source>(
     source: &mut S,
     buffer: &mut [u8],
@@ -79,7 +81,7 @@ fn read_pieces<S: Source>(
     Ok(())
 }
 
-// Reads one piece behind `bytes`. `false` at the end of the source.
+/// Reads one piece behind `bytes`. `false` at the end of the source.
 fn read_piece<S: Source>(
     source: &mut S,
     buffer: &mut [u8],
@@ -110,7 +112,7 @@ fn read_piece<S: Source>(
     Ok(count > 0)
 }
 
-// Makes room for `count` more bytes: twice the capacity, but no more than the limit.
+/// Makes room for `count` more bytes: twice the capacity, but no more than the limit.
 fn make_room(bytes: &mut Vec<u8>, count: usize, limit: u64) -> Result<(), AllocError>
     requires { vec_len bytes.old + count ≤ limit }
     ensures items { bytes.new.items ≡ bytes.old.items }

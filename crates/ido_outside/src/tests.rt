@@ -10,10 +10,6 @@ fn bytes_of(rt: &HostRuntime, bytes: &[u8]) -> Result<Vec<u8>, AllocError> {
     bytes.to_vec(rt.alloc())
 }
 
-fn numbers(rt: &HostRuntime, calls: &[u64]) -> Result<Vec<u64>, AllocError> {
-    calls.to_vec(rt.alloc())
-}
-
 // A reader of the text and a writer, of `piece` bytes a call at most. The call of number `fails` fails.
 #[derive(Drop)]
 struct Slow {
@@ -68,85 +64,6 @@ impl Write for Slow {
     }
 }
 
-fn pass_all<G: Gate + Sync>(gate: &G) {
-    gate.pass(0, 1);
-    gate.pass(1, 1);
-}
-
-#[test]
-fn reads_in_pieces_of_any_size(rt: HostRuntime) -> Result<(), Fail> {
-    for piece in [1, 3, 64] {
-        let mut source = MemSource::new(bytes_of(&rt, TEXT)?, piece, Vec::new(rt.alloc()));
-        let bytes = read_all(rt.alloc(), &mut source, 20)?;
-        assert_eq!(rt; bytes.as_slice(), TEXT, "in pieces of {piece}");
-        assert_eq!(rt; source.faults(), 0);
-    }
-    Ok(())
-}
-
-#[test]
-fn the_third_read_fails(rt: HostRuntime) -> Result<(), Fail> {
-    let mut source = MemSource::new(bytes_of(&rt, TEXT)?, 3, numbers(&rt, &[3])?);
-    let fault = read_all(rt.alloc(), &mut source, 20).err();
-    assert_eq!(rt; fault, Some(InFault::Failed));
-    assert_eq!(rt; source.faults(), 1);
-    assert_eq!(rt; source.left(), b"tent".as_slice());
-    let rest = read_all(rt.alloc(), &mut source, 20)?;
-    assert_eq!(rt; rest.as_slice(), b"tent".as_slice());
-    Ok(())
-}
-
-#[test]
-fn the_limit_is_exact(rt: HostRuntime) -> Result<(), Fail> {
-    for (limit, fault, left) in [
-        (10, None, 0),
-        (9, Some(InFault::TooLong), 0),
-        (4, Some(InFault::TooLong), 5),
-        (0, Some(InFault::TooLong), 9),
-    ] {
-        let mut source = MemSource::new(bytes_of(&rt, TEXT)?, 3, Vec::new(rt.alloc()));
-        let answer = read_all(rt.alloc(), &mut source, limit).err();
-        assert_eq!(rt; answer, fault, "at {limit}");
-        assert_eq!(rt; source.left().len(), left, "at {limit}");
-    }
-    let mut nothing = MemSource::new(Vec::new(rt.alloc()), 1, Vec::new(rt.alloc()));
-    assert_eq!(rt; read_all(rt.alloc(), &mut nothing, 0)?.len(), 0);
-    Ok(())
-}
-
-#[test]
-fn a_long_input_is_read_whole(rt: HostRuntime) -> Result<(), Fail> {
-    let input = vec![in rt.alloc(); 7u8; 200_000]?;
-    let mut source = SureSource::new(input, 70_000);
-    let bytes = read_all(rt.alloc(), &mut source, 200_000)?;
-    assert_eq!(rt; bytes.len(), 200_000);
-    assert!(rt; bytes.iter().all(|byte| *byte == 7));
-    Ok(())
-}
-
-#[test]
-fn writes_in_small_pieces(rt: HostRuntime) -> Result<(), Fail> {
-    for (capacity, fails, fault, written) in [
-        (10, [0, 0], None, b"persistent".as_slice()),
-        (10, [1, 0], Some(Failed), b"".as_slice()),
-        (10, [3, 2], Some(Failed), b"pers".as_slice()),
-        (9, [0, 0], Some(Failed), b"persiste".as_slice()),
-        (0, [0, 0], Some(Failed), b"".as_slice()),
-    ] {
-        let mut sink = MemSink::new(rt.alloc(), capacity, 4, numbers(&rt, &fails)?)?;
-        let answer = write_all(&mut sink, TEXT).err();
-        assert_eq!(rt; answer, fault, "capacity {capacity}, fails {fails:?}");
-        assert_eq!(rt;
-            sink.written(),
-            written,
-            "capacity {capacity}, fails {fails:?}"
-        );
-        assert_eq!(rt; sink.faults(), if fault.is_some() { 1 } else { 0 });
-        assert_eq!(rt; sink.into_written().as_slice(), written);
-    }
-    Ok(())
-}
-
 #[test]
 fn sure_ends_never_fail(rt: HostRuntime) -> Result<(), Fail> {
     let mut source = SureSource::new(bytes_of(&rt, TEXT)?, 4);
@@ -170,7 +87,7 @@ fn sure_ends_never_fail(rt: HostRuntime) -> Result<(), Fail> {
     Ok(())
 }
 
-// What each read of an adapter gives, and that it is one call of its reader.
+/// What each read of an adapter gives, and that it is one call of its reader.
 #[test]
 fn a_read_is_one_call_of_the_reader(rt: HostRuntime) -> Result<(), Fail> {
     let mut source = Reading::new(Slow::new(rt.alloc(), 4, 2));
@@ -191,7 +108,7 @@ fn a_read_is_one_call_of_the_reader(rt: HostRuntime) -> Result<(), Fail> {
     Ok(())
 }
 
-// What each write of an adapter takes, and that it is one call of its writer.
+/// What each write of an adapter takes, and that it is one call of its writer.
 #[test]
 fn a_write_is_one_call_of_the_writer(rt: HostRuntime) -> Result<(), Fail> {
     let mut sink = Writing::new(Slow::new(rt.alloc(), 4, 2));
@@ -211,8 +128,8 @@ fn a_write_is_one_call_of_the_writer(rt: HostRuntime) -> Result<(), Fail> {
     Ok(())
 }
 
-// Each failing call in turn, in pieces of any size: 0 bytes a call are the end of what is read, and a
-// fault of what is written.
+/// Each failing call in turn, in pieces of any size: 0 bytes a call are the end of what is read, and a
+/// fault of what is written.
 #[test]
 fn std_ends_count_their_faults(rt: HostRuntime) -> Result<(), Fail> {
     for (piece, fails, fault, read, written) in [
@@ -237,11 +154,6 @@ fn std_ends_count_their_faults(rt: HostRuntime) -> Result<(), Fail> {
         assert_eq!(rt; sink.into_inner().taken.as_slice(), written);
     }
     Ok(())
-}
-
-#[test]
-fn the_open_gate_returns(_rt: HostRuntime) {
-    pass_all(&OpenGate);
 }
 
 #[test]

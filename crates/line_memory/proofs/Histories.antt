@@ -1,10 +1,11 @@
 -- Histories only grow: what a queue stands for stays so through stores, write-backs and evictions.
-use Rattle.std.proofs.Common.{◌≡◌, ℕ, zero, suc, ◌+◌, ◌*◌, ◌/◌, ◌%◌, ◌<◌, List, [], ◌∷◌, length, get_or, set, eqb, cond, refl, sym, ◌∙◌, ap, subst, inl, inr, arith, length-append, length-set, get_or-set_same, get_or-set_other}
+use Rattle.std.proofs.Common.{◌≡◌, ℕ, zero, suc, ◌+◌, ◌*◌, ◌/◌, ◌%◌, ◌<◌, List, [], ◌∷◌, length, get_or, set, eqb, cond, refl}
+use Rattle.std.proofs.Common.{sym, ◌∙◌, ap, subst, inl, inr, arith, length-append, length-set, get_or-set_same, get_or-set_other}
 use Rattle.std.proofs.lemmas.List.{get_or_append_left, set_past}
 use Rattle.std.proofs.lemmas.Bool.{cases_lt, cases_eq, cond_both}
 use Rattle.ido_base.specs.Words.{Word, Entry, word_of, word_at, last_position, with_value, written_back, stored, raised, drained, evicted_from, evicted}
-use Rattle.line_memory.specs.Cells.{Remembers}
-use Rattle.line_memory.specs.Queues.{SnapshotStands, QueueStands}
+use Rattle.line_memory.specs.links.Cells.{Remembers}
+use Rattle.line_memory.specs.links.Queues.{SnapshotStands, QueueStands}
 use Rattle.line_memory.specs.declared.queue.Saved.{Saved}
 use Rattle.line_memory.specs.declared.queue.Snapshot.{Snapshot}
 use Rattle.line_memory.specs.declared.queue.Queue.{Queue}
@@ -46,7 +47,9 @@ Grows-set words at word g = record {
   size = length-set words at word;
   each = λ i. elim (cases_eq i at) [
     | inl same ↦ elim (cases_lt at (length words)) [
-      | inl within ↦ subst (λ w. WordGrows (word_at words i) w) (sym (ap (λ j. get_or (set words at word) j (word_of 0)) same ∙ get_or-set_same words at word (word_of 0) within)) (subst (λ j. WordGrows (word_at words j) word) (sym same) g)
+      | inl within ↦ subst (λ w. WordGrows (word_at words i) w)
+          (sym (ap (λ j. get_or (set words at word) j (word_of 0)) same ∙ get_or-set_same words at word (word_of 0) within))
+          (subst (λ j. WordGrows (word_at words j) word) (sym same) g)
       | inr past ↦ subst (λ ws. WordGrows (word_at words i) (word_at ws i)) (sym (set_past words at word past)) (WordGrows-refl (word_at words i))
     ]
     | inr other ↦ subst (λ w. WordGrows (word_at words i) w) (sym (get_or-set_other words at i word (word_of 0) other)) (WordGrows-refl (word_at words i))
@@ -71,11 +74,14 @@ abbrev pub evicted_at : List Word → (at mask : ℕ) → List Word
 evicted_at words at mask = cond (eqb (mask % 2) 1) (set words at (written_back (word_at words at) (last_position (word_at words at)))) words
 
 Grows-evicted_at : (words : List Word) (at mask : ℕ) → Grows words (evicted_at words at mask)
-Grows-evicted_at words at mask = cond_both (eqb (mask % 2) 1) (set words at (written_back (word_at words at) (last_position (word_at words at)))) words (λ ws. Grows words ws) (λ _. Grows-back words at (last_position (word_at words at))) (λ _. Grows-refl words)
+Grows-evicted_at words at mask =
+    cond_both (eqb (mask % 2) 1) (set words at (written_back (word_at words at) (last_position (word_at words at)))) words (λ ws. Grows words ws)
+    (λ _. Grows-back words at (last_position (word_at words at))) (λ _. Grows-refl words)
 
 pub Grows-evicted_from : (words : List Word) (at mask count : ℕ) → Grows words (evicted_from words at mask count)
 Grows-evicted_from words at mask zero = Grows-refl words
-Grows-evicted_from words at mask (suc count) = Grows-trans _ _ _ (Grows-evicted_at words at mask) (Grows-evicted_from (evicted_at words at mask) (at + 1) (mask / 2) count)
+Grows-evicted_from words at mask (suc count) =
+    Grows-trans _ _ _ (Grows-evicted_at words at mask) (Grows-evicted_from (evicted_at words at mask) (at + 1) (mask / 2) count)
 
 pub Grows-evicted : (words : List Word) (line mask : ℕ) → Grows words (evicted words line mask)
 Grows-evicted words line mask = Grows-evicted_from words (8 * line) mask 8
@@ -86,7 +92,8 @@ Remembers-grows saved at old new g r = record {
   same = λ k h. r.same k h ∙ sym ((g.each (at + k)).same _ (r.within k h));
 }
 
-pub SnapshotStands-grows : (snapshot : Snapshot) (entry : Entry) (old new : List Word) → Grows old new → SnapshotStands snapshot entry old → SnapshotStands snapshot entry new
+pub SnapshotStands-grows : (snapshot : Snapshot) (entry : Entry) (old new : List Word) → Grows old new → SnapshotStands snapshot entry old →
+    SnapshotStands snapshot entry new
 SnapshotStands-grows snapshot entry old new g s = record {
   line = s.line;
   exists = omega (arith, g.size, s.exists);
@@ -94,16 +101,20 @@ SnapshotStands-grows snapshot entry old new g s = record {
   kept = Remembers-grows _ _ old new g s.kept;
 }
 
-pub QueueStands-grows : (queue : Queue) (entries : List Entry) (old new : List Word) → Grows old new → QueueStands queue entries old → QueueStands queue entries new
+pub QueueStands-grows : (queue : Queue) (entries : List Entry) (old new : List Word) → Grows old new → QueueStands queue entries old →
+    QueueStands queue entries new
 QueueStands-grows queue entries old new g q = record { size = q.size; each = λ i h. SnapshotStands-grows _ _ old new g (q.each i h) }
 
-pub QueueStands-stored : (queue : Queue) (entries : List Entry) (words : List Word) (number count value : ℕ) → QueueStands queue entries words → QueueStands queue entries (stored words number count value)
+pub QueueStands-stored : (queue : Queue) (entries : List Entry) (words : List Word) (number count value : ℕ) → QueueStands queue entries words →
+    QueueStands queue entries (stored words number count value)
 QueueStands-stored queue entries words number count value q = QueueStands-grows queue entries words _ (Grows-stored words number count value) q
 
-pub QueueStands-drained : (queue : Queue) (entries : List Entry) (words : List Word) (entry : Entry) → QueueStands queue entries words → QueueStands queue entries (drained words entry)
+pub QueueStands-drained : (queue : Queue) (entries : List Entry) (words : List Word) (entry : Entry) → QueueStands queue entries words →
+    QueueStands queue entries (drained words entry)
 QueueStands-drained queue entries words entry q = QueueStands-grows queue entries words _ (Grows-drained words entry) q
 
-pub QueueStands-evicted : (queue : Queue) (entries : List Entry) (words : List Word) (line mask : ℕ) → QueueStands queue entries words → QueueStands queue entries (evicted words line mask)
+pub QueueStands-evicted : (queue : Queue) (entries : List Entry) (words : List Word) (line mask : ℕ) → QueueStands queue entries words →
+    QueueStands queue entries (evicted words line mask)
 QueueStands-evicted queue entries words line mask q = QueueStands-grows queue entries words _ (Grows-evicted words line mask) q
 
 -- ---- Write-backs give no word a further value
@@ -123,7 +134,9 @@ pub values-drained : (words : List Word) (entry : Entry) (j : ℕ) → (word_at 
 values-drained words entry j = values-raised words (8 * entry.line) entry.positions j
 
 values-evicted_at : (words : List Word) (at mask j : ℕ) → (word_at (evicted_at words at mask) j).values ≡ (word_at words j).values
-values-evicted_at words at mask j = cond_both (eqb (mask % 2) 1) (set words at (written_back (word_at words at) (last_position (word_at words at)))) words (λ ws. (word_at ws j).values ≡ (word_at words j).values) (λ _. values-back words at (last_position (word_at words at)) j) (λ _. refl)
+values-evicted_at words at mask j =
+    cond_both (eqb (mask % 2) 1) (set words at (written_back (word_at words at) (last_position (word_at words at)))) words
+    (λ ws. (word_at ws j).values ≡ (word_at words j).values) (λ _. values-back words at (last_position (word_at words at)) j) (λ _. refl)
 
 values-evicted_from : (words : List Word) (at mask count j : ℕ) → (word_at (evicted_from words at mask count) j).values ≡ (word_at words j).values
 values-evicted_from words at mask zero j = refl

@@ -1,15 +1,16 @@
 -- The cells of a new memory.
-use Rattle.std.proofs.Common.{◌≡◌, ℕ, zero, suc, ◌+◌, ◌-◌, ◌*◌, ◌<◌, ◌≤◌, List, [], ◌∷◌, ◌++◌, length, get_or, take, drop, set, map, replicate, refl, sym, ◌∙◌, ap, subst, inl, inr, arith, add-one, append_assoc, length-set, get_or-set_same, get_or-set_other, get_or-take, get_or-drop}
+use Rattle.std.proofs.Common.{◌≡◌, ℕ, zero, suc, ◌+◌, ◌-◌, ◌*◌, ◌<◌, ◌≤◌, List, [], ◌∷◌, ◌++◌, length, get_or, take, drop, set, map, replicate, refl, sym}
+use Rattle.std.proofs.Common.{◌∙◌, ap, subst, inl, inr, arith, add-one, append_assoc, length-set, get_or-set_same, get_or-set_other, get_or-take, get_or-drop}
 use Rattle.std.proofs.lemmas.Bool.{cases_eq}
 use Rattle.std.proofs.lemmas.List.{get_or-map, length-map, map-append, take_all, drop-drop, get_or_past}
 use Rattle.std.specs.Int.{w64, from_le_bytes}
 use Rattle.ido_base.specs.Words.{word_of}
 use Rattle.ido_base.specs.Layout.{words_of_bytes, word_count, variable_lines, log_lines, initial_words, spread_words}
 use Rattle.line_memory.specs.declared.memory.LineMemory.{LineMemory}
-use Rattle.line_memory.specs.Stands.{Stands}
+use Rattle.line_memory.specs.links.Stands.{Stands}
 use Rattle.line_memory.specs.declared.cell.Cell.{Cell}
 use Rattle.line_memory.proofs.Memories.{known_single}
-use Rattle.line_memory.specs.Cells.{cell_of, CellStands, CellsStand}
+use Rattle.line_memory.specs.links.Cells.{cell_of, CellStands, CellsStand}
 
 -- ---- A word from bytes
 
@@ -44,10 +45,14 @@ IsCopied-past word bytes at k past c = record {
 
 -- eight equal bytes are one word
 from_le_bytes-same : (xs ys : List ℕ) → ((i : ℕ) → i < 8 → get_or xs i 0 ≡ get_or ys i 0) → from_le_bytes w64 xs ≡ from_le_bytes w64 ys
-from_le_bytes-same xs ys h = cc (h 0 (omega arith), h 1 (omega arith), h 2 (omega arith), h 3 (omega arith), h 4 (omega arith), h 5 (omega arith), h 6 (omega arith), h 7 (omega arith))
+from_le_bytes-same xs ys h =
+    cc (h 0 (omega arith), h 1 (omega arith), h 2 (omega arith), h 3 (omega arith), h 4 (omega arith), h 5 (omega arith), h 6 (omega arith), h 7 (omega arith))
 
-pub from_le_bytes-copied : (word bytes : List ℕ) (at k : ℕ) → k ≡ 8 → IsCopied word bytes at k → from_le_bytes w64 word ≡ from_le_bytes w64 (take 8 (drop at bytes))
-from_le_bytes-copied word bytes at k eight c = from_le_bytes-same word (take 8 (drop at bytes)) (λ i h. c.copied i (omega (arith, h, eight)) ∙ sym (get_or-take 8 (drop at bytes) i 0 h ∙ get_or-drop at bytes i 0))
+pub from_le_bytes-copied : (word bytes : List ℕ) (at k : ℕ) → k ≡ 8 → IsCopied word bytes at k →
+    from_le_bytes w64 word ≡ from_le_bytes w64 (take 8 (drop at bytes))
+from_le_bytes-copied word bytes at k eight c =
+    from_le_bytes-same word (take 8 (drop at bytes))
+    (λ i h. c.copied i (omega (arith, h, eight)) ∙ sym (get_or-take 8 (drop at bytes) i 0 h ∙ get_or-drop at bytes i 0))
 
 -- ---- Words from bytes
 
@@ -59,13 +64,20 @@ unfolding word_number
 words_of_bytes-suc bytes zero = refl
 words_of_bytes-suc bytes (suc n) =
     let e : 8 + 8 * n ≡ 8 * suc n = omega arith in
-    ap (λ (ws : List ℕ). from_le_bytes w64 (take 8 bytes) ∷ ws) (words_of_bytes-suc (drop 8 bytes) n ∙ ap (λ (xs : List ℕ). words_of_bytes (drop 8 bytes) n ++ from_le_bytes w64 (take 8 xs) ∷ []) (drop-drop (8 * n) 8 bytes ∙ ap (λ (m : ℕ). drop m bytes) e))
+    ap (λ (ws : List ℕ). from_le_bytes w64 (take 8 bytes) ∷ ws)
+    (words_of_bytes-suc (drop 8 bytes) n
+    ∙ ap (λ (xs : List ℕ). words_of_bytes (drop 8 bytes) n ++ from_le_bytes w64 (take 8 xs) ∷ []) (drop-drop (8 * n) 8 bytes ∙ ap (λ (m : ℕ). drop m bytes) e))
 
-pub push_bytes_step : (old items new : List Cell) (bytes : List ℕ) (i word : ℕ) (cell : Cell) → items ≡ old ++ map cell_of (words_of_bytes bytes i) → new ≡ items ++ cell ∷ [] → cell ≡ cell_of word → word ≡ from_le_bytes w64 (take 8 (drop (8 * i) bytes)) → new ≡ old ++ map cell_of (words_of_bytes bytes (i + 1))
+pub push_bytes_step : (old items new : List Cell) (bytes : List ℕ) (i word : ℕ) (cell : Cell) → items ≡ old ++ map cell_of (words_of_bytes bytes i) →
+    new ≡ items ++ cell ∷ [] → cell ≡ cell_of word → word ≡ from_le_bytes w64 (take 8 (drop (8 * i) bytes)) →
+    new ≡ old ++ map cell_of (words_of_bytes bytes (i + 1))
 unfolding word_number
 push_bytes_step old items new bytes i word cell before pushed is_cell is_word =
-    let grown : map cell_of (words_of_bytes bytes (suc i)) ≡ map cell_of (words_of_bytes bytes i) ++ cell_of (word_number bytes i) ∷ [] = ap (map cell_of) (words_of_bytes-suc bytes i) ∙ map-append cell_of (words_of_bytes bytes i) (word_number bytes i ∷ []) in
-    rw (add-one) (pushed ∙ ap (λ (xs : List Cell). xs ++ cell ∷ []) before ∙ append_assoc old (map cell_of (words_of_bytes bytes i)) (cell ∷ []) ∙ ap (λ (c : Cell). old ++ (map cell_of (words_of_bytes bytes i) ++ c ∷ [])) (is_cell ∙ ap cell_of is_word) ∙ ap (λ (xs : List Cell). old ++ xs) (sym grown))
+    let grown : map cell_of (words_of_bytes bytes (suc i)) ≡ map cell_of (words_of_bytes bytes i) ++ cell_of (word_number bytes i) ∷ [] =
+    ap (map cell_of) (words_of_bytes-suc bytes i) ∙ map-append cell_of (words_of_bytes bytes i) (word_number bytes i ∷ []) in
+    rw (add-one) (pushed ∙ ap (λ (xs : List Cell). xs ++ cell ∷ []) before ∙ append_assoc old (map cell_of (words_of_bytes bytes i)) (cell ∷ [])
+    ∙ ap (λ (c : Cell). old ++ (map cell_of (words_of_bytes bytes i) ++ c ∷ [])) (is_cell ∙ ap cell_of is_word)
+    ∙ ap (λ (xs : List Cell). old ++ xs) (sym grown))
 
 -- ---- Zeros
 
@@ -73,10 +85,13 @@ map-zeros : (n : ℕ) → map cell_of (replicate n 0) ≡ replicate n (cell_of 0
 map-zeros zero = refl
 map-zeros (suc n) = ap (λ (cells : List Cell). cell_of 0 ∷ cells) (map-zeros n)
 
-pub push_zeros_step : (old new : List Cell) (cell : Cell) (len count : ℕ) → len ≡ length old → cell ≡ cell_of 0 → new ≡ take (len + count) old ++ replicate (len + count - len) cell → new ≡ old ++ map cell_of (replicate count 0)
+pub push_zeros_step : (old new : List Cell) (cell : Cell) (len count : ℕ) → len ≡ length old → cell ≡ cell_of 0 →
+    new ≡ take (len + count) old ++ replicate (len + count - len) cell → new ≡ old ++ map cell_of (replicate count 0)
 push_zeros_step old new cell len count is_len is_cell is_new =
     let n : len + count - len ≡ count = omega arith in
-    is_new ∙ ap (λ (xs : List Cell). xs ++ replicate (len + count - len) cell) (take_all (len + count) old (omega (arith, is_len))) ∙ ap (λ (m : ℕ). old ++ replicate m cell) n ∙ ap (λ (c : Cell). old ++ replicate count c) is_cell ∙ ap (λ (xs : List Cell). old ++ xs) (sym (map-zeros count))
+    is_new ∙ ap (λ (xs : List Cell). xs ++ replicate (len + count - len) cell) (take_all (len + count) old (omega (arith, is_len)))
+    ∙ ap (λ (m : ℕ). old ++ replicate m cell) n ∙ ap (λ (c : Cell). old ++ replicate count c) is_cell
+    ∙ ap (λ (xs : List Cell). old ++ xs) (sym (map-zeros count))
 
 -- ---- All cells
 
@@ -100,25 +115,37 @@ pub Stands-of : (memory : LineMemory) (ns : List ℕ) → memory.stores ≡ 0 �
 Stands-of memory ns none same = record {
   size = length-made memory ns same;
   changes = known_single memory.changes ns;
-  cells = subst (λ (n : ℕ). CellsStand memory.cells.items (map word_of ns) n) (sym none) (subst (λ (cs : List Cell). CellsStand cs (map word_of ns) 0) (sym same) (CellsStand-of ns));
+  cells =
+      subst (λ (n : ℕ). CellsStand memory.cells.items (map word_of ns) n) (sym none)
+      (subst (λ (cs : List Cell). CellsStand cs (map word_of ns) 0) (sym same) (CellsStand-of ns));
 }
 
 -- three parts, one behind another
-parts : (all first second : List Cell) (a b d : List ℕ) → first ≡ map cell_of a → second ≡ first ++ map cell_of b → all ≡ second ++ map cell_of d → all ≡ map cell_of (a ++ b ++ d)
+parts : (all first second : List Cell) (a b d : List ℕ) → first ≡ map cell_of a → second ≡ first ++ map cell_of b → all ≡ second ++ map cell_of d →
+    all ≡ map cell_of (a ++ b ++ d)
 parts all first second a b d e f g =
     let ab : second ≡ map cell_of (a ++ b) = f ∙ ap (λ (xs : List Cell). xs ++ map cell_of b) e ∙ sym (map-append cell_of a b) in
     g ∙ ap (λ (xs : List Cell). xs ++ map cell_of d) ab ∙ sym (map-append cell_of (a ++ b) d)
 
-initial_words-at : (threads : ℕ) (bytes : List ℕ) (n m : ℕ) → n ≡ 8 * variable_lines → m ≡ 8 * log_lines * threads → words_of_bytes bytes n ++ replicate m 0 ≡ initial_words threads bytes
+initial_words-at : (threads : ℕ) (bytes : List ℕ) (n m : ℕ) → n ≡ 8 * variable_lines → m ≡ 8 * log_lines * threads →
+    words_of_bytes bytes n ++ replicate m 0 ≡ initial_words threads bytes
 unfolding initial_words
-initial_words-at threads bytes n m variables logs = ap (λ (k : ℕ). words_of_bytes bytes n ++ replicate k 0) logs ∙ ap (λ (k : ℕ). words_of_bytes bytes k ++ replicate (8 * log_lines * threads) 0) variables
+initial_words-at threads bytes n m variables logs =
+    ap (λ (k : ℕ). words_of_bytes bytes n ++ replicate k 0) logs ∙ ap (λ (k : ℕ). words_of_bytes bytes k ++ replicate (8 * log_lines * threads) 0) variables
 
 -- the words at the start
-pub initial_cells : (all second first : List Cell) (threads : ℕ) (bytes : List ℕ) (n m : ℕ) → n ≡ 8 * variable_lines → m ≡ 8 * log_lines * threads → first ≡ [] → second ≡ first ++ map cell_of (words_of_bytes bytes n) → all ≡ second ++ map cell_of (replicate m 0) → all ≡ map cell_of (initial_words threads bytes)
-initial_cells all second first threads bytes n m variables logs e f g = parts all first second [] (words_of_bytes bytes n) (replicate m 0) e f g ∙ ap (map cell_of) (initial_words-at threads bytes n m variables logs)
+pub initial_cells : (all second first : List Cell) (threads : ℕ) (bytes : List ℕ) (n m : ℕ) → n ≡ 8 * variable_lines → m ≡ 8 * log_lines * threads →
+    first ≡ [] → second ≡ first ++ map cell_of (words_of_bytes bytes n) → all ≡ second ++ map cell_of (replicate m 0) →
+    all ≡ map cell_of (initial_words threads bytes)
+initial_cells all second first threads bytes n m variables logs e f g =
+    parts all first second [] (words_of_bytes bytes n) (replicate m 0) e f g ∙ ap (map cell_of) (initial_words-at threads bytes n m variables logs)
 
 -- the words that are given
-pub spread_cells : (all third second first : List Cell) (variable_words : ℕ) (words : List ℕ) (n : ℕ) → n ≡ 8 * variable_lines - variable_words → first ≡ [] → second ≡ first ++ map cell_of (take variable_words words) → third ≡ second ++ map cell_of (replicate n 0) → all ≡ third ++ map cell_of (drop variable_words words) → all ≡ map cell_of (spread_words variable_words words)
+pub spread_cells : (all third second first : List Cell) (variable_words : ℕ) (words : List ℕ) (n : ℕ) → n ≡ 8 * variable_lines - variable_words → first ≡ [] →
+    second ≡ first ++ map cell_of (take variable_words words) → third ≡ second ++ map cell_of (replicate n 0) →
+    all ≡ third ++ map cell_of (drop variable_words words) → all ≡ map cell_of (spread_words variable_words words)
 unfolding spread_words
 spread_cells all third second first variable_words words n zeros e f g h =
-    parts all second third (take variable_words words) (replicate n 0) (drop variable_words words) (f ∙ ap (λ (xs : List Cell). xs ++ map cell_of (take variable_words words)) e) g h ∙ ap (λ (k : ℕ). map cell_of (take variable_words words ++ replicate k 0 ++ drop variable_words words)) zeros
+    parts all second third (take variable_words words) (replicate n 0) (drop variable_words words)
+    (f ∙ ap (λ (xs : List Cell). xs ++ map cell_of (take variable_words words)) e) g h
+    ∙ ap (λ (k : ℕ). map cell_of (take variable_words words ++ replicate k 0 ++ drop variable_words words)) zeros

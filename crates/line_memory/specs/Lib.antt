@@ -1,5 +1,3 @@
 pub mod Access
-pub mod Cells
 pub mod Changes
-pub mod Queues
-pub mod Stands
+pub mod links

@@ -4,13 +4,12 @@ ghost use Rattle.ido_base.specs.Words.{part as part_of, with_part as with_part_o
 ghost use Rattle.ido_base.specs.Layout.{variables_base, byte_number as byte_number_of};
 ghost use Rattle.line_memory.specs.Access.{is_width};
 
+use ido_base::limits::{LINE_BYTES, VARIABLE_LINES};
 use log_layout::log::LOGS_BASE;
 use log_layout::variables::VARIABLES_BASE;
 
-/// Bytes of a line.
-pub const LINE_BYTES: u64 = 64;
 /// Bytes of the variables' lines.
-pub const VARIABLE_BYTES: u64 = 0x1_0000;
+pub const VARIABLE_BYTES: u64 = LINE_BYTES * VARIABLE_LINES;
 
 /// The low bytes of a value, 1, 2, 4 or 8 of them.
 pub fn low_bytes(value: u64, count: u32) -> u64

@@ -14,7 +14,7 @@ pub struct Cell {
 impl Cell {
     ghost use Rattle.std.specs.Prelude.{◌≡◌, ℕ, ◌+◌, ◌^◌, ◌<◌, length, slice_index};
     ghost use Rattle.ido_base.specs.Words.{Word, with_value, written_back, after_crash, last_position};
-    ghost use Rattle.line_memory.specs.Cells.{cell_of, newest_of, CellStands};
+    ghost use Rattle.line_memory.specs.links.Cells.{cell_of, newest_of, CellStands};
 
     /// A word that has this value, durably.
     pub fn of(value: u64) -> Cell

@@ -1,7 +1,7 @@
 //! Which words have changed since the last crash.
 ghost use Rattle.std.specs.Prelude.{◌≡◌};
 
-use ido_base::memory::Memory;
+use ido_base::memory::OutOfMemory;
 use std::alloc::Global;
 
 /// How many numbers of words are kept. Where more words change, a crash goes over all of them.
@@ -20,7 +20,7 @@ impl Changes {
     ghost use Rattle.line_memory.specs.Changes.{HasChanged};
 
     /// No word has changed.
-    pub fn new(alloc: Global) -> Result<Changes, Memory> {
+    pub fn new(alloc: Global) -> Result<Changes, OutOfMemory> {
         Ok(Changes {
             numbers: Vec::with_capacity(alloc, ROOM)?,
             is_all: false,

@@ -9,7 +9,7 @@
 ghost use Rattle.std.specs.Prelude.{◌≡◌, ◌==◌, ◌≤◌, IsTrue};
 ghost use Rattle.ido_base.specs.Layout.{aligned as is_aligned};
 ghost use Rattle.line_memory.specs.Access.{is_width};
-ghost use Rattle.line_memory.specs.Queues.{queue_length};
+ghost use Rattle.line_memory.specs.links.Queues.{queue_length};
 
 use crate::queue::Queue;
 

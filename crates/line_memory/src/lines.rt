@@ -1,9 +1,9 @@
 //! Lines among the cells of a memory.
 ghost use Rattle.std.specs.Prelude.{◌≡◌, ℕ, ◌+◌, ◌*◌, ◌<◌, ◌≤◌, List, length, map};
 ghost use Rattle.ido_base.specs.Words.{Word, Entry, word_at, entry_of, drained, raised, evicted_from, after_crash};
-ghost use Rattle.line_memory.specs.Cells.{CellsStand, Remembers, versions_in};
+ghost use Rattle.line_memory.specs.links.Cells.{CellsStand, Remembers, versions_in};
 ghost use Rattle.line_memory.specs.Changes.{IsListed, HasChanged};
-ghost use Rattle.line_memory.specs.Queues.{SnapshotStands};
+ghost use Rattle.line_memory.specs.links.Queues.{SnapshotStands};
 
 use crate::cell::Cell;
 use crate::changes::Changes;

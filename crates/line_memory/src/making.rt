@@ -2,10 +2,10 @@
 ghost use Rattle.std.specs.Prelude.{◌≡◌, ◌+◌, ◌*◌, ◌^◌, ◌<◌, ◌≤◌, ◌++◌, length, map, take, drop, replicate, vec_len, OnOk};
 ghost use Rattle.std.specs.Int.{w64, from_le_bytes};
 ghost use Rattle.ido_base.specs.Layout.{words_of_bytes};
-ghost use Rattle.line_memory.specs.Cells.{cell_of};
+ghost use Rattle.line_memory.specs.links.Cells.{cell_of};
 
 use crate::cell::Cell;
-use ido_base::memory::Memory;
+use ido_base::memory::OutOfMemory;
 
 /// The eight bytes from the given one on as a little-endian word, with zeros behind the last byte.
 fn word_from(bytes: &[u8], at: usize) -> u64
@@ -22,7 +22,7 @@ fn word_from(bytes: &[u8], at: usize) -> u64
 }
 
 /// So many words of the bytes, with zeros behind the last byte.
-pub fn push_bytes(cells: &mut Vec<Cell>, bytes: &[u8], count: usize) -> Result<(), Memory>
+pub fn push_bytes(cells: &mut Vec<Cell>, bytes: &[u8], count: usize) -> Result<(), OutOfMemory>
     requires { count < 2 ^ 16 }
     ensures items { OnOk result (cells.new.items ≡ cells.old.items ++ map cell_of (words_of_bytes bytes.now count)) }
     ensures len { OnOk result (vec_len cells.new ≡ vec_len cells.old + count) }
@@ -34,7 +34,7 @@ pub fn push_bytes(cells: &mut Vec<Cell>, bytes: &[u8], count: usize) -> Result<(
 }
 
 /// These words.
-pub fn push_words(cells: &mut Vec<Cell>, words: &[u64]) -> Result<(), Memory>
+pub fn push_words(cells: &mut Vec<Cell>, words: &[u64]) -> Result<(), OutOfMemory>
     ensures items { OnOk result (cells.new.items ≡ cells.old.items ++ map cell_of words.now) }
     ensures len { OnOk result (vec_len cells.new ≡ vec_len cells.old + length words.now) }
 {
@@ -45,7 +45,7 @@ pub fn push_words(cells: &mut Vec<Cell>, words: &[u64]) -> Result<(), Memory>
 }
 
 /// So many words of 0.
-pub fn push_zeros(cells: &mut Vec<Cell>, count: usize) -> Result<(), Memory>
+pub fn push_zeros(cells: &mut Vec<Cell>, count: usize) -> Result<(), OutOfMemory>
     requires { vec_len cells.old + count < 2 ^ 32 }
     ensures items { OnOk result (cells.new.items ≡ cells.old.items ++ map cell_of (replicate count 0)) }
     ensures len { OnOk result (vec_len cells.new ≡ vec_len cells.old + count) }

@@ -1,21 +1,18 @@
 //! The memory of a machine.
 ghost use Rattle.std.specs.Prelude.{◌≡◌, ◌≤◌, vec_len};
 ghost use Rattle.ido_base.specs.Layout.{word_count};
+ghost use Rattle.ido_base.specs.declared.limits.TheConstants.{MOST_THREADS, MOST_VARIABLE_BYTES};
 
-use crate::bytes::{self, LINE_BYTES, VARIABLE_BYTES};
+use crate::bytes::{self, VARIABLE_BYTES};
 use crate::cell::Cell;
 use crate::changes::Changes;
 use crate::queue::Queue;
 use crate::{lines, making};
-use ido_base::memory::Memory;
+use ido_base::limits::{LINE_BYTES, LOG_WORDS, VARIABLE_WORDS};
+use ido_base::memory::OutOfMemory;
 use log_layout::log::{self, LOG_BYTES, LOGS_BASE};
 use log_layout::variables::VARIABLES_BASE;
 use std::alloc::Global;
-
-/// Words of the variables' lines.
-const VARIABLE_WORDS: usize = 8192;
-/// Words of the lines of a thread's log.
-const LOG_WORDS: usize = 128;
 
 /// All words of the variables and of the logs of at most 8 threads, as one flat array.
 #[derive(Debug, Drop)]
@@ -25,30 +22,35 @@ pub struct LineMemory {
     threads: u32,
     stores: u64,
     ghost sized: { vec_len cells ≡ word_count threads },
-    ghost few_threads: { threads ≤ 8 },
+    ghost few_threads: { threads ≤ MOST_THREADS },
 }
 
 impl LineMemory {
     ghost use Rattle.std.specs.Prelude.{◌≡◌, ℕ, ◌+◌, ◌*◌, ◌/◌, ◌%◌, ◌^◌, ◌<◌, ◌≤◌, ◌==◌, List, [], ◌∷◌, ◌++◌, length, map, IfOk, IsTrue};
-    ghost use Rattle.ido_base.specs.Words.{Word, Entry, word_of, word_at, last_position, live_value, durable_value, loaded, stored, entry_of, drained, evicted, crashed};
-    ghost use Rattle.ido_base.specs.Layout.{in_range as is_in_range, aligned, byte_number, line_bytes, line_count, initial_words, spread_words, word_number, point_at, slot_at};
+    ghost use Rattle.ido_base.specs.Words.{Word, Entry, word_of, word_at, last_position, live_value};
+    ghost use Rattle.ido_base.specs.Words.{durable_value, loaded, stored, entry_of, drained, evicted, crashed};
+    ghost use Rattle.ido_base.specs.Layout.{in_range as is_in_range, aligned, byte_number, line_bytes, line_count};
+    ghost use Rattle.ido_base.specs.Layout.{initial_words, spread_words, word_number, point_at, slot_at};
     ghost use Rattle.line_memory.specs.Access.{is_width};
-    ghost use Rattle.line_memory.specs.Queues.{queue_length, QueueStands};
+    ghost use Rattle.line_memory.specs.links.Queues.{queue_length, QueueStands};
     ghost use Rattle.line_memory.specs.declared.queue.Queue.{Queue};
-    ghost use Rattle.line_memory.specs.Stands.{Stands, threads_of, stores_of};
+    ghost use Rattle.line_memory.specs.links.Stands.{Stands, threads_of, stores_of};
 
     /// The memory at the start of a machine: the initial bytes of the variables, and zeros.
-    pub fn new(alloc: Global, vars: &[u8], threads: u32) -> Result<LineMemory, Memory>
-        requires few_bytes { length vars.now ≤ 65536 }
-        requires few_threads { threads ≤ 8 }
+    pub fn new(alloc: Global, vars: &[u8], threads: u32) -> Result<LineMemory, OutOfMemory>
+        requires few_bytes { length vars.now ≤ MOST_VARIABLE_BYTES }
+        requires few_threads { threads ≤ MOST_THREADS }
         ensures stands { IfOk result (λ memory. Stands memory (map word_of (initial_words threads vars.now))) }
         ensures logs { IfOk result (λ memory. threads_of memory ≡ threads) }
         ensures stores { IfOk result (λ memory. stores_of memory ≡ 0) }
     {
         let changes = Changes::new(alloc)?;
-        let mut cells = Vec::with_capacity(alloc, VARIABLE_WORDS + LOG_WORDS * threads as usize)?;
-        making::push_bytes(&mut cells, vars, VARIABLE_WORDS)?;
-        making::push_zeros(&mut cells, LOG_WORDS * threads as usize)?;
+        let mut cells = Vec::with_capacity(
+            alloc,
+            VARIABLE_WORDS as usize + (LOG_WORDS * threads) as usize,
+        )?;
+        making::push_bytes(&mut cells, vars, VARIABLE_WORDS as usize)?;
+        making::push_zeros(&mut cells, (LOG_WORDS * threads) as usize)?;
         Ok(LineMemory {
             cells,
             changes,
@@ -64,20 +66,23 @@ impl LineMemory {
         vars: u32,
         threads: u32,
         words: &[u64],
-    ) -> Result<LineMemory, Memory>
+    ) -> Result<LineMemory, OutOfMemory>
         requires whole_words { vars % 8 ≡ 0 }
-        requires few_bytes { vars ≤ 65536 }
-        requires few_threads { threads ≤ 8 }
-        requires count { length words.now ≡ vars / 8 + 128 * threads }
+        requires few_bytes { vars ≤ MOST_VARIABLE_BYTES }
+        requires few_threads { threads ≤ MOST_THREADS }
+        requires count { length words.now ≡ vars / 8 + LOG_WORDS * threads }
         ensures stands { IfOk result (λ memory. Stands memory (map word_of (spread_words (vars / 8) words.now))) }
         ensures logs { IfOk result (λ memory. threads_of memory ≡ threads) }
         ensures stores { IfOk result (λ memory. stores_of memory ≡ 0) }
     {
         let variable_words = vars as usize / 8;
         let changes = Changes::new(alloc)?;
-        let mut cells = Vec::with_capacity(alloc, VARIABLE_WORDS + LOG_WORDS * threads as usize)?;
+        let mut cells = Vec::with_capacity(
+            alloc,
+            VARIABLE_WORDS as usize + (LOG_WORDS * threads) as usize,
+        )?;
         making::push_words(&mut cells, &words[..variable_words])?;
-        making::push_zeros(&mut cells, VARIABLE_WORDS - variable_words)?;
+        making::push_zeros(&mut cells, VARIABLE_WORDS as usize - variable_words)?;
         making::push_words(&mut cells, &words[variable_words..])?;
         Ok(LineMemory {
             cells,

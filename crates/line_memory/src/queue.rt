@@ -28,7 +28,7 @@ pub struct Queue {
 impl Queue {
     ghost use Rattle.std.specs.Prelude.{◌≡◌, ℕ, ◌+◌, ◌<◌, ◌≤◌, ◌==◌, List, []};
     ghost use Rattle.ido_base.specs.Words.{Word};
-    ghost use Rattle.line_memory.specs.Queues.{queue_length, queued, QueueStands};
+    ghost use Rattle.line_memory.specs.links.Queues.{queue_length, queued, QueueStands};
 
     /// A queue with no entry.
     pub fn new() -> Queue

@@ -2,12 +2,13 @@
 //! hexadecimal; of each the status and the output are written.
 //!
 //! The lines of the table are: an object of one thread and two words; all its beginnings; it with one byte more, and with one
-//! byte replaced; an object of two threads; and an object of one word for each word that GNU as and objdump 2.40 were asked
-//! for at address 00010000. Those tools' texts are what is wanted of these words, in the spelling of the listing: targets of
-//! eight digits, and immediates in signed decimal.
+//! byte replaced; an object of two threads; an object of one word for each word that GNU as and objdump 2.40 were asked
+//! for at address 00010000, and then for near misses of every such word and for words of other extensions; and the object of
+//! two threads with one byte replaced. Those tools' texts are what is wanted of the words that are instructions, in the spelling
+//! of the listing: targets of eight digits, and immediates in signed decimal.
 #![tactic(auto)]
 
-use ido_base::memory::Memory;
+use ido_base::memory::OutOfMemory;
 use ido_cli::alone;
 use ido_outside::{Reading, SureSink, SureSource, Writing, read_all, write_all};
 use std::alloc::{AllocError, Global};
@@ -29,7 +30,7 @@ fn digit(byte: u8) -> u8 {
 }
 
 /// The bytes that a line spells.
-fn bytes_of(alloc: Global, line: &[u8]) -> Result<Vec<u8>, Memory> {
+fn bytes_of(alloc: Global, line: &[u8]) -> Result<Vec<u8>, OutOfMemory> {
     let mut bytes = Vec::new(alloc);
     for pair in line.chunks_exact(2) {
         if let [high, low] = pair {
@@ -54,7 +55,7 @@ fn put_answer(
     words: &[String],
     input: Vec<u8>,
     answers: &mut Vec<u8>,
-) -> Result<(), Memory> {
+) -> Result<(), OutOfMemory> {
     let mut source = SureSource::new(input, 4096);
     let mut sink = SureSink::new(alloc, MOST_OUTPUT, 4096)?;
     let status = match alone(alloc, words, &mut source, &mut sink) {
@@ -67,7 +68,7 @@ fn put_answer(
 }
 
 /// The answers to all lines of a table.
-fn answers(alloc: Global, table: &[u8]) -> Result<Vec<u8>, Memory> {
+fn answers(alloc: Global, table: &[u8]) -> Result<Vec<u8>, OutOfMemory> {
     let words = words(alloc)?;
     let mut answers = Vec::new(alloc);
     for line in table.split(|byte| *byte == b'\n') {

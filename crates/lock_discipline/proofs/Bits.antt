@@ -1,13 +1,17 @@
 -- The bits of masks.
-use Rattle.std.proofs.Common.{◌≡◌, ◌≢◌, ℕ, zero, suc, ◌+◌, ◌*◌, ◌/◌, ◌%◌, ◌^◌, ◌<◌, ◌≤◌, ◌==◌, Bool, true, false, cond, ◌||◌, [], ◌∷◌, length, set, find, Some, None, refl, ap, ap₂, sym, subst, ◌∙◌, inl, inr, ◌⊎◌, max, arith, w64, pow_mono, pow_pos, lt_of_lt_of_le, bit_and, bit_or, bit_xor, length-set, get_or-set_same, get_or-set_other}
+use Rattle.std.proofs.Common.{◌≡◌, ◌≢◌, ℕ, zero, suc, ◌+◌, ◌*◌, ◌/◌, ◌%◌, ◌^◌, ◌<◌, ◌≤◌, ◌==◌, Bool, true, false, cond, ◌||◌, [], ◌∷◌}
+use Rattle.std.proofs.Common.{length, set, find, Some, None, refl, ap, ap₂, sym, subst, ◌∙◌, inl, inr, ◌⊎◌, max, arith, w64, pow_mono}
+use Rattle.std.proofs.Common.{pow_pos, lt_of_lt_of_le, bit_and, bit_or, bit_xor, length-set, get_or-set_same, get_or-set_other}
 use Rattle.std.specs.Int.{bit_at, bit_not, trailing_zeros}
 use Rattle.std.specs.Option.{option_or}
 use Rattle.std.proofs.lemmas.Nat.{or_lt, xor_lt}
 use Rattle.std.proofs.lemmas.List.{get_or_past}
 use Rattle.std.proofs.lemmas.List.Folds.{find-append}
-use Rattle.std.proofs.lemmas.Nat.Bits.{bit_at_lowest, bit_at-suc, bit_at-zero, bit_at_and, bit_at_or, bit_at_xor, shr_and_one, bit_at_above, bit_at_set_same, bit_at_set_other, bit_at_clear_same, bit_at_clear_other, same_from_bits, bit_at-trailing_zeros}
+use Rattle.std.proofs.lemmas.Nat.Bits.{bit_at_lowest, bit_at-suc, bit_at-zero, bit_at_and, bit_at_or, bit_at_xor, shr_and_one, bit_at_above}
+use Rattle.std.proofs.lemmas.Nat.Bits.{bit_at_set_same, bit_at_set_other, bit_at_clear_same, bit_at_clear_other, same_from_bits, bit_at-trailing_zeros}
 use Rattle.c_tree.specs.Locking.{Held, holds, numbers_below, none_held}
-use Rattle.lock_discipline.specs.Masks.{mask_of, held_of, differ, length-held_of, mask_of-held_of}
+use Rattle.lock_discipline.specs.Masks.{mask_of}
+use Rattle.lock_discipline.specs.links.Sets.{held_of, differ, length-held_of, mask_of-held_of}
 use Rattle.lock_discipline.proofs.Masks.{mask_of-bound, held_of-mask_of}
 
 abbrev pub bit : Bool → ℕ

@@ -1,12 +1,16 @@
 -- What the flow computes is what the discipline says.
-use Rattle.std.proofs.Common.{◌≡◌, ◌⊎◌, inl, inr, ℕ, zero, suc, ◌+◌, List, [], ◌∷◌, ◌++◌, length, replicate, slice_get, Some, refl, sym, ap, ap₂, ◌∙◌, subst, arith, length-append, zero-add, suc-add, add-zero}
+use Rattle.std.proofs.Common.{◌≡◌, ◌⊎◌, inl, inr, ℕ, zero, suc, ◌+◌, List, [], ◌∷◌, ◌++◌, length, replicate, slice_get}
+use Rattle.std.proofs.Common.{Some, refl, sym, ap, ap₂, ◌∙◌, subst, arith, length-append, zero-add, suc-add, add-zero}
 use Rattle.std.proofs.lemmas.List.{length-replicate}
 use Rattle.ido_base.specs.declared.place.Place.{Place}
 use Rattle.c_tree.specs.Exprs as e
 use Rattle.c_tree.specs.Programs.{Variable}
 use Rattle.c_tree.specs.Flats as f
-use Rattle.c_tree.specs.Locking.{Held, none_held, Keeps, KeepAll, KeepArms, assign, choose, repeat, again, lock, unlock, no_more, then, no_more_arms, arm, IsDisciplined}
-use Rattle.lock_discipline.specs.Steps.{assign_steps, steps, steps_of_all, steps_of_arms, HeldIn, HeldInAll, HeldInArms, evaluate, store_variable, store_element, in_arms, in_otherwise, test_first, in_while, in_do, test_last, take, give, in_first, in_rest, test_arm, in_arm, in_other_arms, HeldBefore, in_body, at_end, AreSetsOf}
+use Rattle.c_tree.specs.Locking.{Held, none_held, Keeps, KeepAll, KeepArms, assign, choose, repeat}
+use Rattle.c_tree.specs.Locking.{again, lock, unlock, no_more, then, no_more_arms, arm, IsDisciplined}
+use Rattle.lock_discipline.specs.Steps.{assign_steps, steps, steps_of_all, steps_of_arms, HeldIn, HeldInAll, HeldInArms, evaluate}
+use Rattle.lock_discipline.specs.Steps.{store_variable, store_element, in_arms, in_otherwise, test_first, in_while, in_do, test_last, take}
+use Rattle.lock_discipline.specs.Steps.{give, in_first, in_rest, test_arm, in_arm, in_other_arms, HeldBefore, in_body, at_end, AreSetsOf}
 use Rattle.lock_discipline.specs.links.Flow.{behind, behind_all, sets_in, sets_in_all, sets_in_arms, thread_sets}
 
 -- ---- A set for each step

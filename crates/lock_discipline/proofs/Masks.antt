@@ -1,7 +1,9 @@
 -- A set is that of its mask.
-use Rattle.std.proofs.Common.{◌≡◌, ℕ, ◌+◌, ◌*◌, ◌/◌, ◌%◌, ◌^◌, ◌<◌, ◌≤◌, ◌==◌, Bool, true, false, cond, List, [], ◌∷◌, length, refl, ap, ap₂, ◌∙◌, arith, pow-suc}
+use Rattle.std.proofs.Common.{◌≡◌, ℕ, ◌+◌, ◌*◌, ◌/◌, ◌%◌, ◌^◌, ◌<◌, ◌≤◌, ◌==◌, Bool, true, false}
+use Rattle.std.proofs.Common.{cond, List, [], ◌∷◌, length, refl, ap, ap₂, ◌∙◌, arith, pow-suc}
 use Rattle.std.proofs.lemmas.Bool.Decides.{nat_tests}
-use Rattle.lock_discipline.specs.Masks.{mask_of, held_of}
+use Rattle.lock_discipline.specs.Masks.{mask_of}
+use Rattle.lock_discipline.specs.links.Sets.{held_of}
 
 double_bound : (b m p : ℕ) → b ≤ 1 → m < p → b + 2 * m < p * 2
 double_bound b m p h k = omega arith

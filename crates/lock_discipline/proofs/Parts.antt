@@ -1,5 +1,6 @@
 -- The walk and the flow at each form of a statement, from what its parts give.
-use Rattle.std.proofs.Common.{◌≡◌, ◌<◌, ◌≤◌, ℕ, ◌+◌, Bool, not, ◌&&◌, ◌||◌, Option, Some, None, List, [], ◌∷◌, ◌++◌, length, drop, get_or, true, false, Vec, Global, All, refl, sym, ap, ap₂, ◌∙◌, subst, append_assoc, append-nil}
+use Rattle.std.proofs.Common.{◌≡◌, ◌<◌, ◌≤◌, ℕ, ◌+◌, Bool, not, ◌&&◌, ◌||◌, Option, Some, None, List, [], ◌∷◌, ◌++◌, length, drop}
+use Rattle.std.proofs.Common.{get_or, true, false, Vec, Global, All, refl, sym, ap, ap₂, ◌∙◌, subst, append_assoc, append-nil}
 use Rattle.std.proofs.lemmas.List.{drop_more, drop_all}
 use Rattle.std.specs.List.{list_any, list_all}
 use Rattle.std.proofs.lemmas.List.Folds.{list_any-append, list_all-append}
@@ -12,7 +13,8 @@ use Rattle.c_tree.specs.declared.flat.Statement as s
 use Rattle.c_tree.specs.declared.flat.Arm as arm
 use Rattle.c_tree.specs.Programs.{Variable}
 use Rattle.c_tree.specs.Flats as f
-use Rattle.c_tree.specs.Locking.{Held, holds, numbers_below, is_in_some, is_in_all, least_difference, Fault, Walked, Behind, and_then, expr_uses, target_uses, walk_uses, join, join_all, walk, walk_all, walk_arms}
+use Rattle.c_tree.specs.Locking.{Held, holds, numbers_below, is_in_some, is_in_all, least_difference, Fault, Walked, Behind}
+use Rattle.c_tree.specs.Locking.{and_then, expr_uses, target_uses, walk_uses, join, join_all, walk, walk_all, walk_arms}
 use Rattle.lock_discipline.specs.links.Flow.{behind, behind_all, sets_in, sets_in_all, sets_in_arms}
 use Rattle.c_tree.proofs.FlatRows.{of_while, of_do, of_if}
 use Rattle.c_tree.specs.declared.rule.Rule.TheVariants as rule

@@ -6,7 +6,8 @@ use Rattle.c_tree.specs.declared.rule.Rule.TheVariants as rule
 use Rattle.c_tree.specs.Programs.{Variable}
 use Rattle.c_tree.specs.Locking.{Held, Fault, Walked, Behind, Broken, and_then, Use, guard_of, is_guarded, walk_uses}
 use Rattle.lock_discipline.specs.declared.error.LockError.{LockError}
-use Rattle.lock_discipline.specs.Faults.{fault_of, Refuses, RefusesAny}
+use Rattle.lock_discipline.specs.Faults.{fault_of}
+use Rattle.lock_discipline.specs.links.Refusals.{Refuses, RefusesAny}
 use Rattle.lock_discipline.proofs.Walks.{none_or}
 
 pub same_fault : (o : Option Fault) (P Q : Fault → Type 0) → ((x : Fault) → P x → Q x) → IfSome o P → IfSome o Q

@@ -1,10 +1,11 @@
 -- When sets of held mutexes are the same.
-use Rattle.std.proofs.Common.{◌≡◌, ℕ, zero, suc, ◌<◌, ◌⊎◌, inl, inr, Bool, true, false, not, cond, ◌&&◌, ◌||◌, List, [], ◌∷◌, ◌++◌, length, Option, Some, None, find, refl, sym, ap, ap₂, ◌∙◌, subst, arith, ext_get_or}
+use Rattle.std.proofs.Common.{◌≡◌, ℕ, zero, suc, ◌<◌, ◌⊎◌, inl, inr, Bool, true, false, not, cond, ◌&&◌, ◌||◌, List, [], ◌∷◌}
+use Rattle.std.proofs.Common.{◌++◌, length, Option, Some, None, find, refl, sym, ap, ap₂, ◌∙◌, subst, arith, ext_get_or}
 use Rattle.std.specs.List.{list_any, list_all}
 use Rattle.std.specs.Option.{option_or}
 use Rattle.std.proofs.lemmas.List.{length-replicate}
 use Rattle.std.proofs.lemmas.List.Folds.{find-append}
-use Rattle.lock_discipline.specs.Masks.{differ}
+use Rattle.lock_discipline.specs.links.Sets.{differ}
 use Rattle.c_tree.specs.Locking.{Held, holds, numbers_below, is_in_some, is_in_all, least_difference, none_held}
 
 -- ---- The first number that passes a test

@@ -1,5 +1,6 @@
 -- The walk through a thread and through all threads, from what their parts give.
-use Rattle.std.proofs.Common.{◌≡◌, ◌<◌, ◌≤◌, ℕ, zero, suc, ◌+◌, Vec, Global, All, take, take_all, List, [], ◌∷◌, ◌++◌, length, drop, get_or, map, slice_get, find, Option, Some, None, false, refl, sym, ap, ap₂, ◌∙◌, subst}
+use Rattle.std.proofs.Common.{◌≡◌, ◌<◌, ◌≤◌, ℕ, zero, suc, ◌+◌, Vec, Global, All, take, take_all, List, [], ◌∷◌, ◌++◌, length}
+use Rattle.std.proofs.Common.{drop, get_or, map, slice_get, find, Option, Some, None, false, refl, sym, ap, ap₂, ◌∙◌, subst}
 use Rattle.std.proofs.lemmas.List.{length-replicate, length-map, map-append, take_more, drop_more, drop_all}
 use Rattle.std.proofs.lemmas.List.Elements.{All-head, All-tail}
 use Rattle.c_tree.specs.declared.rule.Rule.TheVariants as rule
@@ -10,7 +11,8 @@ use Rattle.c_tree.specs.declared.program.Variable as variable
 use Rattle.c_tree.specs.Views.{name_of}
 use Rattle.c_tree.specs.Programs.{Variable, variable_of}
 use Rattle.c_tree.specs.Flats as f
-use Rattle.c_tree.specs.Locking.{Held, holds, none_held, numbers_below, Fault, Walked, Behind, Broken, and_then, walk_all, walk_end, walk_thread, walk_threads, lock_fault, IsDisciplined}
+use Rattle.c_tree.specs.Locking.{Held, holds, none_held, numbers_below, Fault, Walked, Behind, Broken, and_then}
+use Rattle.c_tree.specs.Locking.{walk_all, walk_end, walk_thread, walk_threads, lock_fault, IsDisciplined}
 use Rattle.lock_discipline.specs.Steps.{AreSetsOf, AreAllSetsOf}
 use Rattle.lock_discipline.specs.links.Flow.{behind_all, sets_in_all, thread_sets}
 use Rattle.lock_discipline.proofs.Walks.{none_or, behind_then, fault_or, walk-is_discipline}

@@ -1,13 +1,18 @@
 -- The walk finds no fault exactly where the discipline is kept.
-use Rattle.std.proofs.Common.{◌≡◌, ◌↔◌, ℕ, Bool, true, false, not, cond, List, [], ◌∷◌, ◌++◌, length, set, find, Option, Some, None, All, refl, sym, ap, ◌∙◌, subst, append_assoc, append-nil, length-set}
+use Rattle.std.proofs.Common.{◌≡◌, ◌↔◌, ℕ, Bool, true, false, not, cond, List, [], ◌∷◌, ◌++◌, length, set, find}
+use Rattle.std.proofs.Common.{Option, Some, None, All, refl, sym, ap, ◌∙◌, subst, append_assoc, append-nil, length-set}
 use Rattle.std.proofs.lemmas.List.{length-replicate}
 use Rattle.std.proofs.lemmas.List.Elements.{All-nil, All-cons, All-head, All-tail}
 use Rattle.ido_base.specs.declared.place.Place.{Place}
 use Rattle.c_tree.specs.declared.rule.Rule.TheVariants as rule
 use Rattle.c_tree.specs.Programs.{Variable}
 use Rattle.c_tree.specs.Flats as f
-use Rattle.c_tree.specs.Locking.{Held, holds, none_held, numbers_below, Use, expr_uses, assign_uses, is_guarded, AreGuarded, Keeps, KeepAll, KeepArms, assign, choose, repeat, again, lock, unlock, no_more, then, no_more_arms, arm, IsDisciplined, Fault, Walked, Behind, Broken, and_then, least_difference, broken, walk_uses, join, join_all, walk, walk_all, walk_arms, walk_end, walk_thread, walk_threads, lock_fault}
-use Rattle.lock_discipline.proofs.Sets.{AllAre, AllLong, AllLong-append, AllAre-append, AllAre-left, AllAre-right, no_difference, same_where_none, none_held-found, none_held-where_none}
+use Rattle.c_tree.specs.Locking.{Held, holds, none_held, numbers_below, Use, expr_uses, assign_uses, is_guarded, AreGuarded, Keeps}
+use Rattle.c_tree.specs.Locking.{KeepAll, KeepArms, assign, choose, repeat, again, lock, unlock, no_more, then, no_more_arms, arm}
+use Rattle.c_tree.specs.Locking.{IsDisciplined, Fault, Walked, Behind, Broken, and_then, least_difference, broken, walk_uses, join}
+use Rattle.c_tree.specs.Locking.{join_all, walk, walk_all, walk_arms, walk_end, walk_thread, walk_threads, lock_fault}
+use Rattle.lock_discipline.proofs.Sets.{AllAre, AllLong, AllLong-append, AllAre-append, AllAre-left, AllAre-right}
+use Rattle.lock_discipline.proofs.Sets.{no_difference, same_where_none, none_held-found, none_held-where_none}
 
 -- ---- Answers of the walk
 

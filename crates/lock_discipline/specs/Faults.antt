@@ -1,7 +1,7 @@
 -- What an error says.
-use Rattle.std.specs.Prelude.{◌≡◌, Option, Some, None, IfSome, List}
+use Rattle.std.specs.Prelude.{Option, Some, None}
 use Rattle.c_tree.specs.declared.rule.Rule.TheVariants as rule
-use Rattle.c_tree.specs.Locking.{Held, Fault, Walked, Broken}
+use Rattle.c_tree.specs.Locking.{Fault}
 use Rattle.lock_discipline.specs.declared.error.LockError.{LockError}
 use Rattle.lock_discipline.specs.declared.error.LockError.TheVariants as error
 
@@ -13,11 +13,3 @@ fault_of (error.NotHeld place mutex) = Some (record { rule = rule.NotHeld; place
 fault_of (error.Join place mutex) = Some (record { rule = rule.Join; place = place; mutex = mutex })
 fault_of (error.EndHeld place mutex) = Some (record { rule = rule.EndHeld; place = place; mutex = mutex })
 fault_of error.Memory = None
-
--- where it isn't want of memory, the walk breaks with its fault
-abbrev pub Refuses : Walked → LockError → Type 0
-Refuses w x = IfSome (fault_of x) (λ fault. w ≡ Broken fault)
-
--- the same of a walk, whatever is behind its part
-abbrev pub RefusesAny : ((List Held → Walked) → Walked) → LockError → Type 0
-RefusesAny w x = IfSome (fault_of x) (λ fault. (behind : List Held → Walked) → w behind ≡ Broken fault)

@@ -1,3 +1,5 @@
 -- What links the walk's code to the discipline: nobody has to believe it.
 pub mod Flow
 pub mod Uses
+pub mod Refusals
+pub mod Sets

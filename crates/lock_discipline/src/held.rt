@@ -1,5 +1,6 @@
 //! The check of a flat form.
 ghost use Rattle.std.specs.Prelude.{◌≡◌, ◌<◌, ◌≤◌, [], None, Some, length, slice_index_or, IfOk, IfErr, IfSome};
+ghost use Rattle.ido_base.specs.declared.limits.TheConstants.{MOST_MUTEXES};
 ghost use Rattle.c_tree.specs.Flats.{flat_of};
 ghost use Rattle.c_tree.specs.Locking.{lock_fault};
 ghost use Rattle.lock_discipline.specs.Faults.{fault_of};
@@ -60,7 +61,7 @@ impl Held {
 /// different mutexes held, or a thread that ends with one held. A well formed flat form has no more than 64 mutexes
 /// (`laws::well_formed_has_few_mutexes`).
 pub fn check(alloc: Global, flat: &Flat) -> Result<Held, LockError>
-    requires { length flat.now.mutexes.items ≤ 64 }
+    requires { length flat.now.mutexes.items ≤ MOST_MUTEXES }
     ensures accepts { IfOk result (λ _. lock_fault (flat_of flat.now) ≡ None) }
     ensures refuses { IfErr result (λ error. IfSome (fault_of error) (λ fault. lock_fault (flat_of flat.now) ≡ Some fault)) }
     ensures sets { IfOk result (λ held. AreAllSetsOf (flat_of flat.now) held) }

@@ -1,7 +1,9 @@
 //! Sets of mutexes.
 ghost use Rattle.std.specs.Prelude.{◌≡◌, ◌≤◌, ◌||◌, ℕ, true, false, length, slice_set, find};
+ghost use Rattle.ido_base.specs.declared.limits.TheConstants.{MOST_MUTEXES};
 ghost use Rattle.c_tree.specs.Locking.{holds, none_held, numbers_below};
-ghost use Rattle.lock_discipline.specs.Masks.{mask_of, differ};
+ghost use Rattle.lock_discipline.specs.Masks.{mask_of};
+ghost use Rattle.lock_discipline.specs.links.Sets.{differ};
 
 use std::alloc::AllocError;
 use std::marker::Model;
@@ -16,14 +18,16 @@ pub struct MutexSet {
 }
 
 impl Model for MutexSet {
+    ghost use Rattle.ido_base.specs.declared.limits.TheConstants.{MOST_MUTEXES};
     ghost use Rattle.std.specs.Prelude.{Bool, List, ◌<◌, ◌≤◌, ◌^◌, length};
-    ghost use Rattle.lock_discipline.specs.Masks.{mask_of, held_of, mask_of-held_of, length-held_of};
+    ghost use Rattle.lock_discipline.specs.Masks.{mask_of};
+    ghost use Rattle.lock_discipline.specs.links.Sets.{held_of, mask_of-held_of, length-held_of};
 
     ghost Value = { List Bool };
 
     ghost view = { λ s. held_of s.mutexes s.mask };
 
-    ghost invariant = { λ s. (s.mutexes ≤ 64) × (s.mask < 2 ^ s.mutexes) };
+    ghost invariant = { λ s. (s.mutexes ≤ MOST_MUTEXES) × (s.mask < 2 ^ s.mutexes) };
 
     ghost inverse = { λ h. record { mask = mask_of h; mutexes = length h } };
 
@@ -41,7 +45,7 @@ impl Clone for MutexSet {
 impl MutexSet {
     /// No mutex, of so many.
     pub fn none(mutexes: u32) -> MutexSet
-        requires { mutexes ≤ 64 }
+        requires { mutexes ≤ MOST_MUTEXES }
         ensures { result ≡ none_held mutexes }
     {
         MutexSet { mask: 0, mutexes }

@@ -3,7 +3,7 @@ ghost use Rattle.std.specs.Prelude.{◌≡◌, [], ◌∷◌, length, map, Match
 ghost use Rattle.c_tree.specs.Programs.{variable_of};
 ghost use Rattle.c_tree.specs.Exprs.{expr_of, target_of};
 ghost use Rattle.c_tree.specs.Locking.{Behind, guard_of, walk_uses, expr_uses, target_uses};
-ghost use Rattle.lock_discipline.specs.Faults.{Refuses};
+ghost use Rattle.lock_discipline.specs.links.Refusals.{Refuses};
 ghost use Rattle.lock_discipline.specs.links.Uses.{use_of};
 
 use crate::error::LockError;

@@ -1,10 +1,11 @@
 //! The walk through a thread, with the mutexes that are held before each of its steps.
 ghost use Rattle.std.specs.Prelude.{◌≡◌, ◌≤◌, ◌++◌, [], ◌∷◌, List, length, map, MatchResult, IfOk};
 ghost use Rattle.std.specs.List.{All};
+ghost use Rattle.ido_base.specs.declared.limits.TheConstants.{MOST_MUTEXES};
 ghost use Rattle.c_tree.specs.Programs.{variable_of};
 ghost use Rattle.c_tree.specs.Flats.{statement_of, statements_of, arms_list_of, thread_of};
 ghost use Rattle.c_tree.specs.Locking.{Held, Walked, Behind, least_difference, join, walk, walk_all, walk_arms, walk_thread};
-ghost use Rattle.lock_discipline.specs.Faults.{Refuses, RefusesAny};
+ghost use Rattle.lock_discipline.specs.links.Refusals.{Refuses, RefusesAny};
 ghost use Rattle.lock_discipline.specs.links.Flow.{sets_in, sets_in_all, sets_in_arms, thread_sets};
 
 use crate::error::LockError;
@@ -170,7 +171,7 @@ pub fn walk_thread(
     mutexes: u32,
     thread: &Thread,
 ) -> Result<Vec<MutexSet>, LockError>
-    requires { mutexes ≤ 64 }
+    requires { mutexes ≤ MOST_MUTEXES }
     ensures walk { let w = walk_thread (map variable_of variables.now) mutexes (thread_of thread.now) in
         MatchResult result (λ _. (end : Held) × (w ≡ Behind end)) (Refuses w) }
     ensures sets { IfOk result (λ sets. sets.items ≡ thread_sets mutexes (thread_of thread.now)) }

@@ -9,9 +9,13 @@ pub halved : (mask lock : ℕ) → mask / 2 ^ lock / 2 ≡ mask / 2 ^ (lock + 1)
 halved mask lock = shr-shr mask lock 1
 
 -- a lock that isn't missing is passed over
-pub passed_over : (holders : List (Option ℕ)) (mask hart lock : ℕ) → lock < length holders → (has_lock mask lock && not (is_held_by hart (slice_index_or holders lock None))) ≡ false → missing_from lock (drop lock holders) mask hart ≡ missing_from (lock + 1) (drop (lock + 1) holders) mask hart
+pub passed_over : (holders : List (Option ℕ)) (mask hart lock : ℕ) → lock < length holders →
+    (has_lock mask lock && not (is_held_by hart (slice_index_or holders lock None))) ≡ false →
+    missing_from lock (drop lock holders) mask hart ≡ missing_from (lock + 1) (drop (lock + 1) holders) mask hart
 passed_over holders mask hart lock within here = rw (drop-cons holders lock None within) (rw here (rw add-one refl))
 
 -- the same, by the list that is gone over and the mask that is left
-pub goes_on : (holders shown : List (Option ℕ)) (mask hart lock rest : ℕ) → shown ≡ holders → lock < length shown → rest ≡ mask / 2 ^ lock → ((rest % 2 == 1) && not (is_held_by hart (slice_index_or shown lock None))) ≡ false → missing_from lock (drop lock holders) mask hart ≡ missing_from (lock + 1) (drop (lock + 1) holders) mask hart
+pub goes_on : (holders shown : List (Option ℕ)) (mask hart lock rest : ℕ) → shown ≡ holders → lock < length shown → rest ≡ mask / 2 ^ lock →
+    ((rest % 2 == 1) && not (is_held_by hart (slice_index_or shown lock None))) ≡ false →
+    missing_from lock (drop lock holders) mask hart ≡ missing_from (lock + 1) (drop (lock + 1) holders) mask hart
 goes_on holders shown mask hart lock rest same within is here = passed_over holders mask hart lock (rw same at within) (rw same at (rw is at here))

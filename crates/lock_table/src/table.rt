@@ -3,7 +3,8 @@ ghost use Rattle.std.specs.Prelude.{◌≡◌, ◌<◌, ◌%◌, ◌==◌, ◌&&
 ghost use Rattle.std.specs.Bool.{OnTrue, OnFalse};
 ghost use Rattle.ido_base.specs.Locks.{is_held_by, least_held, holds_none, missing_from};
 
-use ido_base::memory::Memory;
+use ido_base::locks::is_held_by;
+use ido_base::memory::OutOfMemory;
 use std::alloc::Global;
 use std::marker::Model;
 
@@ -23,26 +24,16 @@ impl Model for LockTable {
     ghost invariant = { λ t. length t.holders.items < 2 ^ 32 };
 }
 
-/// The hart holds the lock of this holder.
-fn is_held(holder: Option<u32>, hart: u32) -> bool
-    ensures { result ≡ is_held_by hart holder }
-{
-    match holder {
-        None => false,
-        Some(other) => hart == other,
-    }
-}
-
 /// The lowest bit of the mask is set, and the hart doesn't hold the lock of this holder.
 fn is_missing(mask: u64, holder: Option<u32>, hart: u32) -> bool
     ensures { result ≡ ((mask % 2 == 1) && not (is_held_by hart holder)) }
 {
-    mask % 2 == 1 && !is_held(holder, hart)
+    mask % 2 == 1 && !is_held_by(hart, holder)
 }
 
 impl LockTable {
     /// A table of so many locks, all free.
-    pub fn new(alloc: Global, locks: u32) -> Result<LockTable, Memory>
+    pub fn new(alloc: Global, locks: u32) -> Result<LockTable, OutOfMemory>
         ensures { IfOk result (λ table. table ≡ replicate locks None) }
     {
         let holders: Vec<Option<u32>> = vec![in alloc; None; locks as usize]?;
@@ -99,7 +90,7 @@ impl LockTable {
         ensures within { IfSome result (λ lock. lock < length self.now) }
     {
         for (lock, holder) in self.holders.iter().enumerate() {
-            if is_held(*holder, hart) {
+            if is_held_by(hart, *holder) {
                 return Some(lock as u32);
             }
         }

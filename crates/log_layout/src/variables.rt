@@ -1,6 +1,7 @@
 //! Addresses of the variables' elements.
 ghost use Rattle.std.specs.Prelude.{◌≡◌, ◌+◌, ◌^◌, ◌<◌, ◌≤◌, length, IsTrue};
 ghost use Rattle.ido_base.specs.Layout.{variable_at, end_from, aligned_up};
+ghost use Rattle.ido_base.specs.declared.limits.TheConstants.{MOST_VARIABLE_BYTES};
 ghost use Rattle.log_layout.specs.Variables.{are_sizes, elements_of};
 
 use ido_base::location::Shape;
@@ -21,7 +22,7 @@ fn aligned_up(offset: u64, size: u64) -> u64
 /// each stands at the next address that is aligned to its element's size.
 pub fn var_at(shapes: &[Shape], variable: usize, element: u32) -> u64
     requires sizes { IsTrue (are_sizes shapes.now) }
-    requires within { end_from 0 shapes.now ≤ 65536 }
+    requires within { end_from 0 shapes.now ≤ MOST_VARIABLE_BYTES }
     requires variable { variable < length shapes.now }
     requires element { element < elements_of shapes.now variable }
     ensures { result ≡ variable_at shapes.now variable element }

@@ -28,7 +28,7 @@ use Rattle.log_states.proofs.Keeping.{IsQuiet, drained_quiet, elsewhere_quiet, e
 
 -- ---- Whether the point has been stored
 
-commit_stores : (thread point : ℕ) (front : List Effect) → list_any is_store (front ++ commit_effects thread point) ≡ true
+commit_stores : (thread point : ℕ) (prefix : List Effect) → list_any is_store (prefix ++ commit_effects thread point) ≡ true
 commit_stores thread point [] = refl
 commit_stores thread point (e ∷ es) = or_right (is_store e) (list_any is_store (es ++ commit_effects thread point)) (commit_stores thread point es)
 

@@ -94,6 +94,6 @@ boundaries_fence b bank resume x =
     let cleans = map (λ line. Cleans (slot_at b.thread bank (8 * line))) (lines_in_use (0 ∷ b.live)) in
     let a : fences_ahead stores ≡ 0 = no_fences (λ r. Stores (slot_at b.thread bank r) 8 (read x r)) (λ r. refl) b.live in
     let c : fences_ahead cleans ≡ 0 = no_fences (λ line. Cleans (slot_at b.thread bank (8 * line))) (λ line. refl) (lines_in_use (0 ∷ b.live)) in
-    let front : fences_ahead (bank_effects b bank x) ≡ 0 = omega (arith, fences_append stores cleans, a, c) in
+    let prefix : fences_ahead (bank_effects b bank x) ≡ 0 = omega (arith, fences_append stores cleans, a, c) in
     let commit : fences_ahead (commit_effects b.thread ((resume + bank) % 2 ^ 64)) ≡ 2 = refl in
-    omega (arith, fences_append (bank_effects b bank x) (commit_effects b.thread ((resume + bank) % 2 ^ 64)), front, commit))
+    omega (arith, fences_append (bank_effects b bank x) (commit_effects b.thread ((resume + bank) % 2 ^ 64)), prefix, commit))

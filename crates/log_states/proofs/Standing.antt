@@ -18,7 +18,7 @@ use Rattle.operator_code.specs.Straight.{seen}
 use Rattle.log_states.specs.Logs.{Record, nothing_recorded, IsRecord, HasLog, IsRecorded}
 use Rattle.log_states.specs.Stages.{Moment, LogIs, is_committed, left_by_crash}
 use Rattle.log_states.specs.Machines.{moment_of, MovesTo, IsNext, IsElsewhere}
-use Rattle.log_states.specs.Standing.{LogStands, Advances, Completes, WritesBack, StartsStanding, BeginsStanding, OwnStepsKeep, StepsKeep}
+use Rattle.log_states.specs.Standing.{LogStands, passage, Advances, Completes, WritesBack, StartsStanding, BeginsStanding, OwnStepsKeep, StepsKeep}
 use Rattle.log_states.specs.Standing.{EvictionsKeep, CrashesStanding}
 use Rattle.log_states.proofs.Keeping.{keeps, ends, rests}
 use Rattle.log_states.proofs.Committing.{crashes_leave}
@@ -58,7 +58,7 @@ begins_standing b older old bank resume x w s at r = record {
 module _ (program : List (List Slot)) (thread : ℕ) (old new : Record) (w : World) (hart : Hart) (effect : Effect) (later : List Effect) (sound : IsSound w)
     (is : IsNext program w thread hart effect) where
   -- it makes the next effect
-  makes : LogIs thread old new (moment_of w hart (effect ∷ later)) → Advances program thread old new w (effect ∷ []) later
+  makes : LogIs thread old new (moment_of w hart (effect ∷ later)) → Advances program (passage thread old new) w (effect ∷ []) later
   makes l =
       let own = boundaries_stay_in thread old new (moment_of w hart (effect ∷ later)) effect later l refl in
       let to = own_steps_move program w thread hart effect later is own.1 in
@@ -73,7 +73,8 @@ module _ (program : List (List Slot)) (thread : ℕ) (old new : Record) (w : Wor
       ]
 
   -- it only computes
-  computes : (registers : List ℕ) (to : ℕ) → effect ≡ GoesOn registers to → LogStands thread old new w later → Advances program thread old new w [] later
+  computes : (registers : List ℕ) (to : ℕ) → effect ≡ GoesOn registers to → LogStands thread old new w later →
+      Advances program (passage thread old new) w [] later
   unfolding happens
   computes registers to goes s =
       let replied : (hart_step program w thread hart).1 ≡ Moved = executes_effect program thread w hart effect (λ o. o.1 ≡ Moved) is.is
@@ -98,18 +99,19 @@ module _ (program : List (List Slot)) (thread : ℕ) (old new : Record) (w : Wor
           sym goes ∙ some_same effect (Stores address bytes value) (sym is.is ∙ ap (λ (x : Hart). effect_at program thread x) one ∙ n.is) in
           absurd (subst is_going same tt)
 
-  made : (e : Effect) → effect ≡ e → LogStands thread old new w (e ∷ later) → Advances program thread old new w (e ∷ []) later
+  made : (e : Effect) → effect ≡ e → LogStands thread old new w (e ∷ later) → Advances program (passage thread old new) w (e ∷ []) later
   made e same s =
       let one : s.hart ≡ hart = some_same s.hart hart (sym s.here ∙ is.here) in
-      subst (λ (f : Effect). Advances program thread old new w (f ∷ []) later) same
+      subst (λ (f : Effect). Advances program (passage thread old new) w (f ∷ []) later) same
       (makes (subst (λ (x : Hart). LogIs thread old new (moment_of w x (effect ∷ later))) one
       (subst (λ (f : Effect). LogIs thread old new (moment_of w s.hart (f ∷ later))) (sym same) s.log)))
 
-  by_effect : (e : Effect) → effect ≡ e → LogStands thread old new w (seen hart.pc e ++ later) → Advances program thread old new w (seen hart.pc e) later
+  by_effect : (e : Effect) → effect ≡ e → LogStands thread old new w (seen hart.pc e ++ later) →
+      Advances program (passage thread old new) w (seen hart.pc e) later
   by_effect (GoesOn registers to) e s = by (to == next hart.pc) s
     where
       by : (b : Bool) → LogStands thread old new w ((if b then [] else GoesOn registers to ∷ []) ++ later) →
-          Advances program thread old new w (if b then [] else GoesOn registers to ∷ []) later
+          Advances program (passage thread old new) w (if b then [] else GoesOn registers to ∷ []) later
       by true stands = computes registers to e stands
       by false stands = absurd (true≢false (sym (boundaries_stay_in thread old new (moment_of w stands.hart (GoesOn registers to ∷ later))
           (GoesOn registers to) later stands.log refl).1))

@@ -20,13 +20,22 @@ pub record LogStands (thread : ℕ) (old new : Record) (w : World) (rest : List 
   pub here : slice_get w.harts thread ≡ Some hart
   pub log : LogIs thread old new (moment_of w hart rest)
 
+-- the log's way from the one record to the other
+pub record Passage : Type 0 where
+  pub thread : ℕ
+  pub old : Record
+  pub new : Record
+
+abbrev pub passage : (thread : ℕ) → (old new : Record) → Passage
+passage thread old new = record { thread = thread; old = old; new = new }
+
 -- what a step of the thread's own hart in a boundary does, where its instruction is this much of what is to be made
-pub data Advances (program : List (List Slot)) (thread : ℕ) (old new : Record) (w : World) (made later : List Effect) : Type 0 where
-  Completes : reply_to program w (Step thread) ≡ Moved → LogStands thread old new (after_event program w (Step thread)) later →
-      Advances program thread old new w made later
+pub data Advances (program : List (List Slot)) (p : Passage) (w : World) (made later : List Effect) : Type 0 where
+  Completes : reply_to program w (Step p.thread) ≡ Moved → LogStands p.thread p.old p.new (after_event program w (Step p.thread)) later →
+      Advances program p w made later
   -- an entry is written back first
-  WritesBack : reply_to program w (Step thread) ≡ Drained → LogStands thread old new (after_event program w (Step thread)) (made ++ later) →
-      Advances program thread old new w made later
+  WritesBack : reply_to program w (Step p.thread) ≡ Drained → LogStands p.thread p.old p.new (after_event program w (Step p.thread)) (made ++ later) →
+      Advances program p w made later
 
 -- ---- Laws
 
@@ -44,7 +53,7 @@ BeginsStanding = (b : Boundary) (older old : Record) (bank resume : ℕ) (x : Li
 abbrev pub OwnStepsKeep : Type 0
 OwnStepsKeep = (program : List (List Slot)) (thread : ℕ) (old new : Record) (w : World) (hart : Hart) (effect : Effect) (later : List Effect) → IsSound w →
     IsNext program w thread hart effect → LogStands thread old new w (seen hart.pc effect ++ later) →
-    Advances program thread old new w (seen hart.pc effect) later
+    Advances program (passage thread old new) w (seen hart.pc effect) later
 
 -- any other step of any hart
 abbrev pub StepsKeep : Type 0

@@ -313,7 +313,7 @@ module _ (b : Boundary) (mutex : ℕ) (code : List Instr) (small : mutex < 2048)
         by (i ∷ is) h = waits_plain true i is
 
     gives_it : (x : List ℕ) (bank : ℕ) → AtBank bank x →
-        Leads given site x (begin_of given site) (too (k₂ + 2)) (Mark ∷ boundary_sights b bank (end_of given site) x)
+        Leads site x (begin_of given site) (too (k₂ + 2)) (Mark ∷ boundary_sights b bank (end_of given site) x)
         (λ y. (z : List ℕ) × IsLeft b bank x z × Asks gives mutex z y)
     gives_it x bank a =
         let P : List ℕ → Type 0 = λ y. (z : List ℕ) × IsLeft b bank x z × Asks gives mutex z y in

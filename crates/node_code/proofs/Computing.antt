@@ -83,7 +83,7 @@ module _ (all : List CodeItem) (n : Linking all) where
 
 computes : (code : List Instr) (site : Site (computing_items code)) (x y : List ℕ) →
     Computed site.linking.setting.around code (begin_of (computing_items code) site) x y →
-    Leads (computing_items code) site x (begin_of (computing_items code) site) (end_of (computing_items code) site) (Mark ∷ []) (λ z. z ≡ y)
+    Leads site x (begin_of (computing_items code) site) (end_of (computing_items code) site) (Mark ∷ []) (λ z. z ≡ y)
 computes [] site x y c =
     let same : x ≡ y = no_run site.linking.setting.around (begin_of (computing_items []) site) c.run.steps x y c.run.leads in
     more_room site.linking.setting x (begin_of (computing_items []) site) (end_of (computing_items []) site) 1 (words_in (computing_items []) site) (Mark ∷ [])
@@ -168,7 +168,7 @@ module _ (test : Test) (to : Label) where
   where_to part site y = if passes test y then label_of part site to.0 else end_of part site
 
   chooses_none : (site : Site (choice_items [] test to)) (x y : List ℕ) → x ≡ y →
-      Leads (choice_items [] test to) site x (begin_of (choice_items [] test to) site) (where_to (choice_items [] test to) site y) (Mark ∷ []) (λ z. z ≡ y)
+      Leads site x (begin_of (choice_items [] test to) site) (where_to (choice_items [] test to) site y) (Mark ∷ []) (λ z. z ≡ y)
   chooses_none site x y same =
       let part : List CodeItem = choice_items [] test to in
       let k : ℕ = site.position in
@@ -197,7 +197,7 @@ module _ (test : Test) (to : Label) where
 
   chooses_some : (i : Instr) (is : List Instr) (site : Site (choice_items (i ∷ is) test to)) (x y : List ℕ) →
       Computed site.linking.setting.around (i ∷ is) (begin_of (choice_items (i ∷ is) test to) site) x y →
-      Leads (choice_items (i ∷ is) test to) site x (begin_of (choice_items (i ∷ is) test to) site) (where_to (choice_items (i ∷ is) test to) site y)
+      Leads site x (begin_of (choice_items (i ∷ is) test to) site) (where_to (choice_items (i ∷ is) test to) site y)
       (Mark ∷ []) (λ z. z ≡ y)
   chooses_some i is site x y c =
       let part : List CodeItem = choice_items (i ∷ is) test to in
@@ -257,7 +257,7 @@ module _ (test : Test) (to : Label) where
 
   chooses : (code : List Instr) (site : Site (choice_items code test to)) (x y : List ℕ) →
       Computed site.linking.setting.around code (begin_of (choice_items code test to) site) x y →
-      Leads (choice_items code test to) site x (begin_of (choice_items code test to) site) (where_to (choice_items code test to) site y) (Mark ∷ [])
+      Leads site x (begin_of (choice_items code test to) site) (where_to (choice_items code test to) site y) (Mark ∷ [])
       (λ z. z ≡ y)
   chooses [] site x y c = chooses_none site x y (no_run site.linking.setting.around (begin_of (choice_items [] test to) site) c.run.steps x y c.run.leads)
   chooses (i ∷ is) site x y c = chooses_some i is site x y c

@@ -1,11 +1,13 @@
 -- The FENCEs of pieces, and the words of parts: all are instructions.
-use Rattle.std.proofs.Common.{◌≡◌, ℕ, ◌+◌, ◌-◌, ◌*◌, ◌%◌, ◌^◌, ◌<◌, ◌≤◌, zero, suc, List, [], ◌∷◌, ◌++◌, length, map, Some, refl, ap, sym, ◌∙◌, arith, subst, Bool, true, false, lit<}
+use Rattle.std.proofs.Common.{◌≡◌, ℕ, ◌+◌, ◌-◌, ◌*◌, ◌%◌, ◌^◌, ◌<◌, ◌≤◌, zero, suc, List, [], ◌∷◌, ◌++◌}
+use Rattle.std.proofs.Common.{length, map, Some, refl, ap, sym, ◌∙◌, arith, subst, Bool, true, false, lit<}
 use Rattle.std.specs.Prelude.{slice_get, ◌==◌, if◌then◌else◌}
 use Rattle.std.proofs.lemmas.List.{length-append}
 use Rattle.std.proofs.lemmas.List.Sums.{sum_by-append, sum_by-cons}
 use Rattle.ido_base.specs.Layout.{slot_at}
 use Rattle.rv64_isa.specs.declared.instr.Instr.{Instr}
-use Rattle.rv64_isa.specs.declared.instr.Instr.TheVariants.{Lui, Auipc, Jal, Jalr, Branch, Load, Store, OpImmediate, ShiftImmediate, ShiftImmediateWord, Op, CboClean, Fence, Ecall}
+use Rattle.rv64_isa.specs.declared.instr.Instr.TheVariants.{Lui, Auipc, Jal, Jalr, Branch, Load, Store, OpImmediate}
+use Rattle.rv64_isa.specs.declared.instr.Instr.TheVariants.{ShiftImmediate, ShiftImmediateWord, Op, CboClean, Fence, Ecall}
 use Rattle.rv64_isa.specs.declared.object.CodeItem.{CodeItem}
 use Rattle.rv64_isa.specs.declared.object.CodeItem.TheVariants.{Instruction, BranchTo, MarkNext, ResumeNext}
 use Rattle.rv64_isa.specs.declared.object.Label.{Label}
@@ -194,7 +196,8 @@ module _ (all : List CodeItem) (n : Linking all) where
       let moved : k + suc j ≡ k + 1 + j = omega arith in
       subst (λ (q : ℕ). slice_get all q ≡ Some item) moved (own (suc j) item e)) (omega (arith, below)) in
       let both : Are (to k) (to (k + 1 + length xs)) (fences_of x + fences_in xs) =
-      more_instructions n.program.start n.program.code (to k) (to (k + 1)) (to (k + 1 + length xs)) (fences_of x) (fences_in xs) (n.linked.words k x there) rest in
+      more_instructions n.program.start n.program.code (to k) (to (k + 1)) (to (k + 1 + length xs)) (fences_of x) (fences_in xs)
+      (n.linked.words k x there) rest in
       subst (λ (q : ℕ). Are (to k) (to q) (fences_in (x ∷ xs))) end
       (subst (λ (m : ℕ). Are (to k) (to (k + 1 + length xs)) m) (sym (fences_cons x xs)) both)
 

@@ -76,11 +76,11 @@ pub labels_plain : (label : ℕ) (code : List Instr) → list_any (stands_here l
 labels_plain label [] = refl
 labels_plain label (i ∷ is) = labels_plain label is
 
-in_front : {A : Type 0} (xs ys : List A) (k : ℕ) (x : A) → slice_get xs k ≡ Some x → slice_get (xs ++ ys) k ≡ Some x
-in_front [] ys zero x e = cc e
-in_front [] ys (suc k) x e = cc e
-in_front (y ∷ xs) ys zero x e = e
-in_front (y ∷ xs) ys (suc k) x e = in_front xs ys k x e
+in_prefix : {A : Type 0} (xs ys : List A) (k : ℕ) (x : A) → slice_get xs k ≡ Some x → slice_get (xs ++ ys) k ≡ Some x
+in_prefix [] ys zero x e = cc e
+in_prefix [] ys (suc k) x e = cc e
+in_prefix (y ∷ xs) ys zero x e = e
+in_prefix (y ∷ xs) ys (suc k) x e = in_prefix xs ys k x e
 
 behind : {A : Type 0} (xs ys : List A) (k : ℕ) → slice_get (xs ++ ys) (length xs + k) ≡ slice_get ys k
 behind [] ys k = let same : 0 + k ≡ k = omega arith in ap (λ n. slice_get ys n) same
@@ -91,7 +91,7 @@ pub item_at : (all : List CodeItem) (k : ℕ) (part : List CodeItem) → IsPart 
     slice_get all (k + j) ≡ Some item
 item_at all k part p j item e =
     ap (λ (is : List CodeItem). slice_get is (k + j)) p.split ∙ ap (λ (n : ℕ). slice_get (p.before ++ (part ++ p.behind)) (n + j)) p.at ∙
-    behind p.before (part ++ p.behind) j ∙ in_front part p.behind j item e
+    behind p.before (part ++ p.behind) j ∙ in_prefix part p.behind j item e
 
 -- ---- Room
 

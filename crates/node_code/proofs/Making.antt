@@ -45,7 +45,7 @@ store_runs kind false x pc h = s.store (Store kind 29 28 0) [] x pc (read x 28) 
 makes : (kind : StoreKind) (k : Kind) (cleans : Bool) → store_bytes kind ≡ bytes_of k → AreMemoryOf cleans → (at : Site (store_items kind cleans)) →
     length (store_code kind cleans) ≤ words_in (store_items kind cleans) at →
     (x : List ℕ) → AreRegisters x → read x 28 < 2 ^ 64 →
-    Leads (store_items kind cleans) at x (begin_of (store_items kind cleans) at) (end_of (store_items kind cleans) at)
+    Leads at x (begin_of (store_items kind cleans) at) (end_of (store_items kind cleans) at)
     (Mark ∷ seen_effects (store_effects (read x 28) (bytes_of k) (read x 29) cleans)) (λ y. y ≡ x)
 makes kind k cleans e memory at few x are small =
     let leg : Goes at.linking.setting (way x (begin_of (store_items kind cleans) at) (end_of (store_items kind cleans) at) (length (store_code kind cleans)))

@@ -44,8 +44,8 @@ abbrev pub words_in : (piece : List CodeItem) → Site piece → ℕ
 words_in piece at = (end_of piece at - begin_of piece at) / 4
 
 -- from registers at an address the piece's code leads to an address, in no more steps than it has words
-abbrev pub Leads : (piece : List CodeItem) → Site piece → (x : List ℕ) → (from to : ℕ) → List Sight → (has : List ℕ → Type 0) → Type 0
-Leads piece at x from to sights has = Goes at.linking.setting (record { registers = x; from = from; to = to; most = words_in piece at }) sights has
+abbrev pub Leads : {piece : List CodeItem} → Site piece → (x : List ℕ) → (from to : ℕ) → List Sight → (has : List ℕ → Type 0) → Type 0
+Leads {piece} at x from to sights has = Goes at.linking.setting (record { registers = x; from = from; to = to; most = words_in piece at }) sights has
 
 -- ---- Stores
 
@@ -56,7 +56,7 @@ store_sights address bytes value cleans = Mark ∷ Does (Stores address bytes va
 -- the pending store is made, by the first instruction
 pub record Makes (kind : Kind) (cleans : Bool) (piece : List CodeItem) (at : Site piece) : Type 0 where
   pub makes : (x : List ℕ) → AreRegisters x → read x roles.pending_address < 2 ^ 64 →
-      Leads piece at x (begin_of piece at) (end_of piece at) (store_sights (read x roles.pending_address) (bytes_of kind) (read x roles.pending_value)
+      Leads at x (begin_of piece at) (end_of piece at) (store_sights (read x roles.pending_address) (bytes_of kind) (read x roles.pending_value)
       cleans) (λ y. y ≡ x)
   pub instr : Instr
   pub stands : Stands at.linking.program.start at.linking.program.code (begin_of piece at) instr
@@ -92,7 +92,7 @@ pub record IsLeft (b : Boundary) (bank : ℕ) (x y : List ℕ) : Type 0 where
 -- the point gets the address of the piece's end, from where the thread may be resumed
 pub record Keeps (b : Boundary) (piece : List CodeItem) (at : Site piece) : Type 0 where
   pub keeps : (x : List ℕ) (bank : ℕ) → AtBank bank x →
-      Leads piece at x (begin_of piece at) (end_of piece at) (boundary_sights b bank (end_of piece at) x) (IsLeft b bank x)
+      Leads at x (begin_of piece at) (end_of piece at) (boundary_sights b bank (end_of piece at) x) (IsLeft b bank x)
   pub marks : marks_in piece at ≡ []
   pub resumes : resumes_in piece at ≡ end_of piece at ∷ []
 
@@ -124,9 +124,9 @@ pub record Asks (number mutex : ℕ) (x y : List ℕ) : Type 0 where
 -- the call is the mark; behind it stands a boundary
 pub record Locks (b : Boundary) (mutex : ℕ) (piece : List CodeItem) (at : Site piece) : Type 0 where
   pub call : ℕ
-  pub asks : (x : List ℕ) → AreRegisters x → Leads piece at x (begin_of piece at) call [] (Asks takes mutex x)
+  pub asks : (x : List ℕ) → AreRegisters x → Leads at x (begin_of piece at) call [] (Asks takes mutex x)
   pub stands : Stands at.linking.program.start at.linking.program.code call Ecall
-  pub keeps : (x : List ℕ) (bank : ℕ) → AtBank bank x → Leads piece at x (call + 4) (end_of piece at) (boundary_sights b bank (end_of piece at) x)
+  pub keeps : (x : List ℕ) (bank : ℕ) → AtBank bank x → Leads at x (call + 4) (end_of piece at) (boundary_sights b bank (end_of piece at) x)
       (IsLeft b bank x)
   pub marks : marks_in piece at ≡ call ∷ []
   pub resumes : resumes_in piece at ≡ end_of piece at ∷ []
@@ -142,7 +142,7 @@ pub record IsLock (b : Boundary) (mutex : ℕ) (piece : List CodeItem) : Type 0 
 pub record Unlocks (b : Boundary) (mutex : ℕ) (piece : List CodeItem) (at : Site piece) : Type 0 where
   pub call : ℕ
   pub asks : (x : List ℕ) (bank : ℕ) → AtBank bank x →
-      Leads piece at x (begin_of piece at) call (Mark ∷ boundary_sights b bank (end_of piece at) x)
+      Leads at x (begin_of piece at) call (Mark ∷ boundary_sights b bank (end_of piece at) x)
       (λ y. (z : List ℕ) × IsLeft b bank x z × Asks gives mutex z y)
   pub stands : Stands at.linking.program.start at.linking.program.code call Ecall
   pub behind : end_of piece at ≡ call + 4
@@ -158,7 +158,7 @@ pub record IsUnlock (b : Boundary) (mutex : ℕ) (piece : List CodeItem) : Type 
 
 pub record Ends (piece : List CodeItem) (at : Site piece) : Type 0 where
   pub call : ℕ
-  pub asks : (x : List ℕ) → AreRegisters x → Leads piece at x (begin_of piece at) call (Mark ∷ []) (λ y. read y roles.call ≡ ends)
+  pub asks : (x : List ℕ) → AreRegisters x → Leads at x (begin_of piece at) call (Mark ∷ []) (λ y. read y roles.call ≡ ends)
   pub stands : Stands at.linking.program.start at.linking.program.code call Ecall
   pub behind : end_of piece at ≡ call + 4
   pub plain : marked at.linking.program.nodes call ≡ []
@@ -183,7 +183,7 @@ pub record Computes (code : List Instr) (piece : List CodeItem) (at : Site piece
   pub stands : r.Stands at.linking.setting.around (begin_of piece at) code
   pub room : begin_of piece at + 4 * length code < 2 ^ 64
   pub computes : (x y : List ℕ) → Computed at.linking.setting.around code (begin_of piece at) x y →
-      Leads piece at x (begin_of piece at) (end_of piece at) (Mark ∷ []) (λ z. z ≡ y)
+      Leads at x (begin_of piece at) (end_of piece at) (Mark ∷ []) (λ z. z ≡ y)
   pub marks : marks_in piece at ≡ begin_of piece at ∷ []
   pub resumes : resumes_in piece at ≡ []
 
@@ -198,7 +198,7 @@ pub record Chooses (code : List Instr) (test : Test) (label : ℕ) (piece : List
   pub stands : r.Stands at.linking.setting.around (begin_of piece at) code
   pub room : begin_of piece at + 4 * length code < 2 ^ 64
   pub chooses : (x y : List ℕ) → Computed at.linking.setting.around code (begin_of piece at) x y →
-      Leads piece at x (begin_of piece at) (if passes test y then label_of piece at label else end_of piece at) (Mark ∷ []) (λ z. z ≡ y)
+      Leads at x (begin_of piece at) (if passes test y then label_of piece at label else end_of piece at) (Mark ∷ []) (λ z. z ≡ y)
   pub marks : marks_in piece at ≡ begin_of piece at ∷ []
   pub resumes : resumes_in piece at ≡ []
 
@@ -212,7 +212,7 @@ pub record IsChoice (code : List Instr) (test : Test) (label : ℕ) (piece : Lis
 
 -- registers stay as they are, and nothing is seen
 pub record Jumps (label : ℕ) (piece : List CodeItem) (at : Site piece) : Type 0 where
-  pub jumps : (x : List ℕ) → Leads piece at x (begin_of piece at) (label_of piece at label) [] (λ y. y ≡ x)
+  pub jumps : (x : List ℕ) → Leads at x (begin_of piece at) (label_of piece at label) [] (λ y. y ≡ x)
   pub marks : marks_in piece at ≡ []
   pub resumes : resumes_in piece at ≡ []
 
@@ -224,7 +224,7 @@ pub record IsJump (label : ℕ) (piece : List CodeItem) : Type 0 where
 
 -- to the label where the test is passed, else to the piece's end
 pub record Branches (test : Test) (label : ℕ) (piece : List CodeItem) (at : Site piece) : Type 0 where
-  pub branches : (x : List ℕ) → Leads piece at x (begin_of piece at) (if passes test x then label_of piece at label else end_of piece at) [] (λ y. y ≡ x)
+  pub branches : (x : List ℕ) → Leads at x (begin_of piece at) (if passes test x then label_of piece at label else end_of piece at) [] (λ y. y ≡ x)
   pub marks : marks_in piece at ≡ []
   pub resumes : resumes_in piece at ≡ []
 

@@ -1,6 +1,7 @@
 //! Boundaries.
 ghost use Rattle.std.specs.Prelude.{◌≡◌, ◌<◌, ◌++◌, ◌∷◌, [], IsTrue, IfOk, OnOk, pos, ◌≤ℤ◌, negsuc};
 ghost use Rattle.std.specs.List.{list_all};
+ghost use Rattle.ido_base.specs.declared.limits.TheConstants.{MOST_THREADS};
 ghost use Rattle.log_layout.specs.Roles.{is_kept};
 ghost use Rattle.node_code.specs.Pieces.{Appends, IsBoundary, boundary_of};
 ghost use Rattle.node_code.specs.links.Listing.{boundary_items};
@@ -9,14 +10,18 @@ ghost use Rattle.node_code.specs.links.Kept.{IsCodeOf};
 use crate::items::push_plain;
 use crate::kept::Kept;
 use boundary_code::boundary;
-use ido_base::memory::Memory;
+use ido_base::memory::OutOfMemory;
 use rv64_isa::instr::Instr;
 use rv64_isa::object::CodeItem;
 use std::alloc::Global;
 
 /// The code of a boundary that resumes so many bytes behind its end.
-pub(crate) fn boundary_code(alloc: Global, kept: &Kept, resume: u16) -> Result<Vec<Instr>, Memory>
-    requires thread { kept.now.thread < 8 }
+pub(crate) fn boundary_code(
+    alloc: Global,
+    kept: &Kept,
+    resume: u16,
+) -> Result<Vec<Instr>, OutOfMemory>
+    requires thread { kept.now.thread < MOST_THREADS }
     requires live { IsTrue (list_all is_kept kept.now.live.now) }
     ensures { IfOk result (λ code. IsCodeOf (boundary_of kept.now resume) code.items) }
 {
@@ -24,7 +29,7 @@ pub(crate) fn boundary_code(alloc: Global, kept: &Kept, resume: u16) -> Result<V
 }
 
 /// Appends a boundary's code, behind which recovery may resume.
-pub(crate) fn append_boundary(items: &mut Vec<CodeItem>, code: &[Instr]) -> Result<(), Memory>
+pub(crate) fn append_boundary(items: &mut Vec<CodeItem>, code: &[Instr]) -> Result<(), OutOfMemory>
     ensures { OnOk result (items.new.items ≡ items.old.items ++ boundary_items code.now) }
 {
     push_plain(items, code)?;
@@ -33,8 +38,12 @@ pub(crate) fn append_boundary(items: &mut Vec<CodeItem>, code: &[Instr]) -> Resu
 }
 
 /// Appends a boundary that keeps these, behind which the thread may be resumed.
-pub fn push_boundary(alloc: Global, items: &mut Vec<CodeItem>, kept: &Kept) -> Result<(), Memory>
-    requires thread { kept.now.thread < 8 }
+pub fn push_boundary(
+    alloc: Global,
+    items: &mut Vec<CodeItem>,
+    kept: &Kept,
+) -> Result<(), OutOfMemory>
+    requires thread { kept.now.thread < MOST_THREADS }
     requires live { IsTrue (list_all is_kept kept.now.live.now) }
     ensures { OnOk result (Appends items.old.items items.new.items (IsBoundary (boundary_of kept.now 0))) }
 {

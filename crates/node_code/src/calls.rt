@@ -1,6 +1,7 @@
 //! Calls: a mutex is taken or given back, a thread ends.
 ghost use Rattle.std.specs.Prelude.{◌≡◌, ◌<◌, ◌++◌, ◌∷◌, [], IsTrue, OnOk};
 ghost use Rattle.std.specs.List.{list_all};
+ghost use Rattle.ido_base.specs.declared.limits.TheConstants.{MOST_THREADS};
 ghost use Rattle.log_layout.specs.Roles.{is_kept};
 ghost use Rattle.node_code.specs.Pieces.{Appends, IsLock, IsUnlock, IsEnd, boundary_of};
 ghost use Rattle.node_code.specs.links.Listing.{plain, asking, lock_items, unlock_items, end_items};
@@ -8,7 +9,7 @@ ghost use Rattle.node_code.specs.links.Listing.{plain, asking, lock_items, unloc
 use crate::boundaries::{append_boundary, boundary_code};
 use crate::items::{load_small, push_plain};
 use crate::kept::Kept;
-use ido_base::memory::Memory;
+use ido_base::memory::OutOfMemory;
 use rv64_isa::field::Register;
 use rv64_isa::instr::Instr;
 use rv64_isa::object::CodeItem;
@@ -33,7 +34,7 @@ const ENDS: u16 = 3;
 const GIVING_BYTES: u16 = 12;
 
 /// The registers of a call of one mutex are set.
-fn append_asking(items: &mut Vec<CodeItem>, mutex: u16, number: u16) -> Result<(), Memory>
+fn append_asking(items: &mut Vec<CodeItem>, mutex: u16, number: u16) -> Result<(), OutOfMemory>
     requires mutex { mutex < 2048 }
     requires number { number < 2048 }
     ensures { OnOk result (items.new.items ≡ items.old.items ++ plain (asking mutex number)) }
@@ -44,7 +45,7 @@ fn append_asking(items: &mut Vec<CodeItem>, mutex: u16, number: u16) -> Result<(
 }
 
 /// A mutex is taken; then comes the boundary.
-fn append_lock(items: &mut Vec<CodeItem>, mutex: u16, boundary: &[Instr]) -> Result<(), Memory>
+fn append_lock(items: &mut Vec<CodeItem>, mutex: u16, boundary: &[Instr]) -> Result<(), OutOfMemory>
     requires { mutex < 2048 }
     ensures { OnOk result (items.new.items ≡ items.old.items ++ lock_items mutex boundary.now) }
 {
@@ -60,7 +61,7 @@ fn append_unlock(
     mutex: u16,
     mask: u64,
     boundary: &[Instr],
-) -> Result<(), Memory>
+) -> Result<(), OutOfMemory>
     requires { mutex < 2048 }
     ensures { OnOk result (items.new.items ≡ items.old.items ++ unlock_items mutex mask boundary.now) }
 {
@@ -75,7 +76,7 @@ fn append_unlock(
 }
 
 /// A thread ends.
-fn append_end(items: &mut Vec<CodeItem>) -> Result<(), Memory>
+fn append_end(items: &mut Vec<CodeItem>) -> Result<(), OutOfMemory>
     ensures { OnOk result (items.new.items ≡ items.old.items ++ end_items) }
 {
     items.push(CodeItem::MarkNext)?;
@@ -90,8 +91,8 @@ pub fn push_lock(
     items: &mut Vec<CodeItem>,
     kept: &Kept,
     mutex: u16,
-) -> Result<(), Memory>
-    requires thread { kept.now.thread < 8 }
+) -> Result<(), OutOfMemory>
+    requires thread { kept.now.thread < MOST_THREADS }
     requires live { IsTrue (list_all is_kept kept.now.live.now) }
     requires mutex { mutex < 2048 }
     ensures { OnOk result (Appends items.old.items items.new.items (IsLock (boundary_of kept.now 0) mutex)) }
@@ -107,8 +108,8 @@ pub fn push_unlock(
     items: &mut Vec<CodeItem>,
     kept: &Kept,
     mutex: u16,
-) -> Result<(), Memory>
-    requires thread { kept.now.thread < 8 }
+) -> Result<(), OutOfMemory>
+    requires thread { kept.now.thread < MOST_THREADS }
     requires live { IsTrue (list_all is_kept kept.now.live.now) }
     requires mutex { mutex < 2048 }
     ensures { OnOk result (Appends items.old.items items.new.items (IsUnlock (boundary_of kept.now 12) mutex)) }
@@ -118,7 +119,7 @@ pub fn push_unlock(
 }
 
 /// Appends the code that ends the thread; its first instruction is the mark.
-pub fn push_end(items: &mut Vec<CodeItem>) -> Result<(), Memory>
+pub fn push_end(items: &mut Vec<CodeItem>) -> Result<(), OutOfMemory>
     ensures { OnOk result (Appends items.old.items items.new.items IsEnd) }
 {
     append_end(items)

@@ -4,14 +4,14 @@ ghost use Rattle.node_code.specs.Pieces.{Appends, IsComputing, IsChoice};
 ghost use Rattle.node_code.specs.links.Listing.{computing_items, choice_items};
 
 use crate::items::{load_small, push_item, push_plain};
-use ido_base::memory::Memory;
+use ido_base::memory::OutOfMemory;
 use operator_code::Test;
 use rv64_isa::field::Register;
 use rv64_isa::instr::Instr;
 use rv64_isa::object::{CodeItem, Label};
 
 /// The mark, and code; where there is none, an instruction that leaves all registers as they are.
-fn append_computing(items: &mut Vec<CodeItem>, code: &[Instr]) -> Result<(), Memory>
+fn append_computing(items: &mut Vec<CodeItem>, code: &[Instr]) -> Result<(), OutOfMemory>
     ensures { OnOk result (items.new.items ≡ items.old.items ++ computing_items code.now) }
 {
     items.push(CodeItem::MarkNext)?;
@@ -27,7 +27,7 @@ fn append_choice(
     code: &[Instr],
     test: Test,
     to: Label,
-) -> Result<(), Memory>
+) -> Result<(), OutOfMemory>
     ensures { OnOk result (items.new.items ≡ items.old.items ++ choice_items code.now test to) }
 {
     items.push(CodeItem::MarkNext)?;
@@ -45,7 +45,7 @@ fn append_choice(
 
 /// Appends code that only computes; its first instruction is the mark. Where there is none, an instruction stands there
 /// that leaves all registers as they are.
-pub fn push_computing(items: &mut Vec<CodeItem>, code: &[Instr]) -> Result<(), Memory>
+pub fn push_computing(items: &mut Vec<CodeItem>, code: &[Instr]) -> Result<(), OutOfMemory>
     ensures { OnOk result (Appends items.old.items items.new.items (IsComputing code.now)) }
 {
     append_computing(items, code)
@@ -58,7 +58,7 @@ pub fn push_choice(
     code: &[Instr],
     test: Test,
     to: Label,
-) -> Result<(), Memory>
+) -> Result<(), OutOfMemory>
     ensures { OnOk result (Appends items.old.items items.new.items (IsChoice code.now test to.0)) }
 {
     append_choice(items, code, test, to)

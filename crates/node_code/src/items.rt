@@ -2,14 +2,14 @@
 ghost use Rattle.std.specs.Prelude.{◌≡◌, ◌<◌, ◌^◌, ◌++◌, ◌∷◌, [], OnOk};
 ghost use Rattle.node_code.specs.links.Listing.{plain};
 
-use ido_base::memory::Memory;
+use ido_base::memory::OutOfMemory;
 use operator_code::instructions::immediate;
 use rv64_isa::field::Register;
 use rv64_isa::instr::{ImmediateOperation, Instr};
 use rv64_isa::object::CodeItem;
 
 /// Appends an item.
-pub(crate) fn push_item(items: &mut Vec<CodeItem>, item: CodeItem) -> Result<(), Memory>
+pub(crate) fn push_item(items: &mut Vec<CodeItem>, item: CodeItem) -> Result<(), OutOfMemory>
     ensures { OnOk result (items.new.items ≡ items.old.items ++ item ∷ []) }
 {
     match item {
@@ -22,7 +22,7 @@ pub(crate) fn push_item(items: &mut Vec<CodeItem>, item: CodeItem) -> Result<(),
 }
 
 /// Appends code without labels.
-pub(crate) fn push_plain(items: &mut Vec<CodeItem>, code: &[Instr]) -> Result<(), Memory>
+pub(crate) fn push_plain(items: &mut Vec<CodeItem>, code: &[Instr]) -> Result<(), OutOfMemory>
     ensures { OnOk result (items.new.items ≡ items.old.items ++ plain code.now) }
 {
     for instr in code {

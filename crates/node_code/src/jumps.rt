@@ -3,13 +3,13 @@ ghost use Rattle.std.specs.Prelude.{OnOk};
 ghost use Rattle.node_code.specs.Pieces.{Appends, IsJump, IsBranch};
 
 use crate::items::push_item;
-use ido_base::memory::Memory;
+use ido_base::memory::OutOfMemory;
 use operator_code::Test;
 use rv64_isa::field::Register;
 use rv64_isa::object::{CodeItem, Label};
 
 /// Appends a jump to the label.
-pub fn push_jump(items: &mut Vec<CodeItem>, to: Label) -> Result<(), Memory>
+pub fn push_jump(items: &mut Vec<CodeItem>, to: Label) -> Result<(), OutOfMemory>
     ensures { OnOk result (Appends items.old.items items.new.items (IsJump to.0)) }
 {
     push_item(
@@ -22,7 +22,7 @@ pub fn push_jump(items: &mut Vec<CodeItem>, to: Label) -> Result<(), Memory>
 }
 
 /// Appends a branch to the label, which is taken where the test is passed.
-pub fn push_branch(items: &mut Vec<CodeItem>, test: Test, to: Label) -> Result<(), Memory>
+pub fn push_branch(items: &mut Vec<CodeItem>, test: Test, to: Label) -> Result<(), OutOfMemory>
     ensures { OnOk result (Appends items.old.items items.new.items (IsBranch test to.0)) }
 {
     push_item(

@@ -9,8 +9,6 @@ mod jumps;
 mod kept;
 pub mod laws;
 mod stores;
-#[cfg(test)]
-mod tests;
 
 pub use boundaries::push_boundary;
 pub use calls::{push_end, push_lock, push_unlock};

@@ -5,7 +5,7 @@ ghost use Rattle.rv64_isa.specs.Rows.{store_bytes};
 ghost use Rattle.node_code.specs.Pieces.{Appends, IsStore};
 ghost use Rattle.node_code.specs.links.Listing.{store_items};
 
-use ido_base::memory::Memory;
+use ido_base::memory::OutOfMemory;
 use ido_ints::Kind;
 use rv64_isa::field::{Immediate, Register};
 use rv64_isa::instr::{Instr, StoreKind};
@@ -24,7 +24,7 @@ fn store_kind(kind: Kind) -> StoreKind
 }
 
 /// The store of x29 at the address in x28, and the clean of its line, or none.
-fn append_store(items: &mut Vec<CodeItem>, kind: StoreKind, cleans: bool) -> Result<(), Memory>
+fn append_store(items: &mut Vec<CodeItem>, kind: StoreKind, cleans: bool) -> Result<(), OutOfMemory>
     ensures { OnOk result (items.new.items ≡ items.old.items ++ store_items kind cleans) }
 {
     items.push(CodeItem::MarkNext)?;
@@ -41,7 +41,7 @@ fn append_store(items: &mut Vec<CodeItem>, kind: StoreKind, cleans: bool) -> Res
 }
 
 /// Appends the code that makes the pending store of a variable of this kind, and cleans its line at once or not.
-pub fn push_store(items: &mut Vec<CodeItem>, kind: Kind, cleans: bool) -> Result<(), Memory>
+pub fn push_store(items: &mut Vec<CodeItem>, kind: Kind, cleans: bool) -> Result<(), OutOfMemory>
     ensures { OnOk result (Appends items.old.items items.new.items (IsStore kind cleans)) }
 {
     append_store(items, store_kind(kind), cleans)

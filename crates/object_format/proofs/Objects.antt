@@ -1,5 +1,6 @@
 -- The two laws: what is read is spelled so, and what is spelled so is read.
-use Rattle.std.proofs.Common.{◌≡◌, ℕ, ◌-◌, ◌%◌, ◌^◌, ◌<◌, ◌≤◌, true, cond, List, [], ◌∷◌, ◌++◌, length, All, map, Result, Ok, Err, refl, sym, ap, subst, ◌∙◌, append_assoc, arith}
+use Rattle.std.proofs.Common.{◌≡◌, ℕ, ◌-◌, ◌%◌, ◌^◌, ◌<◌, ◌≤◌, true, cond, List, [], ◌∷◌, ◌++◌, length}
+use Rattle.std.proofs.Common.{All, map, Result, Ok, Err, refl, sym, ap, subst, ◌∙◌, append_assoc, arith}
 use Rattle.std.specs.Prelude.{IfOk, is_some, nat_eq, ◌==◌}
 use Rattle.std.specs.Global.{Vec}
 use Rattle.std.specs.Cmp.Lexicographic.{pointwise}
@@ -7,15 +8,18 @@ use Rattle.std.specs.List.{flat_map, AllByRecursion}
 use Rattle.std.proofs.lemmas.Bool.{eqb-true}
 use Rattle.std.proofs.lemmas.List.{append-nil, nil_from_length}
 use Rattle.std.proofs.lemmas.List.Elements.{All-from_recursion}
+use Rattle.ido_base.specs.declared.limits.TheConstants.{MOST_THREADS, MOST_MUTEXES, MOST_VARIABLE_BYTES, MOST_CODE_WORDS}
 use Rattle.rv64_isa.specs.Formats.{decoded}
 use Rattle.rv64_isa.specs.declared.object.Object.{Object}
-use Rattle.object_format.specs.Contents.{Contents, contents_of, items_of, IsInstructionWord, IsThreadCode, IsWithinLimits, most_threads, most_mutexes, most_initial, word_bytes, least_words, most_words}
+use Rattle.object_format.specs.Contents.{Contents, contents_of, items_of, IsInstructionWord, IsThreadCode, IsWithinLimits, word_bytes, least_words}
 use Rattle.object_format.specs.Spelling.{magic, version, number, thread_text, spelling}
 use Rattle.object_format.specs.Reading as r
-use Rattle.object_format.specs.Reading.{Fault, Reads, Head, ◌>>=◌, bytes_at, number_at, kept, number_within, repeated, magic_at, version_at, initial_at, word_at, thread_at, head_at, ended, read}
+use Rattle.object_format.specs.Reading.{Fault, Reads, Head, ◌>>=◌, bytes_at, number_at, kept, number_within, repeated}
+use Rattle.object_format.specs.Reading.{magic_at, version_at, initial_at, word_at, thread_at, head_at, ended, read}
 use Rattle.object_format.specs.declared.error.ReadError.{ReadError}
 use Rattle.object_format.specs.links.Gives.{Gives}
-use Rattle.object_format.proofs.FieldLaws.{IsBytes, and_parts, bind_ok, test_ok, kept_ok, ok_is, Takes, then, bytes_take, bytes_again, number_takes, number_again, within_takes, within_again, repeated_take, repeated_again}
+use Rattle.object_format.proofs.FieldLaws.{IsBytes, and_parts, bind_ok, test_ok, kept_ok, ok_is, Takes, then, bytes_take, bytes_again}
+use Rattle.object_format.proofs.FieldLaws.{number_takes, number_again, within_takes, within_again, repeated_take, repeated_again}
 
 -- ---- The head
 
@@ -52,16 +56,17 @@ unfolding version_at
 version_again total rest = rw (number_again total version rest (omega arith)) refl
 
 pub record IsInitial (bytes : List ℕ) : Type 0 where
-  pub few : length bytes ≤ most_initial
+  pub few : length bytes ≤ MOST_VARIABLE_BYTES
   pub whole : length bytes % word_bytes ≡ 0
 
-initial_takes : (total : ℕ) (bytes : List ℕ) (x : List ℕ × List ℕ) → IsBytes bytes → initial_at total bytes ≡ Ok x → Takes bytes (number (length x.0) ++ x.0) x.1 × IsInitial x.0
+initial_takes : (total : ℕ) (bytes : List ℕ) (x : List ℕ × List ℕ) → IsBytes bytes → initial_at total bytes ≡ Ok x →
+    Takes bytes (number (length x.0) ++ x.0) x.1 × IsInitial x.0
 unfolding initial_at
 initial_takes total bytes x fits e =
-    let a = bind_ok (number_within total 0 most_initial bytes) (λ n. kept total (n.0 % word_bytes == 0) bytes n >>= λ m. bytes_at total m.0 m.1) x e in
+    let a = bind_ok (number_within total 0 MOST_VARIABLE_BYTES bytes) (λ n. kept total (n.0 % word_bytes == 0) bytes n >>= λ m. bytes_at total m.0 m.1) x e in
     let b = bind_ok (kept total (a.0.0 % word_bytes == 0) bytes a.0) (λ m. bytes_at total m.0 m.1) x a.2 in
     let k = kept_ok total (a.0.0 % word_bytes == 0) bytes a.0 b.0 b.1 in
-    let t = within_takes total 0 most_initial bytes a.0 fits a.1 in
+    let t = within_takes total 0 MOST_VARIABLE_BYTES bytes a.0 fits a.1 in
     let read : bytes_at total a.0.0 a.0.1 ≡ Ok x = subst (λ (m : ℕ × List ℕ). bytes_at total m.0 m.1 ≡ Ok x) (sym k.1) b.2 in
     let u = bytes_take total a.0.0 a.0.1 x t.0.rest_fits read in
     let whole : a.0.0 % word_bytes ≡ 0 = eqb-true _ _ k.0 in
@@ -71,11 +76,12 @@ initial_takes total bytes x fits e =
 initial_again : (total : ℕ) (text rest : List ℕ) → IsInitial text → initial_at total (number (length text) ++ (text ++ rest)) ≡ Ok (text, rest)
 unfolding initial_at
 initial_again total text rest good =
-    rw (within_again total 0 most_initial (length text) (text ++ rest) (omega arith) good.few (omega (arith, good.few)), good.whole) (bytes_again total (length text) text rest refl)
+    rw (within_again total 0 MOST_VARIABLE_BYTES (length text) (text ++ rest) (omega arith) good.few (omega (arith, good.few)), good.whole)
+    (bytes_again total (length text) text rest refl)
 
 pub record IsHead (h : Head) : Type 0 where
-  pub threads : h.threads ≤ most_threads
-  pub mutexes : h.mutexes ≤ most_mutexes
+  pub threads : h.threads ≤ MOST_THREADS
+  pub mutexes : h.mutexes ≤ MOST_MUTEXES
   pub initial : IsInitial h.initial
 
 abbrev head_text : Head → List ℕ
@@ -84,31 +90,41 @@ head_text h = magic ++ (number version ++ (number h.threads ++ (number h.mutexes
 head_takes : (total : ℕ) (bytes : List ℕ) (x : Head × List ℕ) → IsBytes bytes → head_at total bytes ≡ Ok x → Takes bytes (head_text x.0) x.1 × IsHead x.0
 unfolding head_at
 head_takes total bytes x fits e =
-    let a = bind_ok (magic_at total bytes) (λ m. version_at total m >>= λ v. number_within total 0 most_threads v >>= λ threads. number_within total 0 most_mutexes threads.1 >>= λ mutexes. initial_at total mutexes.1 >>= λ initial. Ok (record { threads = threads.0; mutexes = mutexes.0; initial = initial.0 }, initial.1)) x e in
-    let b = bind_ok (version_at total a.0) (λ v. number_within total 0 most_threads v >>= λ threads. number_within total 0 most_mutexes threads.1 >>= λ mutexes. initial_at total mutexes.1 >>= λ initial. Ok (record { threads = threads.0; mutexes = mutexes.0; initial = initial.0 }, initial.1)) x a.2 in
-    let c = bind_ok (number_within total 0 most_threads b.0) (λ threads. number_within total 0 most_mutexes threads.1 >>= λ mutexes. initial_at total mutexes.1 >>= λ initial. Ok (record { threads = threads.0; mutexes = mutexes.0; initial = initial.0 }, initial.1)) x b.2 in
-    let d = bind_ok (number_within total 0 most_mutexes c.0.1) (λ mutexes. initial_at total mutexes.1 >>= λ initial. Ok (record { threads = c.0.0; mutexes = mutexes.0; initial = initial.0 }, initial.1)) x c.2 in
+    let a = bind_ok (magic_at total bytes)
+    (λ m. version_at total m >>= λ v. number_within total 0 MOST_THREADS v >>= λ threads. number_within total 0 MOST_MUTEXES threads.1 >>= λ mutexes.
+    initial_at total mutexes.1 >>= λ initial. Ok (record { threads = threads.0; mutexes = mutexes.0; initial = initial.0 }, initial.1)) x e in
+    let b = bind_ok (version_at total a.0)
+    (λ v. number_within total 0 MOST_THREADS v >>= λ threads. number_within total 0 MOST_MUTEXES threads.1 >>= λ mutexes.
+    initial_at total mutexes.1 >>= λ initial. Ok (record { threads = threads.0; mutexes = mutexes.0; initial = initial.0 }, initial.1)) x a.2 in
+    let c = bind_ok (number_within total 0 MOST_THREADS b.0)
+    (λ threads. number_within total 0 MOST_MUTEXES threads.1 >>= λ mutexes. initial_at total mutexes.1 >>= λ initial.
+    Ok (record { threads = threads.0; mutexes = mutexes.0; initial = initial.0 }, initial.1)) x b.2 in
+    let d = bind_ok (number_within total 0 MOST_MUTEXES c.0.1)
+    (λ mutexes. initial_at total mutexes.1 >>= λ initial. Ok (record { threads = c.0.0; mutexes = mutexes.0; initial = initial.0 }, initial.1)) x c.2 in
     let f = bind_ok (initial_at total d.0.1) (λ initial. Ok (record { threads = c.0.0; mutexes = d.0.0; initial = initial.0 }, initial.1)) x d.2 in
     let t0 = magic_takes total bytes a.0 fits a.1 in
     let t1 = version_takes total a.0 b.0 t0.rest_fits b.1 in
-    let t2 = within_takes total 0 most_threads b.0 c.0 t1.rest_fits c.1 in
-    let t3 = within_takes total 0 most_mutexes c.0.1 d.0 t2.0.rest_fits d.1 in
+    let t2 = within_takes total 0 MOST_THREADS b.0 c.0 t1.rest_fits c.1 in
+    let t3 = within_takes total 0 MOST_MUTEXES c.0.1 d.0 t2.0.rest_fits d.1 in
     let t4 = initial_takes total d.0.1 f.0 t3.0.rest_fits f.1 in
     let e34 = then c.0.1 (number d.0.0) d.0.1 (number (length f.0.0) ++ f.0.0) f.0.1 t3.0 t4.0 in
     let e24 = then b.0 (number c.0.0) c.0.1 (number d.0.0 ++ (number (length f.0.0) ++ f.0.0)) f.0.1 t2.0 e34 in
     let e14 = then a.0 (number version) b.0 (number c.0.0 ++ (number d.0.0 ++ (number (length f.0.0) ++ f.0.0))) f.0.1 t1 e24 in
     let e04 = then bytes magic a.0 (number version ++ (number c.0.0 ++ (number d.0.0 ++ (number (length f.0.0) ++ f.0.0)))) f.0.1 t0 e14 in
     let made : Head × List ℕ = (record { threads = c.0.0; mutexes = d.0.0; initial = f.0.0 }, f.0.1) in
-    subst (λ (y : Head × List ℕ). Takes bytes (head_text y.0) y.1 × IsHead y.0) (ok_is made x f.2) (e04, record { threads = t2.2; mutexes = t3.2; initial = t4.1 })
+    subst (λ (y : Head × List ℕ). Takes bytes (head_text y.0) y.1 × IsHead y.0) (ok_is made x f.2)
+    (e04, record { threads = t2.2; mutexes = t3.2; initial = t4.1 })
 
-head_again : (total : ℕ) (h : Head) (rest : List ℕ) → IsHead h → head_at total (magic ++ (number version ++ (number h.threads ++ (number h.mutexes ++ (number (length h.initial) ++ (h.initial ++ rest)))))) ≡ Ok (h, rest)
+head_again : (total : ℕ) (h : Head) (rest : List ℕ) → IsHead h →
+    head_at total (magic ++ (number version ++ (number h.threads ++ (number h.mutexes ++ (number (length h.initial) ++ (h.initial ++ rest)))))) ≡ Ok (h, rest)
 unfolding head_at
 head_again total h rest good =
     rw (
       magic_again total (number version ++ (number h.threads ++ (number h.mutexes ++ (number (length h.initial) ++ (h.initial ++ rest))))),
       version_again total (number h.threads ++ (number h.mutexes ++ (number (length h.initial) ++ (h.initial ++ rest)))),
-      within_again total 0 most_threads h.threads (number h.mutexes ++ (number (length h.initial) ++ (h.initial ++ rest))) (omega arith) good.threads (omega (arith, good.threads)),
-      within_again total 0 most_mutexes h.mutexes (number (length h.initial) ++ (h.initial ++ rest)) (omega arith) good.mutexes (omega (arith, good.mutexes)),
+      within_again total 0 MOST_THREADS h.threads (number h.mutexes ++ (number (length h.initial) ++ (h.initial ++ rest))) (omega arith) good.threads
+          (omega (arith, good.threads)),
+      within_again total 0 MOST_MUTEXES h.mutexes (number (length h.initial) ++ (h.initial ++ rest)) (omega arith) good.mutexes (omega (arith, good.mutexes)),
       initial_again total h.initial rest good.initial,
     ) refl
 
@@ -126,11 +142,12 @@ word_again : (total word : ℕ) (rest : List ℕ) → IsInstructionWord word →
 unfolding word_at
 word_again total word rest good = rw (number_again total word rest good.0, good.1) refl
 
-thread_takes : (total : ℕ) (bytes : List ℕ) (x : List ℕ × List ℕ) → IsBytes bytes → thread_at total bytes ≡ Ok x → Takes bytes (thread_text x.0) x.1 × IsThreadCode x.0
+thread_takes : (total : ℕ) (bytes : List ℕ) (x : List ℕ × List ℕ) → IsBytes bytes → thread_at total bytes ≡ Ok x →
+    Takes bytes (thread_text x.0) x.1 × IsThreadCode x.0
 unfolding thread_at
 thread_takes total bytes x fits e =
-    let b = bind_ok (number_within total least_words most_words bytes) (λ n. repeated (word_at total) n.0 n.1) x e in
-    let t = within_takes total least_words most_words bytes b.0 fits b.1 in
+    let b = bind_ok (number_within total least_words MOST_CODE_WORDS bytes) (λ n. repeated (word_at total) n.0 n.1) x e in
+    let t = within_takes total least_words MOST_CODE_WORDS bytes b.0 fits b.1 in
     let u = repeated_take number IsInstructionWord (word_at total) (word_takes total) b.0.0 b.0.1 x t.0.rest_fits b.2 in
     let text = then bytes (number b.0.0) b.0.1 (flat_map number x.0) x.1 t.0 u.0 in
     (subst (λ n. Takes bytes (number n ++ flat_map number x.0) x.1) (sym u.1) text, record { some = rw u.1 t.1; few = rw u.1 t.2; instructions = u.2 })
@@ -138,34 +155,42 @@ thread_takes total bytes x fits e =
 thread_again : (total : ℕ) (words rest : List ℕ) → IsThreadCode words → thread_at total (thread_text words ++ rest) ≡ Ok (words, rest)
 unfolding thread_at
 thread_again total words rest good =
-    let regrouped : thread_text words ++ rest ≡ number (length words) ++ (flat_map number words ++ rest) = append_assoc (number (length words)) (flat_map number words) rest in
-    ap (λ t. number_within total least_words most_words t >>= λ n. repeated (word_at total) n.0 n.1) regrouped
-    ∙ rw (within_again total least_words most_words (length words) (flat_map number words ++ rest) good.some good.few (omega (arith, good.few))) (repeated_again number IsInstructionWord (word_at total) (word_again total) words rest good.instructions)
+    let regrouped : thread_text words ++ rest ≡ number (length words) ++ (flat_map number words ++ rest) =
+    append_assoc (number (length words)) (flat_map number words) rest in
+    ap (λ t. number_within total least_words MOST_CODE_WORDS t >>= λ n. repeated (word_at total) n.0 n.1) regrouped
+    ∙ rw (within_again total least_words MOST_CODE_WORDS (length words) (flat_map number words ++ rest) good.some good.few (omega (arith, good.few)))
+    (repeated_again number IsInstructionWord (word_at total) (word_again total) words rest good.instructions)
 
 -- ---- Objects
 
 abbrev body_text : Contents → List ℕ
-body_text o = magic ++ (number version ++ (number (length o.code) ++ (number o.mutexes ++ (number (length o.initial) ++ (o.initial ++ flat_map thread_text o.code)))))
+body_text o =
+    magic ++ (number version ++ (number (length o.code) ++ (number o.mutexes ++ (number (length o.initial) ++ (o.initial ++ flat_map thread_text o.code)))))
 
 object_takes : (bytes : List ℕ) (o : Contents) → IsBytes bytes → read bytes ≡ Ok o → IsWithinLimits o × (bytes ≡ spelling o)
 unfolding read
 object_takes bytes o fits e =
     let total = length bytes in
-    let a = bind_ok (head_at total bytes) (λ head. repeated (thread_at total) head.0.threads head.1 >>= λ code. ended total code.1 (record { code = code.0; initial = head.0.initial; mutexes = head.0.mutexes })) o e in
-    let b = bind_ok (repeated (thread_at total) a.0.0.threads a.0.1) (λ code. ended total code.1 (record { code = code.0; initial = a.0.0.initial; mutexes = a.0.0.mutexes })) o a.2 in
+    let a = bind_ok (head_at total bytes)
+    (λ head. repeated (thread_at total) head.0.threads head.1 >>= λ code.
+    ended total code.1 (record { code = code.0; initial = head.0.initial; mutexes = head.0.mutexes })) o e in
+    let b = bind_ok (repeated (thread_at total) a.0.0.threads a.0.1)
+    (λ code. ended total code.1 (record { code = code.0; initial = a.0.0.initial; mutexes = a.0.0.mutexes })) o a.2 in
     let made : Contents = record { code = b.0.0; initial = a.0.0.initial; mutexes = a.0.0.mutexes } in
     let g = test_ok (length b.0.1 == 0) (r.Rest (total - length b.0.1)) made o b.2 in
     let t = head_takes total bytes a.0 fits a.1 in
     let u = repeated_take thread_text IsThreadCode (thread_at total) (thread_takes total) a.0.0.threads a.0.1 b.0 t.0.rest_fits b.1 in
     let nothing : b.0.1 ≡ [] = nil_from_length b.0.1 (eqb-true _ _ g.0) in
     let both = (then bytes (head_text a.0.0) a.0.1 (flat_map thread_text b.0.0) b.0.1 t.0 u.0).parts in
-    let whole : bytes ≡ head_text a.0.0 ++ flat_map thread_text b.0.0 = both ∙ ap (λ rest. (head_text a.0.0 ++ flat_map thread_text b.0.0) ++ rest) nothing ∙ append-nil (head_text a.0.0 ++ flat_map thread_text b.0.0) in
+    let whole : bytes ≡ head_text a.0.0 ++ flat_map thread_text b.0.0 =
+    both ∙ ap (λ rest. (head_text a.0.0 ++ flat_map thread_text b.0.0) ++ rest) nothing ∙ append-nil (head_text a.0.0 ++ flat_map thread_text b.0.0) in
     let counted : bytes ≡ head_text (record { threads = length b.0.0; mutexes = a.0.0.mutexes; initial = a.0.0.initial }) ++ flat_map thread_text b.0.0 =
     whole ∙ ap (λ n. head_text (record { threads = n; mutexes = a.0.0.mutexes; initial = a.0.0.initial }) ++ flat_map thread_text b.0.0) (sym u.1) in
     subst (λ v. IsWithinLimits v × (bytes ≡ spelling v)) g.1
     (record { threads = rw u.1 t.1.threads; mutexes = t.1.mutexes; initial = t.1.initial.few; whole = t.1.initial.whole; code = u.2 }, counted ∙ regrouped made)
   where
-    regrouped : (v : Contents) → head_text (record { threads = length v.code; mutexes = v.mutexes; initial = v.initial }) ++ flat_map thread_text v.code ≡ spelling v
+    regrouped : (v : Contents) → head_text (record { threads = length v.code; mutexes = v.mutexes; initial = v.initial })
+        ++ flat_map thread_text v.code ≡ spelling v
     regrouped v = simp append_assoc
 
 pub object_again : (o : Contents) → IsWithinLimits o → read (spelling o) ≡ Ok o
@@ -176,18 +201,22 @@ object_again o good =
     let is_head : IsHead head = record { threads = good.threads; mutexes = good.mutexes; initial = record { few = good.initial; whole = good.whole } } in
     let begins : head_at total (spelling o) ≡ Ok (head, flat_map thread_text o.code) = head_again total head (flat_map thread_text o.code) is_head in
     let code : repeated (thread_at total) (length o.code) (flat_map thread_text o.code) ≡ Ok (o.code, []) =
-    ap (repeated (thread_at total) (length o.code)) (sym (append-nil (flat_map thread_text o.code))) ∙ repeated_again thread_text IsThreadCode (thread_at total) (thread_again total) o.code [] good.code in
+    ap (repeated (thread_at total) (length o.code)) (sym (append-nil (flat_map thread_text o.code)))
+    ∙ repeated_again thread_text IsThreadCode (thread_at total) (thread_again total) o.code [] good.code in
     rw (begins, code) refl
 
-pub is_found : (bytes : List ℕ) (x : Result Object ReadError) → IsBytes bytes → Gives contents_of x (read bytes) → IfOk x (λ object. IsWithinLimits (contents_of object) × (bytes ≡ spelling (contents_of object)))
+pub is_found : (bytes : List ℕ) (x : Result Object ReadError) → IsBytes bytes → Gives contents_of x (read bytes) →
+    IfOk x (λ object. IsWithinLimits (contents_of object) × (bytes ≡ spelling (contents_of object)))
 is_found bytes (Ok object) fits given = object_takes bytes (contents_of object) fits given
 is_found bytes (Err e) fits given = tt
 
 -- ---- Lengths of code, of each thread at its place
 
-lengths_fit : (code : List (Vec ℕ)) → AllByRecursion (λ words. length words < 2 ^ 32) (map items_of code) → AllByRecursion (λ words. length words.items < 2 ^ 32) code
+lengths_fit : (code : List (Vec ℕ)) → AllByRecursion (λ words. length words < 2 ^ 32) (map items_of code) →
+    AllByRecursion (λ words. length words.items < 2 ^ 32) code
 lengths_fit [] fits = tt
 lengths_fit (words ∷ code) fits = (fits.0, lengths_fit code fits.1)
 
-pub all_lengths_fit : (code : List (Vec ℕ)) → AllByRecursion (λ words. length words < 2 ^ 32) (map items_of code) → All (λ words. length words.items < 2 ^ 32) code
+pub all_lengths_fit : (code : List (Vec ℕ)) → AllByRecursion (λ words. length words < 2 ^ 32) (map items_of code) →
+    All (λ words. length words.items < 2 ^ 32) code
 all_lengths_fit code fits = All-from_recursion (λ words. length words.items < 2 ^ 32) code (lengths_fit code fits)

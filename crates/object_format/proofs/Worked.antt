@@ -3,7 +3,8 @@ use Rattle.std.specs.Prelude.{◌≡◌, ℕ, List, [], ◌∷◌, ◌++◌, tak
 use Rattle.rv64_isa.specs.Formats.{decoded}
 use Rattle.object_format.specs.Contents.{Contents}
 use Rattle.object_format.specs.Spelling.{spelling}
-use Rattle.object_format.specs.Reading.{Magic, Version, Cut, Field, Rest, read, head_at, magic_at, version_at, number_within, initial_at, thread_at, repeated, word_at, number_at}
+use Rattle.object_format.specs.Reading.{Magic, Version, Cut, Field, Rest, read, head_at, magic_at, version_at}
+use Rattle.object_format.specs.Reading.{number_within, initial_at, thread_at, repeated, word_at, number_at}
 
 -- one thread, `addi x5, x0, 1` and `ecall`
 two_words : Contents

@@ -2,6 +2,7 @@
 use Rattle.std.specs.Prelude.{◌≡◌, ℕ, ◌%◌, ◌^◌, ◌<◌, ◌≤◌, List, length, map, IsTrue, is_some}
 use Rattle.std.specs.List.{AllByRecursion}
 use Rattle.std.specs.Global.{Vec}
+use Rattle.ido_base.specs.declared.limits.TheConstants.{MOST_THREADS, MOST_MUTEXES, MOST_VARIABLE_BYTES, MOST_CODE_WORDS}
 use Rattle.rv64_isa.specs.Formats.{decoded}
 use Rattle.rv64_isa.specs.declared.object.Object.{Object}
 
@@ -21,15 +22,6 @@ contents_of object = record { code = map items_of object.code.items; initial = o
 
 -- ---- Limits
 
-abbrev pub most_threads : ℕ
-most_threads = 8
-
-abbrev pub most_mutexes : ℕ
-most_mutexes = 64
-
-abbrev pub most_initial : ℕ
-most_initial = 65536
-
 -- initial bytes are whole words
 abbrev pub word_bytes : ℕ
 word_bytes = 8
@@ -37,21 +29,18 @@ word_bytes = 8
 abbrev pub least_words : ℕ
 least_words = 1
 
-abbrev pub most_words : ℕ
-most_words = 65536
-
 -- a word of 32 bits that an instruction has
 abbrev pub IsInstructionWord : (word : ℕ) → Type 0
 IsInstructionWord word = (word < 2 ^ 32) × IsTrue (is_some (decoded word))
 
 pub record IsThreadCode (words : List ℕ) : Type 0 where
   pub some : least_words ≤ length words
-  pub few : length words ≤ most_words
+  pub few : length words ≤ MOST_CODE_WORDS
   pub instructions : AllByRecursion IsInstructionWord words
 
 pub record IsWithinLimits (o : Contents) : Type 0 where
-  pub threads : length o.code ≤ most_threads
-  pub mutexes : o.mutexes ≤ most_mutexes
-  pub initial : length o.initial ≤ most_initial
+  pub threads : length o.code ≤ MOST_THREADS
+  pub mutexes : o.mutexes ≤ MOST_MUTEXES
+  pub initial : length o.initial ≤ MOST_VARIABLE_BYTES
   pub whole : length o.initial % word_bytes ≡ 0
   pub code : AllByRecursion IsThreadCode o.code

@@ -1,9 +1,11 @@
 -- Bytes read in their order, as an object, with the first fault and its place. `total` is how many bytes there are in all.
-use Rattle.std.specs.Prelude.{ℕ, zero, suc, ◌-◌, ◌%◌, List, [], ◌∷◌, length, take, drop, Result, Ok, Err, Bool, is_some, nat_lt, nat_le, nat_eq, ◌==◌, ◌&&◌, if◌then◌else◌}
+use Rattle.std.specs.Prelude.{ℕ, zero, suc, ◌-◌, ◌%◌, List, [], ◌∷◌, length, take, drop, Result, Ok}
+use Rattle.std.specs.Prelude.{Err, Bool, is_some, nat_lt, nat_le, nat_eq, ◌==◌, ◌&&◌, if◌then◌else◌}
 use Rattle.std.specs.Cmp.Lexicographic.{pointwise}
 use Rattle.std.specs.Int.{w32, from_le_bytes}
+use Rattle.ido_base.specs.declared.limits.TheConstants.{MOST_THREADS, MOST_MUTEXES, MOST_VARIABLE_BYTES, MOST_CODE_WORDS}
 use Rattle.rv64_isa.specs.Formats.{decoded}
-use Rattle.object_format.specs.Contents.{Contents, most_threads, most_mutexes, most_initial, word_bytes, least_words, most_words}
+use Rattle.object_format.specs.Contents.{Contents, word_bytes, least_words}
 use Rattle.object_format.specs.Spelling.{magic, version}
 
 pub data Fault : Type 0 where
@@ -70,7 +72,7 @@ version_at total bytes = do
 -- how many initial bytes there are, and these
 unfoldable pub initial_at : (total : ℕ) → List ℕ → Reads (List ℕ)
 initial_at total bytes = do
-  n ← number_within total 0 most_initial bytes
+  n ← number_within total 0 MOST_VARIABLE_BYTES bytes
   n ← kept total (n.0 % word_bytes == 0) bytes n
   bytes_at total n.0 n.1
 
@@ -81,7 +83,7 @@ word_at total bytes = do
 
 unfoldable pub thread_at : (total : ℕ) → List ℕ → Reads (List ℕ)
 thread_at total bytes = do
-  n ← number_within total least_words most_words bytes
+  n ← number_within total least_words MOST_CODE_WORDS bytes
   repeated (word_at total) n.0 n.1
 
 -- what stands before the code
@@ -94,8 +96,8 @@ unfoldable pub head_at : (total : ℕ) → List ℕ → Reads Head
 head_at total bytes = do
   behind_magic ← magic_at total bytes
   behind_version ← version_at total behind_magic
-  threads ← number_within total 0 most_threads behind_version
-  mutexes ← number_within total 0 most_mutexes threads.1
+  threads ← number_within total 0 MOST_THREADS behind_version
+  mutexes ← number_within total 0 MOST_MUTEXES threads.1
   initial ← initial_at total mutexes.1
   Ok (record { threads = threads.0; mutexes = mutexes.0; initial = initial.0 }, initial.1)
 

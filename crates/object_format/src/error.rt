@@ -1,7 +1,7 @@
 //! Why bytes are no object.
 ghost use Rattle.std.specs.Prelude.{◌≡◌};
 
-use ido_base::memory::Memory;
+use ido_base::memory::OutOfMemory;
 use ido_base::place::Place;
 use thiserror::Error;
 
@@ -28,12 +28,12 @@ pub enum ReadError {
     Memory,
 }
 
-impl From<Memory> for ReadError {
+impl From<OutOfMemory> for ReadError {
     ghost use Rattle.object_format.specs.declared.error.ReadError.TheVariants.{Memory as Unremembered};
 
     ghost from_gives = { λ _ e. e ≡ Unremembered };
 
-    fn from(_: Memory) -> Self {
+    fn from(_: OutOfMemory) -> Self {
         ReadError::Memory
     }
 }

@@ -4,7 +4,8 @@ ghost use Rattle.object_format.specs.Reading.{bytes_at, number_at, number_within
 ghost use Rattle.object_format.specs.links.Gives.{Gives};
 
 use crate::error::ReadError;
-use crate::limits::{MOST_INITIAL, WORD_BYTES};
+use crate::limits::WORD_BYTES;
+use ido_base::limits::MOST_VARIABLE_BYTES;
 use ido_base::place::Place;
 use rv64_isa::word::decode;
 
@@ -84,7 +85,7 @@ pub fn version_at(total: u32, bytes: &[u8]) -> Result<&[u8], ReadError>
 pub fn initial_at(total: u32, bytes: &[u8]) -> Result<(&[u8], &[u8]), ReadError>
     ensures { Gives (λ x. (x.0.now, x.1.now)) result (initial_at total bytes.now) }
 {
-    let (count, rest) = number_within(total, 0, MOST_INITIAL, bytes)?;
+    let (count, rest) = number_within(total, 0, MOST_VARIABLE_BYTES, bytes)?;
     if count % WORD_BYTES == 0 {
         bytes_at(total, count as usize, rest)
     } else {

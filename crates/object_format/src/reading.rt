@@ -1,5 +1,6 @@
 //! Bytes read as an object.
 ghost use Rattle.std.specs.Prelude.{◌≡◌, ◌≤◌, ◌∷◌, ◌++◌, [], length, map, IfOk, OnOk, Ok};
+ghost use Rattle.ido_base.specs.declared.limits.TheConstants.{MOST_INPUT_BYTES};
 ghost use Rattle.object_format.specs.Contents.{Contents, contents_of, items_of, IsWithinLimits};
 ghost use Rattle.object_format.specs.Spelling.{spelling};
 ghost use Rattle.object_format.specs.Reading.{repeated, word_at, thread_at, head_at, read};
@@ -8,8 +9,9 @@ ghost use Rattle.object_format.specs.links.Heads.{head_of};
 
 use crate::error::ReadError;
 use crate::fields::{initial_at, magic_at, number_within, place_of, version_at, word_at};
-use crate::limits::{LEAST_WORDS, MOST_MUTEXES, MOST_THREADS, MOST_WORDS};
-use ido_base::memory::Memory;
+use crate::limits::LEAST_WORDS;
+use ido_base::limits::{MOST_CODE_WORDS, MOST_MUTEXES, MOST_THREADS};
+use ido_base::memory::OutOfMemory;
 use rv64_isa::object::Object;
 use std::alloc::Global;
 
@@ -62,7 +64,7 @@ fn words_at(
 fn thread_at(alloc: Global, total: u32, bytes: &[u8]) -> Result<(Vec<u32>, &[u8]), ReadError>
     ensures { Gives (λ x. (x.0.items, x.1.now)) result (thread_at total bytes.now) }
 {
-    let (count, rest) = number_within(total, LEAST_WORDS, MOST_WORDS, bytes)?;
+    let (count, rest) = number_within(total, LEAST_WORDS, MOST_CODE_WORDS, bytes)?;
     words_at(alloc, total, count, rest)
 }
 
@@ -86,7 +88,7 @@ fn threads_at(
 }
 
 /// Adds an element.
-fn push<T: Drop>(items: &mut Vec<T>, item: T) -> Result<(), Memory>
+fn push<T: Drop>(items: &mut Vec<T>, item: T) -> Result<(), OutOfMemory>
     ensures { OnOk result (items.new.items ≡ items.old.items ++ item ∷ []) }
 {
     items.push(item)?;
@@ -94,7 +96,7 @@ fn push<T: Drop>(items: &mut Vec<T>, item: T) -> Result<(), Memory>
 }
 
 /// A copy of bytes.
-fn copy(alloc: Global, bytes: &[u8]) -> Result<Vec<u8>, Memory>
+fn copy(alloc: Global, bytes: &[u8]) -> Result<Vec<u8>, OutOfMemory>
     ensures { IfOk result (λ v. v.items ≡ bytes.now) }
 {
     let bytes = bytes.to_vec(alloc)?;
@@ -104,7 +106,7 @@ fn copy(alloc: Global, bytes: &[u8]) -> Result<Vec<u8>, Memory>
 /// The object of all bytes, or their first fault.
 #[tactic(auto, unfolding(crate::specs::Reading::read))]
 fn read(alloc: Global, bytes: &[u8]) -> Result<Object, ReadError>
-    requires { length bytes.now ≤ 67108864 }
+    requires { length bytes.now ≤ MOST_INPUT_BYTES }
     ensures { Gives contents_of result (read bytes.now) }
 {
     let total = bytes.len() as u32;
@@ -127,7 +129,7 @@ fn read(alloc: Global, bytes: &[u8]) -> Result<Object, ReadError>
 /// and the words. There are at most 8 threads of 1 to 65,536 words that instructions have, 64 mutexes,
 /// and 65,536 initial bytes, a multiple of 8.
 pub fn read_object(alloc: Global, bytes: &[u8]) -> Result<Object, ReadError>
-    requires short { length bytes.now ≤ 67108864 }
+    requires short { length bytes.now ≤ MOST_INPUT_BYTES }
     // What is read is spelled so, and within the limits.
     ensures found { IfOk result (λ object. IsWithinLimits (contents_of object) × (bytes.now ≡ spelling (contents_of object))) }
     // What is within the limits and spelled so is read, unless memory runs out.

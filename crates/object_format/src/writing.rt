@@ -3,12 +3,12 @@ ghost use Rattle.std.specs.Prelude.{◌≡◌, ◌++◌, ◌<◌, ◌^◌, lengt
 ghost use Rattle.object_format.specs.Contents.{contents_of, items_of};
 ghost use Rattle.object_format.specs.Spelling.{HasLengths, number, magic, thread_text, spelling};
 
-use ido_base::memory::Memory;
+use ido_base::memory::OutOfMemory;
 use rv64_isa::object::Object;
 use std::alloc::Global;
 
 /// Adds bytes.
-fn put(out: &mut Vec<u8>, bytes: &[u8]) -> Result<(), Memory>
+fn put(out: &mut Vec<u8>, bytes: &[u8]) -> Result<(), OutOfMemory>
     ensures { OnOk result (out.new.items ≡ out.old.items ++ bytes.now) }
 {
     out.extend_from_slice(bytes)?;
@@ -16,14 +16,14 @@ fn put(out: &mut Vec<u8>, bytes: &[u8]) -> Result<(), Memory>
 }
 
 /// Adds a number.
-fn put_number(out: &mut Vec<u8>, n: u32) -> Result<(), Memory>
+fn put_number(out: &mut Vec<u8>, n: u32) -> Result<(), OutOfMemory>
     ensures { OnOk result (out.new.items ≡ out.old.items ++ number n) }
 {
     put(out, &n.to_le_bytes())
 }
 
 /// Adds words.
-fn put_words(out: &mut Vec<u8>, words: &[u32]) -> Result<(), Memory>
+fn put_words(out: &mut Vec<u8>, words: &[u32]) -> Result<(), OutOfMemory>
     ensures { OnOk result (out.new.items ≡ out.old.items ++ flat_map number words.now) }
 {
     for word in words {
@@ -33,7 +33,7 @@ fn put_words(out: &mut Vec<u8>, words: &[u32]) -> Result<(), Memory>
 }
 
 /// Adds the code of a thread.
-fn put_thread(out: &mut Vec<u8>, words: &[u32]) -> Result<(), Memory>
+fn put_thread(out: &mut Vec<u8>, words: &[u32]) -> Result<(), OutOfMemory>
     requires { length words.now < 2 ^ 32 }
     ensures { OnOk result (out.new.items ≡ out.old.items ++ thread_text words.now) }
 {
@@ -42,7 +42,7 @@ fn put_thread(out: &mut Vec<u8>, words: &[u32]) -> Result<(), Memory>
 }
 
 /// Adds the code of threads.
-fn put_code(out: &mut Vec<u8>, code: &[Vec<u32>]) -> Result<(), Memory>
+fn put_code(out: &mut Vec<u8>, code: &[Vec<u32>]) -> Result<(), OutOfMemory>
     requires { All (λ words. length words.items < 2 ^ 32) code.now }
     ensures { OnOk result (out.new.items ≡ out.old.items ++ flat_map thread_text (map items_of code.now)) }
 {
@@ -55,7 +55,7 @@ fn put_code(out: &mut Vec<u8>, code: &[Vec<u32>]) -> Result<(), Memory>
 /// The bytes of an object, of which four bytes tell each length. They are read again exactly where the
 /// object is within its limits and each of its words is an instruction's.
 #[tactic(auto, using(crate::proofs::Objects::all_lengths_fit))]
-pub fn write_object(alloc: Global, object: &Object) -> Result<Vec<u8>, Memory>
+pub fn write_object(alloc: Global, object: &Object) -> Result<Vec<u8>, OutOfMemory>
     requires { HasLengths (contents_of object.now) }
     ensures { IfOk result (λ bytes. bytes.items ≡ spelling (contents_of object.now)) }
 {

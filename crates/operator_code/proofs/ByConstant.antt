@@ -10,7 +10,8 @@ use Rattle.rv64_isa.specs.declared.instr.ImmediateOperation.{ImmediateOperation}
 use Rattle.rv64_isa.specs.declared.instr.ShiftOperation.{ShiftOperation}
 use Rattle.rv64_isa.specs.declared.instr.ShiftOperation.TheVariants.{Slli, Srli, Srai}
 use Rattle.rv64_isa.specs.declared.instr.Operation.{Operation}
-use Rattle.rv64_isa.specs.declared.instr.Operation.TheVariants.{Add, Addw, Sub, Subw, Sll, Srl, Sra, Sllw, Srlw, Sraw, Mul, Mulw, Div, Divu, Divw, Divuw, Rem, Remu, Remw, Remuw}
+use Rattle.rv64_isa.specs.declared.instr.Operation.TheVariants.{Add, Addw, Sub, Subw, Sll, Srl, Sra, Sllw, Srlw, Sraw}
+use Rattle.rv64_isa.specs.declared.instr.Operation.TheVariants.{Mul, Mulw, Div, Divu, Divw, Divuw, Rem, Remu, Remw, Remuw}
 use Rattle.rv64_isa.specs.Rows.{read}
 use Rattle.rv64_isa.specs.Arithmetic.{sign_extended, word_result, shifted_arithmetic, result_of, operation_of, shift_of, word_shift_of}
 use Rattle.operator_code.specs.declared.immediates.ImmediateForm.{ImmediateForm}

@@ -9,7 +9,7 @@ use Rattle.std.proofs.lemmas.Bool.Decides.{nat_tests}
 use Rattle.ido_ints.specs.declared.kinds.Kind.{Kind}
 use Rattle.ido_ints.specs.declared.kinds.Kind.TheVariants.{Char, UnsignedChar, SignedChar, Short, UnsignedShort, Int, UnsignedInt, Long, UnsignedLong}
 use Rattle.ido_ints.specs.Kinds.{Holds, modulus_of}
-use Rattle.ido_ints.specs.Reduction as Numbers
+use Rattle.ido_ints.specs.links.Signs as Numbers
 use Rattle.ido_ints.specs.Reduction.{residue, reduced, register_of}
 use Rattle.ido_ints.proofs.Congruence.{Same, Same_refl, Same_trans, Same-mod, Same-factor}
 use Rattle.ido_ints.proofs.Reduced.{reduced-is, reduced_held}

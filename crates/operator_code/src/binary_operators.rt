@@ -48,18 +48,24 @@ fn flag_of(condition: Condition, rd: Register, rs1: Register, rs2: Register) -> 
 {
     let inverted = immediate(ImmediateOperation::Xori, rd, rd, 1);
     match condition {
-        Condition::Beq => Sequence::Two(
-            op(Operation::Sub, rd, rs1, rs2),
-            immediate(ImmediateOperation::Sltiu, rd, rd, 1),
-        ),
-        Condition::Bne => Sequence::Two(
-            op(Operation::Sub, rd, rs1, rs2),
-            op(Operation::Sltu, rd, Register::X0, rd),
-        ),
+        Condition::Beq => Sequence::Two {
+            first: op(Operation::Sub, rd, rs1, rs2),
+            second: immediate(ImmediateOperation::Sltiu, rd, rd, 1),
+        },
+        Condition::Bne => Sequence::Two {
+            first: op(Operation::Sub, rd, rs1, rs2),
+            second: op(Operation::Sltu, rd, Register::X0, rd),
+        },
         Condition::Blt => Sequence::One(op(Operation::Slt, rd, rs1, rs2)),
-        Condition::Bge => Sequence::Two(op(Operation::Slt, rd, rs1, rs2), inverted),
+        Condition::Bge => Sequence::Two {
+            first: op(Operation::Slt, rd, rs1, rs2),
+            second: inverted,
+        },
         Condition::Bltu => Sequence::One(op(Operation::Sltu, rd, rs1, rs2)),
-        Condition::Bgeu => Sequence::Two(op(Operation::Sltu, rd, rs1, rs2), inverted),
+        Condition::Bgeu => Sequence::Two {
+            first: op(Operation::Sltu, rd, rs1, rs2),
+            second: inverted,
+        },
     }
 }
 

@@ -5,7 +5,7 @@ ghost use Rattle.operator_code.specs.links.Digits.{IsConstantOfBits};
 ghost use Rattle.operator_code.specs.links.Listing.{word_code, with_digit};
 
 use crate::instructions::{immediate, lui, shift};
-use ido_base::memory::Memory;
+use ido_base::memory::OutOfMemory;
 use rv64_isa::field::Register;
 use rv64_isa::instr::{ImmediateOperation, Instr, ShiftOperation};
 use std::alloc::Global;
@@ -33,7 +33,7 @@ pub(crate) fn is_near(number: u64, bits: u32, half: u64) -> bool
 }
 
 /// A number of 32 bits, sign-extended, into a register: by LUI alone where its low 12 bits are 0.
-fn word(alloc: Global, rd: Register, number: u32) -> Result<Vec<Instr>, Memory>
+fn word(alloc: Global, rd: Register, number: u32) -> Result<Vec<Instr>, OutOfMemory>
     ensures code { IfOk result (λ code. code.items ≡ word_code rd number) }
     ensures short { IfOk result (λ code. length code.items ≤ 2) }
 {
@@ -47,7 +47,7 @@ fn word(alloc: Global, rd: Register, number: u32) -> Result<Vec<Instr>, Memory>
 }
 
 /// The register's number is shifted up and gets a low digit.
-fn push_digit(code: &mut Vec<Instr>, rd: Register, count: u8, low: u16) -> Result<(), Memory>
+fn push_digit(code: &mut Vec<Instr>, rd: Register, count: u8, low: u16) -> Result<(), OutOfMemory>
     requires count { count < 2 ^ 6 }
     requires low { low < 2 ^ 12 }
     ensures code { OnOk result (code.new.items ≡ with_digit rd count low code.old.items) }
@@ -61,7 +61,7 @@ fn push_digit(code: &mut Vec<Instr>, rd: Register, count: u8, low: u16) -> Resul
 }
 
 /// A register gets a number whose low so many bits are these.
-fn digits(alloc: Global, rd: Register, bits: u32, number: u64) -> Result<Vec<Instr>, Memory>
+fn digits(alloc: Global, rd: Register, bits: u32, number: u64) -> Result<Vec<Instr>, OutOfMemory>
     requires rd { 0 < rd }
     requires some { 0 < bits }
     requires bits { bits ≤ 64 }
@@ -89,7 +89,7 @@ fn digits(alloc: Global, rd: Register, bits: u32, number: u64) -> Result<Vec<Ins
 /// Code that computes a number into a register, other than x0, from nothing: an ADDI, a LUI and an ADDIW, or those
 /// of the number's upper part, a shift and an ADDI of its low 12 bits. It changes no other register. At most 8 words; one for
 /// a number below 2^11.
-pub fn constant(alloc: Global, rd: Register, number: u64) -> Result<Vec<Instr>, Memory>
+pub fn constant(alloc: Global, rd: Register, number: u64) -> Result<Vec<Instr>, OutOfMemory>
     requires { 0 < rd }
     ensures code { IfOk result (λ code. IsConstant rd number code.items) }
     ensures short { IfOk result (λ code. length code.items ≤ 8) }

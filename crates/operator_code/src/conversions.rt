@@ -85,8 +85,8 @@ fn shifts(back: ShiftOperation, rd: Register, rs: Register, count: u8) -> Sequen
     requires { count < 2 ^ 6 }
     ensures { listed result ≡ up_and_back back count rd rs }
 {
-    Sequence::Two(
-        shift(ShiftOperation::Slli, rd, rs, count),
-        shift(back, rd, rd, count),
-    )
+    Sequence::Two {
+        first: shift(ShiftOperation::Slli, rd, rs, count),
+        second: shift(back, rd, rd, count),
+    }
 }

@@ -13,9 +13,18 @@ use rv64_isa::instr::{ImmediateOperation, Instr, Operation, ShiftOperation};
 /// An instruction that has a constant in place of its second register, but for its registers.
 #[derive(Clone, Copy, Debug, PartialEq, Eq)]
 pub enum ImmediateForm {
-    Number(ImmediateOperation, Immediate),
-    Shift(ShiftOperation, ShiftCount),
-    ShiftWord(ShiftOperation, WordShiftCount),
+    Number {
+        operation: ImmediateOperation,
+        immediate: Immediate,
+    },
+    Shift {
+        operation: ShiftOperation,
+        count: ShiftCount,
+    },
+    ShiftWord {
+        operation: ShiftOperation,
+        count: WordShiftCount,
+    },
 }
 
 impl ImmediateForm {
@@ -24,19 +33,22 @@ impl ImmediateForm {
         ensures { result ≡ instruction_in self rd rs1 }
     {
         match self {
-            ImmediateForm::Number(operation, immediate) => Instr::OpImmediate {
+            ImmediateForm::Number {
+                operation,
+                immediate,
+            } => Instr::OpImmediate {
                 operation,
                 rd,
                 rs1,
                 immediate,
             },
-            ImmediateForm::Shift(operation, count) => Instr::ShiftImmediate {
+            ImmediateForm::Shift { operation, count } => Instr::ShiftImmediate {
                 operation,
                 rd,
                 rs1,
                 count,
             },
-            ImmediateForm::ShiftWord(operation, count) => Instr::ShiftImmediateWord {
+            ImmediateForm::ShiftWord { operation, count } => Instr::ShiftImmediateWord {
                 operation,
                 rd,
                 rs1,
@@ -91,7 +103,10 @@ fn number(operation: ImmediateOperation, constant: u64) -> Option<ImmediateForm>
 {
     if is_near(constant, 64, HALF_IMMEDIATE) {
         let low = Immediate::new((constant % IMMEDIATES) as u16).unwrap();
-        Some(ImmediateForm::Number(operation, low))
+        Some(ImmediateForm::Number {
+            operation,
+            immediate: low,
+        })
     } else {
         None
     }
@@ -100,14 +115,17 @@ fn number(operation: ImmediateOperation, constant: u64) -> Option<ImmediateForm>
 fn shift(operation: ShiftOperation, constant: u64) -> ImmediateForm
     ensures { HasForm (shift_of operation) constant result }
 {
-    ImmediateForm::Shift(operation, ShiftCount::new((constant % 64) as u8).unwrap())
+    ImmediateForm::Shift {
+        operation,
+        count: ShiftCount::new((constant % 64) as u8).unwrap(),
+    }
 }
 
 fn shift_word(operation: ShiftOperation, constant: u64) -> ImmediateForm
     ensures { HasForm (word_shift_of operation) constant result }
 {
-    ImmediateForm::ShiftWord(
+    ImmediateForm::ShiftWord {
         operation,
-        WordShiftCount::new((constant % 32) as u8).unwrap(),
-    )
+        count: WordShiftCount::new((constant % 32) as u8).unwrap(),
+    }
 }

@@ -2,7 +2,7 @@
 ghost use Rattle.std.specs.Prelude.{◌≡◌, ◌≤◌, ◌++◌, length, OnOk};
 ghost use Rattle.operator_code.specs.Sequences.{listed};
 
-use ido_base::memory::Memory;
+use ido_base::memory::OutOfMemory;
 use rv64_isa::instr::Instr;
 
 /// At most two instructions, in order.
@@ -10,12 +10,12 @@ use rv64_isa::instr::Instr;
 pub enum Sequence {
     Empty,
     One(Instr),
-    Two(Instr, Instr),
+    Two { first: Instr, second: Instr },
 }
 
 impl Sequence {
     /// Appends the instructions to code.
-    pub fn push_to(self, code: &mut Vec<Instr>) -> Result<(), Memory>
+    pub fn push_to(self, code: &mut Vec<Instr>) -> Result<(), OutOfMemory>
         ensures code { OnOk result (code.new.items ≡ code.old.items ++ listed self) }
         ensures short { length (listed self) ≤ 2 }
     {
@@ -25,7 +25,7 @@ impl Sequence {
                 code.push(only)?;
                 Ok(())
             }
-            Sequence::Two(first, second) => {
+            Sequence::Two { first, second } => {
                 code.push(first)?;
                 code.push(second)?;
                 Ok(())

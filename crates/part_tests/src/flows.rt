@@ -1,163 +1,61 @@
-//! A source and the graph of its flat form, stepped beside each other: sums past the greatest `int`, and divisions by zero and by -1.
-use c_tree::expr::{Expr, Placed, Target};
-use c_tree::flat::{Flat, Statement, Thread};
-use c_tree::program::Variable;
-use c_tree::tree::Name;
+//! A source and the graph of its flat form, stepped beside each other: a sum past the greatest `int`.
+use crate::flats::{HERE, KIND, flat, sum};
+use c_tree::expr::{Expr, Target};
+use c_tree::flat::Statement;
 use flow_lower::lower;
 use flow_machine::FlowState;
-use ido_base::place::Place;
-use ido_ints::{Binary, Kind, Value};
+use ido_ints::Value;
 use source_machine::{SourceState, Stepped};
-use std::alloc::{AllocError, Global};
-use std::process::Abort;
 use std::test::Fail;
 
-const HERE: Place = Place(0);
-
-const A: u32 = 0;
-
-const B: u32 = 1;
-
-const C: u32 = 2;
-
-const D: u32 = 3;
-
-const Z: u32 = 4;
-
-const E: u32 = 5;
-
-fn name(a: Global) -> Result<Name, AllocError> {
-    Ok(Name {
-        text: b"x".to_vec(a)?,
-        place: HERE,
-    })
-}
-
-fn variable(a: Global, initial: i128) -> Result<Variable, AllocError> {
-    Ok(Variable {
-        name: name(a)?,
-        guard: 0,
-        kind: Kind::Int,
-        length: None,
-        initial: Vec::from_array(a, [initial])?,
-    })
-}
-
-fn number(kind: Kind, number: i128) -> Expr {
-    Expr::Constant {
-        value: Value::reduce(kind, number),
-    }
-}
-
-fn read(variable: u32) -> Expr {
-    Expr::Variable {
-        place: HERE,
-        variable,
-        kind: Kind::Int,
-    }
-}
-
-fn binary(a: Global, operator: Binary, left: Expr, right: Expr) -> Result<Expr, AllocError> {
-    Ok(Expr::Binary {
-        operator,
-        left: Box::new(a, left)?,
-        right: Box::new(a, right)?,
-    })
-}
-
-fn assign(variable: u32, expr: Expr) -> Statement {
-    Statement::Assign {
-        place: HERE,
-        target: Target::Variable {
-            place: HERE,
-            variable,
-            kind: Kind::Int,
-        },
-        value: Placed { place: HERE, expr },
-    }
-}
-
-/// `lock(m); a = a + 1; c = b / z; d = b % z; b = a / (z - 1); e = -1 < 1u; unlock(m);`
-fn body(a: Global) -> Result<Vec<Statement>, AllocError> {
-    let one = number(Kind::Int, 1);
-    let sum = binary(a, Binary::Add, read(A), one)?;
-    let quotient = binary(a, Binary::Div, read(B), read(Z))?;
-    let rest = binary(a, Binary::Rem, read(B), read(Z))?;
-    let less = binary(a, Binary::Sub, read(Z), number(Kind::Int, 1))?;
-    let overflow = binary(a, Binary::Div, read(A), less)?;
-    let minus_one = number(Kind::Int, -1);
-    let compared = binary(a, Binary::Less, minus_one, number(Kind::UnsignedInt, 1))?;
-    let lock = Statement::Lock {
-        place: HERE,
-        mutex: 0,
-    };
-    let unlock = Statement::Unlock {
-        place: HERE,
-        mutex: 0,
-    };
-    let statements = [
-        lock,
-        assign(A, sum),
-        assign(C, quotient),
-        assign(D, rest),
-        assign(B, overflow),
-        assign(E, compared),
-        unlock,
-    ];
-    Ok(Vec::from_array(a, statements)?)
-}
-
-fn flat(a: Global) -> Result<Flat, AllocError> {
-    let thread = Thread {
-        name: name(a)?,
-        locals: Vec::new(a),
-        body: body(a)?,
-        closing: HERE,
-    };
-    let variables = [
-        variable(a, 2147483647)?,
-        variable(a, 7)?,
-        variable(a, 0)?,
-        variable(a, 0)?,
-        variable(a, 0)?,
-        variable(a, 1)?,
-    ];
-    Ok(Flat {
-        mutexes: Vec::from_array(a, [name(a)?])?,
-        variables: Vec::from_array(a, variables)?,
-        threads: Vec::from_array(a, [thread])?,
-    })
-}
-
-/// A step of the one thread, in both: the answers and the variables are equal.
-fn step_both(rt: &impl Abort, source: &mut SourceState, flow: &mut FlowState) -> Stepped {
-    assert!(rt; source.threads() > 0);
-    assert!(rt; flow.threads() > 0);
-    let answer = flow.step(0);
-    assert_eq!(rt; answer, source.step(0));
-    assert_eq!(rt; flow.variables(), source.variables());
-    answer
-}
+/// What each step answers, and the variable behind it, of `lock(m); x = x + 1; unlock(m);` and the end.
+const STEPS: [(Stepped, i128); 6] = [
+    (Stepped::Did, 2147483647),
+    (Stepped::Did, 2147483647),
+    (Stepped::Did, -2147483648),
+    (Stepped::Did, -2147483648),
+    (Stepped::Did, -2147483648),
+    (Stepped::Ended, -2147483648),
+];
 
 #[test]
 fn in_step_with_the_source(rt: HostRuntime) -> Result<(), Fail> {
     let a = rt.alloc();
-    let flat = flat(a)?;
+    let read = Expr::Variable {
+        place: HERE,
+        variable: 0,
+        kind: KIND,
+    };
+    let one = Expr::Constant {
+        value: Value::reduce(KIND, 1),
+    };
+    let target = Target::Variable {
+        place: HERE,
+        variable: 0,
+        kind: KIND,
+    };
+    let body = vec![in a;
+        Statement::Lock {
+            place: HERE,
+            mutex: 0,
+        },
+        sum(a, target, read, one)?,
+        Statement::Unlock {
+            place: HERE,
+            mutex: 0,
+        },
+    ]?;
+    let flat = flat(a, 0, body, 2147483647)?;
     let graph = lower(a, &flat)?;
     let mut source = SourceState::start(a, &flat)?;
     let mut flow = FlowState::start(a, &graph, &flat)?;
-    for step in 0..13 {
-        let answer = step_both(&rt, &mut source, &mut flow);
-        assert_eq!(rt; answer, Stepped::Did, "step {step}");
+    for (answer, number) in STEPS {
+        assert!(rt; source.threads() > 0 && flow.threads() > 0);
+        assert_eq!(rt; (source.step(0), flow.step(0)), (answer, answer));
+        assert_eq!(rt; source.variables(), [number].as_slice());
+        assert_eq!(rt; flow.variables(), [number].as_slice());
     }
-    let last = step_both(&rt, &mut source, &mut flow);
-    assert_eq!(rt; last, Stepped::Ended);
-    assert_eq!(rt;
-        flow.variables(),
-        [-2147483648, -2147483648, -1, 7, 0, 0].as_slice()
-    );
     assert!(rt; flow.threads() > 0);
-    assert_eq!(rt; flow.ended_sections(0), 1);
-    assert!(rt; flow.between(0));
+    assert_eq!(rt; (flow.ended_sections(0), flow.between(0)), (1, true));
     Ok(())
 }

@@ -5,7 +5,7 @@ use flow_graph::graph::{Action, Graph, Node};
 use ido_base::location::Location;
 use ido_base::place::Place;
 use ido_ints::Kind;
-use region_checker::{CheckError, Idempotent, check};
+use region_checker::{CheckError, check};
 use std::alloc::{AllocError, Global};
 use std::test::Fail;
 
@@ -99,7 +99,7 @@ fn section<'a>(
 }
 
 /// Boundaries behind the lock, before the last store and before the unlock.
-fn cuts(a: Global, lock: bool, last: bool, unlock: bool) -> Result<Cuts, AllocError> {
+fn cuts(a: Global, [lock, last, unlock]: [bool; 3]) -> Result<Cuts, AllocError> {
     Ok(Cuts {
         before: Vec::from_array(a, [false, false, false, last, unlock, false])?,
         after_lock: Vec::from_array(a, [lock])?,
@@ -113,55 +113,42 @@ fn target() -> Target {
     }
 }
 
+/// The elements that the section stores first, reads, and stores last; which of the boundaries stand; and what is said of them.
+const CUTS: [([Location; 3], [bool; 3], Option<CheckError>); 7] = [
+    (
+        [OTHER, SCALAR, SCALAR],
+        [false, false, false],
+        Some(CheckError::MissingAfterAcquire { node: 0 }),
+    ),
+    (
+        [OTHER, SCALAR, SCALAR],
+        [true, false, false],
+        Some(CheckError::MissingBeforeRelease { node: 4 }),
+    ),
+    (
+        [OTHER, SCALAR, SCALAR],
+        [true, false, true],
+        Some(CheckError::Anti { read: 2, store: 3 }),
+    ),
+    ([OTHER, SCALAR, SCALAR], [true, true, true], None),
+    ([SCALAR, SCALAR, SCALAR], [true, false, true], None),
+    (
+        [ELEMENT, ELEMENT, ELEMENT],
+        [true, false, true],
+        Some(CheckError::Anti { read: 2, store: 3 }),
+    ),
+    ([ELEMENT, ELEMENT, ELEMENT], [true, true, true], None),
+];
+
 #[test]
-fn boundaries_that_are_missing(rt: HostRuntime) -> Result<(), Fail> {
+fn cuts_of_a_section(rt: HostRuntime) -> Result<(), Fail> {
     let a = rt.alloc();
     let target = target();
     let value = value();
-    let graph = section(a, &target, &value, OTHER, SCALAR, SCALAR)?;
-    assert_eq!(rt;
-        check(a, &graph, &cuts(a, false, false, false)?),
-        Err(CheckError::MissingAfterAcquire { node: 0 })
-    );
-    assert_eq!(rt;
-        check(a, &graph, &cuts(a, true, false, false)?),
-        Err(CheckError::MissingBeforeRelease { node: 4 })
-    );
-    Ok(())
-}
-
-/// What the check says of a section without a boundary before its last store, and with one.
-fn without_and_with(
-    a: Global,
-    first: Location,
-    read: Location,
-    last: Location,
-) -> Result<[Result<Idempotent, CheckError>; 2], Fail> {
-    let target = target();
-    let value = value();
-    let graph = section(a, &target, &value, first, read, last)?;
-    Ok([
-        check(a, &graph, &cuts(a, true, false, true)?),
-        check(a, &graph, &cuts(a, true, true, true)?),
-    ])
-}
-
-#[test]
-fn a_scalar_that_is_read_and_stored(rt: HostRuntime) -> Result<(), Fail> {
-    let a = rt.alloc();
-    let [without, with] = without_and_with(a, OTHER, SCALAR, SCALAR)?;
-    assert_eq!(rt; without, Err(CheckError::Anti { read: 2, store: 3 }));
-    assert_eq!(rt; with, Ok(Idempotent));
-    let [covered, _] = without_and_with(a, SCALAR, SCALAR, SCALAR)?;
-    assert_eq!(rt; covered, Ok(Idempotent));
-    Ok(())
-}
-
-#[test]
-fn an_element_that_is_read_and_stored(rt: HostRuntime) -> Result<(), Fail> {
-    let a = rt.alloc();
-    let [without, with] = without_and_with(a, ELEMENT, ELEMENT, ELEMENT)?;
-    assert_eq!(rt; without, Err(CheckError::Anti { read: 2, store: 3 }));
-    assert_eq!(rt; with, Ok(Idempotent));
+    for ([first, read, last], stands, wanted) in CUTS {
+        let graph = section(a, &target, &value, first, read, last)?;
+        let found = check(a, &graph, &cuts(a, stands)?).err();
+        assert_eq!(rt; found, wanted, "{stands:?}");
+    }
     Ok(())
 }

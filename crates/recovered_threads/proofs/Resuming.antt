@@ -69,7 +69,7 @@ module _ (program : List (List Slot)) (p : Plan) (code : Code p) (kept : FlowSta
       step.registers register below
       ∙ (sym (element (resumed_register w.words h) 0 32 register below ∙ ap (resumed_register w.words h) e) ∙ recovered.registers ready.inside register mine)
 
-  goes_on : GoesOn program p code kept w i.hart r
+  goes_on : GoesOn program code kept w i.hart r
   goes_on = record {
     told = told;
     after = step.after;

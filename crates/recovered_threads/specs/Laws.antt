@@ -118,7 +118,7 @@ ReadyAsKept = (p : Plan) (code : Code p) (kept : FlowState) (w : World) (r : Rec
 -- a hart is resumed where its record says, in the kept state
 abbrev pub HartsGoOn : Type 0
 HartsGoOn = (program : List (List Slot)) (p : Plan) (code : Code p) (kept : FlowState) (w : World) (r : Record) → Tells p code kept r →
-    IsReady w code.thread.number r → (i : IsIn w code.thread.number Resume) → GoesOn program p code kept w i.hart r
+    IsReady w code.thread.number r → (i : IsIn w code.thread.number Resume) → GoesOn program code kept w i.hart r
 
 -- ---- Boundaries
 

@@ -94,7 +94,7 @@ pub data Awaits (program : List (List Slot)) (w : World) (records : ℕ → Reco
   one_takes : (g : ℕ) → IsIn w g Take → happens program w (Step h) ≡ (w, Barrier g) → Awaits program w records h
 
 -- a step that resumes a thread: it goes on where its record says, with registers that stand for what it sees in the kept state
-pub record GoesOn (program : List (List Slot)) (p : Plan) (code : Code p) (kept : FlowState) (w : World) (hart : Hart) (r : Record) : Type 0 where
+pub record GoesOn {p : Plan} (program : List (List Slot)) (code : Code p) (kept : FlowState) (w : World) (hart : Hart) (r : Record) : Type 0 where
   pub told : IsInside p code kept r
   pub after : Hart
   pub does : happens program w (Step code.thread.number) ≡ moved w code.thread.number after

@@ -1,5 +1,6 @@
 -- Clashes of a thread, and of all.
-use Rattle.std.proofs.Common.{◌≡◌, ◌∙◌, ◌⊎◌, ℕ, ◌+◌, ◌<◌, ◌≤◌, List, length, get_or, map, slice_get, Option, Some, None, Vec, Global, inl, inr, refl, sym, ap, subst, arith}
+use Rattle.std.proofs.Common.{◌≡◌, ◌∙◌, ◌⊎◌, ℕ, ◌+◌, ◌<◌, ◌≤◌, List, length, get_or, map, slice_get}
+use Rattle.std.proofs.Common.{Option, Some, None, Vec, Global, inl, inr, refl, sym, ap, subst, arith}
 use Rattle.std.proofs.lemmas.Bool.{cases_eq}
 use Rattle.std.specs.Option.{option_map}
 use Rattle.std.proofs.lemmas.List.{length-map}
@@ -10,7 +11,7 @@ use Rattle.flow_graph.specs.Liveness.{Spans, Colouring, Clash, HasNoClash, IsFir
 use Rattle.reg_colour.specs.declared.checking.Found.{Found}
 use Rattle.reg_colour.specs.declared.intervals.Interval.{Interval}
 use Rattle.reg_colour.specs.links.Intervals.{Intervals, AreIntervals, Holds}
-use Rattle.reg_colour.specs.links.Clashing.{IsUpTo, IsLesser, IsLeast, IsLeastOf, AreDisjoint, IsFirstShared, ClashAt, ClashOf, ClashBoth, ClashIn}
+use Rattle.reg_colour.specs.links.Clashing.{IsUpTo, IsLesser, IsLeast, IsLeastOf, AreDisjoint, IsFirstShared, ClashAt, ClashOf, ClashBoth, ClashIn, locals_of}
 use Rattle.reg_colour.proofs.Bridge.{held_from, spans_from}
 use Rattle.reg_colour.proofs.Counting.{held_in, in_held}
 use Rattle.reg_colour.proofs.Least.{lesser}
@@ -25,7 +26,7 @@ reworded P R (Some x) to from p = record { is_one = to x.node x.a x.b p.is_one; 
 
 -- registers that differ
 pub no_clash : (xs : Intervals) (given : List ℕ) (a b p q : ℕ) → slice_get given a ≡ Some p → slice_get given b ≡ Some q → (p ≡ q → ⊥) → (node x y : ℕ) →
-    ClashBoth xs given a b node x y → ⊥
+    ClashBoth (locals_of xs given) a b node x y → ⊥
 no_clash xs given a b p q at_a at_b differ node x y c =
     let k = c.clash in
     let e : slice_get given a ≡ Some k.register = subst (λ (n : ℕ). slice_get given n ≡ Some k.register) c.first k.of_first in
@@ -33,14 +34,15 @@ no_clash xs given a b p q at_a at_b differ node x y c =
     differ cc
 
 pub disjoint : (xs : Intervals) (given : List ℕ) (a b : ℕ) (i j : Option Interval) → slice_get xs a ≡ Some i → slice_get xs b ≡ Some j → AreDisjoint i j →
-    (node x y : ℕ) → ClashBoth xs given a b node x y → ⊥
+    (node x y : ℕ) → ClashBoth (locals_of xs given) a b node x y → ⊥
 disjoint xs given a b i j at_a at_b h node x y c =
     h node (held_in xs a node i at_a (subst (λ (n : ℕ). Holds xs node n) c.first c.clash.first))
     (held_in xs b node j at_b (subst (λ (n : ℕ). Holds xs node n) c.second c.clash.second))
 
 pub shared_first : (xs : Intervals) (given : List ℕ) (a b p q node : ℕ) (i j : Option Interval) → a < b → slice_get given a ≡ Some p →
     slice_get given b ≡ Some q → p ≡ q →
-    slice_get xs a ≡ Some i → slice_get xs b ≡ Some j → IsFirstShared i j node → IsLeast (ClashBoth xs given a b) (record { node = node; a = a; b = b })
+    slice_get xs a ≡ Some i → slice_get xs b ≡ Some j → IsFirstShared i j node →
+    IsLeast (ClashBoth (locals_of xs given) a b) (record { node = node; a = a; b = b })
 shared_first xs given a b p q node i j lt of_a of_b same at_a at_b s = record {
   is_one = record {
     first = refl;
@@ -67,17 +69,17 @@ shared_first xs given a b p q node i j lt of_a of_b same at_a at_b s = record {
 
 -- the second one is less than that
 pub record ClashOfBelow (xs : Intervals) (given : List ℕ) (local below node a b : ℕ) : Type 0 where
-  pub is : ClashOf xs given local node a b
+  pub is : ClashOf (locals_of xs given) local node a b
   pub less : b < below
 
 pub none_below : (xs : Intervals) (given : List ℕ) (local : ℕ) → IsLeastOf (ClashOfBelow xs given local (local + 1)) None
 none_below xs given local = λ node a b c. omega (arith, c.less, c.is.own, c.is.clash.different)
 
 pub one_below : (xs : Intervals) (given : List ℕ) (local b : ℕ) (found other z : Option Found) → IsLeastOf (ClashOfBelow xs given local b) found →
-    IsLeastOf (ClashBoth xs given local b) other →
+    IsLeastOf (ClashBoth (locals_of xs given) local b) other →
     IsLesser found other z → IsLeastOf (ClashOfBelow xs given local (b + 1)) z
 one_below xs given local b found other z p q e =
-    lesser (ClashOfBelow xs given local b) (ClashBoth xs given local b) (ClashOfBelow xs given local (b + 1))
+    lesser (ClashOfBelow xs given local b) (ClashBoth (locals_of xs given) local b) (ClashOfBelow xs given local (b + 1))
     (λ node x y c. record { is = c.is; less = omega (arith, c.less) })
     (λ node x y c. record { is = record { own = c.first; clash = c.clash }; less = omega (arith, c.second) })
     (λ node x y c. elim (cases_eq y b) [
@@ -87,8 +89,8 @@ one_below xs given local b found other z p q e =
     found other z p q e
 
 pub all_below : (xs : Intervals) (given : List ℕ) (local b : ℕ) (found : Option Found) → length given ≤ b → IsLeastOf (ClashOfBelow xs given local b) found →
-    IsLeastOf (ClashOf xs given local) found
-all_below xs given local b found le = reworded (ClashOfBelow xs given local b) (ClashOf xs given local) found (λ node x y c. c.is)
+    IsLeastOf (ClashOf (locals_of xs given) local) found
+all_below xs given local b found le = reworded (ClashOfBelow xs given local b) (ClashOf (locals_of xs given) local) found (λ node x y c. c.is)
     (λ node x y c. record {
       is = c;
       less = (let lt : y < length given = slice_get_within given y c.clash.register c.clash.of_second in omega (arith, lt, le));
@@ -98,17 +100,17 @@ all_below xs given local b found le = reworded (ClashOfBelow xs given local b) (
 
 -- the first one is less than that
 pub record ClashUpTo (xs : Intervals) (given : List ℕ) (below node a b : ℕ) : Type 0 where
-  pub is : ClashAt xs given node a b
+  pub is : ClashAt (locals_of xs given) node a b
   pub less : a < below
 
 pub none_first : (xs : Intervals) (given : List ℕ) → IsLeastOf (ClashUpTo xs given 0) None
 none_first xs given = λ node a b c. omega (arith, c.less)
 
 pub one_first : (xs : Intervals) (given : List ℕ) (local : ℕ) (found other z : Option Found) → IsLeastOf (ClashUpTo xs given local) found →
-    IsLeastOf (ClashOf xs given local) other → IsLesser found other z →
+    IsLeastOf (ClashOf (locals_of xs given) local) other → IsLesser found other z →
     IsLeastOf (ClashUpTo xs given (local + 1)) z
 one_first xs given local found other z p q e =
-    lesser (ClashUpTo xs given local) (ClashOf xs given local) (ClashUpTo xs given (local + 1))
+    lesser (ClashUpTo xs given local) (ClashOf (locals_of xs given) local) (ClashUpTo xs given (local + 1))
     (λ node x y c. record { is = c.is; less = omega (arith, c.less) })
     (λ node x y c. record { is = c.clash; less = omega (arith, c.own) })
     (λ node x y c. elim (cases_eq x local) [
@@ -118,8 +120,8 @@ one_first xs given local found other z p q e =
     found other z p q e
 
 pub all_first : (xs : Intervals) (given : List ℕ) (local : ℕ) (found : Option Found) → length given ≤ local → IsLeastOf (ClashUpTo xs given local) found →
-    IsLeastOf (ClashAt xs given) found
-all_first xs given local found le = reworded (ClashUpTo xs given local) (ClashAt xs given) found (λ node x y c. c.is)
+    IsLeastOf (ClashAt (locals_of xs given)) found
+all_first xs given local found le = reworded (ClashUpTo xs given local) (ClashAt (locals_of xs given)) found (λ node x y c. c.is)
     (λ node x y c. record {
       is = c;
       less = (let lt : x < length given = slice_get_within given x c.register c.of_first in omega (arith, lt, le));
@@ -138,7 +140,7 @@ none_in g colours = λ node a b c. omega (arith, c.below)
 
 of_thread : (g : Graph) (colours : Colouring) (t : ℕ) (part : Part) (own : List ℕ) (xs : Intervals) → slice_get g.threads t ≡ Some part →
     slice_get colours t ≡ Some own → AreIntervals g part xs →
-    (node a b : ℕ) → ClashAt xs own node a b → ClashIn g colours t node a b
+    (node a b : ℕ) → ClashAt (locals_of xs own) node a b → ClashIn g colours t node a b
 of_thread g colours t part own xs at has is node a b c = record {
   part = part;
   given = own;
@@ -154,7 +156,7 @@ of_thread g colours t part own xs at has is node a b c = record {
 
 to_thread : (g : Graph) (colours : Colouring) (t : ℕ) (part : Part) (own : List ℕ) (xs : Intervals) → slice_get g.threads t ≡ Some part →
     slice_get colours t ≡ Some own → AreIntervals g part xs →
-    length xs ≡ length own → (node a b : ℕ) → ClashIn g colours t node a b → ClashAt xs own node a b
+    length xs ≡ length own → (node a b : ℕ) → ClashIn g colours t node a b → ClashAt (locals_of xs own) node a b
 to_thread g colours t part own xs at has is long node a b c =
     let its : slice_get g.threads t ≡ Some c.part = c.own in
     let theirs : slice_get colours t ≡ Some c.given = c.of_thread in
@@ -176,9 +178,9 @@ to_thread g colours t part own xs at has is long node a b c =
 pub one_in : (g : Graph) (colours : Colouring) (t : ℕ) (part : Part) (own : List ℕ) (xs : Intervals) (found other z : Option Found) →
     slice_get g.threads t ≡ Some part → slice_get colours t ≡ Some own →
     AreIntervals g part xs → length xs ≡ length own → IsLeastOf (ClashBelow g colours t) found →
-    IsLeastOf (ClashAt xs own) other → IsLesser found other z → IsLeastOf (ClashBelow g colours (t + 1)) z
+    IsLeastOf (ClashAt (locals_of xs own)) other → IsLesser found other z → IsLeastOf (ClashBelow g colours (t + 1)) z
 one_in g colours t part own xs found other z at has is long p q e =
-    lesser (ClashBelow g colours t) (ClashAt xs own) (ClashBelow g colours (t + 1))
+    lesser (ClashBelow g colours t) (ClashAt (locals_of xs own)) (ClashBelow g colours (t + 1))
     (λ node x y c. record { thread = c.thread; below = omega (arith, c.below); is = c.is })
     (λ node x y c. record { thread = t; below = omega arith; is = of_thread g colours t part own xs at has is node x y c })
     (λ node x y c. elim (cases_eq c.thread t) [

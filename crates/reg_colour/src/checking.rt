@@ -5,13 +5,13 @@ ghost use Rattle.flow_graph.specs.Liveness.{HasNoClash};
 ghost use Rattle.flow_graph.specs.LocalSets.{AreLive};
 ghost use Rattle.flow_graph.specs.Colours.{colouring_of};
 ghost use Rattle.reg_colour.specs.Refusing.{IsWrong};
-ghost use Rattle.reg_colour.specs.links.Clashing.{IsUpTo, IsLesser, IsLeastOf, AreDisjoint, IsFirstShared, ClashAt, ClashOf, ClashBoth};
+ghost use Rattle.reg_colour.specs.links.Clashing.{IsUpTo, IsLesser, IsLeastOf, AreDisjoint, IsFirstShared, ClashAt, ClashOf, ClashBoth, locals_of};
 
 use crate::intervals::{Interval, intervals};
 use flow_graph::colours::Colours;
 use flow_graph::graph::Graph;
 use flow_graph::live_sets::LiveSets;
-use ido_base::memory::Memory;
+use ido_base::memory::OutOfMemory;
 use std::alloc::Global;
 use thiserror::Error;
 
@@ -27,12 +27,12 @@ pub enum ColourError {
     Memory,
 }
 
-impl From<Memory> for ColourError {
+impl From<OutOfMemory> for ColourError {
     ghost use Rattle.reg_colour.specs.declared.checking.ColourError.TheVariants.{Memory as Unremembered};
 
     ghost from_gives = { λ _ e. e ≡ Unremembered };
 
-    fn from(_: Memory) -> Self {
+    fn from(_: OutOfMemory) -> Self {
         ColourError::Memory
     }
 }
@@ -46,7 +46,7 @@ struct Found {
 }
 
 impl Found {
-    // Whether it is at a later node than the other one, or there and of greater locals.
+    /// Whether it is at a later node than the other one, or there and of greater locals.
     fn is_after(self, other: Found) -> bool
         ensures { MatchBool result (IsUpTo other self.node self.a self.b) (IsUpTo self other.node other.a other.b) }
     {
@@ -60,7 +60,7 @@ impl Found {
     }
 }
 
-// The lesser one.
+/// The lesser one.
 fn earlier(one: Option<Found>, other: Option<Found>) -> Option<Found>
     ensures { IsLesser one other result }
 {
@@ -71,7 +71,7 @@ fn earlier(one: Option<Found>, other: Option<Found>) -> Option<Found>
     }
 }
 
-// The first node that both intervals hold.
+/// The first node that both intervals hold.
 fn shared(one: Option<Interval>, other: Option<Interval>) -> Option<usize>
     ensures { MatchOption result (AreDisjoint one other) (IsFirstShared one other) }
 {
@@ -85,12 +85,12 @@ fn shared(one: Option<Interval>, other: Option<Interval>) -> Option<usize>
     }
 }
 
-// The first clash of two locals, the second of which is the greater one.
+/// The first clash of two locals, the second of which is the greater one.
 fn clash(intervals: &[Option<Interval>], registers: &[u8], a: usize, b: usize) -> Option<Found>
     requires order { a < b }
     requires exists { b < length registers.now }
     requires long { length intervals.now ≡ length registers.now }
-    ensures { IsLeastOf (ClashBoth intervals.now registers.now a b) result }
+    ensures { IsLeastOf (ClashBoth (locals_of intervals.now registers.now) a b) result }
 {
     if registers[a] != registers[b] {
         return None;
@@ -99,11 +99,11 @@ fn clash(intervals: &[Option<Interval>], registers: &[u8], a: usize, b: usize) -
     Some(Found { node, a, b })
 }
 
-// The first clash of the local with a greater one.
+/// The first clash of the local with a greater one.
 fn first_of(intervals: &[Option<Interval>], registers: &[u8], a: usize) -> Option<Found>
     requires exists { a < length registers.now }
     requires long { length intervals.now ≡ length registers.now }
-    ensures { IsLeastOf (ClashOf intervals.now registers.now a) result }
+    ensures { IsLeastOf (ClashOf (locals_of intervals.now registers.now) a) result }
 {
     let mut found = None;
     for b in a + 1..registers.len() {
@@ -112,10 +112,10 @@ fn first_of(intervals: &[Option<Interval>], registers: &[u8], a: usize) -> Optio
     found
 }
 
-// The first clash of locals of a thread.
+/// The first clash of locals of a thread.
 fn first_in(intervals: &[Option<Interval>], registers: &[u8]) -> Option<Found>
     requires { length intervals.now ≡ length registers.now }
-    ensures { IsLeastOf (ClashAt intervals.now registers.now) result }
+    ensures { IsLeastOf (ClashAt (locals_of intervals.now registers.now)) result }
 {
     let mut found = None;
     for a in 0..registers.len() {

@@ -12,7 +12,7 @@ use crate::scan::{Crowd, Outcome, scan};
 use flow_graph::colours::Colours;
 use flow_graph::graph::{Graph, Part};
 use flow_graph::live_sets::LiveSets;
-use ido_base::memory::Memory;
+use ido_base::memory::OutOfMemory;
 use ido_base::place::Place;
 use std::alloc::{AllocFailed, Global};
 use thiserror::Error;
@@ -29,12 +29,12 @@ pub enum ColourRefusal {
     Memory,
 }
 
-impl From<Memory> for ColourRefusal {
+impl From<OutOfMemory> for ColourRefusal {
     ghost use Rattle.reg_colour.specs.declared.colouring.ColourRefusal.TheVariants.{Memory as Unremembered};
 
     ghost from_gives = { λ _ e. e ≡ Unremembered };
 
-    fn from(_: Memory) -> Self {
+    fn from(_: OutOfMemory) -> Self {
         ColourRefusal::Memory
     }
 }
@@ -49,7 +49,7 @@ impl<T: Drop> From<AllocFailed<T>> for ColourRefusal {
     }
 }
 
-// The one of them at the earlier node.
+/// The one of them at the earlier node.
 fn earlier(found: Option<Crowd>, crowd: Crowd) -> Crowd
     ensures { IsEarlier found crowd result }
 {
@@ -59,13 +59,13 @@ fn earlier(found: Option<Crowd>, crowd: Crowd) -> Crowd
     }
 }
 
-// Registers for the locals of a thread, or its first node that too many intervals hold.
+/// Registers for the locals of a thread, or its first node that too many intervals hold.
 fn colour_thread(
     alloc: Global,
     graph: &Graph,
     live: &LiveSets,
     part: Part,
-) -> Result<Outcome, Memory>
+) -> Result<Outcome, OutOfMemory>
     requires { AreLive (graph_of graph.now) live.now }
     ensures { IfOk result (IsThread (graph_of graph.now) part) }
 {

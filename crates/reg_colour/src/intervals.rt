@@ -7,7 +7,7 @@ ghost use Rattle.reg_colour.specs.links.Intervals.{IsUntouched, IsFirstTouched, 
 
 use flow_graph::graph::{Graph, Part};
 use flow_graph::live_sets::LiveSets;
-use ido_base::memory::Memory;
+use ido_base::memory::OutOfMemory;
 use std::alloc::Global;
 
 /// The nodes from `first` up to `end`, without `end`.
@@ -17,7 +17,7 @@ pub(crate) struct Interval {
     pub end: usize,
 }
 
-// Whether the interval, if there is one, holds the node.
+/// Whether the interval, if there is one, holds the node.
 fn is_in(interval: Option<Interval>, node: usize) -> bool
     ensures { IsTrue result ↔ IsIn interval node }
 {
@@ -43,7 +43,7 @@ pub(crate) fn end_from(interval: Option<Interval>, node: usize) -> Option<usize>
     }
 }
 
-// Whether the node assigns the local.
+/// Whether the node assigns the local.
 fn is_assigned(graph: &Graph, node: usize, local: usize) -> bool
     ensures { IsTrue result ↔ IsAssigned (graph_of graph.now) local node }
 {
@@ -57,7 +57,7 @@ fn is_assigned(graph: &Graph, node: usize, local: usize) -> bool
     }
 }
 
-// Whether the local is live at the node's entry, or the node assigns it.
+/// Whether the local is live at the node's entry, or the node assigns it.
 fn is_touched(graph: &Graph, live: &LiveSets, node: usize, local: usize) -> bool
     requires { AreLive (graph_of graph.now) live.now }
     ensures { IsTrue result ↔ (IsLive (graph_of graph.now) local node ⊎ IsAssigned (graph_of graph.now) local node) }
@@ -65,7 +65,7 @@ fn is_touched(graph: &Graph, live: &LiveSets, node: usize, local: usize) -> bool
     live.is_live(node, local) || is_assigned(graph, node, local)
 }
 
-// The first node of the thread that touches the local.
+/// The first node of the thread that touches the local.
 fn first_touched(graph: &Graph, live: &LiveSets, part: Part, local: usize) -> Option<usize>
     requires { AreLive (graph_of graph.now) live.now }
     ensures { MatchOption result (IsUntouched (graph_of graph.now) part local) (IsFirstTouched (graph_of graph.now) part local) }
@@ -78,7 +78,7 @@ fn first_touched(graph: &Graph, live: &LiveSets, part: Part, local: usize) -> Op
     None
 }
 
-// The last node of the thread that touches the local.
+/// The last node of the thread that touches the local.
 fn last_touched(graph: &Graph, live: &LiveSets, part: Part, local: usize) -> Option<usize>
     requires { AreLive (graph_of graph.now) live.now }
     ensures { MatchOption result (IsUntouched (graph_of graph.now) part local) (IsLastTouched (graph_of graph.now) part local) }
@@ -91,7 +91,7 @@ fn last_touched(graph: &Graph, live: &LiveSets, part: Part, local: usize) -> Opt
     None
 }
 
-// The local's interval. One that no node touches has none.
+/// The local's interval. One that no node touches has none.
 fn interval_of(graph: &Graph, live: &LiveSets, part: Part, local: usize) -> Option<Interval>
     requires { AreLive (graph_of graph.now) live.now }
     ensures { IsIntervalOf (graph_of graph.now) part local result }
@@ -111,7 +111,7 @@ pub(crate) fn intervals(
     live: &LiveSets,
     part: Part,
     locals: usize,
-) -> Result<Vec<Option<Interval>>, Memory>
+) -> Result<Vec<Option<Interval>>, OutOfMemory>
     requires { AreLive (graph_of graph.now) live.now }
     ensures count { IfOk result (λ all. length all.items ≡ locals) }
     ensures each { IfOk result (λ all. AreIntervals (graph_of graph.now) part all.items) }

@@ -5,11 +5,9 @@ ghost use Rattle.reg_colour.specs.links.Scanning.{IsBusy, IsFree, ScannedTo, IsF
 
 use crate::intervals::{Interval, end_from, holding};
 use flow_graph::graph::Part;
-use ido_base::memory::Memory;
+use ido_base::limits::LOCAL_REGISTERS;
+use ido_base::memory::OutOfMemory;
 use std::alloc::Global;
-
-/// How many registers hold locals.
-pub(crate) const REGISTERS: usize = 18;
 
 /// A node that more intervals hold than there are registers.
 #[derive(Clone, Copy)]
@@ -28,14 +26,14 @@ pub(crate) enum Outcome {
     Crowded(Crowd),
 }
 
-// The least register that is free at the node, where each is free from some node on.
+/// The least register that is free at the node, where each is free from some node on.
 fn free_register(free: &[usize], node: usize) -> Option<usize>
     ensures { MatchOption result (IsBusy free.now node) (IsFree free.now node) }
 {
     free.iter().position(|from| *from <= node)
 }
 
-// Gives a register to each local whose interval begins at the node. Answers whether there were enough.
+/// Gives a register to each local whose interval begins at the node. Answers whether there were enough.
 fn begin(
     intervals: &[Option<Interval>],
     node: usize,
@@ -66,13 +64,13 @@ pub(crate) fn scan(
     alloc: Global,
     part: Part,
     intervals: &[Option<Interval>],
-) -> Result<Outcome, Memory>
+) -> Result<Outcome, OutOfMemory>
     requires filled { AreFilled intervals.now }
     requires within { AreWithin part intervals.now }
     ensures { IfOk result (IsScanned intervals.now) }
 {
     let mut registers = vec![in alloc; 0u8; intervals.len()]?;
-    let mut free = [0usize; REGISTERS];
+    let mut free = [0usize; LOCAL_REGISTERS];
     for node in part.first..part.end {
         if !begin(intervals, node, &mut registers, &mut free) {
             let wanted = holding(intervals, node);

@@ -1,5 +1,6 @@
 -- The lines of an attempt's stores are cleaned when it has come to its region's end.
-use Rattle.std.proofs.Common.{◌≡◌, ◌≢◌, ◌⊎◌, inl, inr, refl, ℕ, zero, suc, ◌+◌, ◌-◌, ◌/◌, ◌<◌, ◌≤◌, List, replicate, sym, ◌∙◌, ap, subst, arith, Option, Some, None, Bool, true, ⊎_elim}
+use Rattle.std.proofs.Common.{◌≡◌, ◌≢◌, ◌⊎◌, inl, inr, refl, ℕ, zero, suc, ◌+◌, ◌-◌, ◌/◌, ◌<◌, ◌≤◌, List}
+use Rattle.std.proofs.Common.{replicate, sym, ◌∙◌, ap, subst, arith, Option, Some, None, Bool, true, ⊎_elim}
 use Rattle.std.specs.Prelude.{slice_get, is_some, Contains}
 use Rattle.std.specs.Option.{option_map}
 use Rattle.std.proofs.lemmas.Bool.{cases_eq}
@@ -27,7 +28,7 @@ use Rattle.resumption.specs.Moments.{Moment, Invariant, attempt_of}
 use Rattle.resumption.proofs.Paths.{none_some}
 use Rattle.region_attempts.specs.Standing.{flow_kept, flow_solo, node_behind}
 use Rattle.region_attempts.specs.Staying.{StaysInside, StandsBeforeBoundary}
-use Rattle.region_attempts.specs.Flushing.{line_of, AreLeftOut, Cleans, CleansSince}
+use Rattle.region_attempts.specs.Flushing.{line_of, AreLeftOut, Attempts, Cleans, CleansSince}
 use Rattle.region_attempts.specs.Laws.{StoresAreCleaned}
 use Rattle.region_attempts.proofs.Alike.{IsThere, is_there, moved_there}
 use Rattle.region_attempts.proofs.Walking.{matched_run}
@@ -216,8 +217,11 @@ module _ (x : f.Flat) (b : Boundaries) (w : IsWellFormed x) (cuts : AreCuts (low
         (decide_line x shapes line (at (suc k)) (node (suc k) next) (at_node (suc k) next))
 
     module _ (left_out : List Bool) (left : AreLeftOut x b shapes left_out) (last : (line : ℕ) → ReachesUncleaned g b shapes line (at q)) where
+      abbrev attempts : Attempts
+      attempts = record { flat = x; kept = kept; moment = old; shapes = shapes; left_out = left_out }
+
       abbrev Cleaned : (first variable element : ℕ) → Type 0
-      Cleaned first variable element = CleansSince x kept old shapes left_out t first n (line_of shapes variable element)
+      Cleaned first variable element = CleansSince attempts t first n (line_of shapes variable element)
 
       -- an element that is stored there has the line
       line_is : (line k : ℕ) (l : k < n) (s : StoresInLine g shapes line (at k)) (one : Element) → Lies s.written one →
@@ -258,7 +262,7 @@ module _ (x : f.Flat) (b : Boundaries) (w : IsWellFormed x) (cuts : AreCuts (low
             last = more.last;
             since = omega (arith, above, low_more);
             within = more.within;
-            at = subst (λ (z : ℕ). Cleans x kept old shapes left_out t more.last z) same_line more.at;
+            at = subst (λ (z : ℕ). Cleans attempts t more.last z) same_line more.at;
           }
 
       since : (fuel k : ℕ) (l : k < n) (one : Element) → n ≤ k + fuel → WritesAt old.kept t k one.variable one.element →
@@ -281,7 +285,7 @@ module _ (x : f.Flat) (b : Boundaries) (w : IsWellFormed x) (cuts : AreCuts (low
 
   cleaned_by : (left_out : List Bool) → AreLeftOut x b shapes left_out → (attempt_of old t).done ≡ n → StandsBeforeBoundary x b kept old t →
       (total : ℕ) → n ≡ total → (k : ℕ) (l : k < n) (one : Element) → WritesAt old.kept t k one.variable one.element →
-      CleansSince x kept old shapes left_out t k n (line_of shapes one.variable one.element)
+      CleansSince (record { flat = x; kept = kept; moment = old; shapes = shapes; left_out = left_out }) t k n (line_of shapes one.variable one.element)
   cleaned_by left_out left whole stands zero e k l one wr = absurd (omega (arith, l, e))
   cleaned_by left_out left whole stands (suc q) e k l one wr =
       since q e left_out left (ends_there q e k l one wr whole stands) n k l one (omega arith) wr
@@ -292,6 +296,7 @@ stores_are_cleaned x b shapes left_out old schedule t k v e w cuts left i by sta
     let whole = attempts_are_whole x b kept old t i stays stands in
     let one : Element = record { variable = v; element = e } in
     let l : k < (attempt_of old t).longest = omega (arith, below, whole) in
-    subst (λ (n : ℕ). CleansSince x kept old shapes left_out t k n (line_of shapes v e)) (sym whole)
+    let a : Attempts = record { flat = x; kept = kept; moment = old; shapes = shapes; left_out = left_out } in
+    subst (λ (n : ℕ). CleansSince a t k n (line_of shapes v e)) (sym whole)
     (cleaned_by x b w cuts old t i kept (kept_matches x w old.kept schedule by) (kept_good x w schedule) stays shapes left_out left whole stands
     (attempt_of old t).longest refl k l one wr)

@@ -1,5 +1,6 @@
 -- Attempts stay within their regions, whatever happens.
-use Rattle.std.proofs.Common.{◌≡◌, ◌≢◌, inl, inr, refl, ℕ, zero, suc, ◌<◌, ◌≤◌, List, [], ◌++◌, max, replicate, sym, ◌∙◌, ap, subst, arith, Option, Some, None, true, ⊎_elim}
+use Rattle.std.proofs.Common.{◌≡◌, ◌≢◌, inl, inr, refl, ℕ, zero, suc, ◌<◌, ◌≤◌, List, [], ◌++◌, max}
+use Rattle.std.proofs.Common.{replicate, sym, ◌∙◌, ap, subst, arith, Option, Some, None, true, ⊎_elim}
 use Rattle.std.specs.Prelude.{slice_get, Contains}
 use Rattle.std.specs.Option.{option_map}
 use Rattle.std.proofs.lemmas.Bool.{cases_eq}
@@ -162,13 +163,13 @@ module _ (x : f.Flat) (b : Boundaries) (w : IsWellFormed x) (cuts : AreCuts (low
       ]
 
   -- the thread's last step, which passed a mutex
-  module _ (n : ℕ) (runs : m.runs_from K (replicate (suc n) t) ≡ true) (front : m.runs_from K (replicate n t) ≡ true) (mutex node : ℕ)
+  module _ (n : ℕ) (runs : m.runs_from K (replicate (suc n) t) ≡ true) (prefix : m.runs_from K (replicate n t) ≡ true) (mutex node : ℕ)
       (at : node_behind x kept t (suc n) ≡ Some node) where
     last : LastStep K t n
     last = last_step K t n runs
 
     step : OwnStep x kept t n
-    step = own_step x w kept K last.next t n match front last.is
+    step = own_step x w kept K last.next t n match prefix last.is
 
     st : Stepped (lowered x) (flow_solo x kept t n) step.next t
     st = stepped (lowered x) (flow_solo x kept t n) step.next t step.is
@@ -192,8 +193,8 @@ module _ (x : f.Flat) (b : Boundaries) (w : IsWellFormed x) (cuts : AreCuts (low
               (st.does ∙ ap Some over)),
         )
 
-  front_of : m.runs_from K (replicate a.done t) ≡ true
-  front_of = let tried = i.tried t in inner_runs a.done a.longest K t tried.inner tried.within
+  prefix_of : m.runs_from K (replicate a.done t) ≡ true
+  prefix_of = let tried = i.tried t in inner_runs a.done a.longest K t tried.inner tried.within
 
   runs_of : c ≡ suc a.done → m.runs_from K (replicate (suc a.done) t) ≡ true
   runs_of e = ap (λ (k : ℕ). m.runs_from K (replicate k t)) (sym e) ∙ first_runs x old t i
@@ -212,8 +213,8 @@ module _ (x : f.Flat) (b : Boundaries) (w : IsWellFormed x) (cuts : AreCuts (low
       ((mutex : ℕ) → HasUnlocked old t mutex → (from : ℕ) × IsUnlock (lowered x) from × IsEdge (lowered x) from node)
   resumes_there node at = (
     λ e come. come_begins node e come at,
-    λ mutex h. begins_behind a.done (runs_of h.begun) front_of mutex node (at_count node (suc a.done) h.begun at) h.locks_it,
-    λ mutex h. stands_behind a.done (runs_of h.begun) front_of mutex node (at_count node (suc a.done) h.begun at) h.unlocks_it,
+    λ mutex h. begins_behind a.done (runs_of h.begun) prefix_of mutex node (at_count node (suc a.done) h.begun at) h.locks_it,
+    λ mutex h. stands_behind a.done (runs_of h.begun) prefix_of mutex node (at_count node (suc a.done) h.begun at) h.unlocks_it,
   )
 
   leads_by : StaysInside x b kept old t → SettlesThere x b kept old t → (mutex node : ℕ) → slice_get K'.holders mutex ≡ Some (Some t) →
@@ -226,9 +227,9 @@ module _ (x : f.Flat) (b : Boundaries) (w : IsWellFormed x) (cuts : AreCuts (low
       (λ come. begins (come_begins node e come at))
       (there e))
       (λ p. ⊎_elim
-      (λ h. begins (begins_behind a.done (runs_of p.0) front_of p.1.0 node (at_count node (suc a.done) p.0 at) h))
+      (λ h. begins (begins_behind a.done (runs_of p.0) prefix_of p.1.0 node (at_count node (suc a.done) p.0 at) h))
       (λ h.
-      let behind = stands_behind a.done (runs_of p.0) front_of p.1.0 node (at_count node (suc a.done) p.0 at) h in
+      let behind = stands_behind a.done (runs_of p.0) prefix_of p.1.0 node (at_count node (suc a.done) p.0 at) h in
       behind_unlock behind.0 behind.1 behind.2)
       p.1.1)
       (i.tried t).begun

@@ -1,5 +1,6 @@
 -- A longest attempt is a path within a region of the graph.
-use Rattle.std.proofs.Common.{◌≡◌, ◌≢◌, ◌⊎◌, inl, inr, refl, ℕ, zero, suc, ◌<◌, List, [], ◌∷◌, replicate, sym, ◌∙◌, ap, subst, arith, Option, Some, None, Bool, true, false, ⊎_elim}
+use Rattle.std.proofs.Common.{◌≡◌, ◌≢◌, ◌⊎◌, inl, inr, refl, ℕ, zero, suc, ◌<◌, List, [], ◌∷◌, replicate}
+use Rattle.std.proofs.Common.{sym, ◌∙◌, ap, subst, arith, Option, Some, None, Bool, true, false, ⊎_elim}
 use Rattle.std.specs.Prelude.{slice_get, Contains, IsTrue}
 use Rattle.std.specs.Option.{option_map, unwrap_or}
 use Rattle.ido_base.specs.declared.location.Location.{Location}
@@ -11,7 +12,8 @@ use Rattle.flow_graph.specs.Lowering.{lowered, threads_nodes}
 use Rattle.flow_graph.specs.Liveness.{NodeAt}
 use Rattle.flow_graph.specs.Actions.{Walker, FlowState, Ends, effect_of, seen_by}
 use Rattle.flow_graph.specs.Lockstep.{Matches}
-use Rattle.flow_graph.specs.Cutting.{Boundaries, IsEdge, IsLock, locks, IsUnlock, unlocks, HasBefore, IsBoundary, Begins, at_boundary, IsInside, stays, goes_on, ReadsAt, WritesAt, IsWrittenBefore, AreCuts}
+use Rattle.flow_graph.specs.Cutting.{Boundaries, IsEdge, IsLock, locks, IsUnlock, unlocks, HasBefore, IsBoundary, Begins}
+use Rattle.flow_graph.specs.Cutting.{at_boundary, IsInside, stays, goes_on, ReadsAt, WritesAt, IsWrittenBefore, AreCuts}
 use Rattle.flow_graph.proofs.Shapes.{ShapedAs, node_shaped}
 use Rattle.flow_graph.proofs.Keeping.{Stepped, stepped, moved, goes_by, after_is, not_again, Done, nodes_at}
 use Rattle.resumption.specs.Attempts.{solo}

@@ -1,5 +1,6 @@
 -- Runs of the graph beside the source's, and what a thread's own steps leave of it.
-use Rattle.std.proofs.Common.{◌≡◌, ◌≢◌, refl, ℕ, zero, suc, ◌≤◌, List, [], ◌∷◌, ◌++◌, replicate, sym, ◌∙◌, ap, subst, arith, Option, Some, None, true, ⊎_elim, append_assoc}
+use Rattle.std.proofs.Common.{◌≡◌, ◌≢◌, refl, ℕ, zero, suc, ◌≤◌, List, [], ◌∷◌, ◌++◌, replicate, sym}
+use Rattle.std.proofs.Common.{◌∙◌, ap, subst, arith, Option, Some, None, true, ⊎_elim, append_assoc}
 use Rattle.std.specs.Prelude.{slice_get}
 use Rattle.std.proofs.lemmas.Bool.{cases_eq}
 use Rattle.c_tree.specs.Flats as f
@@ -21,8 +22,8 @@ use Rattle.resumption.specs.Attempts.{solo, IsInner}
 use Rattle.resumption.proofs.Paths.{inner_rest}
 use Rattle.resumption.proofs.Schedules.{counted_own, counted_other}
 use Rattle.resumption.proofs.Removing.{alone_no_hands, last_first, more_empty, none_of_other}
-use Rattle.resumption.proofs.Settling.{front_runs, last_step}
-use Rattle.resumption.proofs.Taking.{front_hands}
+use Rattle.resumption.proofs.Settling.{prefix_runs, last_step}
+use Rattle.resumption.proofs.Taking.{prefix_hands}
 use Rattle.region_attempts.specs.Standing.{flow_solo}
 use Rattle.region_attempts.proofs.Alike.{others_stay, step_alike}
 
@@ -142,22 +143,22 @@ module _ (x : f.Flat) (w : IsWellFormed x) (kept : FlowState) (K : m.State) (mat
   alone_more : (us vs : List ℕ) (u : ℕ) → m.runs_from K (us ++ u ∷ vs) ≡ true → ¬ (ChangesHands K (us ++ u ∷ vs)) → IsAlone us →
       IsAlone (us ++ u ∷ [])
   alone_more us vs u runs hands h =
-      let front = front_runs K us (u ∷ vs) runs in
-      let made = steps_made (m.after_from K us) (u ∷ vs) (sym (goes_on K us (u ∷ vs) front).runs ∙ runs) in
+      let prefix = prefix_runs K us (u ∷ vs) runs in
+      let made = steps_made (m.after_from K us) (u ∷ vs) (sym (goes_on K us (u ∷ vs) prefix).runs ∙ runs) in
       let join = append_assoc us (u ∷ []) vs in
       let runs' : m.runs_from K ((us ++ u ∷ []) ++ vs) ≡ true = ap (m.runs_from K) join ∙ runs in
       let hands' : ¬ (ChangesHands K ((us ++ u ∷ []) ++ vs)) = subst (λ (ks : List ℕ). ¬ (ChangesHands K ks)) (sym join) hands in
-      let more_runs = front_runs K (us ++ u ∷ []) vs runs' in
-      let more_hands = front_hands K (us ++ u ∷ []) vs hands' in
+      let more_runs = prefix_runs K (us ++ u ∷ []) vs runs' in
+      let more_hands = prefix_hands K (us ++ u ∷ []) vs hands' in
       let own = solo_law x K (us ++ u ∷ []) t keeps more_runs more_hands in
       ⊎_elim
       (λ is.
       let P : ℕ → Type 0 = λ k. IsAlone (us ++ k ∷ []) in
       let count : steps_of t (us ++ u ∷ []) ≡ suc (steps_of t us) = ap (λ (k : ℕ). steps_of t (us ++ k ∷ [])) is ∙ counted_own t us in
       let step : source_step (m.after_from K us) t ≡ Some made.0 = ap (source_step (m.after_from K us)) (sym is) ∙ made.1 in
-      subst P (sym is) (alone_own us made.0 front step (front_hands K us (u ∷ vs) hands)
+      subst P (sym is) (alone_own us made.0 prefix step (prefix_hands K us (u ∷ vs) hands)
       (ap (λ (k : ℕ). m.runs_from K (replicate k t)) (sym count) ∙ own.runs) h))
-      (λ n. alone_other us u made.0 n front made.1 h)
+      (λ n. alone_other us u made.0 n prefix made.1 h)
       (cases_eq u t)
 
   alone_from : (vs us : List ℕ) → m.runs_from K (us ++ vs) ≡ true → ¬ (ChangesHands K (us ++ vs)) → IsAlone us → IsAlone (us ++ vs)

@@ -19,19 +19,27 @@ line_of shapes variable element = variable_at shapes variable element / line_byt
 abbrev pub AreLeftOut : f.Flat → Boundaries → List Shape → (left_out : List Bool) → Type 0
 AreLeftOut x b shapes left_out = (node : ℕ) → slice_get left_out node ≡ Some true → IsCleanedLater (lowered x) b shapes node
 
+-- the attempts at a moment over the graph's kept state, and by which code: where its elements lie, and which cleans it leaves out
+pub record Attempts : Type 0 where
+  pub flat : f.Flat
+  pub kept : FlowState
+  pub moment : Moment
+  pub shapes : List Shape
+  pub left_out : List Bool
+
 -- the thread's step behind so many stores into the line, and cleans it
-pub record Cleans (x : f.Flat) (kept : FlowState) (m : Moment) (shapes : List Shape) (left_out : List Bool) (thread steps line : ℕ) : Type 0 where
+pub record Cleans (a : Attempts) (thread steps line : ℕ) : Type 0 where
   pub node : ℕ
-  pub at : node_behind x kept thread steps ≡ Some node
+  pub at : node_behind a.flat a.kept thread steps ≡ Some node
   pub variable : ℕ
   pub element : ℕ
-  pub stores : WritesAt m.kept thread steps variable element
-  pub in_line : line_of shapes variable element ≡ line
-  pub cleans : slice_get left_out node ≢ Some true
+  pub stores : WritesAt a.moment.kept thread steps variable element
+  pub in_line : line_of a.shapes variable element ≡ line
+  pub cleans : slice_get a.left_out node ≢ Some true
 
 -- that step or a later one of its steps, so many, does
-pub record CleansSince (x : f.Flat) (kept : FlowState) (m : Moment) (shapes : List Shape) (left_out : List Bool) (thread first steps line : ℕ) : Type 0 where
+pub record CleansSince (a : Attempts) (thread first steps line : ℕ) : Type 0 where
   pub last : ℕ
   pub since : first ≤ last
   pub within : last < steps
-  pub at : Cleans x kept m shapes left_out thread last line
+  pub at : Cleans a thread last line

@@ -94,7 +94,8 @@ StoresAreCleaned = (x : f.Flat) (b : Boundaries) (shapes : List Shape) (left_out
     (thread steps variable element : ℕ) → IsWellFormed x → AreCuts (lowered x) b → AreLeftOut x b shapes left_out → Invariant x m →
     IsKeptBy x m.kept schedule → StaysInside x b (flow_kept x schedule) m thread → StandsBeforeBoundary x b (flow_kept x schedule) m thread →
     steps < (attempt_of m thread).done → WritesAt m.kept thread steps variable element →
-    CleansSince x (flow_kept x schedule) m shapes left_out thread steps (attempt_of m thread).done (line_of shapes variable element)
+    CleansSince (record { flat = x; kept = flow_kept x schedule; moment = m; shapes = shapes; left_out = left_out }) thread steps (attempt_of m thread).done
+    (line_of shapes variable element)
 
 -- ---- Where attempts stand
 

@@ -20,7 +20,8 @@ origin leads start stop n (goes_on from k goes free a) =
     record { first = o.first; is = o.is; comes = goes_on from k goes free o.comes }
 
 -- the same from more starts
-pub from_more : (leads : ℕ → ℕ → Type 0) (start more stop : ℕ → Type 0) → ((n : ℕ) → start n → more n) → (n : ℕ) → Arrives leads start stop n → Arrives leads more stop n
+pub from_more : (leads : ℕ → ℕ → Type 0) (start more stop : ℕ → Type 0) → ((n : ℕ) → start n → more n) → (n : ℕ) → Arrives leads start stop n →
+    Arrives leads more stop n
 from_more leads start more stop up n (starts k s) = starts k (up k s)
 from_more leads start more stop up n (goes_on from k goes free a) = goes_on from k goes free (from_more leads start more stop up from a)
 
@@ -48,7 +49,8 @@ from_graph g b ways start stop before stops f n lt (goes_on from k goes free a) 
     let here = within g b from k goes in
     goes_on from k ((f.lead.each from k).1 goes) (λ m. free ((f.ends from here).0 m)) (from_graph g b ways start stop before stops f from here a)
 
-pub arrived : (g : Graph) (b : Boundaries) (ways : List Way) (start stop : ℕ → Type 0) (before stops after : List Bool) → Fits g b ways start stop before stops →
+pub arrived : (g : Graph) (b : Boundaries) (ways : List Way) (start stop : ℕ → Type 0) (before stops after : List Bool) →
+    Fits g b ways start stop before stops →
     length after ≡ length before → AreSpread ways stops before after → AreArrived g b start stop after
 arrived g b ways start stop before stops after f long spread = record {
   count = long ∙ f.count;

@@ -21,7 +21,8 @@ some_same : (a b : Location) → Some a ≡ Some b → a ≡ b
 some_same a b e = cc
 
 -- one more of what was read is there
-pub added_more : (reads now : List Location) (i : ℕ) (y : Location) → slice_get reads i ≡ Some y → Contains now y → ((k : ℕ) (x : Location) → k < i → slice_get reads k ≡ Some x → Contains now x) →
+pub added_more : (reads now : List Location) (i : ℕ) (y : Location) → slice_get reads i ≡ Some y → Contains now y →
+    ((k : ℕ) (x : Location) → k < i → slice_get reads k ≡ Some x → Contains now x) →
     (k : ℕ) (x : Location) → k < i + 1 → slice_get reads k ≡ Some x → Contains now x
 added_more reads now i y here there below k x lt at = elim (same_or_other k i) [
   | inl e ↦ subst (λ (z : Location). Contains now z) (some_same y x (sym here ∙ ap (λ j. slice_get reads j) (sym e) ∙ at)) there
@@ -39,14 +40,16 @@ pub record Added (first reads now : List Location) (count : ℕ) : Type 0 where
   pub keeps : (x : Location) → Contains first x → Contains now x
   pub adds : (k : ℕ) (x : Location) → k < count → slice_get reads k ≡ Some x → Contains now x
 
-pub added_next : (first reads old now : List Location) (i : ℕ) (y : Location) → slice_get reads i ≡ Some y → IsAdded old now y → Added first reads old i → Added first reads now (i + 1)
+pub added_next : (first reads old now : List Location) (i : ℕ) (y : Location) → slice_get reads i ≡ Some y → IsAdded old now y → Added first reads old i →
+    Added first reads now (i + 1)
 added_next first reads old now i y here n a = record {
   keeps = λ x c. n.keeps x (a.keeps x c);
   adds = added_more reads now i y here n.there (λ k x lt at. n.keeps x (a.adds k x lt at));
 }
 
 -- one more node's
-pub read_more : (nodes : List code.Node) (old now : List Location) (i : ℕ) (y : code.Node) → slice_get nodes i ≡ Some y → ((x : Location) → Contains old x → Contains now x) →
+pub read_more : (nodes : List code.Node) (old now : List Location) (i : ℕ) (y : code.Node) → slice_get nodes i ≡ Some y →
+    ((x : Location) → Contains old x → Contains now x) →
     ((x : Location) → Contains y.reads.items x → Contains now x) →
     ((n : ℕ) (x : code.Node) (e : Location) → n < i → slice_get nodes n ≡ Some x → Contains x.reads.items e → Contains old e) →
     (n : ℕ) (x : code.Node) (e : Location) → n < i + 1 → slice_get nodes n ≡ Some x → Contains x.reads.items e → Contains now e
@@ -59,7 +62,8 @@ read_more nodes old now i y here keeps own below n x e lt at c = elim (same_or_o
 ]
 
 pub read_all : (g : declared.Graph) (locations : List Location) (count : ℕ) → length g.nodes.items ≤ count →
-    ((n : ℕ) (x : code.Node) (e : Location) → n < count → slice_get g.nodes.items n ≡ Some x → Contains x.reads.items e → Contains locations e) → AreAllRead (graph_of g) locations
+    ((n : ℕ) (x : code.Node) (e : Location) → n < count → slice_get g.nodes.items n ≡ Some x → Contains x.reads.items e → Contains locations e) →
+    AreAllRead (graph_of g) locations
 read_all g locations count le h = record {
   each = λ e n r.
       let k = is_of g.nodes.items n r.is r.at in

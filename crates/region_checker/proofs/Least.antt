@@ -15,7 +15,8 @@ min_cases : (x y : ℕ) → ((min x y ≡ x) × (x ≤ y)) ⊎ ((min x y ≡ y) 
 min_cases x y = grind (arith)
 
 -- the lesser one of two is the least of both
-pub least_both : (P Q R : ℕ → Type 0) (a b : Option ℕ) → IsLeastOf P a → IsLeastOf Q b → ((n : ℕ) → P n → R n) → ((n : ℕ) → Q n → R n) → ((n : ℕ) → R n → P n ⊎ Q n) → IsLeastOf R (lesser a b)
+pub least_both : (P Q R : ℕ → Type 0) (a b : Option ℕ) → IsLeastOf P a → IsLeastOf Q b → ((n : ℕ) → P n → R n) → ((n : ℕ) → Q n → R n) →
+    ((n : ℕ) → R n → P n ⊎ Q n) → IsLeastOf R (lesser a b)
 least_both P Q R None None p q f f' split = λ n r. elim (split n r) [ inl h ↦ p n h | inr h ↦ q n h ]
 least_both P Q R None (Some y) p q f f' split = (f' y q.0, λ n r. elim (split n r) [ inl h ↦ absurd (p n h) | inr h ↦ q.1 n h ])
 least_both P Q R (Some x) None p q f f' split = (f x p.0, λ n r. elim (split n r) [ inl h ↦ p.1 n h | inr h ↦ absurd (q n h) ])
@@ -65,15 +66,23 @@ pub first_more : (g : Graph) (elements : Location) (ways : List Way) (marks : Li
     IsLeastOf (IsOver g elements (IsBehindBelow ways marks count)) old → IsLeastOf (IsOver g elements (IsBehindAt ways marks count)) new →
     IsLeastOf (IsOver g elements (IsBehindBelow ways marks (count + 1))) (lesser old new)
 first_more g elements ways marks count old new p q =
-    least_both (IsOver g elements (IsBehindBelow ways marks count)) (IsOver g elements (IsBehindAt ways marks count)) (IsOver g elements (IsBehindBelow ways marks (count + 1))) old new p q
+    least_both (IsOver g elements (IsBehindBelow ways marks count)) (IsOver g elements (IsBehindAt ways marks count))
+    (IsOver g elements (IsBehindBelow ways marks (count + 1))) old new p q
     (λ n h. record { is = record { from = h.is.from; before = omega (arith, h.is.before); marked = h.is.marked; leads = h.is.leads }; writes = h.writes })
     (λ n h. record { is = record { from = count; before = omega arith; marked = h.is.marked; leads = h.is.leads }; writes = h.writes })
     (λ n h. elim (same_or_other h.is.from count) [
-      | inl e ↦ inr (record { is = record { marked = subst (λ (k : ℕ). IsMarked marks k) e h.is.marked; leads = subst (λ (k : ℕ). Leads ways k n) e h.is.leads }; writes = h.writes })
-      | inr other ↦ inl (record { is = record { from = h.is.from; before = omega (arith, h.is.before); marked = h.is.marked; leads = h.is.leads }; writes = h.writes })
+      | inl e ↦
+          inr
+          (record {
+            is = record { marked = subst (λ (k : ℕ). IsMarked marks k) e h.is.marked; leads = subst (λ (k : ℕ). Leads ways k n) e h.is.leads };
+            writes = h.writes;
+          })
+      | inr other ↦
+          inl (record { is = record { from = h.is.from; before = omega (arith, h.is.before); marked = h.is.marked; leads = h.is.leads }; writes = h.writes })
     ])
 
-pub first_marked : (g : Graph) (elements : Location) (ways : List Way) (marks : List Bool) (n : ℕ) (way : Way) (found : Option ℕ) → slice_get ways n ≡ Some way → IsMarked marks n →
+pub first_marked : (g : Graph) (elements : Location) (ways : List Way) (marks : List Bool) (n : ℕ) (way : Way) (found : Option ℕ) →
+    slice_get ways n ≡ Some way → IsMarked marks n →
     IsLeastOf (IsOver g elements (IsOn way)) found → IsLeastOf (IsOver g elements (IsBehindAt ways marks n)) found
 first_marked g elements ways marks n way found at m p =
     least_same (IsOver g elements (IsOn way)) (IsOver g elements (IsBehindAt ways marks n)) found p
@@ -83,7 +92,8 @@ first_marked g elements ways marks n way found at m p =
     let same : h.is.leads.way ≡ way = cc in
     record { is = subst (λ (w : Way). IsOn w k) same h.is.leads.goes; writes = h.writes })
 
-pub first_unmarked : (g : Graph) (elements : Location) (ways : List Way) (marks : List Bool) (n : ℕ) → (IsMarked marks n → ⊥) → IsLeastOf (IsOver g elements (IsBehindAt ways marks n)) None
+pub first_unmarked : (g : Graph) (elements : Location) (ways : List Way) (marks : List Bool) (n : ℕ) → (IsMarked marks n → ⊥) →
+    IsLeastOf (IsOver g elements (IsBehindAt ways marks n)) None
 first_unmarked g elements ways marks n m = λ k h. m h.is.marked
 
 -- ---- Hits of locations, one after another
@@ -99,7 +109,8 @@ pub record IsHitBelow (g : Graph) (b : Boundaries) (locations : List Location) (
 pub hit_none : (g : Graph) (b : Boundaries) (locations : List Location) → IsLeastOf (IsHitBelow g b locations 0) None
 hit_none g b locations = λ n h. omega (arith, h.before)
 
-pub hit_more : (g : Graph) (b : Boundaries) (locations : List Location) (count : ℕ) (elements : Location) (old new : Option ℕ) → slice_get locations count ≡ Some elements →
+pub hit_more : (g : Graph) (b : Boundaries) (locations : List Location) (count : ℕ) (elements : Location) (old new : Option ℕ) →
+    slice_get locations count ≡ Some elements →
     IsLeastOf (IsHitBelow g b locations count) old → IsLeastOf (IsHit g b elements) new → IsLeastOf (IsHitBelow g b locations (count + 1)) (lesser old new)
 hit_more g b locations count elements old new at p q =
     least_both (IsHitBelow g b locations count) (IsHit g b elements) (IsHitBelow g b locations (count + 1)) old new p q
@@ -121,4 +132,10 @@ hit_all g b locations count found le all p =
     (λ n h.
     let o = origin (GoesOn g b) (Exposes g b h.elements) Never h.hit.follows.last h.hit.follows.comes in
     let k = all.each h.elements o.first o.is.reads in
-    record { k = k.0; before = omega (arith, k.1); elements = h.elements; at = slice_get_read locations (length locations) k.0 h.elements refl k.1 (sym k.2); hit = h.hit })
+    record {
+      k = k.0;
+      before = omega (arith, k.1);
+      elements = h.elements;
+      at = slice_get_read locations (length locations) k.0 h.elements refl k.1 (sym k.2);
+      hit = h.hit;
+    })

@@ -1,5 +1,6 @@
 -- Nodes of the code and of the graph.
-use Rattle.std.proofs.Common.{◌≡◌, ◌⊎◌, ◌↔◌, inl, inr, ℕ, zero, suc, ◌+◌, ◌<◌, ◌≤◌, Bool, true, false, not, MatchBool, List, [], ◌∷◌, ◌++◌, length, get_or, map, Option, Some, None, refl, ap, sym, subst, ◌∙◌, arith}
+use Rattle.std.proofs.Common.{◌≡◌, ◌⊎◌, ◌↔◌, inl, inr, ℕ, zero, suc, ◌+◌, ◌<◌, ◌≤◌, Bool, true, false, not, MatchBool, List}
+use Rattle.std.proofs.Common.{[], ◌∷◌, ◌++◌, length, get_or, map, Option, Some, None, refl, ap, sym, subst, ◌∙◌, arith}
 use Rattle.std.specs.Prelude.{Contains, IsTrue, slice_get}
 use Rattle.std.specs.Option.{option_map}
 use Rattle.std.proofs.lemmas.List.{length-map, length_push}
@@ -47,7 +48,8 @@ pub within_map : (nodes : List code.Node) (n : ℕ) (x : Node) → slice_get (ma
 within_map nodes n x at = let k = is_of nodes n x at in slice_get_within nodes n k.is k.at
 
 -- a node that was found by its number
-pub found_at : (nodes ds : List code.Node) (n : ℕ) (x : code.Node) → ds ≡ nodes → n < length ds → x ≡ get_or ds n x → slice_get (map node_of nodes) n ≡ Some (node_of x)
+pub found_at : (nodes ds : List code.Node) (n : ℕ) (x : code.Node) → ds ≡ nodes → n < length ds → x ≡ get_or ds n x →
+    slice_get (map node_of nodes) n ≡ Some (node_of x)
 found_at nodes ds n x e lt is = node_at nodes n x (ap (λ (xs : List code.Node). slice_get xs n) (sym e) ∙ slice_get_read ds (length ds) n x refl lt is)
 
 pub one_node : (nodes : List Node) (n : ℕ) (x y : Node) → slice_get nodes n ≡ Some x → slice_get nodes n ≡ Some y → x ≡ y
@@ -61,7 +63,8 @@ over_at g n elements x at = (
   λ w. subst (λ (y : Node). IsTrue (writes_over elements y.writes)) (one_node g.nodes n w.is x w.at at) w.writes,
 )
 
-pub stops_at : (g : Graph) (nodes : List code.Node) (n : ℕ) (elements : Location) → g.nodes ≡ map node_of nodes → n < length nodes → IsMarked (stops_of elements nodes) n ↔ WritesSame g elements n
+pub stops_at : (g : Graph) (nodes : List code.Node) (n : ℕ) (elements : Location) → g.nodes ≡ map node_of nodes → n < length nodes →
+    IsMarked (stops_of elements nodes) n ↔ WritesSame g elements n
 stops_at g nodes n elements e lt =
     let test : code.Node → Bool = λ x. writes_same elements x.writes in
     elim (slice_get_cases nodes n).1 [
@@ -196,7 +199,8 @@ from_ways End to (inr e) = absurd (no_way to e)
 pub record Inside (b : Boundaries) (from to : Option ℕ) : Type 0 where
   pub each : (n : ℕ) → (to ≡ Some n) ↔ ((from ≡ Some n) × ¬ (HasBefore b n))
 
-pub ways_go : (g : Graph) (b : Boundaries) (n : ℕ) (x : Node) (way : Way) → NodeAt g n x → ¬ (HasBehind g b n) → Inside b (next_of x.action) way.next → Inside b (other_of x.action) way.other →
+pub ways_go : (g : Graph) (b : Boundaries) (n : ℕ) (x : Node) (way : Way) → NodeAt g n x → ¬ (HasBehind g b n) → Inside b (next_of x.action) way.next →
+    Inside b (other_of x.action) way.other →
     (to : ℕ) → IsOn way to ↔ GoesOn g b n to
 ways_go g b n x way at open_ p q to = (
   λ on. elim on [
@@ -216,7 +220,8 @@ ways_go g b n x way at open_ p q to = (
       ],
 )
 
-pub ways_closed : (g : Graph) (b : Boundaries) (n : ℕ) (way : Way) → HasBehind g b n → way.next ≡ None → way.other ≡ None → (to : ℕ) → IsOn way to ↔ GoesOn g b n to
+pub ways_closed : (g : Graph) (b : Boundaries) (n : ℕ) (way : Way) → HasBehind g b n → way.next ≡ None → way.other ≡ None → (to : ℕ) →
+    IsOn way to ↔ GoesOn g b n to
 ways_closed g b n way h e e' to = (
   λ on. elim on [ inl s ↦ absurd (no_way to (sym e ∙ s)) | inr s ↦ absurd (no_way to (sym e' ∙ s)) ],
   λ go. absurd (go.free (inl h)),
@@ -224,12 +229,14 @@ ways_closed g b n way h e e' to = (
 
 -- ---- What is missing
 
-pub lacks_behind : (g : Graph) (b : Boundaries) (n : ℕ) (x : Node) (stands : Bool) → NodeAt g n x → IsTrue (is_lock x.action) → IsTrue stands ↔ (slice_get b.after_lock n ≡ Some true) →
+pub lacks_behind : (g : Graph) (b : Boundaries) (n : ℕ) (x : Node) (stands : Bool) → NodeAt g n x → IsTrue (is_lock x.action) →
+    IsTrue stands ↔ (slice_get b.after_lock n ≡ Some true) →
     MatchBool (not stands) (LacksBehind g b n) (¬ (LacksBehind g b n))
 lacks_behind g b n x true at is d = λ l. l.lacks (record { locks = l.locks; stands = d.0 refl })
 lacks_behind g b n x false at is d = record { locks = lock_at g n x at is; lacks = λ h. false_true (d.1 h.stands) }
 
-pub lacks_before : (g : Graph) (b : Boundaries) (n : ℕ) (x : Node) (stands : Bool) → NodeAt g n x → IsTrue (is_unlock x.action) → IsTrue stands ↔ (slice_get b.before n ≡ Some true) →
+pub lacks_before : (g : Graph) (b : Boundaries) (n : ℕ) (x : Node) (stands : Bool) → NodeAt g n x → IsTrue (is_unlock x.action) →
+    IsTrue stands ↔ (slice_get b.before n ≡ Some true) →
     MatchBool (not stands) (LacksBefore g b n) (¬ (LacksBefore g b n))
 lacks_before g b n x true at is d = λ l. l.lacks (d.0 refl)
 lacks_before g b n x false at is d = record { unlocks = unlock_at g n x at is; lacks = λ h. false_true (d.1 h) }
@@ -287,7 +294,8 @@ node_in g n x at = within_map g.nodes.items n x at
 pub length_nodes : (g : declared.Graph) → length (graph_of g).nodes ≡ length g.nodes.items
 length_nodes g = length-map g.nodes.items node_of
 
-pub began_none : (g : declared.Graph) (b : Boundaries) (begins : List Bool) → length begins ≡ length g.nodes.items → ((n : ℕ) → ¬ (IsMarked begins n)) → BeganUpTo (graph_of g) b 0 begins
+pub began_none : (g : declared.Graph) (b : Boundaries) (begins : List Bool) → length begins ≡ length g.nodes.items → ((n : ℕ) → ¬ (IsMarked begins n)) →
+    BeganUpTo (graph_of g) b 0 begins
 began_none g b begins long none = record {
   long = long ∙ sym (length_nodes g);
   only = λ n m. absurd (none n m);
@@ -299,7 +307,8 @@ pub record Begun (g : Graph) (b : Boundaries) (number : ℕ) (before behind : Op
   pub is_before : (n : ℕ) → (before ≡ Some n) ↔ ((n ≡ number) × HasBefore b n)
   pub is_behind : (n : ℕ) → (behind ≡ Some n) ↔ (HasBehind g b number × IsEdge g number n)
 
-pub began_more : (g : Graph) (b : Boundaries) (number : ℕ) (before behind : Option ℕ) (old mid new : List Bool) (first second : Bool) → Begun g b number before behind →
+pub began_more : (g : Graph) (b : Boundaries) (number : ℕ) (before behind : Option ℕ) (old mid new : List Bool) (first second : Bool) →
+    Begun g b number before behind →
     Marks (λ n. before ≡ Some n) old mid first → Marks (λ n. behind ≡ Some n) mid new second → BeganUpTo g b number old → BeganUpTo g b (number + 1) new
 began_more g b number before behind old mid new first second is p q r = record {
   long = q.long ∙ p.long ∙ r.long;
@@ -323,12 +332,14 @@ began_more g b number before behind old mid new first second is p q r = record {
   ];
 }
 
-marked_where : (g : declared.Graph) (b : Boundaries) (count : ℕ) (begins : List Bool) (n : ℕ) → length g.nodes.items ≤ count → BeganUpTo (graph_of g) b count begins → n < length (graph_of g).nodes →
+marked_where : (g : declared.Graph) (b : Boundaries) (count : ℕ) (begins : List Bool) (n : ℕ) → length g.nodes.items ≤ count →
+    BeganUpTo (graph_of g) b count begins → n < length (graph_of g).nodes →
     Begins (graph_of g) b n → IsMarked begins n
 marked_where g b count begins n le r lt (behind_lock from h edge) = r.behind from n (omega (arith, lock_in g from h.locks, le)) lt h edge
 marked_where g b count begins n le r lt (at_boundary h) = r.before n (omega (arith, lt, length_nodes g, le)) lt h
 
-pub began_all : (g : declared.Graph) (b : Boundaries) (count : ℕ) (begins : List Bool) → length g.nodes.items ≤ count → BeganUpTo (graph_of g) b count begins → AreBegun (graph_of g) b begins
+pub began_all : (g : declared.Graph) (b : Boundaries) (count : ℕ) (begins : List Bool) → length g.nodes.items ≤ count → BeganUpTo (graph_of g) b count begins →
+    AreBegun (graph_of g) b begins
 began_all g b count begins le r = record {
   count = r.long;
   each = λ n. (
@@ -355,7 +366,8 @@ pub record AreWaysUpTo (g : Graph) (b : Boundaries) (count : ℕ) (ways : List W
 pub ways_none : (g : Graph) (b : Boundaries) → AreWaysUpTo g b 0 []
 ways_none g b = record { long = refl; each = λ from to lt. absurd (omega (arith, lt)) }
 
-pub ways_more : (g : Graph) (b : Boundaries) (count : ℕ) (ways : List Way) (way : Way) → AreWaysUpTo g b count ways → ((to : ℕ) → IsOn way to ↔ GoesOn g b count to) → AreWaysUpTo g b (count + 1) (ways ++ way ∷ [])
+pub ways_more : (g : Graph) (b : Boundaries) (count : ℕ) (ways : List Way) (way : Way) → AreWaysUpTo g b count ways →
+    ((to : ℕ) → IsOn way to ↔ GoesOn g b count to) → AreWaysUpTo g b (count + 1) (ways ++ way ∷ [])
 ways_more g b count ways way r on = record {
   long = length_push ways way ∙ ap (λ k. k + 1) r.long;
   each = λ from to lt. elim (same_or_other from count) [
@@ -376,7 +388,8 @@ ways_more g b count ways way r on = record {
   ];
 }
 
-pub ways_all : (g : declared.Graph) (b : Boundaries) (count : ℕ) (ways : List Way) → length g.nodes.items ≤ count → count ≤ length g.nodes.items → AreWaysUpTo (graph_of g) b count ways → AreWays (graph_of g) b ways
+pub ways_all : (g : declared.Graph) (b : Boundaries) (count : ℕ) (ways : List Way) → length g.nodes.items ≤ count → count ≤ length g.nodes.items →
+    AreWaysUpTo (graph_of g) b count ways → AreWays (graph_of g) b ways
 ways_all g b count ways le le' r = record {
   count = omega (arith, r.long, length_nodes g);
   each = λ from to. (

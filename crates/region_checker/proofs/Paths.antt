@@ -1,5 +1,6 @@
 -- Conflicts on paths are hits.
-use Rattle.std.proofs.Common.{◌≡◌, ◌⊎◌, inl, inr, ℕ, zero, suc, ◌+◌, ◌<◌, ◌≤◌, Bool, true, false, List, [], ◌∷◌, ◌++◌, length, Option, Some, None, refl, ap, sym, subst, ◌∙◌, arith}
+use Rattle.std.proofs.Common.{◌≡◌, ◌⊎◌, inl, inr, ℕ, zero, suc, ◌+◌, ◌<◌, ◌≤◌, Bool, true, false, List}
+use Rattle.std.proofs.Common.{[], ◌∷◌, ◌++◌, length, Option, Some, None, refl, ap, sym, subst, ◌∙◌, arith}
 use Rattle.std.specs.Prelude.{IsTrue, slice_get}
 use Rattle.std.proofs.lemmas.Option.{slice_get_cases}
 use Rattle.std.proofs.lemmas.List.{length_push}
@@ -47,7 +48,8 @@ get_earlier (y ∷ xs) (suc k) x h = let f = get_earlier xs k x h in record { is
 
 -- ---- Paths inside regions
 
-edge_at : (g : Graph) (b : Boundaries) (path : List ℕ) (i a c : ℕ) → IsInside g b path → slice_get path i ≡ Some a → slice_get path (suc i) ≡ Some c → GoesOn g b a c
+edge_at : (g : Graph) (b : Boundaries) (path : List ℕ) (i a c : ℕ) → IsInside g b path → slice_get path i ≡ Some a →
+    slice_get path (suc i) ≡ Some c → GoesOn g b a c
 edge_at g b path i a c (stays node) here next = absurd (not_none c next)
 edge_at g b path zero a c (goes_inside from to rest edge free inside) here next =
     let first : from ≡ a = some_same from a here in
@@ -55,7 +57,8 @@ edge_at g b path zero a c (goes_inside from to rest edge free inside) here next 
     subst (λ (n : ℕ). GoesOn g b n c) first (subst (λ (n : ℕ). GoesOn g b from n) second (record { edge = edge; free = free }))
 edge_at g b path (suc i) a c (goes_inside from to rest edge free inside) here next = edge_at g b (to ∷ rest) i a c inside here next
 
-inside_more : (g : Graph) (b : Boundaries) (path : List ℕ) (from : ℕ) (last to : ℕ) → IsInside g b (from ∷ path) → slice_get (from ∷ path) (length path) ≡ Some last → GoesOn g b last to → IsInside g b (from ∷ (path ++ to ∷ []))
+inside_more : (g : Graph) (b : Boundaries) (path : List ℕ) (from : ℕ) (last to : ℕ) → IsInside g b (from ∷ path) →
+    slice_get (from ∷ path) (length path) ≡ Some last → GoesOn g b last to → IsInside g b (from ∷ (path ++ to ∷ []))
 inside_more g b [] from last to inside at goes =
     let here : from ≡ last = some_same from last at in
     let step : GoesOn g b from to = subst (λ (n : ℕ). GoesOn g b n to) (sym here) goes in
@@ -65,7 +68,8 @@ inside_more g b (next ∷ rest) from last to (goes_inside a c others edge free i
 
 -- ---- Writes before
 
-written_back : (g : Graph) (xs : List ℕ) (to i : ℕ) (elements : Location) → i ≤ length xs → IsWrittenBefore g (xs ++ to ∷ []) i elements → IsWrittenBefore g xs i elements
+written_back : (g : Graph) (xs : List ℕ) (to i : ℕ) (elements : Location) → i ≤ length xs → IsWrittenBefore g (xs ++ to ∷ []) i elements →
+    IsWrittenBefore g xs i elements
 written_back g xs to i elements le w = record {
   earlier = w.earlier;
   written = w.written;
@@ -80,7 +84,8 @@ written_back g xs to i elements le w = record {
   is = w.is;
 }
 
-same_from : (elements written : Location) (writes : Option Location) → writes ≡ Some written → IsTrue (same written elements) → IsTrue (writes_same elements writes)
+same_from : (elements written : Location) (writes : Option Location) → writes ≡ Some written → IsTrue (same written elements) →
+    IsTrue (writes_same elements writes)
 same_from elements written writes e h = subst (λ (o : Option Location). IsTrue (writes_same elements o)) (sym e) h
 
 pub record Is (test : Location → Bool) (writes : Option Location) : Type 0 where
@@ -99,7 +104,8 @@ over_to : (elements : Location) (writes : Option Location) → IsTrue (writes_ov
 over_to elements None h = absurd (none_false h)
 over_to elements (Some w) h = record { written = w; is = refl; holds = h }
 
-over_from : (elements written : Location) (writes : Option Location) → writes ≡ Some written → IsTrue (overlap written elements) → IsTrue (writes_over elements writes)
+over_from : (elements written : Location) (writes : Option Location) → writes ≡ Some written → IsTrue (overlap written elements) →
+    IsTrue (writes_over elements writes)
 over_from elements written writes e h = subst (λ (o : Option Location). IsTrue (writes_over elements o)) (sym e) h
 
 -- ---- Ways of regions are paths
@@ -114,7 +120,8 @@ pub record Comes (g : Graph) (b : Boundaries) (elements : Location) (node : ℕ)
   pub exposed : ¬ (IsWrittenBefore g (from ∷ path) (length path) elements)
 
 -- before the last node, or by it
-written_last : (g : Graph) (xs : List ℕ) (to n prev : ℕ) (elements : Location) → length xs ≡ n + 1 → slice_get xs n ≡ Some prev → IsWrittenBefore g (xs ++ to ∷ []) (n + 1) elements →
+written_last : (g : Graph) (xs : List ℕ) (to n prev : ℕ) (elements : Location) → length xs ≡ n + 1 → slice_get xs n ≡ Some prev →
+    IsWrittenBefore g (xs ++ to ∷ []) (n + 1) elements →
     IsWrittenBefore g xs n elements ⊎ WritesSame g elements prev
 written_last g xs to n prev elements long at w =
     let back = get_back xs to w.earlier w.writes.node (omega (arith, w.before)) w.writes.there in
@@ -152,7 +159,9 @@ comes g b elements node (goes_on from n goes free a) =
       path = c.path ++ n ∷ [];
       begins = c.begins;
       inside = inside_more g b c.path c.from from n c.inside c.last goes;
-      last = subst (λ (k : ℕ). slice_get ((c.from ∷ c.path) ++ n ∷ []) k ≡ Some n) (let e : length (c.from ∷ c.path) ≡ length (c.path ++ n ∷ []) = omega (arith, longer) in e) (get_end (c.from ∷ c.path) n);
+      last =
+          subst (λ (k : ℕ). slice_get ((c.from ∷ c.path) ++ n ∷ []) k ≡ Some n)
+          (let e : length (c.from ∷ c.path) ≡ length (c.path ++ n ∷ []) = omega (arith, longer) in e) (get_end (c.from ∷ c.path) n);
       exposed = λ w.
           let here : IsWrittenBefore g ((c.from ∷ c.path) ++ n ∷ []) (length c.path + 1) elements =
           subst (λ (k : ℕ). IsWrittenBefore g ((c.from ∷ c.path) ++ n ∷ []) k elements) longer w in
@@ -182,14 +191,17 @@ runs_more g b elements read node to r goes =
       path = r.path ++ to ∷ [];
       begins = r.begins;
       inside = inside_more g b r.path r.from node to r.inside r.last goes;
-      last = subst (λ (k : ℕ). slice_get ((r.from ∷ r.path) ++ to ∷ []) k ≡ Some to) (let e : length (r.from ∷ r.path) ≡ length (r.path ++ to ∷ []) = omega (arith, longer) in e) (get_end (r.from ∷ r.path) to);
+      last =
+          subst (λ (k : ℕ). slice_get ((r.from ∷ r.path) ++ to ∷ []) k ≡ Some to)
+          (let e : length (r.from ∷ r.path) ≡ length (r.path ++ to ∷ []) = omega (arith, longer) in e) (get_end (r.from ∷ r.path) to);
       i = r.i;
       before = omega (arith, r.before, longer);
       at = get_left (r.from ∷ r.path) (to ∷ []) r.i read r.at;
       exposed = λ w. r.exposed (written_back g (r.from ∷ r.path) to r.i elements (omega (arith, r.before)) w);
     }
 
-runs : (g : Graph) (b : Boundaries) (elements : Location) (read : ℕ) → Runs g b elements read read → (node : ℕ) → Arrives (GoesOn g b) (λ n. n ≡ read) Never node → Runs g b elements read node
+runs : (g : Graph) (b : Boundaries) (elements : Location) (read : ℕ) → Runs g b elements read read → (node : ℕ) →
+    Arrives (GoesOn g b) (λ n. n ≡ read) Never node → Runs g b elements read node
 runs g b elements read first node (starts k e) = subst (λ (n : ℕ). Runs g b elements read n) (sym e) first
 runs g b elements read first node (goes_on from k goes free a) = runs_more g b elements read from k (runs g b elements read first from a) goes
 
@@ -206,7 +218,8 @@ runs_first g b elements read c = record {
   exposed = c.exposed;
 }
 
-conflict_on : (g : Graph) (b : Boundaries) (elements : Location) (read last store : ℕ) → Runs g b elements read last → GoesOn g b last store → Reads g elements read → WritesOver g elements store → Conflict g b read store
+conflict_on : (g : Graph) (b : Boundaries) (elements : Location) (read last store : ℕ) → Runs g b elements read last → GoesOn g b last store →
+    Reads g elements read → WritesOver g elements store → Conflict g b read store
 conflict_on g b elements read last store r goes reads over =
     let longer : length (r.path ++ store ∷ []) ≡ length r.path + 1 = length_push r.path store in
     let xs = r.from ∷ r.path in
@@ -235,7 +248,8 @@ pub conflict_from : (g : Graph) (b : Boundaries) (read store : ℕ) → HitsAny 
 conflict_from g b read store any =
     let h = any.hits in
     let first = runs_first g b any.elements read (comes g b any.elements read h.exposes.unwritten) in
-    conflict_on g b any.elements read h.follows.last store (runs g b any.elements read first h.follows.last h.follows.comes) h.follows.goes h.exposes.reads h.writes
+    conflict_on g b any.elements read h.follows.last store (runs g b any.elements read first h.follows.last h.follows.comes) h.follows.goes
+    h.exposes.reads h.writes
 
 -- ---- Paths are ways of regions
 
@@ -243,7 +257,8 @@ pub record Region (g : Graph) (b : Boundaries) (from : ℕ) (path : List ℕ) : 
   pub begins : Begins g b from
   pub inside : IsInside g b (from ∷ path)
 
-unwritten_at : (g : Graph) (b : Boundaries) (from : ℕ) (path : List ℕ) (elements : Location) (i : ℕ) → Region g b from path → ¬ (IsWrittenBefore g (from ∷ path) i elements) →
+unwritten_at : (g : Graph) (b : Boundaries) (from : ℕ) (path : List ℕ) (elements : Location) (i : ℕ) → Region g b from path →
+    ¬ (IsWrittenBefore g (from ∷ path) i elements) →
     (k n : ℕ) → k ≤ i → slice_get (from ∷ path) k ≡ Some n → IsUnwritten g b elements n
 unwritten_at g b from path elements i r exposed zero n le at = starts n (subst (λ (k : ℕ). Begins g b k) (some_same from n at) r.begins)
 unwritten_at g b from path elements i r exposed (suc k) n le at =
@@ -296,7 +311,8 @@ hits_from g b read store c =
       hits = record {
         exposes = record {
           reads = record { is = c.reads.is; at = subst (λ (n : ℕ). NodeAt g n c.reads.is) reader c.reads.at; reads = c.reads.reads };
-          unwritten = unwritten_at g b c.from c.path c.elements c.i (record { begins = c.begins; inside = c.inside }) c.exposed c.i read (omega arith) c.at_read;
+          unwritten =
+              unwritten_at g b c.from c.path c.elements c.i (record { begins = c.begins; inside = c.inside }) c.exposed c.i read (omega arith) c.at_read;
         };
         follows = record {
           last = f.is;
@@ -323,14 +339,18 @@ hit_from g b store some =
     let o = origin (GoesOn g b) (Exposes g b some.elements) Never f.last f.comes in
     record {
       read = o.first;
-      hits = record { elements = some.elements; hits = record { exposes = o.is; follows = record { last = f.last; comes = o.comes; goes = f.goes }; writes = some.hit.writes } };
+      hits = record {
+        elements = some.elements;
+        hits = record { exposes = o.is; follows = record { last = f.last; comes = o.comes; goes = f.goes }; writes = some.hit.writes };
+      };
     }
 
 pub hit_to : (g : Graph) (b : Boundaries) (read store : ℕ) → HitsAny g b read store → IsHitSome g b store
 hit_to g b read store any =
     let h = any.hits in
     let f = h.follows in
-    let more = from_more (GoesOn g b) (λ n. n ≡ read) (Exposes g b any.elements) Never (λ n e. subst (λ (k : ℕ). Exposes g b any.elements k) (sym e) h.exposes) f.last f.comes in
+    let more = from_more (GoesOn g b) (λ n. n ≡ read) (Exposes g b any.elements) Never (λ n e. subst (λ (k : ℕ). Exposes g b any.elements k) (sym e) h.exposes)
+    f.last f.comes in
     record { elements = any.elements; hit = record { follows = record { last = f.last; comes = more; goes = f.goes }; writes = h.writes } }
 
 -- ---- No conflict
@@ -351,7 +371,8 @@ one_written x v w e e' = let both : Some v ≡ Some w = sym e ∙ e' in cc
 one_node : (g : Graph) (n m : ℕ) (x y : Node) → n ≡ m → NodeAt g n x → NodeAt g m y → x ≡ y
 one_node g n m x y e at at' = let both : Some x ≡ Some y = sym at ∙ ap (λ k. slice_get g.nodes k) e ∙ at' in cc
 
-written_at : (g : Graph) (path : List ℕ) (elements : Location) (k n : ℕ) (x : Node) (writes : Option Location) → slice_get path k ≡ Some n → NodeAt g n x → x.writes ≡ writes →
+written_at : (g : Graph) (path : List ℕ) (elements : Location) (k n : ℕ) (x : Node) (writes : Option Location) → slice_get path k ≡ Some n → NodeAt g n x →
+    x.writes ≡ writes →
     WritesThere g path elements k ⊎ ¬ (WritesThere g path elements k)
 written_at g path elements k n x None there at e = inr (λ w.
     let own = some_same w.writes.node n (sym w.writes.there ∙ there) in
@@ -384,7 +405,8 @@ written_or_not g path elements zero = inr (λ w. omega (arith, w.before))
 written_or_not g path elements (suc i) = elim (written_there g path elements i) [
   | inl here ↦ inl (record { earlier = i; written = here.written; before = omega arith; writes = here.writes; is = here.is })
   | inr not_here ↦ elim (written_or_not g path elements i) [
-    | inl before ↦ inl (record { earlier = before.earlier; written = before.written; before = omega (arith, before.before); writes = before.writes; is = before.is })
+    | inl before ↦
+        inl (record { earlier = before.earlier; written = before.written; before = omega (arith, before.before); writes = before.writes; is = before.is })
     | inr none ↦ inr (λ w. elim (same_or_other w.earlier i) [
       | inl e ↦ not_here (record { written = w.written; writes = subst (λ (k : ℕ). WritesAt g path k w.written) e w.writes; is = w.is })
       | inr other ↦ none (record { earlier = w.earlier; written = w.written; before = omega (arith, w.before); writes = w.writes; is = w.is })

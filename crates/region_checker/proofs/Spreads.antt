@@ -41,14 +41,16 @@ pass_none ways stops marks = record {
   fewer = λ e. cc;
 }
 
-pass_most : (ways : List Way) (stops : List Bool) (until : ℕ) (before after : List Bool) (grows : Bool) → Passes ways stops until before after grows → unmarked after ≤ unmarked before
+pass_most : (ways : List Way) (stops : List Bool) (until : ℕ) (before after : List Bool) (grows : Bool) → Passes ways stops until before after grows →
+    unmarked after ≤ unmarked before
 pass_most ways stops until before after true p = omega (arith, p.fewer refl)
 pass_most ways stops until before after false p = omega (arith, ap unmarked (p.same refl))
 
 way_same : (ways : List Way) (n m : ℕ) (x y : Way) → m ≡ n → slice_get ways n ≡ Some x → slice_get ways m ≡ Some y → y ≡ x
 way_same ways n m x y e at at' = let both : Some y ≡ Some x = sym at' ∙ ap (λ k. slice_get ways k) e ∙ at in cc
 
-pub marks_beyond : (ways : List Way) (stops : List Bool) (n : ℕ) (way : Way) (before after : List Bool) (grows : Bool) → slice_get ways n ≡ Some way → IsMarked before n → ¬ (IsMarked stops n) →
+pub marks_beyond : (ways : List Way) (stops : List Bool) (n : ℕ) (way : Way) (before after : List Bool) (grows : Bool) → slice_get ways n ≡ Some way →
+    IsMarked before n → ¬ (IsMarked stops n) →
     Marks (IsOn way) before after grows → Marks (IsBeyond ways stops before n) before after grows
 marks_beyond ways stops n way before after grows at here free m = record {
   long = m.long;
@@ -82,7 +84,10 @@ pass_step ways stops n before now after grows step grown p m neither either = re
       let marked_now : IsMarked now from = subst (λ (ms : List Bool). IsMarked ms from) still marked in
       let within_now : to < length now = omega (arith, within, m.long) in
       elim (same_or_other from n) [
-        | inl e ↦ (m.has to).1 (inr (within_now, subst (λ (k : ℕ). IsBeyond ways stops now k to) e (record { marked = marked_now; free = stays; leads = leads })))
+        | inl e ↦ (m.has to).1 (inr (
+          within_now,
+          subst (λ (k : ℕ). IsBeyond ways stops now k to) e (record { marked = marked_now; free = stays; leads = leads }),
+        ))
         | inr other ↦ (m.has to).1 (inl (p.closed (neither no).0 from to (omega (arith, lt)) marked_now stays leads within_now))
       ];
   fewer = λ t. elim (either t) [
@@ -113,7 +118,8 @@ pub record Reached (ways : List Way) (stops start marks : List Bool) : Type 0 wh
 pub reached_first : (ways : List Way) (stops start : List Bool) → Reached ways stops start start
 reached_first ways stops start = record { long = refl; sound = λ n m. starts n m; keeps = λ n m. m }
 
-pub reached_more : (ways : List Way) (stops start before after : List Bool) (until : ℕ) (grows : Bool) → Reached ways stops start before → Passes ways stops until before after grows → Reached ways stops start after
+pub reached_more : (ways : List Way) (stops start before after : List Bool) (until : ℕ) (grows : Bool) → Reached ways stops start before →
+    Passes ways stops until before after grows → Reached ways stops start after
 reached_more ways stops start before after until grows r p = record {
   long = p.long ∙ r.long;
   sound = p.sound start r.sound;
@@ -128,7 +134,8 @@ complete ways stops start marks long r closed n lt (goes_on from k leads free a)
     let here = slice_get_within ways from leads.way leads.at in
     closed from k here (complete ways stops start marks long r closed from (omega (arith, here, long)) a) free leads lt
 
-pub reached_all : (ways : List Way) (stops start before after : List Bool) (grows : Bool) → length ways ≡ length start → grows ≡ false → Reached ways stops start before →
+pub reached_all : (ways : List Way) (stops start before after : List Bool) (grows : Bool) → length ways ≡ length start → grows ≡ false →
+    Reached ways stops start before →
     Passes ways stops (length ways) before after grows → AreSpread ways stops start after
 reached_all ways stops start before after grows count off r p n =
     let now = reached_more ways stops start before after (length ways) grows r p in (

@@ -9,7 +9,7 @@ use crate::error::CheckError;
 use flow_graph::cuts::Cuts;
 use flow_graph::graph::{Action, Graph, Node};
 
-// Whether a boundary stands at the node.
+/// Whether a boundary stands at the node.
 fn stands(flags: &[bool], node: usize) -> bool
     ensures { IsTrue result ↔ (slice_get flags.now node ≡ Some true) }
 {
@@ -54,23 +54,25 @@ pub(crate) fn has_behind(graph: &Graph, cuts: &Cuts, number: usize) -> bool
     }
 }
 
-// Whether the node takes a mutex and no boundary stands behind it.
+/// Whether the node takes a mutex and no boundary stands behind it.
 fn lacks_behind(graph: &Graph, cuts: &Cuts, number: usize) -> bool
     requires { number < length graph.now.nodes.items }
-    ensures { MatchBool result (LacksBehind (graph_of graph.now) (boundaries_of cuts.now) number) (¬ (LacksBehind (graph_of graph.now) (boundaries_of cuts.now) number)) }
+    ensures { MatchBool result (LacksBehind (graph_of graph.now) (boundaries_of cuts.now) number)
+        (¬ (LacksBehind (graph_of graph.now) (boundaries_of cuts.now) number)) }
 {
     is_lock(&graph.nodes[number]) && !stands(&cuts.after_lock, number)
 }
 
-// Whether the node gives a mutex back and no boundary stands before it.
+/// Whether the node gives a mutex back and no boundary stands before it.
 fn lacks_before(graph: &Graph, cuts: &Cuts, number: usize) -> bool
     requires { number < length graph.now.nodes.items }
-    ensures { MatchBool result (LacksBefore (graph_of graph.now) (boundaries_of cuts.now) number) (¬ (LacksBefore (graph_of graph.now) (boundaries_of cuts.now) number)) }
+    ensures { MatchBool result (LacksBefore (graph_of graph.now) (boundaries_of cuts.now) number)
+        (¬ (LacksBefore (graph_of graph.now) (boundaries_of cuts.now) number)) }
 {
     is_unlock(&graph.nodes[number]) && !stands(&cuts.before, number)
 }
 
-// The boundary that the node lacks.
+/// The boundary that the node lacks.
 fn missing_at(graph: &Graph, cuts: &Cuts, number: usize) -> Option<CheckError>
     requires { number < length graph.now.nodes.items }
     ensures { Misses (graph_of graph.now) (boundaries_of cuts.now) number result }

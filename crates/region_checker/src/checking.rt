@@ -11,7 +11,7 @@ use crate::error::{CheckError, Idempotent};
 use crate::ways::regions_of;
 use flow_graph::cuts::Cuts;
 use flow_graph::graph::Graph;
-use ido_base::memory::Memory;
+use ido_base::memory::OutOfMemory;
 use std::alloc::Global;
 
 /// A node that reads what another one overwrites in the same region.
@@ -21,7 +21,7 @@ struct Conflict {
     store: usize,
 }
 
-// The conflict of the store with the read.
+/// The conflict of the store with the read.
 fn with_read(store: usize, read: Option<usize>) -> Option<Conflict>
     ensures { result ≡ with_read store read }
 {
@@ -31,8 +31,12 @@ fn with_read(store: usize, read: Option<usize>) -> Option<Conflict>
     }
 }
 
-// The first conflict.
-fn first_conflict(alloc: Global, graph: &Graph, cuts: &Cuts) -> Result<Option<Conflict>, Memory>
+/// The first conflict.
+fn first_conflict(
+    alloc: Global,
+    graph: &Graph,
+    cuts: &Cuts,
+) -> Result<Option<Conflict>, OutOfMemory>
     ensures { IfOk result (IsFirstFound (graph_of graph.now) (boundaries_of cuts.now)) }
 {
     let regions = regions_of(alloc, graph, cuts)?;

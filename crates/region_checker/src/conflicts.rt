@@ -3,7 +3,8 @@ ghost use Rattle.std.specs.Prelude.{◌≡◌, ◌↔◌, ◌<◌, ℕ, length, 
 ghost use Rattle.flow_graph.specs.Nodes.{graph_of};
 ghost use Rattle.flow_graph.specs.Cutting.{Boundaries};
 ghost use Rattle.region_checker.specs.links.Spreading.{IsOn};
-ghost use Rattle.region_checker.specs.links.Hitting.{AreFitting, ForRegions, WritesOver, IsOver, IsHit, IsHitSome, ExposesOver, IsExposedAt, Follows, HitsAny, IsBehind, IsBehindAt, IsLeastOf, lesser};
+ghost use Rattle.region_checker.specs.links.Hitting.{AreFitting, ForRegions, WritesOver, IsOver, IsHit, IsHitSome, ExposesOver};
+ghost use Rattle.region_checker.specs.links.Hitting.{IsExposedAt, Follows, HitsAny, IsBehind, IsBehindAt, IsLeastOf, lesser};
 
 use crate::exposure::{exposed, none, unwritten};
 use crate::locations::{all_read, writes_over};
@@ -11,10 +12,10 @@ use crate::marks::{mark, spread};
 use crate::ways::{Regions, Way};
 use flow_graph::graph::Graph;
 use ido_base::location::Location;
-use ido_base::memory::Memory;
+use ido_base::memory::OutOfMemory;
 use std::alloc::Global;
 
-// Whether the node may write one of these elements.
+/// Whether the node may write one of these elements.
 fn is_over(graph: &Graph, number: usize, location: Location) -> bool
     ensures { IsTrue result ↔ WritesOver (graph_of graph.now) location number }
 {
@@ -24,7 +25,7 @@ fn is_over(graph: &Graph, number: usize, location: Location) -> bool
     }
 }
 
-// The node, if there is that one and it may write one of these elements.
+/// The node, if there is that one and it may write one of these elements.
 fn over(graph: &Graph, node: Option<usize>, location: Location) -> Option<usize>
     ensures { IsLeastOf (IsOver (graph_of graph.now) location (λ k. node ≡ Some k)) result }
 {
@@ -40,7 +41,7 @@ fn over(graph: &Graph, node: Option<usize>, location: Location) -> Option<usize>
     }
 }
 
-// The lesser one, if any.
+/// The lesser one, if any.
 fn earlier(one: Option<usize>, other: Option<usize>) -> Option<usize>
     ensures { result ≡ lesser one other }
 {
@@ -51,7 +52,7 @@ fn earlier(one: Option<usize>, other: Option<usize>) -> Option<usize>
     }
 }
 
-// The first node behind this way that may write one of these elements.
+/// The first node behind this way that may write one of these elements.
 fn first_on(graph: &Graph, way: &Way, location: Location) -> Option<usize>
     ensures { IsLeastOf (IsOver (graph_of graph.now) location (IsOn way.now)) result }
 {
@@ -61,7 +62,7 @@ fn first_on(graph: &Graph, way: &Way, location: Location) -> Option<usize>
     )
 }
 
-// The first node behind the one of this number, if it is marked, that may write one of these elements.
+/// The first node behind the one of this number, if it is marked, that may write one of these elements.
 fn first_from(
     graph: &Graph,
     ways: &[Way],
@@ -80,7 +81,7 @@ fn first_from(
     }
 }
 
-// The first node behind a marked one that may write one of these elements.
+/// The first node behind a marked one that may write one of these elements.
 fn first_behind(graph: &Graph, ways: &[Way], marks: &[bool], location: Location) -> Option<usize>
     requires { length marks.now ≡ length ways.now }
     ensures { IsLeastOf (IsOver (graph_of graph.now) location (IsBehind ways.now marks.now)) result }
@@ -92,13 +93,13 @@ fn first_behind(graph: &Graph, ways: &[Way], marks: &[bool], location: Location)
     first
 }
 
-// The first store over this location, if it was read before in its region.
+/// The first store over this location, if it was read before in its region.
 fn first_hit(
     alloc: Global,
     graph: &Graph,
     regions: &Regions,
     location: Location,
-) -> Result<Option<usize>, Memory>
+) -> Result<Option<usize>, OutOfMemory>
     requires { AreFitting graph.now.nodes.items regions.now }
     ensures { IfOk result (λ store. ForRegions (graph_of graph.now) regions.now (λ b. IsLeastOf (IsHit (graph_of graph.now) b location) store)) }
 {
@@ -111,7 +112,7 @@ pub(crate) fn first_store(
     alloc: Global,
     graph: &Graph,
     regions: &Regions,
-) -> Result<Option<usize>, Memory>
+) -> Result<Option<usize>, OutOfMemory>
     requires { AreFitting graph.now.nodes.items regions.now }
     ensures { IfOk result (λ store. ForRegions (graph_of graph.now) regions.now (λ b. IsLeastOf (IsHitSome (graph_of graph.now) b) store)) }
 {
@@ -123,14 +124,14 @@ pub(crate) fn first_store(
     Ok(first)
 }
 
-// Whether the way leads to the node.
+/// Whether the way leads to the node.
 fn leads_to(way: &Way, node: usize) -> bool
     ensures { IsTrue result ↔ IsOn way.now node }
 {
     way.next == Some(node) || way.other == Some(node)
 }
 
-// Whether a way leads from a marked node to that one.
+/// Whether a way leads from a marked node to that one.
 fn is_behind(ways: &[Way], marks: &[bool], node: usize) -> bool
     requires { length marks.now ≡ length ways.now }
     ensures { IsTrue result ↔ IsBehind ways.now marks.now node }
@@ -143,14 +144,14 @@ fn is_behind(ways: &[Way], marks: &[bool], node: usize) -> bool
     false
 }
 
-// Whether a region leads from the one node to the other.
+/// Whether a region leads from the one node to the other.
 fn follows(
     alloc: Global,
     graph: &Graph,
     regions: &Regions,
     read: usize,
     store: usize,
-) -> Result<bool, Memory>
+) -> Result<bool, OutOfMemory>
     requires fit { AreFitting graph.now.nodes.items regions.now }
     requires exists { read < length graph.now.nodes.items }
     ensures { IfOk result (λ yes. ForRegions (graph_of graph.now) regions.now (λ b. IsTrue yes ↔ Follows (graph_of graph.now) b (λ n. n ≡ read) store)) }
@@ -162,7 +163,7 @@ fn follows(
     Ok(is_behind(&regions.ways, &followed, store))
 }
 
-// Whether a region leads to the one node in which the location wasn't written, and the other node may write over it.
+/// Whether a region leads to the one node in which the location wasn't written, and the other node may write over it.
 fn exposes_at(
     alloc: Global,
     graph: &Graph,
@@ -170,7 +171,7 @@ fn exposes_at(
     read: usize,
     store: usize,
     location: Location,
-) -> Result<bool, Memory>
+) -> Result<bool, OutOfMemory>
     requires fit { AreFitting graph.now.nodes.items regions.now }
     requires exists { read < length graph.now.nodes.items }
     ensures { IfOk result (λ yes. ForRegions (graph_of graph.now) regions.now (λ b. IsTrue yes ↔ IsExposedAt (graph_of graph.now) b read store location)) }
@@ -182,14 +183,14 @@ fn exposes_at(
     Ok(marks[read])
 }
 
-// Whether the one node reads elements that the other may write over, and in a region that leads to it they weren't written before.
+/// Whether the one node reads elements that the other may write over, and in a region that leads to it they weren't written before.
 fn exposes_over(
     alloc: Global,
     graph: &Graph,
     regions: &Regions,
     read: usize,
     store: usize,
-) -> Result<bool, Memory>
+) -> Result<bool, OutOfMemory>
     requires fit { AreFitting graph.now.nodes.items regions.now }
     requires exists { read < length graph.now.nodes.items }
     ensures { IfOk result (λ yes. ForRegions (graph_of graph.now) regions.now (λ b. IsTrue yes ↔ ExposesOver (graph_of graph.now) b read store)) }
@@ -202,14 +203,14 @@ fn exposes_over(
     Ok(false)
 }
 
-// Whether the one node reads what the other overwrites in the same region.
+/// Whether the one node reads what the other overwrites in the same region.
 fn conflict(
     alloc: Global,
     graph: &Graph,
     regions: &Regions,
     read: usize,
     store: usize,
-) -> Result<bool, Memory>
+) -> Result<bool, OutOfMemory>
     requires fit { AreFitting graph.now.nodes.items regions.now }
     requires exists { read < length graph.now.nodes.items }
     ensures { IfOk result (λ yes. ForRegions (graph_of graph.now) regions.now (λ b. IsTrue yes ↔ HitsAny (graph_of graph.now) b read store)) }
@@ -226,7 +227,7 @@ pub(crate) fn first_read(
     graph: &Graph,
     regions: &Regions,
     store: usize,
-) -> Result<Option<usize>, Memory>
+) -> Result<Option<usize>, OutOfMemory>
     requires { AreFitting graph.now.nodes.items regions.now }
     ensures { IfOk result (λ read. ForRegions (graph_of graph.now) regions.now (λ b. IsLeastOf (λ n. HitsAny (graph_of graph.now) b n store) read)) }
 {

@@ -1,7 +1,7 @@
 //! What cuts are found to be.
 ghost use Rattle.std.specs.Prelude.{◌≡◌};
 
-use ido_base::memory::Memory;
+use ido_base::memory::OutOfMemory;
 use thiserror::Error;
 
 /// The cuts are right: boundaries stand behind each lock and before each unlock, and each region may be run again.
@@ -25,12 +25,12 @@ pub enum CheckError {
     Memory,
 }
 
-impl From<Memory> for CheckError {
+impl From<OutOfMemory> for CheckError {
     ghost use Rattle.region_checker.specs.declared.error.CheckError.TheVariants.{Memory as Unremembered};
 
     ghost from_gives = { λ _ e. e ≡ Unremembered };
 
-    fn from(_: Memory) -> Self {
+    fn from(_: OutOfMemory) -> Self {
         CheckError::Memory
     }
 }

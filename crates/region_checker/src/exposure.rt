@@ -10,11 +10,11 @@ use crate::marks::spread;
 use crate::ways::Regions;
 use flow_graph::graph::{Graph, Node};
 use ido_base::location::Location;
-use ido_base::memory::Memory;
+use ido_base::memory::OutOfMemory;
 use std::alloc::Global;
 
-// Of each node whether it writes this very element.
-fn stops(alloc: Global, nodes: &[Node], location: Location) -> Result<Vec<bool>, Memory>
+/// Of each node whether it writes this very element.
+fn stops(alloc: Global, nodes: &[Node], location: Location) -> Result<Vec<bool>, OutOfMemory>
     ensures { IfOk result (λ v. v.items ≡ stops_of location nodes.now) }
 {
     Ok(
@@ -31,7 +31,7 @@ pub(crate) fn unwritten(
     graph: &Graph,
     regions: &Regions,
     location: Location,
-) -> Result<Vec<bool>, Memory>
+) -> Result<Vec<bool>, OutOfMemory>
     requires { AreFitting graph.now.nodes.items regions.now }
     ensures unwritten { IfOk result (λ v. ForRegions (graph_of graph.now) regions.now (λ b. AreUnwritten (graph_of graph.now) b location v.items)) }
     ensures long { IfOk result (λ v. length v.items ≡ length graph.now.nodes.items) }
@@ -41,7 +41,7 @@ pub(crate) fn unwritten(
     Ok(spread(begins, &regions.ways, &stops))
 }
 
-// Whether the node is marked and reads the location.
+/// Whether the node is marked and reads the location.
 fn is_read(nodes: &[Node], marks: &[bool], number: usize, location: Location) -> bool
     requires exists { number < length nodes.now }
     requires long { length marks.now ≡ length nodes.now }
@@ -50,13 +50,13 @@ fn is_read(nodes: &[Node], marks: &[bool], number: usize, location: Location) ->
     marks[number] && reads(&nodes[number], location)
 }
 
-// Of each node whether it is marked and reads the location.
+/// Of each node whether it is marked and reads the location.
 fn read_at(
     alloc: Global,
     nodes: &[Node],
     marks: &[bool],
     location: Location,
-) -> Result<Vec<bool>, Memory>
+) -> Result<Vec<bool>, OutOfMemory>
     requires { length marks.now ≡ length nodes.now }
     ensures { IfOk result (λ v. AreReadAt nodes.now marks.now location v.items) }
 {
@@ -68,7 +68,7 @@ fn read_at(
 }
 
 /// No node is marked.
-pub(crate) fn none(alloc: Global, graph: &Graph) -> Result<Vec<bool>, Memory>
+pub(crate) fn none(alloc: Global, graph: &Graph) -> Result<Vec<bool>, OutOfMemory>
     ensures { IfOk result (λ v. v.items ≡ replicate (length graph.now.nodes.items) false) }
 {
     Ok(vec![in alloc; false; graph.nodes.len()]?)
@@ -80,7 +80,7 @@ pub(crate) fn exposed(
     graph: &Graph,
     regions: &Regions,
     location: Location,
-) -> Result<Vec<bool>, Memory>
+) -> Result<Vec<bool>, OutOfMemory>
     requires { AreFitting graph.now.nodes.items regions.now }
     ensures exposed { IfOk result (λ v. ForRegions (graph_of graph.now) regions.now (λ b. AreExposed (graph_of graph.now) b location v.items)) }
     ensures long { IfOk result (λ v. length v.items ≡ length graph.now.nodes.items) }

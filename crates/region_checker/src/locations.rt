@@ -7,17 +7,17 @@ ghost use Rattle.ido_base.specs.declared.location.Location.{Location};
 use flow_alias::{overlap, same};
 use flow_graph::graph::{Graph, Node};
 use ido_base::location::Location;
-use ido_base::memory::Memory;
+use ido_base::memory::OutOfMemory;
 use std::alloc::Global;
 
-// Whether both are the same elements.
+/// Whether both are the same elements.
 fn equal(a: Location, b: Location) -> bool
     ensures { IsTrue result ↔ (a ≡ b) }
 {
     a.variable == b.variable && a.lo == b.lo && a.hi == b.hi
 }
 
-// Whether the location is among these.
+/// Whether the location is among these.
 fn is_among(locations: &[Location], location: Location) -> bool
     ensures { IsTrue result ↔ Contains locations.now location }
 {
@@ -56,8 +56,8 @@ pub(crate) fn writes_same(node: &Node, location: Location) -> bool
     }
 }
 
-// Adds the location, if it isn't there.
-fn add(locations: &mut Vec<Location>, location: Location) -> Result<(), Memory>
+/// Adds the location, if it isn't there.
+fn add(locations: &mut Vec<Location>, location: Location) -> Result<(), OutOfMemory>
     ensures { IfOk result (λ _. IsAdded locations.old.items locations.new.items location) }
 {
     if is_among(locations, location) {
@@ -67,8 +67,8 @@ fn add(locations: &mut Vec<Location>, location: Location) -> Result<(), Memory>
     Ok(())
 }
 
-// Adds the locations that are read to those that are there.
-fn add_read(locations: &mut Vec<Location>, reads: &[Location]) -> Result<(), Memory>
+/// Adds the locations that are read to those that are there.
+fn add_read(locations: &mut Vec<Location>, reads: &[Location]) -> Result<(), OutOfMemory>
     ensures keeps { IfOk result (λ _. (x : Location) → Contains locations.old.items x → Contains locations.new.items x) }
     ensures adds { IfOk result (λ _. (x : Location) → Contains reads.now x → Contains locations.new.items x) }
 {
@@ -79,7 +79,7 @@ fn add_read(locations: &mut Vec<Location>, reads: &[Location]) -> Result<(), Mem
 }
 
 /// The locations that nodes of the graph read, each once.
-pub(crate) fn all_read(alloc: Global, graph: &Graph) -> Result<Vec<Location>, Memory>
+pub(crate) fn all_read(alloc: Global, graph: &Graph) -> Result<Vec<Location>, OutOfMemory>
     ensures { IfOk result (λ locations. AreAllRead (graph_of graph.now) locations.items) }
 {
     let mut locations = Vec::new(alloc);

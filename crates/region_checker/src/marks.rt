@@ -21,7 +21,7 @@ pub(crate) fn mark(marks: &mut [bool], node: Option<usize>) -> bool
     }
 }
 
-// Marks the nodes to which the ways lead. Whether any mark is new.
+/// Marks the nodes to which the ways lead. Whether any mark is new.
 fn mark_behind(marks: &mut [bool], way: &Way) -> bool
     ensures { Marks (IsOn way.now) marks.old marks.new result }
 {
@@ -30,7 +30,7 @@ fn mark_behind(marks: &mut [bool], way: &Way) -> bool
     next || other
 }
 
-// Marks the nodes behind the one of this number, if it is marked and doesn't stop it. Whether any mark is new.
+/// Marks the nodes behind the one of this number, if it is marked and doesn't stop it. Whether any mark is new.
 fn mark_from(marks: &mut [bool], ways: &[Way], stops: &[bool], number: usize) -> bool
     requires exists { number < length ways.now }
     requires ways { length ways.now ≡ length marks.old }
@@ -43,7 +43,7 @@ fn mark_from(marks: &mut [bool], ways: &[Way], stops: &[bool], number: usize) ->
     mark_behind(marks, &ways[number])
 }
 
-// Marks the nodes behind each marked one that doesn't stop it, from the first node to the last. Whether any mark is new.
+/// Marks the nodes behind each marked one that doesn't stop it, from the first node to the last. Whether any mark is new.
 fn spread_once(marks: &mut [bool], ways: &[Way], stops: &[bool]) -> bool
     requires ways { length ways.now ≡ length marks.old }
     requires stops { length stops.now ≡ length marks.old }

@@ -9,7 +9,7 @@ use crate::boundaries::{has_before, has_behind};
 use crate::marks::mark;
 use flow_graph::cuts::Cuts;
 use flow_graph::graph::Graph;
-use ido_base::memory::Memory;
+use ido_base::memory::OutOfMemory;
 use std::alloc::Global;
 
 /// The nodes behind a node to which no boundary leads.
@@ -26,7 +26,7 @@ pub(crate) struct Regions {
     pub(crate) begins: Vec<bool>,
 }
 
-// The node, if no boundary stands before it.
+/// The node, if no boundary stands before it.
 fn inside(cuts: &Cuts, to: Option<usize>) -> Option<usize>
     ensures { (node : ℕ) → (result ≡ Some node) ↔ ((to ≡ Some node) × ¬ (HasBefore (boundaries_of cuts.now) node)) }
 {
@@ -42,7 +42,7 @@ fn inside(cuts: &Cuts, to: Option<usize>) -> Option<usize>
     }
 }
 
-// The ways of a node.
+/// The ways of a node.
 fn ways_of(graph: &Graph, cuts: &Cuts, number: usize) -> Way
     requires { number < length graph.now.nodes.items }
     ensures { (to : ℕ) → IsOn result to ↔ GoesOn (graph_of graph.now) (boundaries_of cuts.now) number to }
@@ -61,8 +61,8 @@ fn ways_of(graph: &Graph, cuts: &Cuts, number: usize) -> Way
     }
 }
 
-// The ways of all nodes.
-fn ways(alloc: Global, graph: &Graph, cuts: &Cuts) -> Result<Vec<Way>, Memory>
+/// The ways of all nodes.
+fn ways(alloc: Global, graph: &Graph, cuts: &Cuts) -> Result<Vec<Way>, OutOfMemory>
     ensures { IfOk result (λ ways. AreWays (graph_of graph.now) (boundaries_of cuts.now) ways.items) }
 {
     let mut ways = Vec::with_capacity(alloc, graph.nodes.len())?;
@@ -72,7 +72,7 @@ fn ways(alloc: Global, graph: &Graph, cuts: &Cuts) -> Result<Vec<Way>, Memory>
     Ok(ways)
 }
 
-// The node, if a boundary stands before it.
+/// The node, if a boundary stands before it.
 fn begun_before(cuts: &Cuts, number: usize) -> Option<usize>
     ensures { (n : ℕ) → (result ≡ Some n) ↔ ((n ≡ number) × HasBefore (boundaries_of cuts.now) n) }
 {
@@ -83,7 +83,7 @@ fn begun_before(cuts: &Cuts, number: usize) -> Option<usize>
     }
 }
 
-// The node behind, if a boundary stands between.
+/// The node behind, if a boundary stands between.
 fn begun_behind(graph: &Graph, cuts: &Cuts, number: usize) -> Option<usize>
     requires { number < length graph.now.nodes.items }
     ensures { (n : ℕ) → (result ≡ Some n) ↔ (HasBehind (graph_of graph.now) (boundaries_of cuts.now) number × IsEdge (graph_of graph.now) number n) }
@@ -95,7 +95,7 @@ fn begun_behind(graph: &Graph, cuts: &Cuts, number: usize) -> Option<usize>
     }
 }
 
-// Marks the nodes where regions begin.
+/// Marks the nodes where regions begin.
 fn mark_begins(begins: &mut [bool], graph: &Graph, cuts: &Cuts)
     requires none { (n : ℕ) → ¬ (IsMarked begins.old n) }
     requires long { length begins.old ≡ length graph.now.nodes.items }
@@ -107,8 +107,8 @@ fn mark_begins(begins: &mut [bool], graph: &Graph, cuts: &Cuts)
     }
 }
 
-// Of each node whether a region begins there.
-fn begins(alloc: Global, graph: &Graph, cuts: &Cuts) -> Result<Vec<bool>, Memory>
+/// Of each node whether a region begins there.
+fn begins(alloc: Global, graph: &Graph, cuts: &Cuts) -> Result<Vec<bool>, OutOfMemory>
     ensures { IfOk result (λ begins. AreBegun (graph_of graph.now) (boundaries_of cuts.now) begins.items) }
 {
     let mut begins = vec![in alloc; false; graph.nodes.len()]?;
@@ -117,7 +117,7 @@ fn begins(alloc: Global, graph: &Graph, cuts: &Cuts) -> Result<Vec<bool>, Memory
 }
 
 /// The regions of the graph between its boundaries.
-pub(crate) fn regions_of(alloc: Global, graph: &Graph, cuts: &Cuts) -> Result<Regions, Memory>
+pub(crate) fn regions_of(alloc: Global, graph: &Graph, cuts: &Cuts) -> Result<Regions, OutOfMemory>
     ensures are { IfOk result (λ r. AreRegions (graph_of graph.now) (boundaries_of cuts.now) r.ways.items r.begins.items) }
     ensures fit { IfOk result (λ r. AreFitting graph.now.nodes.items r) }
 {

@@ -207,13 +207,13 @@ over_at g b elements path (goes_on x to rest edge free inside) (suc i) (suc j) n
 -- ---- Paths that pass the node
 
 -- the path up to a position passes no boundary that stood before either
-record Front (g : Graph) (b : Boundaries) (path : List ℕ) (j : ℕ) : Type 0 where
-  pub front : List ℕ
-  pub inside : IsInside g b front
-  pub same : (k : ℕ) → k ≤ j → slice_get front k ≡ slice_get path k
+record Prefix (g : Graph) (b : Boundaries) (path : List ℕ) (j : ℕ) : Type 0 where
+  pub prefix : List ℕ
+  pub inside : IsInside g b prefix
+  pub same : (k : ℕ) → k ≤ j → slice_get prefix k ≡ slice_get path k
   pub first : ℕ
   pub rest : List ℕ
-  pub is : front ≡ first ∷ rest
+  pub is : prefix ≡ first ∷ rest
 
 -- the path comes to the node no later than there
 record Passed (path : List ℕ) (n j : ℕ) : Type 0 where
@@ -230,29 +230,29 @@ first_within g b path (goes_on x to rest edge free inside) (suc j) from node fir
     (let e : x ≡ from = cc in let w = slice_get_within g.nodes x edge.is edge.at in omega (arith, w, e))
 
 -- a path of which one node is in the window begins there
-window_back : (g : Graph) (b : Boundaries) (m : ℕ) (w : Window) → IsWindow g b m w → (path : List ℕ) → IsInside g b path → (k from n : ℕ) →
+window_suffix : (g : Graph) (b : Boundaries) (m : ℕ) (w : Window) → IsWindow g b m w → (path : List ℕ) → IsInside g b path → (k from n : ℕ) →
     slice_get path 0 ≡ Some from → slice_get path k ≡ Some n → n < length g.nodes →
     IsIn w n → IsIn w from
-window_back g b m w h path inside zero from n first at lt has =
+window_suffix g b m w h path inside zero from n first at lt has =
     (let both : Some n ≡ Some from = sym at ∙ first in let e : n ≡ from = cc in subst (λ (l : ℕ). IsIn w l) e has)
-window_back g b m w h path (stays x) (suc k) from n first at lt has = absurd (cc)
-window_back g b m w h path (goes_on x to rest edge free inside) (suc k) from n first at lt has =
+window_suffix g b m w h path (stays x) (suc k) from n first at lt has = absurd (cc)
+window_suffix g b m w h path (goes_on x to rest edge free inside) (suc k) from n first at lt has =
     let e : x ≡ from = cc in
     let near = first_within g b (to ∷ rest) inside k to n refl at lt in
-    let next = window_back g b m w h (to ∷ rest) inside k to n refl at lt has in
+    let next = window_suffix g b m w h (to ∷ rest) inside k to n refl at lt has in
     subst (λ (l : ℕ). IsIn w l) e ((h.closed x to (record { edge = edge; free = free }) near).1 next)
 
 -- and one that begins there stays there
-window_front : (g : Graph) (b : Boundaries) (m : ℕ) (w : Window) → IsWindow g b m w → (path : List ℕ) → IsInside g b path → (k from n : ℕ) →
+window_prefix : (g : Graph) (b : Boundaries) (m : ℕ) (w : Window) → IsWindow g b m w → (path : List ℕ) → IsInside g b path → (k from n : ℕ) →
     slice_get path 0 ≡ Some from → slice_get path k ≡ Some n → n < length g.nodes →
     IsIn w from → IsIn w n
-window_front g b m w h path inside zero from n first at lt has =
+window_prefix g b m w h path inside zero from n first at lt has =
     (let both : Some from ≡ Some n = sym first ∙ at in let e : from ≡ n = cc in subst (λ (l : ℕ). IsIn w l) e has)
-window_front g b m w h path (stays x) (suc k) from n first at lt has = absurd (cc)
-window_front g b m w h path (goes_on x to rest edge free inside) (suc k) from n first at lt has =
+window_prefix g b m w h path (stays x) (suc k) from n first at lt has = absurd (cc)
+window_prefix g b m w h path (goes_on x to rest edge free inside) (suc k) from n first at lt has =
     let e : from ≡ x = cc in
     let near = first_within g b (to ∷ rest) inside k to n refl at lt in
-    window_front g b m w h (to ∷ rest) inside k to n refl at lt
+    window_prefix g b m w h (to ∷ rest) inside k to n refl at lt
     ((h.closed x to (record { edge = edge; free = free }) near).0 (subst (λ (l : ℕ). IsIn w l) e has))
 
 ahead : (g : Graph) (b : Boundaries) (n : ℕ) (seen : List Bool) → AreAhead g b n seen → (path : List ℕ) → IsInside g b path → (j from node : ℕ) →
@@ -271,46 +271,46 @@ inside_before : (g : Graph) (b : Boundaries) (n from to : ℕ) → (to ≡ n →
 inside_before g b n from to other free (inl behind) = free (inl (record { locks = behind.locks; stands = behind.stands }))
 inside_before g b n from to other free (inr has) = free (inr (get_set_other b.before n to false other ∙ has))
 
-front_or_ahead : (g : Graph) (b : Boundaries) (n : ℕ) (seen : List Bool) → AreAhead g (without b n) n seen → (path : List ℕ) →
+prefix_or_ahead : (g : Graph) (b : Boundaries) (n : ℕ) (seen : List Bool) → AreAhead g (without b n) n seen → (path : List ℕ) →
     IsInside g (without b n) path → (j node : ℕ) → slice_get path j ≡ Some node → node < length g.nodes →
-    Front g b path j ⊎ (Passed path n j × IsSeen seen node)
-front_or_ahead g b n seen a path (stays x) j node is lt =
-    inl (record { front = x ∷ []; inside = stays x; same = λ k le. refl; first = x; rest = []; is = refl })
-front_or_ahead g b n seen a path (goes_on x to rest edge free inside) zero node is lt =
-    inl (record { front = x ∷ []; inside = stays x; same = λ k le. first_only x to rest k le; first = x; rest = []; is = refl })
+    Prefix g b path j ⊎ (Passed path n j × IsSeen seen node)
+prefix_or_ahead g b n seen a path (stays x) j node is lt =
+    inl (record { prefix = x ∷ []; inside = stays x; same = λ k le. refl; first = x; rest = []; is = refl })
+prefix_or_ahead g b n seen a path (goes_on x to rest edge free inside) zero node is lt =
+    inl (record { prefix = x ∷ []; inside = stays x; same = λ k le. first_only x to rest k le; first = x; rest = []; is = refl })
   where
     first_only : (x to : ℕ) (rest : List ℕ) (k : ℕ) → k ≤ 0 → slice_get (x ∷ []) k ≡ slice_get (x ∷ to ∷ rest) k
     first_only x to rest zero le = refl
     first_only x to rest (suc k) le = absurd (omega arith)
-front_or_ahead g b n seen a path (goes_on x to rest edge free inside) (suc j) node is lt = elim (cases_eq to n) [
+prefix_or_ahead g b n seen a path (goes_on x to rest edge free inside) (suc j) node is lt = elim (cases_eq to n) [
   | inl here ↦ inr (
       let near : to < length g.nodes = first_within g (without b n) (to ∷ rest) inside j to node refl is lt in (
         record { k = 1; before = omega arith; at = ap (λ (l : ℕ). Some l) here },
         ahead g (without b n) n seen a (to ∷ rest) inside j to node refl
             (subst (λ (m : ℕ). IsSeen seen m) (sym here) (a.begun (omega (arith, near, here)))) is lt,
       ))
-  | inr other ↦ elim (front_or_ahead g b n seen a (to ∷ rest) inside j node is lt) [
+  | inr other ↦ elim (prefix_or_ahead g b n seen a (to ∷ rest) inside j node is lt) [
     | inr seen' ↦ inr (record { k = suc seen'.0.k; before = (let le = seen'.0.before in omega (arith, le)); at = seen'.0.at }, seen'.1)
     | inl f ↦ inl (record {
-      front = x ∷ f.front;
+      prefix = x ∷ f.prefix;
       inside =
-          let first : f.first ≡ to = (let at = f.same 0 (omega arith) in let e : slice_get f.front 0 ≡ Some f.first =
+          let first : f.first ≡ to = (let at = f.same 0 (omega arith) in let e : slice_get f.prefix 0 ≡ Some f.first =
           ap (λ (p : List ℕ). slice_get p 0) f.is in let both : Some f.first ≡ Some to = sym e ∙ at in let z : f.first ≡ to = cc in z) in
-          let tail : f.front ≡ to ∷ f.rest = f.is ∙ ap (λ (m : ℕ). m ∷ f.rest) first in
+          let tail : f.prefix ≡ to ∷ f.rest = f.is ∙ ap (λ (m : ℕ). m ∷ f.rest) first in
           subst (λ (p : List ℕ). IsInside g b (x ∷ p)) (sym tail)
           (goes_on x to f.rest edge (inside_before g b n x to other free) (subst (λ (p : List ℕ). IsInside g b p) tail f.inside));
-      same = λ k le. longer x f.front (to ∷ rest) j f.same k le;
+      same = λ k le. longer x f.prefix (to ∷ rest) j f.same k le;
       first = x;
-      rest = f.front;
+      rest = f.prefix;
       is = refl;
     })
   ]
 ]
   where
-    longer : (x : ℕ) (front path : List ℕ) (j : ℕ) → ((k : ℕ) → k ≤ j → slice_get front k ≡ slice_get path k) → (k : ℕ) → k ≤ suc j →
-        slice_get (x ∷ front) k ≡ slice_get (x ∷ path) k
-    longer x front path j same zero le = refl
-    longer x front path j same (suc k) le = same k (omega arith)
+    longer : (x : ℕ) (prefix path : List ℕ) (j : ℕ) → ((k : ℕ) → k ≤ j → slice_get prefix k ≡ slice_get path k) → (k : ℕ) → k ≤ suc j →
+        slice_get (x ∷ prefix) k ≡ slice_get (x ∷ path) k
+    longer x prefix path j same zero le = refl
+    longer x prefix path j same (suc k) le = same k (omega arith)
 
 -- ---- Nothing is exposed
 
@@ -322,11 +322,11 @@ pub none_exposed : (g : Graph) (b : Boundaries) (n : ℕ) (near : Window) (seen 
     AreAhead g (without b n) n seen → AreWritten g near seen writes → IsIdempotent g b →
     ((elements : Location) → IsOverAny writes elements → ¬ (IsExposed g (without b n) near elements)) → IsIdempotent g (without b n)
 none_exposed g b n near seen writes window a are h none from path begins inside i j read written lt reads w over =
-    elim (front_or_ahead g b n seen a (from ∷ path) inside j w.node w.there (slice_get_within g.nodes w.node w.is w.at)) [
+    elim (prefix_or_ahead g b n seen a (from ∷ path) inside j w.node w.there (slice_get_within g.nodes w.node w.is w.at)) [
       | inl f ↦ (
-          let first : f.first ≡ from = (let at = f.same 0 (omega arith) in let e : slice_get f.front 0 ≡ Some f.first =
+          let first : f.first ≡ from = (let at = f.same 0 (omega arith) in let e : slice_get f.prefix 0 ≡ Some f.first =
           ap (λ (p : List ℕ). slice_get p 0) f.is in let both : Some f.first ≡ Some from = sym e ∙ at in let z : f.first ≡ from = cc in z) in
-          let tail : f.front ≡ from ∷ f.rest = f.is ∙ ap (λ (m : ℕ). m ∷ f.rest) first in
+          let tail : f.prefix ≡ from ∷ f.rest = f.is ∙ ap (λ (m : ℕ). m ∷ f.rest) first in
           let same = λ (k : ℕ) (le : k ≤ j). ap (λ (p : List ℕ). slice_get p k) (sym tail) ∙ f.same k le in
           let r = h from f.rest (begins_before g b n from begins) (subst (λ (p : List ℕ). IsInside g b p) tail f.inside) i j read written lt
           (record { node = reads.node; is = reads.is; there = same i (omega arith) ∙ reads.there; at = reads.at; reads = reads.reads })
@@ -349,9 +349,9 @@ none_exposed g b n near seen writes window a are h none from path begins inside 
         | inl before ↦ before
         | inr comes ↦ (
             let has = window.has.below_end in
-            let begin = window_back g (without b n) n near window (from ∷ path) inside ahead'.0.k from n refl ahead'.0.at
+            let begin = window_suffix g (without b n) n near window (from ∷ path) inside ahead'.0.k from n refl ahead'.0.at
             (omega (arith, has, window.within)) window.has in
-            let stays_near = λ (k m : ℕ) (there : slice_get (from ∷ path) k ≡ Some m) (lt' : m < length g.nodes). window_front g (without b n) n near window
+            let stays_near = λ (k m : ℕ) (there : slice_get (from ∷ path) k ≡ Some m) (lt' : m < length g.nodes). window_prefix g (without b n) n near window
             (from ∷ path) inside k from m refl there lt' begin in
             absurd (none read (record {
               written = written;
@@ -375,7 +375,7 @@ pub window_safe : (g : Graph) (b : Boundaries) (n : ℕ) (near : Window) (writes
     ((m : ℕ) (x : Node) (written : Location) → IsIn near m → NodeAt g m x → x.writes ≡ Some written → Contains writes written) →
     ((elements : Location) → IsOverAny writes elements → ¬ (IsExposed g b near elements)) → (from : ℕ) → IsIn near from → IsIdempotentFrom g b from
 window_safe g b n near writes window are none from begin path begins inside i j read written lt reads w over =
-    let stays_near = λ (k m : ℕ) (there : slice_get (from ∷ path) k ≡ Some m) (lt' : m < length g.nodes). window_front g b n near window
+    let stays_near = λ (k m : ℕ) (there : slice_get (from ∷ path) k ≡ Some m) (lt' : m < length g.nodes). window_prefix g b n near window
     (from ∷ path) inside k from m refl there lt' begin in
     elim (unwritten_or g b read (from ∷ path) inside i from reads.node refl reads.there) [
       | inl before ↦ before

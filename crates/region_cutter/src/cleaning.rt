@@ -4,6 +4,7 @@ ghost use Rattle.flow_graph.specs.Nodes.{graph_of, node_of};
 ghost use Rattle.flow_graph.specs.Cutting.{HasBehind, boundaries_of};
 ghost use Rattle.flow_graph.specs.Cleaning.{IsCleanedLater};
 ghost use Rattle.ido_base.specs.Layout.{end_from};
+ghost use Rattle.ido_base.specs.declared.limits.TheConstants.{MOST_VARIABLE_BYTES};
 ghost use Rattle.log_layout.specs.Variables.{are_sizes};
 ghost use Rattle.region_cutter.specs.Places.{WriteElements, WritesAnElement};
 ghost use Rattle.region_cutter.specs.links.Lines.{AreAnswers, AreLines, GoesOnPast, IsCleanedBehind, IsPast, LeadsOver, Leaves, WritesInLine};
@@ -13,18 +14,16 @@ use crate::search::Search;
 use crate::start::locks;
 use flow_graph::cuts::Cuts;
 use flow_graph::graph::{Graph, Node};
+use ido_base::limits::LINE_BYTES;
 use ido_base::location::Shape;
-use ido_base::memory::Memory;
+use ido_base::memory::OutOfMemory;
 use log_layout::variables::var_at;
 use std::alloc::Global;
 
-// Bytes of a line.
-const LINE_BYTES: u64 = 64;
-
-// The line into which the node stores, if it stores into one element that is known.
+/// The line into which the node stores, if it stores into one element that is known.
 fn line_of(shapes: &[Shape], node: &Node) -> Option<u64>
     requires sizes { IsTrue (are_sizes shapes.now) }
-    requires within { end_from 0 shapes.now ≤ 65536 }
+    requires within { end_from 0 shapes.now ≤ MOST_VARIABLE_BYTES }
     requires element { WritesAnElement shapes.now (node_of node.now) }
     ensures { (line : ℕ) → (result ≡ Some line) ↔ WritesInLine shapes.now (node_of node.now) line }
 {
@@ -40,10 +39,10 @@ fn line_of(shapes: &[Shape], node: &Node) -> Option<u64>
     }
 }
 
-// The lines of all nodes.
-fn lines(alloc: Global, graph: &Graph, shapes: &[Shape]) -> Result<Vec<Option<u64>>, Memory>
+/// The lines of all nodes.
+fn lines(alloc: Global, graph: &Graph, shapes: &[Shape]) -> Result<Vec<Option<u64>>, OutOfMemory>
     requires sizes { IsTrue (are_sizes shapes.now) }
-    requires within { end_from 0 shapes.now ≤ 65536 }
+    requires within { end_from 0 shapes.now ≤ MOST_VARIABLE_BYTES }
     requires elements { WriteElements (graph_of graph.now) shapes.now }
     ensures { IfOk result (λ lines. AreLines (graph_of graph.now) shapes.now lines.items) }
 {
@@ -74,7 +73,7 @@ pub(crate) fn has_behind(graph: &Graph, cuts: &Cuts, number: usize, node: &Node)
     takes && stands
 }
 
-// Whether there is that node and a boundary is passed on the way to it: behind the node before it, or before it.
+/// Whether there is that node and a boundary is passed on the way to it: behind the node before it, or before it.
 fn leads_over(cuts: &Cuts, behind: bool, to: Option<usize>) -> bool
     ensures { IsTrue result ↔ LeadsOver (boundaries_of cuts.now) behind to }
 {
@@ -84,7 +83,7 @@ fn leads_over(cuts: &Cuts, behind: bool, to: Option<usize>) -> bool
     }
 }
 
-// Whether a boundary stands right behind the node of this number.
+/// Whether a boundary stands right behind the node of this number.
 fn leaves(graph: &Graph, cuts: &Cuts, number: usize, node: &Node) -> bool
     requires { slice_get graph.now.nodes.items number ≡ Some node.now }
     ensures { IsTrue result ↔ Leaves (graph_of graph.now) (boundaries_of cuts.now) number }
@@ -95,7 +94,7 @@ fn leaves(graph: &Graph, cuts: &Cuts, number: usize, node: &Node) -> bool
     next || other
 }
 
-// The node, unless it stores into the line.
+/// The node, unless it stores into the line.
 fn unless_cleaned(lines: &[Option<u64>], line: u64, to: Option<usize>) -> Option<usize>
     ensures { (node : ℕ) → (result ≡ Some node) ↔ ((to ≡ Some node) × ¬ (slice_get lines.now node ≡ Some (Some line))) }
 {
@@ -108,16 +107,22 @@ fn unless_cleaned(lines: &[Option<u64>], line: u64, to: Option<usize>) -> Option
     }
 }
 
-// Goes on with a search from a node behind which no boundary stands.
-fn go_on(search: &mut Search, lines: &[Option<u64>], line: u64, node: &Node) -> Result<(), Memory>
-    ensures { OnOk result (Follows (IsPast lines.now line (node_of node.now)) search.old.seen.items search.old.waiting.items search.new.seen.items search.new.waiting.items) }
+/// Goes on with a search from a node behind which no boundary stands.
+fn go_on(
+    search: &mut Search,
+    lines: &[Option<u64>],
+    line: u64,
+    node: &Node,
+) -> Result<(), OutOfMemory>
+    ensures { OnOk result (Follows (IsPast lines.now line (node_of node.now)) search.old.seen.items search.old.waiting.items search.new.seen.items
+        search.new.waiting.items) }
 {
     search.come_to_any(unless_cleaned(lines, line, node.next()))?;
     search.come_to_any(unless_cleaned(lines, line, node.other()))?;
     Ok(())
 }
 
-// Whether a path leads from the node to the next boundary, on which no later node stores into the line.
+/// Whether a path leads from the node to the next boundary, on which no later node stores into the line.
 fn reaches_uncleaned(
     alloc: Global,
     graph: &Graph,
@@ -125,8 +130,9 @@ fn reaches_uncleaned(
     lines: &[Option<u64>],
     line: u64,
     from: usize,
-) -> Result<bool, Memory>
-    ensures { IfOk result (λ yes. IsTrue yes ↔ Comes (GoesOnPast (graph_of graph.now) (boundaries_of cuts.now) lines.now line) (Leaves (graph_of graph.now) (boundaries_of cuts.now)) from) }
+) -> Result<bool, OutOfMemory>
+    ensures { IfOk result (λ yes. IsTrue yes
+        ↔ Comes (GoesOnPast (graph_of graph.now) (boundaries_of cuts.now) lines.now line) (Leaves (graph_of graph.now) (boundaries_of cuts.now)) from) }
 {
     let mut search = Search::at(alloc, graph.nodes.len(), from)?;
     while let Some(number) = search.waiting.pop() {
@@ -139,14 +145,14 @@ fn reaches_uncleaned(
     Ok(false)
 }
 
-// Whether the node's clean may be left out.
+/// Whether the node's clean may be left out.
 fn is_cleaned_behind(
     alloc: Global,
     graph: &Graph,
     cuts: &Cuts,
     lines: &[Option<u64>],
     number: usize,
-) -> Result<bool, Memory>
+) -> Result<bool, OutOfMemory>
     requires { number < length lines.now }
     ensures { IfOk result (λ yes. IsTrue yes ↔ IsCleanedBehind (graph_of graph.now) (boundaries_of cuts.now) lines.now number) }
 {
@@ -159,13 +165,13 @@ fn is_cleaned_behind(
     }
 }
 
-// The answers for all nodes, of which these are the lines.
+/// The answers for all nodes, of which these are the lines.
 fn answers(
     alloc: Global,
     graph: &Graph,
     cuts: &Cuts,
     lines: &[Option<u64>],
-) -> Result<Vec<bool>, Memory>
+) -> Result<Vec<bool>, OutOfMemory>
     ensures { IfOk result (λ later. AreAnswers (graph_of graph.now) (boundaries_of cuts.now) lines.now (length lines.now) later.items) }
 {
     let mut later = Vec::with_capacity(alloc, lines.len())?;
@@ -184,12 +190,13 @@ pub fn cleaned_later(
     graph: &Graph,
     cuts: &Cuts,
     shapes: &[Shape],
-) -> Result<Vec<bool>, Memory>
+) -> Result<Vec<bool>, OutOfMemory>
     requires sizes { IsTrue (are_sizes shapes.now) }
-    requires within { end_from 0 shapes.now ≤ 65536 }
+    requires within { end_from 0 shapes.now ≤ MOST_VARIABLE_BYTES }
     requires elements { WriteElements (graph_of graph.now) shapes.now }
     ensures count { IfOk result (λ later. length later.items ≡ length graph.now.nodes.items) }
-    ensures later { IfOk result (λ later. (node : ℕ) → (slice_get later.items node ≡ Some true) ↔ IsCleanedLater (graph_of graph.now) (boundaries_of cuts.now) shapes.now node) }
+    ensures later { IfOk result (λ later.
+        (node : ℕ) → (slice_get later.items node ≡ Some true) ↔ IsCleanedLater (graph_of graph.now) (boundaries_of cuts.now) shapes.now node) }
 {
     let lines = lines(alloc, graph, shapes)?;
     let later = answers(alloc, graph, cuts, &lines)?;

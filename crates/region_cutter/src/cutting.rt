@@ -9,12 +9,12 @@ use crate::start::everywhere;
 use crate::trying::take_away;
 use flow_graph::cuts::Cuts;
 use flow_graph::graph::Graph;
-use ido_base::memory::Memory;
+use ido_base::memory::OutOfMemory;
 use std::alloc::Global;
 
 /// Boundaries behind each lock, before each unlock, and before those nodes that write where a region that went on would overwrite
 /// what it has read. None of the latter can be taken away alone.
-pub fn cut(alloc: Global, graph: &Graph) -> Result<Cuts, Memory>
+pub fn cut(alloc: Global, graph: &Graph) -> Result<Cuts, OutOfMemory>
     ensures cuts { IfOk result (λ cuts. AreCuts (graph_of graph.now) (boundaries_of cuts)) }
     ensures minimal { IfOk result (λ cuts. IsMinimal (graph_of graph.now) (boundaries_of cuts)) }
     ensures places { IfOk result (λ cuts. AreAtWrites (graph_of graph.now) (boundaries_of cuts)) }

@@ -7,7 +7,7 @@ ghost use Rattle.region_cutter.specs.Places.{WriteElements, WritesAnElement};
 use flow_graph::graph::{Graph, Node};
 use ido_base::location::Shape;
 
-// Whether there is that element.
+/// Whether there is that element.
 fn has_element(shapes: &[Shape], variable: u32, element: u32) -> bool
     ensures { IsTrue result ↔ ((variable < length shapes.now) × (element < elements_of shapes.now variable)) }
 {
@@ -17,7 +17,7 @@ fn has_element(shapes: &[Shape], variable: u32, element: u32) -> bool
     }
 }
 
-// Whether there is the element that the node writes, if it writes one alone.
+/// Whether there is the element that the node writes, if it writes one alone.
 fn writes_an_element(shapes: &[Shape], node: &Node) -> bool
     ensures { IsTrue result ↔ WritesAnElement shapes.now (node_of node.now) }
 {

@@ -2,7 +2,9 @@
 ghost use Rattle.std.specs.Prelude.{◌≡◌, ◌↔◌, ◌<◌, ◌≤◌, [], ℕ, Contains, IfOk, OnOk, IsTrue, Some, false, length, replicate, slice_get};
 ghost use Rattle.flow_graph.specs.Nodes.{graph_of, node_of};
 ghost use Rattle.flow_graph.specs.Cutting.{Begins, HasBefore, boundaries_of};
-ghost use Rattle.region_cutter.specs.links.Local.{AddsRead, AddsWritten, AllBehind, AreAhead, AreReadOver, AreUnwritten, AreWritten, BeginsBy, BeginsIn, Exposes, Inside, InsidePast, IsBehindExposed, IsBehindExposedIn, IsExposed, IsExposedAny, IsKnownWithout, IsOverAny, WritesOver, WritesSame};
+ghost use Rattle.region_cutter.specs.links.Local.{AddsRead, AddsWritten, AllBehind, AreAhead, AreReadOver, AreUnwritten, AreWritten};
+ghost use Rattle.region_cutter.specs.links.Local.{BeginsBy, BeginsIn, Exposes, Inside, InsidePast, IsBehindExposed, IsBehindExposedIn};
+ghost use Rattle.region_cutter.specs.links.Local.{IsExposed, IsExposedAny, IsKnownWithout, IsOverAny, WritesOver, WritesSame};
 ghost use Rattle.region_cutter.specs.links.Marking.{AreMarks};
 ghost use Rattle.region_cutter.specs.links.Searching.{Follows};
 
@@ -14,7 +16,7 @@ use flow_alias::{overlap, same};
 use flow_graph::cuts::Cuts;
 use flow_graph::graph::{Graph, Node};
 use ido_base::location::Location;
-use ido_base::memory::Memory;
+use ido_base::memory::OutOfMemory;
 use std::alloc::Global;
 
 /// The node, unless a boundary is passed on the way to it.
@@ -33,16 +35,17 @@ pub(crate) fn inside(cuts: &Cuts, behind: bool, to: Option<usize>) -> Option<usi
     }
 }
 
-// Goes on with a search inside the region.
+/// Goes on with a search inside the region.
 fn go_on(
     graph: &Graph,
     cuts: &Cuts,
     search: &mut Search,
     number: usize,
     node: &Node,
-) -> Result<(), Memory>
+) -> Result<(), OutOfMemory>
     requires { slice_get graph.now.nodes.items number ≡ Some node.now }
-    ensures { OnOk result (Follows (Inside (graph_of graph.now) (boundaries_of cuts.now) number) search.old.seen.items search.old.waiting.items search.new.seen.items search.new.waiting.items) }
+    ensures { OnOk result (Follows (Inside (graph_of graph.now) (boundaries_of cuts.now) number) search.old.seen.items search.old.waiting.items
+        search.new.seen.items search.new.waiting.items) }
 {
     let behind = has_behind(graph, cuts, number, node);
     search.come_to_any(inside(cuts, behind, node.next()))?;
@@ -50,8 +53,8 @@ fn go_on(
     Ok(())
 }
 
-// Of each node whether regions go on to it from this one.
-fn ahead(alloc: Global, graph: &Graph, cuts: &Cuts, from: usize) -> Result<Vec<bool>, Memory>
+/// Of each node whether regions go on to it from this one.
+fn ahead(alloc: Global, graph: &Graph, cuts: &Cuts, from: usize) -> Result<Vec<bool>, OutOfMemory>
     ensures { IfOk result (λ seen. AreAhead (graph_of graph.now) (boundaries_of cuts.now) from seen.items) }
 {
     let mut search = Search::at(alloc, graph.nodes.len(), from)?;
@@ -62,8 +65,8 @@ fn ahead(alloc: Global, graph: &Graph, cuts: &Cuts, from: usize) -> Result<Vec<b
     Ok(seen)
 }
 
-// Adds what the node writes.
-fn add_written(writes: &mut Vec<Location>, node: &Node) -> Result<(), Memory>
+/// Adds what the node writes.
+fn add_written(writes: &mut Vec<Location>, node: &Node) -> Result<(), OutOfMemory>
     ensures { OnOk result (AddsWritten (node_of node.now) writes.old.items writes.new.items) }
 {
     if let Some(location) = node.writes {
@@ -78,7 +81,7 @@ pub(crate) fn written(
     graph: &Graph,
     window: Window,
     among: &[bool],
-) -> Result<Vec<Location>, Memory>
+) -> Result<Vec<Location>, OutOfMemory>
     requires { window.end ≤ length graph.now.nodes.items }
     ensures { IfOk result (λ writes. AreWritten (graph_of graph.now) window among.now writes.items) }
 {
@@ -91,7 +94,7 @@ pub(crate) fn written(
     Ok(writes)
 }
 
-// Whether one of these writes may be over the elements.
+/// Whether one of these writes may be over the elements.
 fn is_over_any(writes: &[Location], elements: Location) -> bool
     ensures { IsTrue result ↔ IsOverAny writes.now elements }
 {
@@ -103,7 +106,7 @@ fn is_over_any(writes: &[Location], elements: Location) -> bool
     false
 }
 
-// Whether the node may write one of the elements.
+/// Whether the node may write one of the elements.
 fn writes_over(graph: &Graph, elements: Location, number: usize, node: &Node) -> bool
     requires { slice_get graph.now.nodes.items number ≡ Some node.now }
     ensures { IsTrue result ↔ WritesOver (graph_of graph.now) elements number }
@@ -114,7 +117,7 @@ fn writes_over(graph: &Graph, elements: Location, number: usize, node: &Node) ->
     }
 }
 
-// Whether the node writes the very element.
+/// Whether the node writes the very element.
 fn writes_same(graph: &Graph, element: Location, number: usize, node: &Node) -> bool
     requires { slice_get graph.now.nodes.items number ≡ Some node.now }
     ensures { IsTrue result ↔ WritesSame (graph_of graph.now) element number }
@@ -125,7 +128,7 @@ fn writes_same(graph: &Graph, element: Location, number: usize, node: &Node) -> 
     }
 }
 
-// Whether a region begins at the node.
+/// Whether a region begins at the node.
 fn begins_at(graph: &Graph, cuts: &Cuts, marks: &Marks, number: usize) -> bool
     requires exists { number < length graph.now.nodes.items }
     requires marks { AreMarks (graph_of graph.now) marks.now }
@@ -137,18 +140,19 @@ fn begins_at(graph: &Graph, cuts: &Cuts, marks: &Marks, number: usize) -> bool
     before || behind
 }
 
-// Comes to the node, if a region begins there.
+/// Comes to the node, if a region begins there.
 fn come_to_begun(
     graph: &Graph,
     cuts: &Cuts,
     marks: &Marks,
     search: &mut Search,
     number: usize,
-) -> Result<(), Memory>
+) -> Result<(), OutOfMemory>
     requires exists { number < length graph.now.nodes.items }
     requires marks { AreMarks (graph_of graph.now) marks.now }
     requires locks { AllBehind (graph_of graph.now) (boundaries_of cuts.now) }
-    ensures { OnOk result (Follows (BeginsBy (graph_of graph.now) (boundaries_of cuts.now) number) search.old.seen.items search.old.waiting.items search.new.seen.items search.new.waiting.items) }
+    ensures { OnOk result (Follows (BeginsBy (graph_of graph.now) (boundaries_of cuts.now) number) search.old.seen.items search.old.waiting.items
+        search.new.seen.items search.new.waiting.items) }
 {
     if begins_at(graph, cuts, marks, number) {
         search.come_to(number)?;
@@ -156,18 +160,20 @@ fn come_to_begun(
     Ok(())
 }
 
-// A search that has come to each node of the window where a region begins.
+/// A search that has come to each node of the window where a region begins.
 fn begin_search(
     alloc: Global,
     graph: &Graph,
     cuts: &Cuts,
     marks: &Marks,
     window: Window,
-) -> Result<Search, Memory>
+) -> Result<Search, OutOfMemory>
     requires within { window.end ≤ length graph.now.nodes.items }
     requires marks { AreMarks (graph_of graph.now) marks.now }
     requires locks { AllBehind (graph_of graph.now) (boundaries_of cuts.now) }
-    ensures { IfOk result (λ search. Follows (BeginsIn (graph_of graph.now) (boundaries_of cuts.now) window) (replicate (length graph.now.nodes.items) false) [] search.seen.items search.waiting.items) }
+    ensures { IfOk result (λ search.
+        Follows (BeginsIn (graph_of graph.now) (boundaries_of cuts.now) window) (replicate (length graph.now.nodes.items) false) [] search.seen.items
+        search.waiting.items) }
 {
     let mut search = Search::nowhere(alloc, graph.nodes.len())?;
     for number in window.first..window.end {
@@ -176,7 +182,7 @@ fn begin_search(
     Ok(search)
 }
 
-// Goes on with a search inside the region, unless the node writes the very element.
+/// Goes on with a search inside the region, unless the node writes the very element.
 fn go_on_past(
     graph: &Graph,
     cuts: &Cuts,
@@ -184,9 +190,10 @@ fn go_on_past(
     element: Location,
     number: usize,
     node: &Node,
-) -> Result<(), Memory>
+) -> Result<(), OutOfMemory>
     requires { slice_get graph.now.nodes.items number ≡ Some node.now }
-    ensures { OnOk result (Follows (InsidePast (graph_of graph.now) (boundaries_of cuts.now) element number) search.old.seen.items search.old.waiting.items search.new.seen.items search.new.waiting.items) }
+    ensures { OnOk result (Follows (InsidePast (graph_of graph.now) (boundaries_of cuts.now) element number) search.old.seen.items search.old.waiting.items
+        search.new.seen.items search.new.waiting.items) }
 {
     if !writes_same(graph, element, number, node) {
         go_on(graph, cuts, search, number, node)?;
@@ -194,7 +201,7 @@ fn go_on_past(
     Ok(())
 }
 
-// Of each node whether a region comes to it that has not written the very element before.
+/// Of each node whether a region comes to it that has not written the very element before.
 fn unwritten(
     alloc: Global,
     graph: &Graph,
@@ -202,7 +209,7 @@ fn unwritten(
     marks: &Marks,
     window: Window,
     element: Location,
-) -> Result<Vec<bool>, Memory>
+) -> Result<Vec<bool>, OutOfMemory>
     requires within { window.end ≤ length graph.now.nodes.items }
     requires marks { AreMarks (graph_of graph.now) marks.now }
     requires locks { AllBehind (graph_of graph.now) (boundaries_of cuts.now) }
@@ -223,7 +230,7 @@ fn unwritten(
     Ok(seen)
 }
 
-// Whether these are among the locations.
+/// Whether these are among the locations.
 fn is_among(locations: &[Location], elements: Location) -> bool
     ensures { IsTrue result ↔ Contains locations.now elements }
 {
@@ -235,12 +242,12 @@ fn is_among(locations: &[Location], elements: Location) -> bool
     false
 }
 
-// Adds the elements, if one of these writes may be over them.
+/// Adds the elements, if one of these writes may be over them.
 fn add_read(
     reads: &mut Vec<Location>,
     writes: &[Location],
     elements: Location,
-) -> Result<(), Memory>
+) -> Result<(), OutOfMemory>
     ensures { OnOk result (AddsRead writes.now (λ read. elements ≡ read) reads.old.items reads.new.items) }
 {
     if is_over_any(writes, elements) && !is_among(reads, elements) {
@@ -249,8 +256,8 @@ fn add_read(
     Ok(())
 }
 
-// Adds what the node reads and one of these writes may be over.
-fn add_reads(reads: &mut Vec<Location>, writes: &[Location], node: &Node) -> Result<(), Memory>
+/// Adds what the node reads and one of these writes may be over.
+fn add_reads(reads: &mut Vec<Location>, writes: &[Location], node: &Node) -> Result<(), OutOfMemory>
     ensures { OnOk result (AddsRead writes.now (Contains node.now.reads.items) reads.old.items reads.new.items) }
 {
     for elements in &node.reads {
@@ -259,13 +266,13 @@ fn add_reads(reads: &mut Vec<Location>, writes: &[Location], node: &Node) -> Res
     Ok(())
 }
 
-// What the window's nodes read and one of these writes may be over, each location once.
+/// What the window's nodes read and one of these writes may be over, each location once.
 fn reads_over(
     alloc: Global,
     graph: &Graph,
     window: Window,
     writes: &[Location],
-) -> Result<Vec<Location>, Memory>
+) -> Result<Vec<Location>, OutOfMemory>
     requires { window.end ≤ length graph.now.nodes.items }
     ensures { IfOk result (λ reads. AreReadOver (graph_of graph.now) window writes.now reads.items) }
 {
@@ -276,7 +283,7 @@ fn reads_over(
     Ok(reads)
 }
 
-// Whether the node reads the elements, where these are the nodes at which they are unwritten.
+/// Whether the node reads the elements, where these are the nodes at which they are unwritten.
 fn exposes(
     graph: &Graph,
     cuts: &Cuts,
@@ -293,7 +300,7 @@ fn exposes(
     stands(unwritten, number) && is_among(&node.reads, elements)
 }
 
-// Goes on from the node, if it exposes the elements.
+/// Goes on from the node, if it exposes the elements.
 fn come_behind_exposed(
     graph: &Graph,
     cuts: &Cuts,
@@ -303,10 +310,11 @@ fn come_behind_exposed(
     elements: Location,
     number: usize,
     node: &Node,
-) -> Result<(), Memory>
+) -> Result<(), OutOfMemory>
     requires node { slice_get graph.now.nodes.items number ≡ Some node.now }
     requires unwritten { AreUnwritten (graph_of graph.now) (boundaries_of cuts.now) window elements unwritten.now }
-    ensures { OnOk result (Follows (IsBehindExposed (graph_of graph.now) (boundaries_of cuts.now) window elements number) search.old.seen.items search.old.waiting.items search.new.seen.items search.new.waiting.items) }
+    ensures { OnOk result (Follows (IsBehindExposed (graph_of graph.now) (boundaries_of cuts.now) window elements number) search.old.seen.items
+        search.old.waiting.items search.new.seen.items search.new.waiting.items) }
 {
     if exposes(graph, cuts, window, unwritten, elements, number, node) {
         go_on(graph, cuts, search, number, node)?;
@@ -314,7 +322,7 @@ fn come_behind_exposed(
     Ok(())
 }
 
-// A search that has come to each node behind one of the window that exposes the elements.
+/// A search that has come to each node behind one of the window that exposes the elements.
 fn behind_exposed(
     alloc: Global,
     graph: &Graph,
@@ -322,10 +330,12 @@ fn behind_exposed(
     window: Window,
     unwritten: &[bool],
     elements: Location,
-) -> Result<Search, Memory>
+) -> Result<Search, OutOfMemory>
     requires within { window.end ≤ length graph.now.nodes.items }
     requires unwritten { AreUnwritten (graph_of graph.now) (boundaries_of cuts.now) window elements unwritten.now }
-    ensures { IfOk result (λ search. Follows (IsBehindExposedIn (graph_of graph.now) (boundaries_of cuts.now) window elements) (replicate (length graph.now.nodes.items) false) [] search.seen.items search.waiting.items) }
+    ensures { IfOk result (λ search.
+        Follows (IsBehindExposedIn (graph_of graph.now) (boundaries_of cuts.now) window elements) (replicate (length graph.now.nodes.items) false) []
+        search.seen.items search.waiting.items) }
 {
     let mut search = Search::nowhere(alloc, graph.nodes.len())?;
     for number in window.first..window.end {
@@ -344,7 +354,7 @@ fn behind_exposed(
     Ok(search)
 }
 
-// Whether a node of the window exposes the elements and its region may overwrite them. One search goes on from all such nodes.
+/// Whether a node of the window exposes the elements and its region may overwrite them. One search goes on from all such nodes.
 fn is_exposed(
     alloc: Global,
     graph: &Graph,
@@ -352,7 +362,7 @@ fn is_exposed(
     marks: &Marks,
     window: Window,
     elements: Location,
-) -> Result<bool, Memory>
+) -> Result<bool, OutOfMemory>
     requires within { window.end ≤ length graph.now.nodes.items }
     requires marks { AreMarks (graph_of graph.now) marks.now }
     requires locks { AllBehind (graph_of graph.now) (boundaries_of cuts.now) }
@@ -378,7 +388,7 @@ pub(crate) fn exposes_any(
     marks: &Marks,
     window: Window,
     writes: &[Location],
-) -> Result<bool, Memory>
+) -> Result<bool, OutOfMemory>
     requires within { window.end ≤ length graph.now.nodes.items }
     requires marks { AreMarks (graph_of graph.now) marks.now }
     requires locks { AllBehind (graph_of graph.now) (boundaries_of cuts.now) }
@@ -401,7 +411,7 @@ pub(crate) fn is_idempotent_without(
     cuts: &Cuts,
     marks: &Marks,
     node: usize,
-) -> Result<bool, Memory>
+) -> Result<bool, OutOfMemory>
     requires exists { node < length graph.now.nodes.items }
     requires marks { AreMarks (graph_of graph.now) marks.now }
     requires locks { AllBehind (graph_of graph.now) (boundaries_of cuts.now) }

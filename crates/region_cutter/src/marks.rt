@@ -7,7 +7,7 @@ ghost use Rattle.region_cutter.specs.links.Searching.{Follows};
 use crate::search::Search;
 use crate::start::locks;
 use flow_graph::graph::{Graph, Node};
-use ido_base::memory::Memory;
+use ido_base::memory::OutOfMemory;
 use std::alloc::Global;
 
 #[derive(Drop)]
@@ -18,7 +18,7 @@ pub(crate) struct Marks {
     pub(crate) begun: Vec<bool>,
 }
 
-// Marks the nodes from the first up to the end, without the end.
+/// Marks the nodes from the first up to the end, without the end.
 fn mark_range(marks: &mut Vec<bool>, first: usize, end: usize)
     ensures { MarksRange first end marks.old.items marks.new.items }
 {
@@ -29,7 +29,7 @@ fn mark_range(marks: &mut Vec<bool>, first: usize, end: usize)
     }
 }
 
-// Marks the places that an edge goes past, if there is one and it leads elsewhere than to the next node.
+/// Marks the places that an edge goes past, if there is one and it leads elsewhere than to the next node.
 fn mark_edge(marks: &mut Vec<bool>, from: usize, to: Option<usize>)
     requires { from < length marks.old.items }
     ensures { MarksEdge from to marks.old.items marks.new.items }
@@ -46,7 +46,7 @@ fn mark_edge(marks: &mut Vec<bool>, from: usize, to: Option<usize>)
     }
 }
 
-fn passed(alloc: Global, graph: &Graph) -> Result<Vec<bool>, Memory>
+fn passed(alloc: Global, graph: &Graph) -> Result<Vec<bool>, OutOfMemory>
     ensures { IfOk result (λ passed. ArePassed (graph_of graph.now) passed.items) }
 {
     let mut passed = vec![in alloc; false; graph.nodes.len()]?;
@@ -58,22 +58,23 @@ fn passed(alloc: Global, graph: &Graph) -> Result<Vec<bool>, Memory>
     Ok(passed)
 }
 
-// The node, if the one before it takes a mutex.
+/// The node, if the one before it takes a mutex.
 fn if_taken(takes: bool, to: Option<usize>) -> Option<usize>
     ensures { (node : ℕ) → (result ≡ Some node) ↔ ((to ≡ Some node) × IsTrue takes) }
 {
     if takes { to } else { None }
 }
 
-// Comes to the nodes behind this one, if it takes a mutex.
+/// Comes to the nodes behind this one, if it takes a mutex.
 fn come_behind_lock(
     graph: &Graph,
     search: &mut Search,
     number: usize,
     node: &Node,
-) -> Result<(), Memory>
+) -> Result<(), OutOfMemory>
     requires { slice_get graph.now.nodes.items number ≡ Some node.now }
-    ensures { OnOk result (Follows (IsBehindLock (graph_of graph.now) number) search.old.seen.items search.old.waiting.items search.new.seen.items search.new.waiting.items) }
+    ensures { OnOk result (Follows (IsBehindLock (graph_of graph.now) number) search.old.seen.items search.old.waiting.items search.new.seen.items
+        search.new.waiting.items) }
 {
     let takes = locks(node);
     search.come_to_any(if_taken(takes, node.next()))?;
@@ -81,7 +82,7 @@ fn come_behind_lock(
     Ok(())
 }
 
-fn begun(alloc: Global, graph: &Graph) -> Result<Vec<bool>, Memory>
+fn begun(alloc: Global, graph: &Graph) -> Result<Vec<bool>, OutOfMemory>
     ensures { IfOk result (λ begun. AreBegun (graph_of graph.now) begun.items) }
 {
     let mut search = Search::nowhere(alloc, graph.nodes.len())?;
@@ -93,7 +94,7 @@ fn begun(alloc: Global, graph: &Graph) -> Result<Vec<bool>, Memory>
 }
 
 /// The marks of all nodes.
-pub(crate) fn marks_of(alloc: Global, graph: &Graph) -> Result<Marks, Memory>
+pub(crate) fn marks_of(alloc: Global, graph: &Graph) -> Result<Marks, OutOfMemory>
     ensures { IfOk result (λ marks. AreMarks (graph_of graph.now) marks) }
 {
     let passed = passed(alloc, graph)?;

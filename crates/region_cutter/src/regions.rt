@@ -8,13 +8,13 @@ use crate::marks::marks_of;
 use crate::window::{Window, end_near};
 use flow_graph::cuts::Cuts;
 use flow_graph::graph::Graph;
-use ido_base::memory::Memory;
+use ido_base::memory::OutOfMemory;
 use std::alloc::Global;
 
 /// Whether each region may be run again, where boundaries stand behind all locks: whether none overwrites what it has read, unless it
 /// had written it before it read it. It goes from border to border, and takes a search through the nodes between for each location
 /// that they read and may write.
-pub fn is_idempotent(alloc: Global, graph: &Graph, cuts: &Cuts) -> Result<bool, Memory>
+pub fn is_idempotent(alloc: Global, graph: &Graph, cuts: &Cuts) -> Result<bool, OutOfMemory>
     requires { (node : ℕ) → IsLock (graph_of graph.now) node → HasBehind (graph_of graph.now) (boundaries_of cuts.now) node }
     ensures { IfOk result (λ yes. IsTrue yes ↔ IsIdempotent (graph_of graph.now) (boundaries_of cuts.now)) }
 {

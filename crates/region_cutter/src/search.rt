@@ -2,7 +2,7 @@
 ghost use Rattle.std.specs.Prelude.{◌≡◌, ◌++◌, [], IfOk, OnOk, Some, false, option_to_list, replicate};
 ghost use Rattle.region_cutter.specs.links.Searching.{Follows};
 
-use ido_base::memory::Memory;
+use ido_base::memory::OutOfMemory;
 use std::alloc::Global;
 
 /// The nodes that a search has come to, and those of them from which it has still to go on.
@@ -14,7 +14,7 @@ pub(crate) struct Search {
 
 impl Search {
     /// A search among so many nodes that begins at this one.
-    pub(crate) fn at(alloc: Global, nodes: usize, from: usize) -> Result<Search, Memory>
+    pub(crate) fn at(alloc: Global, nodes: usize, from: usize) -> Result<Search, OutOfMemory>
         ensures { IfOk result (λ search. Follows (λ node. from ≡ node) (replicate nodes false) [] search.seen.items search.waiting.items) }
     {
         let seen = vec![in alloc; false; nodes]?;
@@ -27,7 +27,7 @@ impl Search {
     }
 
     /// A search among so many nodes that begins nowhere.
-    pub(crate) fn nowhere(alloc: Global, nodes: usize) -> Result<Search, Memory>
+    pub(crate) fn nowhere(alloc: Global, nodes: usize) -> Result<Search, OutOfMemory>
         ensures seen { IfOk result (λ search. search.seen.items ≡ replicate nodes false) }
         ensures waiting { IfOk result (λ search. search.waiting.items ≡ []) }
     {
@@ -39,7 +39,7 @@ impl Search {
     }
 
     /// Comes to the node, if there is that one: goes on from there some time, unless the search has come to it before.
-    pub(crate) fn come_to(&mut self, number: usize) -> Result<(), Memory>
+    pub(crate) fn come_to(&mut self, number: usize) -> Result<(), OutOfMemory>
         ensures { OnOk result (Follows (λ node. number ≡ node) self.old.seen.items self.old.waiting.items self.new.seen.items self.new.waiting.items) }
     {
         if number < self.seen.len() && !self.seen[number] {
@@ -50,7 +50,7 @@ impl Search {
     }
 
     /// The same for a node that may be none.
-    pub(crate) fn come_to_any(&mut self, number: Option<usize>) -> Result<(), Memory>
+    pub(crate) fn come_to_any(&mut self, number: Option<usize>) -> Result<(), OutOfMemory>
         ensures { OnOk result (Follows (λ node. number ≡ Some node) self.old.seen.items self.old.waiting.items self.new.seen.items self.new.waiting.items) }
     {
         match number {

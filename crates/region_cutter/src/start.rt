@@ -6,7 +6,7 @@ ghost use Rattle.region_cutter.specs.links.Trying.{AreEverywhere, locks, may_sta
 
 use flow_graph::cuts::Cuts;
 use flow_graph::graph::{Action, Graph, Node};
-use ido_base::memory::Memory;
+use ido_base::memory::OutOfMemory;
 use std::alloc::Global;
 
 // Whether the node takes a mutex.
@@ -29,14 +29,14 @@ pub(crate) fn unlocks(node: &Node) -> bool
     }
 }
 
-// Whether a boundary may stand before the node.
+/// Whether a boundary may stand before the node.
 fn may_stand(node: &Node) -> bool
     ensures { result ≡ may_stand (node_of node.now) }
 {
     unlocks(node) || node.writes.is_some()
 }
 
-fn before_each(alloc: Global, nodes: &[Node]) -> Result<Vec<bool>, Memory>
+fn before_each(alloc: Global, nodes: &[Node]) -> Result<Vec<bool>, OutOfMemory>
     ensures { IfOk result (λ before. before.items ≡ map may_stand (map node_of nodes.now)) }
 {
     let mut before = Vec::with_capacity(alloc, nodes.len())?;
@@ -46,7 +46,7 @@ fn before_each(alloc: Global, nodes: &[Node]) -> Result<Vec<bool>, Memory>
     Ok(before)
 }
 
-fn behind_each(alloc: Global, nodes: &[Node]) -> Result<Vec<bool>, Memory>
+fn behind_each(alloc: Global, nodes: &[Node]) -> Result<Vec<bool>, OutOfMemory>
     ensures { IfOk result (λ behind. behind.items ≡ map takes (map node_of nodes.now)) }
 {
     let mut behind = Vec::with_capacity(alloc, nodes.len())?;
@@ -57,7 +57,7 @@ fn behind_each(alloc: Global, nodes: &[Node]) -> Result<Vec<bool>, Memory>
 }
 
 /// Boundaries wherever they may stand.
-pub(crate) fn everywhere(alloc: Global, graph: &Graph) -> Result<Cuts, Memory>
+pub(crate) fn everywhere(alloc: Global, graph: &Graph) -> Result<Cuts, OutOfMemory>
     ensures { IfOk result (λ cuts. AreEverywhere (graph_of graph.now) (boundaries_of cuts)) }
 {
     let before = before_each(alloc, &graph.nodes)?;

@@ -11,17 +11,17 @@ use crate::marks::Marks;
 use crate::start::unlocks;
 use flow_graph::cuts::Cuts;
 use flow_graph::graph::Graph;
-use ido_base::memory::Memory;
+use ido_base::memory::OutOfMemory;
 use std::alloc::Global;
 
-// Takes the boundary before the node away, if regions can be run again without it. Whether it is gone.
+/// Takes the boundary before the node away, if regions can be run again without it. Whether it is gone.
 fn try_without(
     alloc: Global,
     graph: &Graph,
     cuts: &mut Cuts,
     marks: &Marks,
     node: usize,
-) -> Result<bool, Memory>
+) -> Result<bool, OutOfMemory>
     requires exists { node < length graph.now.nodes.items }
     requires marks { AreMarks (graph_of graph.now) marks.now }
     requires locks { AllBehind (graph_of graph.now) (boundaries_of cuts.old) }
@@ -44,7 +44,7 @@ pub(crate) fn take_away(
     graph: &Graph,
     cuts: &mut Cuts,
     marks: &Marks,
-) -> Result<bool, Memory>
+) -> Result<bool, OutOfMemory>
     requires kept { AreKept (graph_of graph.now) (boundaries_of cuts.old) }
     requires marks { AreMarks (graph_of graph.now) marks.now }
     ensures { IfOk result (λ taken. Passes (graph_of graph.now) (boundaries_of cuts.old) (boundaries_of cuts.new) (length graph.now.nodes.items) taken) }

@@ -18,14 +18,14 @@ pub(crate) struct Window {
     pub(crate) end: usize,
 }
 
-// Whether that is the node.
+/// Whether that is the node.
 fn leads_to(to: Option<usize>, node: usize) -> bool
     ensures { IsTrue result ↔ (to ≡ Some node) }
 {
     to == Some(node)
 }
 
-// Whether it is known that no region goes on over the place before the node.
+/// Whether it is known that no region goes on over the place before the node.
 fn is_border(graph: &Graph, cuts: &Cuts, marks: &Marks, place: usize) -> bool
     requires behind { 0 < place }
     requires exists { place < length graph.now.nodes.items }
@@ -43,7 +43,7 @@ fn is_border(graph: &Graph, cuts: &Cuts, marks: &Marks, place: usize) -> bool
     !leads_to(next, place) && !leads_to(other, place)
 }
 
-// The last border that is no later than the node.
+/// The last border that is no later than the node.
 fn first_near(graph: &Graph, cuts: &Cuts, marks: &Marks, node: usize) -> usize
     requires exists { node < length graph.now.nodes.items }
     requires marks { AreMarks (graph_of graph.now) marks.now }

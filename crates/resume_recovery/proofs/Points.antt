@@ -7,7 +7,7 @@ use Rattle.log_layout.specs.declared.point.Point.TheVariants.{Idle, At}
 use Rattle.log_layout.specs.Points.{point_of}
 use Rattle.rv64_isa.specs.declared.phase.Phase.TheVariants.{Take, Done}
 use Rattle.rv64_isa.specs.Machine.{bank_of, resume_of, durable_at, durable_point, record_of, resumed_register, phase_after_crash}
-use Rattle.resume_recovery.specs.Points.{bank_in}
+use Rattle.resume_recovery.specs.links.Points.{bank_in}
 
 -- a word that isn't 0, and where it says to go on
 pub record IsAt (word address bank : ℕ) : Type 0 where
@@ -48,8 +48,10 @@ module _ (words : List Word) (hart : ℕ) where
   pub idle_record : durable_point words hart ≡ 0 → 0 ≡ record_of words hart
   idle_record none = sym (cond-true (eqb (durable_point words hart) 0) 0 _ (eq-eqb _ 0 none))
 
-  pub kept_record : (address bank mask : ℕ) → IsAt (durable_point words hart) address bank → mask ≡ durable_at words (slot_at hart bank 0) → mask ≡ record_of words hart
-  kept_record address bank mask at is = is ∙ ap (λ (b : ℕ). durable_at words (slot_at hart b 0)) at.in_bank ∙ sym (cond-false (eqb (durable_point words hart) 0) 0 _ at.other)
+  pub kept_record : (address bank mask : ℕ) → IsAt (durable_point words hart) address bank → mask ≡ durable_at words (slot_at hart bank 0) →
+      mask ≡ record_of words hart
+  kept_record address bank mask at is =
+      is ∙ ap (λ (b : ℕ). durable_at words (slot_at hart b 0)) at.in_bank ∙ sym (cond-false (eqb (durable_point words hart) 0) 0 _ at.other)
 
   pub register_0 : (r : ℕ) → r ≡ 0 → 0 ≡ resumed_register words hart r
   register_0 r zero_ = sym (ap (resumed_register words hart) zero_)
@@ -57,8 +59,11 @@ module _ (words : List Word) (hart : ℕ) where
   pub register_3 : (r bank : ℕ) → r ≡ 3 → bank ≡ bank_of (durable_point words hart) → bank_bytes * bank ≡ resumed_register words hart r
   register_3 r bank three is = ap (λ (b : ℕ). bank_bytes * b) is ∙ sym (ap (resumed_register words hart) three)
 
-  pub register_other : (r bank value : ℕ) → (r ≡ 0 → ⊥) → (r ≡ 3 → ⊥) → bank ≡ bank_of (durable_point words hart) → value ≡ durable_at words (slot_at hart bank r) → value ≡ resumed_register words hart r
-  register_other r bank value not_0 not_3 is read = read ∙ ap (λ (b : ℕ). durable_at words (slot_at hart b r)) is ∙ sym (cond-false (eqb r 0) _ _ (ne_eqb r 0 not_0) ∙ cond-false (eqb r 3) _ _ (ne_eqb r 3 not_3))
+  pub register_other : (r bank value : ℕ) → (r ≡ 0 → ⊥) → (r ≡ 3 → ⊥) → bank ≡ bank_of (durable_point words hart) →
+      value ≡ durable_at words (slot_at hart bank r) → value ≡ resumed_register words hart r
+  register_other r bank value not_0 not_3 is read =
+      read ∙ ap (λ (b : ℕ). durable_at words (slot_at hart b r)) is
+      ∙ sym (cond-false (eqb r 0) _ _ (ne_eqb r 0 not_0) ∙ cond-false (eqb r 3) _ _ (ne_eqb r 3 not_3))
 
 pub idle_phase : (point : ℕ) → point ≡ 0 → Done ≡ phase_after_crash point
 idle_phase point none = sym (ap phase_after_crash none)

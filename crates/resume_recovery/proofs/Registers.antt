@@ -1,5 +1,6 @@
 -- The registers that a hart resumes with.
-use Rattle.std.proofs.Common.{◌≡◌, ℕ, zero, suc, ◌+◌, ◌<◌, List, length, map, get_or, set, inl, inr, refl, sym, ◌∙◌, ap, subst, arith, get_or-set_same, get_or-set_other}
+use Rattle.std.proofs.Common.{◌≡◌, ℕ, zero, suc, ◌+◌, ◌<◌, List, length, map, get_or, set, inl, inr}
+use Rattle.std.proofs.Common.{refl, sym, ◌∙◌, ap, subst, arith, get_or-set_same, get_or-set_other}
 use Rattle.std.proofs.lemmas.Bool.{cases_eq}
 use Rattle.std.proofs.lemmas.List.{ext_get_or}
 use Rattle.rv64_isa.specs.Machine.{numbers_from}
@@ -15,14 +16,16 @@ length-numbers f at zero = refl
 length-numbers f at (suc count) = ap suc (length-numbers f (at + 1) count)
 
 -- one register more
-pub set_next : (f : ℕ → ℕ) (registers : List ℕ) (n value : ℕ) → n < length registers → value ≡ f n → ((i : ℕ) → i < n → get_or registers i 0 ≡ f i) → (i : ℕ) → i < n + 1 → get_or (set registers n value) i 0 ≡ f i
+pub set_next : (f : ℕ → ℕ) (registers : List ℕ) (n value : ℕ) → n < length registers → value ≡ f n → ((i : ℕ) → i < n → get_or registers i 0 ≡ f i) → (i : ℕ) →
+    i < n + 1 → get_or (set registers n value) i 0 ≡ f i
 set_next f registers n value within is before i below = elim (cases_eq i n) [
   | inl same ↦ subst (λ (j : ℕ). get_or (set registers n value) j 0 ≡ f j) (sym same) (get_or-set_same registers n value 0 within ∙ is)
   | inr other ↦ get_or-set_other registers n i value 0 other ∙ before i (omega (arith, other, below))
 ]
 
 -- all of them
-pub all_set : (f : ℕ → ℕ) (registers : List ℕ) (count : ℕ) → length registers ≡ count → ((i : ℕ) → i < count → get_or registers i 0 ≡ f i) → registers ≡ map f (numbers_from 0 count)
+pub all_set : (f : ℕ → ℕ) (registers : List ℕ) (count : ℕ) → length registers ≡ count → ((i : ℕ) → i < count → get_or registers i 0 ≡ f i) →
+    registers ≡ map f (numbers_from 0 count)
 all_set f registers count size each = ext_get_or 0 registers (map f (numbers_from 0 count)) (size ∙ sym (length-numbers f 0 count)) (λ i below.
     let within : i < count = omega (arith, below, size) in
     let e : 0 + i ≡ i = omega arith in

@@ -1,10 +1,10 @@
 -- What a step of recovery does to the parts of a machine, by what it does to the world that they stand for.
-use Rattle.std.specs.Prelude.{◌≡◌, ℕ, ◌+◌, List, [], ◌∷◌, map, slice_index_or, Option, Some, None, if◌then◌else◌}
+use Rattle.std.specs.Prelude.{◌≡◌, ℕ, List, map, slice_index_or}
 use Rattle.ido_base.specs.declared.event.Reply.{Reply}
 use Rattle.rv64_isa.specs.declared.object.Slot.{Slot}
 use Rattle.rv64_isa.specs.declared.phase.Phase.{Phase}
 use Rattle.rv64_isa.specs.declared.phase.Phase.TheVariants.{Done}
-use Rattle.rv64_isa.specs.Machine.{Hart as HartModel, World, is_taking, phase_step}
+use Rattle.rv64_isa.specs.Machine.{Hart as HartModel, World, phase_step}
 use Rattle.hart_core.specs.Steps.{Parts, PartsStand, PartsEnd}
 
 -- the phase of a hart
@@ -14,11 +14,6 @@ phase_at phases number = slice_index_or phases number Done
 -- the phases of all harts
 abbrev pub phases_of : World → List Phase
 phases_of w = map (λ hart. hart.phase) w.harts
-
--- the least hart that takes locks, from the number on
-abbrev pub taking_among : (at : ℕ) → List Phase → Option ℕ
-taking_among at [] = None
-taking_among at (phase ∷ phases) = if is_taking phase then Some at else taking_among (at + 1) phases
 
 -- a step of the hart of that number from these parts to those, where the harts have these phases before it
 pub record IsRecoveryStep (number : ℕ) (before after : Parts) (phases : List Phase) (reply : Reply) : Type 0 where

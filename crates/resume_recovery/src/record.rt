@@ -1,9 +1,9 @@
 //! What a thread's log says durably: the point, and its bank.
 ghost use Rattle.std.specs.Prelude.{◌≡◌, ◌<◌, ℕ, List, map};
 ghost use Rattle.ido_base.specs.Words.{Word};
-ghost use Rattle.line_memory.specs.Stands.{Stands, threads_of};
+ghost use Rattle.line_memory.specs.links.Stands.{Stands, threads_of};
 ghost use Rattle.log_layout.specs.Points.{point_of};
-ghost use Rattle.resume_recovery.specs.Points.{bank_in};
+ghost use Rattle.resume_recovery.specs.links.Points.{bank_in};
 ghost use Rattle.rv64_isa.specs.Machine.{resume_of, durable_point, record_of, phase_after_crash, resumed_register, numbers_from};
 
 use line_memory::memory::LineMemory;

@@ -7,7 +7,7 @@ use Rattle.rv64_isa.specs.Machine.{World}
 use Rattle.code_runs.specs.Walks.{Program, Setting, Meets, seen_effects}
 use Rattle.hart_runs.specs.Standing.{Agrees, setting_of}
 use Rattle.hart_runs.specs.Laws.{program_at}
-use Rattle.thread_runs.specs.Ways.{Stage, ReadsVariables, IsOnWay, IsPlaced}
+use Rattle.thread_runs.specs.Ways.{Stage, ReadsVariables, IsOnWay, IsPlaced, on_machine}
 use Rattle.thread_runs.proofs.Placed.{plans_are_placed}
 use Rattle.recovered_threads.specs.Telling.{Code}
 use Rattle.resumed_programs.specs.Systems.{System, IsSystem, thread_count}
@@ -51,12 +51,12 @@ module _ (y : System) (s : IsSystem y) (w : World) (n : ℕ) (below : n < thread
       (subst (λ (p : Program). p.start + 4 * length p.code < 2 ^ 64) (sym code.is.of_program) (s.own n below).room)
 
   module _ (setting : Setting) (stage : Stage) (effects : List Effect)
-      (way : IsOnWay y.plan code.thread code.is.places y.program w code.thread.number setting stage 0 effects) where
+      (way : IsOnWay y.plan code.thread code.is.places (on_machine y.program w code.thread.number setting) stage 0 effects) where
     -- no effects are ahead
     pub none_ahead : effects ≡ []
     none_ahead = none_seen effects way.on.walks.1
 
-    pub resettled : IsOnWay y.plan code.thread code.is.places y.program w code.thread.number bare stage 0 []
+    pub resettled : IsOnWay y.plan code.thread code.is.places (on_machine y.program w code.thread.number bare) stage 0 []
     resettled = record {
       meets = bare_meets;
       agrees = bare_agrees;

@@ -15,7 +15,7 @@ use Rattle.resumption.specs.Events.{steps_begun}
 use Rattle.log_states.specs.Logs.{point_in}
 use Rattle.code_runs.specs.Walks.{Program}
 use Rattle.hart_runs.specs.Calls.{IsIn}
-use Rattle.thread_runs.specs.Ways.{Aim, Stage, IsOnWay}
+use Rattle.thread_runs.specs.Ways.{Aim, Stage, IsOnWay, on_machine}
 use Rattle.thread_runs.specs.Laws.{AreMarksOf, WaysGoOn}
 use Rattle.flow_graph.specs.Actions.{seen_by}
 use Rattle.recovered_threads.specs.Telling.{Code}
@@ -73,7 +73,8 @@ module _ (law : WaysGoOn) (y : System) (s : IsSystem y) (w : World) (h : ℕ) (s
   way_passes_none o steps is bound =
       let number : code.thread.number ≡ h = s.codes.number h below in
       let stage : Stage = record { aim = o.aim; node = t.walker.at; seen = seen_by (now_of y b) t.walker; bank = o.bank } in
-      let way = subst (λ (n : ℕ). IsOnWay y.plan code.thread code.is.places y.program w code.thread.number o.setting stage n (c.cleans ++ c.rest)) is o.way in
+      let way = subst (λ (n : ℕ). IsOnWay y.plan code.thread code.is.places (on_machine y.program w code.thread.number o.setting) stage n (c.cleans ++ c.rest))
+      is o.way in
       let marks : AreMarksOf y.marks code.thread.number o.setting =
       sym (o.way.meets.marks ∙ ap (λ (p : Program). p.nodes) (code.is.of_program ∙ (s.own h below).program)) in
       subst (λ (n : ℕ). passes_mark y.marks y.program w n ≡ false) number
@@ -89,7 +90,8 @@ module _ (law : WaysGoOn) (y : System) (s : IsSystem y) (w : World) (h : ℕ) (s
   passes_none (on_way o steps is) = way_passes_none o steps is
   passes_none (calls o none is) =
       let stage : Stage = record { aim = o.aim; node = t.walker.at; seen = seen_by (now_of y b) t.walker; bank = o.bank } in
-      let way = subst (λ (n : ℕ). IsOnWay y.plan code.thread code.is.places y.program w code.thread.number o.setting stage n (c.cleans ++ c.rest)) none o.way in
+      let way = subst (λ (n : ℕ). IsOnWay y.plan code.thread code.is.places (on_machine y.program w code.thread.number o.setting) stage n (c.cleans ++ c.rest))
+      none o.way in
       call_passes_none o.aim is o.fits (right_empty c.cleans c.rest (none_ahead y s w h below o.setting _ (c.cleans ++ c.rest) way))
   passes_none (at_core o free) = never_bound o.goes.goes.committed
 

@@ -17,7 +17,7 @@ use Rattle.region_attempts.specs.Flushing.{line_of, Cleans, CleansSince}
 use Rattle.log_states.specs.Stages.{fences_ahead}
 use Rattle.recovered_threads.specs.Telling.{Code}
 use Rattle.resumed_programs.specs.Systems.{System, flat_of, shapes_of}
-use Rattle.resumed_programs.specs.Histories.{Beside, kept_of}
+use Rattle.resumed_programs.specs.Histories.{Beside, attempts_of}
 use Rattle.resumed_programs.specs.Courses.{Course, IsComing, is_reached, is_ahead, IsFlushed}
 use Rattle.resumed_programs.specs.Moving.{beside_next}
 
@@ -41,8 +41,7 @@ module _ (y : System) (w v : World) (b : Beside y) (code : Code y.plan) (c : Cou
   now = (attempt_at attempts number).done
 
   -- the attempt's steps clean what they did
-  pub as_before : (at line : ℕ) → Cleans (flat_of y) (kept_of y next) next.moment (shapes_of y) y.left_out number at line →
-      Cleans (flat_of y) (kept_of y b) b.moment (shapes_of y) y.left_out number at line
+  pub as_before : (at line : ℕ) → Cleans (attempts_of y next) number at line → Cleans (attempts_of y b) number at line
   as_before at line k = record {
     node = k.node;
     at = k.at;
@@ -55,7 +54,7 @@ module _ (y : System) (w v : World) (b : Beside y) (code : Code y.plan) (c : Cou
 
   -- what the step itself cleans is coming
   abbrev pub ComesNow : Type 0
-  ComesNow = now ≡ suc before → (line : ℕ) → Cleans (flat_of y) (kept_of y b) b.moment (shapes_of y) y.left_out number before line →
+  ComesNow = now ≡ suc before → (line : ℕ) → Cleans (attempts_of y b) number before line →
       (u e position : ℕ) → line_of (shapes_of y) u e ≡ line → IsComing y v next code new behind u e position
 
   module _ (reach : (j position : ℕ) → Reaches w.words old.queue j position → Reaches v.words behind.queue j position) (grows : before ≤ now)
@@ -80,7 +79,7 @@ module _ (y : System) (w v : World) (b : Beside y) (code : Code y.plan) (c : Cou
       fenced = fenced;
     }
       where
-        by : (cleaned : CleansSince (flat_of y) (kept_of y next) next.moment (shapes_of y) y.left_out number f.before now (line_of (shapes_of y) u e)) →
+        by : (cleaned : CleansSince (attempts_of y next) number f.before now (line_of (shapes_of y) u e)) →
             (cleaned.last < before) ⊎ (before ≤ cleaned.last) → IsComing y v next code new behind u e f.position
         by cleaned (inl less) =
             coming_still u e f.position (f.comes (record {
@@ -94,5 +93,5 @@ module _ (y : System) (w v : World) (b : Beside y) (code : Code y.plan) (c : Cou
             let same : cleaned.last ≡ before = omega (arith, l, past, at_most) in
             let longer : now ≡ suc before = omega (arith, l, past, at_most) in
             comes longer (line_of (shapes_of y) u e)
-            (subst (λ (n : ℕ). Cleans (flat_of y) (kept_of y b) b.moment (shapes_of y) y.left_out number n (line_of (shapes_of y) u e)) same
+            (subst (λ (n : ℕ). Cleans (attempts_of y b) number n (line_of (shapes_of y) u e)) same
             (as_before cleaned.last (line_of (shapes_of y) u e) cleaned.at)) u e f.position refl

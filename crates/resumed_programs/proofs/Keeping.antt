@@ -13,7 +13,7 @@ use Rattle.resumption.specs.Moments.{now, attempt_of}
 use Rattle.resumption.specs.Events.{IsSettled, steps_begun}
 use Rattle.region_attempts.specs.Staying.{SettlesThere}
 use Rattle.code_runs.specs.Walks.{Setting}
-use Rattle.thread_runs.specs.Ways.{Aim, Arrives, Keeps, Asks, Took, Gives, Ends, IsOnWay, IsAtCore}
+use Rattle.thread_runs.specs.Ways.{Aim, Arrives, Keeps, Asks, Took, Gives, Ends, IsOnWay, IsAtCore, on_machine}
 use Rattle.recovered_threads.specs.Telling.{Code, Tells}
 use Rattle.resumed_programs.specs.Systems.{System, IsSystem, flat_of}
 use Rattle.resumed_programs.specs.Histories.{Beside, kept_of, now_of}
@@ -53,7 +53,7 @@ module _ (y : System) (w : World) (b next : Beside y) (code : Code y.plan) (c : 
     bank = o.bank;
     at_bank = o.at_bank;
     steps = o.steps;
-    way = subst (λ (z : FlowState). IsOnWay y.plan code.thread code.is.places y.program w code.thread.number o.setting
+    way = subst (λ (z : FlowState). IsOnWay y.plan code.thread code.is.places (on_machine y.program w code.thread.number o.setting)
         (record { aim = o.aim; node = walker.at; seen = seen_by z walker; bank = o.bank }) o.steps (c.cleans ++ c.rest)) (sym states) o.way;
     fits = fits;
   }

@@ -18,6 +18,7 @@ pub mod Ways
 pub mod Given
 pub mod Holding
 pub mod Giving
+pub mod AtCalls
 pub mod Calling
 pub mod Loads
 pub mod Doing

@@ -165,12 +165,12 @@ module _ (vs : List Variable) (ks kinds : List Kind) (ls : List ℤ) (p : Option
     loaded_expr right w.1 fit.1 (λ one c. all one (Contains-append_right (expr_elements left seen) (expr_elements right seen) one c)),
   )
   loaded_expr (e.Conditional kind condition chosen otherwise) w fit all =
-      let front : List Element = expr_elements condition seen ++ expr_elements chosen seen in (
-        loaded_expr condition w.0 fit.0 (λ one c. all one (Contains-append_left front (expr_elements otherwise seen) one
+      let prefix : List Element = expr_elements condition seen ++ expr_elements chosen seen in (
+        loaded_expr condition w.0 fit.0 (λ one c. all one (Contains-append_left prefix (expr_elements otherwise seen) one
             (Contains-append_left (expr_elements condition seen) (expr_elements chosen seen) one c))),
-        loaded_expr chosen w.1 fit.1 (λ one c. all one (Contains-append_left front (expr_elements otherwise seen) one
+        loaded_expr chosen w.1 fit.1 (λ one c. all one (Contains-append_left prefix (expr_elements otherwise seen) one
             (Contains-append_right (expr_elements condition seen) (expr_elements chosen seen) one c))),
-        loaded_expr otherwise w.2 fit.2 (λ one c. all one (Contains-append_right front (expr_elements otherwise seen) one c)),
+        loaded_expr otherwise w.2 fit.2 (λ one c. all one (Contains-append_right prefix (expr_elements otherwise seen) one c)),
       )
 
 -- ---- What nodes read

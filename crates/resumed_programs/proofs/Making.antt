@@ -52,11 +52,11 @@ use Rattle.log_states.proofs.Numbers.{variables_are_apart}
 use Rattle.recovered_threads.proofs.Changes.{same_there, same_or_other}
 use Rattle.thread_code.specs.Entering.{IsAnswered, source_of}
 use Rattle.thread_code.specs.Performing.{kind_at}
-use Rattle.thread_runs.specs.Ways.{MayDo, stage_behind, cleans_of, effects_of}
+use Rattle.thread_runs.specs.Ways.{MayDo, stage_behind, cleans_of, effects_of, on_machine}
 use Rattle.thread_runs.specs.Laws as laws
 use Rattle.thread_runs.specs.Laws.{IsAtSomeMark, MarksPass, run_at}
 use Rattle.resumed_programs.specs.Systems.{System, IsSystem, flat_of, shapes_of, places_of, thread_count}
-use Rattle.resumed_programs.specs.Histories.{Beside, kept_of, now_of}
+use Rattle.resumed_programs.specs.Histories.{Beside, kept_of, now_of, attempts_of}
 use Rattle.resumed_programs.specs.Courses.{Course, IsFlushed, IsComing, is_ahead}
 use Rattle.resumed_programs.specs.Standing.{Stands}
 use Rattle.resumed_programs.specs.Moving.{MayStore, element, AtCoreNow, thread_of}
@@ -157,7 +157,8 @@ module _ (y : System) (s : IsSystem y) (w : World) (h : ℕ) (stands : Stands y 
   nothing_read : IsAnswered (source_of y.plan (code y s w h stands below).thread seen) here.around.loads node.action
   nothing_read = subst (λ (z : Action). IsAnswered (source_of y.plan (code y s w h stands below).thread seen) here.around.loads z) (sym action) tt
 
-  pub mark : IsAtSomeMark y.plan (code y s w h stands below).thread (code y s w h stands below).is.places y.program w n here walker.at seen core.bank
+  pub mark : IsAtSomeMark y.plan (code y s w h stands below).thread (code y s w h stands below).is.places (on_machine y.program w n here)
+      walker.at seen core.bank
       core.registers e
   mark =
       at_some_mark y s w h stands below core node at none e refl does
@@ -213,7 +214,7 @@ module _ (y : System) (s : IsSystem y) (w : World) (h : ℕ) (stands : Stands y 
   abbrev cleans : List Effect
   cleans = cleans_of y.plan (code y s w h stands below).thread (code y s w h stands below).is.places walker.at store
 
-  module _ (p : laws.Passes y.plan (code y s w h stands below).thread (code y s w h stands below).is.places y.program w n here e
+  module _ (p : laws.Passes y.plan (code y s w h stands below).thread (code y s w h stands below).is.places (on_machine y.program w n here) e
       (stage_behind y.plan (code y s w h stands below).thread (code y s w h stands below).is.places walker.at seen core.bank e) mark.steps mark.effects
       mark.at) where
     effect_is : p.forward.effect ≡ r.Stores address (bytes_of k) value
@@ -286,7 +287,7 @@ module _ (y : System) (s : IsSystem y) (w : World) (h : ℕ) (stands : Stands y 
     state = same_Some _ _ (sym (follows_on y s b _ happened refl) ∙ graph_step_is)
 
     -- what this step cleans is coming
-    comes_now : (other : Hart) (line : ℕ) → Cleans (flat_of y) (kept_of y b) b.moment (shapes_of y) y.left_out n (attempt_of b.moment n).done line →
+    comes_now : (other : Hart) (line : ℕ) → Cleans (attempts_of y b) n (attempt_of b.moment n).done line →
         (u i position : ℕ) → line_of (shapes_of y) u i ≡ line → IsComing y v next (code y s w h stands below) new other u i position
     comes_now other line cleaned u i position in_line =
         let is = written cleaned.variable cleaned.element cleaned.stores in
@@ -332,7 +333,7 @@ module _ (y : System) (s : IsSystem y) (w : World) (h : ℕ) (stands : Stands y 
                   let same : cleaned.last ≡ (attempt_of b.moment n).done = omega (arith, l, first, last) in
                   let line : ℕ = line_of (shapes_of y) store.variable store.element in
                   comes_now other line
-                  (subst (λ (j : ℕ). Cleans (flat_of y) (kept_of y b) b.moment (shapes_of y) y.left_out n j line) same
+                  (subst (λ (j : ℕ). Cleans (attempts_of y b) n j line) same
                   (as_before y w v b (code y s w h stands below) (course y s w h stands below) core.goes.cleans mark.at.on.hart (b.moment.pending ++ n ∷ [])
                   memory (one_longer b.moment n) (leads_on y b _ happened refl minded).0 (leads_on y b _ happened refl minded).1 new other cleaned.last line
                   cleaned.at))
@@ -381,10 +382,10 @@ module _ (y : System) (s : IsSystem y) (w : World) (h : ℕ) (stands : Stands y 
       (stage_behind y.plan (code y s w h stands below).thread (code y s w h stands below).is.places walker.at seen core.bank e) mark.steps mark.effects
       stands.trails.sound mark.at)
     where
-      by : laws.Passes y.plan (code y s w h stands below).thread (code y s w h stands below).is.places y.program w n here e
+      by : laws.Passes y.plan (code y s w h stands below).thread (code y s w h stands below).is.places (on_machine y.program w n here) e
           (stage_behind y.plan (code y s w h stands below).thread (code y s w h stands below).is.places walker.at seen core.bank e) mark.steps mark.effects
           mark.at
-          ⊎ laws.Stays y.plan (code y s w h stands below).thread (code y s w h stands below).is.places y.program w n here e
+          ⊎ laws.Stays y.plan (code y s w h stands below).thread (code y s w h stands below).is.places (on_machine y.program w n here) e
           (stage_behind y.plan (code y s w h stands below).thread (code y s w h stands below).is.places walker.at seen core.bank e) mark.steps mark.effects
           mark.at → StepOf y s w h stands below n
       by (inl p) = store_passes p

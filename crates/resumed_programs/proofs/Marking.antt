@@ -17,7 +17,7 @@ use Rattle.log_states.specs.Stages.{is_store}
 use Rattle.thread_code.specs.Plans.{Plan, Thread}
 use Rattle.thread_code.specs.Performing.{Places}
 use Rattle.thread_code.specs.Entering.{IsAnswered, source_of}
-use Rattle.thread_runs.specs.Ways.{ReadsVariables, MayDo, AreSeen, effects_of}
+use Rattle.thread_runs.specs.Ways.{ReadsVariables, MayDo, AreSeen, effects_of, on_machine}
 use Rattle.thread_runs.specs.Laws.{IsAtSomeMark, Performing}
 use Rattle.thread_runs.proofs.Beginning.{nodes_begin}
 use Rattle.resumed_programs.specs.Systems.{System, IsSystem, flat_of, thread_count}
@@ -30,8 +30,8 @@ use Rattle.resumed_programs.proofs.Settings.{setting_with, meets_here, agrees_he
 use Rattle.resumed_programs.proofs.Stepping.{code, number, beside, same_number}
 
 mark_of : (p : Plan) (t : Thread) (c : Places) (program : List (List Slot)) (w : World) (h : ℕ) (s : Setting) (node : ℕ) (seen : Seen) (bank : ℕ)
-    (registers : List ℕ) (e : a.Effect) → takes_none e ≡ true → Performing p t c program w h s node seen bank registers e →
-    IsAtSomeMark p t c program w h s node seen bank registers e
+    (registers : List ℕ) (e : a.Effect) → takes_none e ≡ true → Performing p t c (on_machine program w h s) node seen bank registers e →
+    IsAtSomeMark p t c (on_machine program w h s) node seen bank registers e
 mark_of p t c program w h s node seen bank registers (a.Sets local value next) free m = m
 mark_of p t c program w h s node seen bank registers (a.Owes store next) free m = m
 mark_of p t c program w h s node seen bank registers (a.Makes store next) free m = m
@@ -105,7 +105,8 @@ module _ (y : System) (s : IsSystem y) (w : World) (h : ℕ) (stands : Stands y 
       IsAnswered (source_of y.plan (code y s w h stands below).thread
       (seen_by (now_of y (beside y s w h stands below)) (thread_of y s w h stands below).walker)) setting.around.loads node.action →
       MayDo y.plan (code y s w h stands below).thread (code y s w h stands below).is.places (length w.harts) setting e →
-      IsAtSomeMark y.plan (code y s w h stands below).thread (code y s w h stands below).is.places y.program w (number y s w h stands below) setting
+      IsAtSomeMark y.plan (code y s w h stands below).thread (code y s w h stands below).is.places
+      (on_machine y.program w (number y s w h stands below) setting)
       (thread_of y s w h stands below).walker.at (seen_by (now_of y (beside y s w h stands below)) (thread_of y s w h stands below).walker) core.bank
       core.registers e
   at_some_mark e free does reading answered may =

@@ -36,7 +36,7 @@ use Rattle.recovered_threads.specs.Telling.{Code}
 use Rattle.recovered_threads.proofs.Changes.{same_there}
 use Rattle.recovered_threads.proofs.Committing.{others_tell}
 use Rattle.resumed_programs.specs.Systems.{System, flat_of, shapes_of}
-use Rattle.resumed_programs.specs.Histories.{Beside, kept_of, now_of}
+use Rattle.resumed_programs.specs.Histories.{Beside, now_of, attempts_of}
 use Rattle.resumed_programs.specs.Courses.{Course, AnswersGuarded, GoesOn, GoesClean, IsBounded, Fits, Rests, Runs, on_way, at_core}
 use Rattle.resumed_programs.specs.Courses.{InPhase, IsComing, is_reached, is_ahead, IsFlushed, ThreadStands}
 use Rattle.resumed_programs.specs.Moving.{beside_next}
@@ -136,8 +136,8 @@ module _ (y : System) (b : Beside y) (next : Moment) (lives : Lives (flat_of y) 
       let same = done_same in
       record { before = written.before; within = omega (arith, within, same); at = writes_at_back written.before v e written.at }
 
-  cleans_back : (first line : ℕ) → CleansSince (flat_of y) (kept_of y behind) next (shapes_of y) y.left_out n first (attempt_of next n).done line →
-      CleansSince (flat_of y) (kept_of y b) b.moment (shapes_of y) y.left_out n first (attempt_of b.moment n).done line
+  cleans_back : (first line : ℕ) → CleansSince (attempts_of y behind) n first (attempt_of next n).done line →
+      CleansSince (attempts_of y b) n first (attempt_of b.moment n).done line
   cleans_back first line cleans =
       let within = cleans.within in
       let same = done_same in

@@ -21,7 +21,7 @@ use Rattle.region_attempts.specs.Staying.{MindsBoundaries}
 use Rattle.log_states.specs.Machines.{IsNext, IsElsewhere}
 use Rattle.log_states.proofs.Apart.{one_effect}
 use Rattle.recovered_threads.proofs.Changes.{same_there}
-use Rattle.thread_runs.specs.Ways.{Aim, Arrives, Ends, Stage, stage_behind, IsAtMark, IsOnWay}
+use Rattle.thread_runs.specs.Ways.{Aim, Arrives, Ends, Stage, stage_behind, IsAtMark, IsOnWay, on_machine}
 use Rattle.thread_runs.specs.Laws as laws
 use Rattle.thread_runs.specs.Laws.{run_at, stage_sees, AreMarksOf}
 use Rattle.thread_runs.proofs.Cores.{ways_see_all}
@@ -103,9 +103,9 @@ module _ (y : System) (s : IsSystem y) (w : World) (h : ℕ) (stands : Stands y 
   stage_is variables a.Ends plain = refl
 
   module _ (e : a.Effect) (plain : is_plain e ≡ true) (setting : Setting) (marks_are : AreMarksOf y.marks n setting) (steps : ℕ) (effects : List Effect)
-      (at : IsAtMark y.plan (code y s w h stands below).thread (code y s w h stands below).is.places y.program w n setting e
+      (at : IsAtMark y.plan (code y s w h stands below).thread (code y s w h stands below).is.places (on_machine y.program w n setting) e
       (stage_behind y.plan (code y s w h stands below).thread (code y s w h stands below).is.places walker.at seen core.bank e) steps effects)
-      (p : laws.Passes y.plan (code y s w h stands below).thread (code y s w h stands below).is.places y.program w n setting e
+      (p : laws.Passes y.plan (code y s w h stands below).thread (code y s w h stands below).is.places (on_machine y.program w n setting) e
       (stage_behind y.plan (code y s w h stands below).thread (code y s w h stands below).is.places walker.at seen core.bank e) steps effects at)
       (cleans : List Effect) (later_is : p.later ≡ cleans) (clean : (effect : Effect) → Contains cleans effect → is_clean effect ≡ true)
       (ends_clean : e ≡ a.Ends → cleans ≡ [])
@@ -153,17 +153,19 @@ module _ (y : System) (s : IsSystem y) (w : World) (h : ℕ) (stands : Stands y 
       walks : slice_get (now_of y next).walkers n ≡ Some (moved walker e)
       walks = ap (λ (z : FlowState). slice_get z.walkers n) state ∙ walker_is (now_of y b) n walker e (thread_of y s w h stands below).walks
 
-      way : IsOnWay y.plan (code y s w h stands below).thread (code y s w h stands below).is.places y.program v n setting
+      way : IsOnWay y.plan (code y s w h stands below).thread (code y s w h stands below).is.places (on_machine y.program v n setting)
           (record { aim = aim_behind e; node = (moved walker e).at; seen = seen_by (now_of y next) (moved walker e); bank = core.bank }) steps (cleans ++ [])
       way =
           let seen_all =
           ways_see_all y.plan (code y s w h stands below).thread (code y s w h stands below).is.places y.program v n setting
           (stage_behind y.plan (code y s w h stands below).thread (code y s w h stands below).is.places walker.at seen core.bank e) steps p.later
           (now_of y next).variables p.on in
-          subst (λ (es : List Effect). IsOnWay y.plan (code y s w h stands below).thread (code y s w h stands below).is.places y.program v n setting
+          subst (λ (es : List Effect). IsOnWay y.plan (code y s w h stands below).thread (code y s w h stands below).is.places
+          (on_machine y.program v n setting)
           (record { aim = aim_behind e; node = (moved walker e).at; seen = seen_by (now_of y next) (moved walker e); bank = core.bank }) steps es)
           (later_is ∙ sym (append-nil cleans))
-          (subst (λ (stage : Stage). IsOnWay y.plan (code y s w h stands below).thread (code y s w h stands below).is.places y.program v n setting stage
+          (subst (λ (stage : Stage). IsOnWay y.plan (code y s w h stands below).thread (code y s w h stands below).is.places
+          (on_machine y.program v n setting) stage
           steps p.later) (stage_is (now_of y next).variables e plain) seen_all)
 
       same_here : (other : Hart) → slice_get v.harts n ≡ Some other → behind ≡ other

@@ -26,7 +26,7 @@ use Rattle.region_attempts.proofs.Following.{graph_stands}
 use Rattle.log_states.specs.Machines.{IsNext, IsElsewhere}
 use Rattle.log_states.proofs.Apart.{stores_nothing}
 use Rattle.recovered_threads.proofs.Changes.{same_there}
-use Rattle.thread_runs.specs.Ways.{stage_behind}
+use Rattle.thread_runs.specs.Ways.{stage_behind, on_machine}
 use Rattle.thread_runs.specs.Laws as laws
 use Rattle.thread_runs.specs.Laws.{IsAtSomeMark, MarksPass, run_at}
 use Rattle.resumed_programs.specs.Systems.{System, IsSystem, flat_of, places_of, thread_count}
@@ -91,7 +91,8 @@ module _ (y : System) (s : IsSystem y) (w : World) (h : ℕ) (stands : Stands y 
   walks : slice_get (now_of y b).walkers n ≡ Some walker
   walks = (thread_of y s w h stands below).walks
 
-  pub mark : IsAtSomeMark y.plan (code y s w h stands below).thread (code y s w h stands below).is.places y.program w n here walker.at seen core.bank
+  pub mark : IsAtSomeMark y.plan (code y s w h stands below).thread (code y s w h stands below).is.places (on_machine y.program w n here)
+      walker.at seen core.bank
       core.registers e
   mark =
       at_some_mark y s w h stands below core node at reads e (quiet_free e quiet) does
@@ -142,7 +143,7 @@ module _ (y : System) (s : IsSystem y) (w : World) (h : ℕ) (stands : Stands y 
 
   -- ---- The mark is passed
 
-  module _ (p : laws.Passes y.plan (code y s w h stands below).thread (code y s w h stands below).is.places y.program w n here e
+  module _ (p : laws.Passes y.plan (code y s w h stands below).thread (code y s w h stands below).is.places (on_machine y.program w n here) e
       (stage_behind y.plan (code y s w h stands below).thread (code y s w h stands below).is.places walker.at seen core.bank e) mark.steps mark.effects
       mark.at) where
     nothing_seen : IsUnseen n p.forward.effect p.later
@@ -213,10 +214,10 @@ module _ (y : System) (s : IsSystem y) (w : World) (h : ℕ) (stands : Stands y 
       (stage_behind y.plan (code y s w h stands below).thread (code y s w h stands below).is.places walker.at seen core.bank e) mark.steps mark.effects
       stands.trails.sound mark.at)
     where
-      by : laws.Passes y.plan (code y s w h stands below).thread (code y s w h stands below).is.places y.program w n here e
+      by : laws.Passes y.plan (code y s w h stands below).thread (code y s w h stands below).is.places (on_machine y.program w n here) e
           (stage_behind y.plan (code y s w h stands below).thread (code y s w h stands below).is.places walker.at seen core.bank e) mark.steps mark.effects
           mark.at
-          ⊎ laws.Stays y.plan (code y s w h stands below).thread (code y s w h stands below).is.places y.program w n here e
+          ⊎ laws.Stays y.plan (code y s w h stands below).thread (code y s w h stands below).is.places (on_machine y.program w n here) e
           (stage_behind y.plan (code y s w h stands below).thread (code y s w h stands below).is.places walker.at seen core.bank e) mark.steps mark.effects
           mark.at → StepOf y s w h stands below n
       by (inl p) = quiet_passes p

@@ -43,7 +43,7 @@ use Rattle.thread_code.specs.Entering.{IsAnswered, source_of}
 use Rattle.thread_code.specs.Performing.{Places, Entrance, keeping, kind_at}
 use Rattle.thread_code.specs.Programs.{IsNodeCode}
 use Rattle.thread_runs.specs.Ways as ways
-use Rattle.thread_runs.specs.Ways.{Aim, Arrives, Keeps, Asks, Took, IsOnWay, IsAtCore}
+use Rattle.thread_runs.specs.Ways.{Aim, Arrives, Keeps, Asks, Took, IsOnWay, IsAtCore, on_machine}
 use Rattle.thread_runs.specs.Laws.{IsOnSomeWay}
 use Rattle.thread_runs.proofs.Arriving.{arrivals_end, took_end, at_end}
 use Rattle.thread_runs.proofs.Beginning.{nodes_begin}
@@ -160,7 +160,7 @@ pub record KeepsNow (y : System) (w : World) (b : Beside y) (code : Code y.plan)
   pub bank : ℕ
   pub at_bank : IsAtBankOf y b code c bank
   pub steps : ℕ
-  pub way : IsOnWay y.plan code.thread code.is.places y.program w code.thread.number setting
+  pub way : IsOnWay y.plan code.thread code.is.places (on_machine y.program w code.thread.number setting)
       (record { aim = Keeps; node = walker.at; seen = seen_by (now_of y b) walker; bank = bank }) steps (c.cleans ++ c.rest)
   pub fits : Fits y b code c walker Keeps
 
@@ -205,7 +205,7 @@ module _ (y : System) (s : IsSystem y) (w : World) (h : ℕ) (stands : Stands y 
   places = code.is.places
 
   abbrev WayWith : Setting → (bank steps : ℕ) → Aim → List Effect → Type 0
-  WayWith setting bank steps aim effects = IsOnWay y.plan code.thread places y.program w code.thread.number setting
+  WayWith setting bank steps aim effects = IsOnWay y.plan code.thread places (on_machine y.program w code.thread.number setting)
       (record { aim = aim; node = node; seen = seen; bank = bank }) steps effects
 
   there : StandsThere y t.walker
@@ -220,7 +220,7 @@ module _ (y : System) (s : IsSystem y) (w : World) (h : ℕ) (stands : Stands y 
 
   core_asks : (core : AtCoreNow y s w h stands below) (mutex next : ℕ) → there.is.action ≡ Lock mutex next → IsReady y s w h stands below
   core_asks core mutex next e =
-      let some : IsOnSomeWay y.plan code.thread places y.program w code.thread.number (bare y s w h below)
+      let some : IsOnSomeWay y.plan code.thread places (on_machine y.program w code.thread.number (bare y s w h below))
       (record { aim = Asks mutex next; node = node; seen = seen; bank = core.bank }) (places.words node) [] =
       nodes_begin y.plan code.thread y.program code.program code.is w code.thread.number (bare y s w h below) node seen core.bank core.registers there.is
       (a.Takes mutex next) (placed y s w h below stands.trails.count) (bare_meets y s w h below) (bare_agrees y s w h below) (bare_reads y s w h below)
@@ -234,7 +234,7 @@ module _ (y : System) (s : IsSystem y) (w : World) (h : ℕ) (stands : Stands y 
         bank = core.bank;
         at_bank = core.at_bank;
         steps = some.steps;
-        way = subst (λ (es : List Effect). IsOnWay y.plan code.thread places y.program w code.thread.number (bare y s w h below)
+        way = subst (λ (es : List Effect). IsOnWay y.plan code.thread places (on_machine y.program w code.thread.number (bare y s w h below))
             (record { aim = Asks mutex next; node = node; seen = seen; bank = core.bank }) some.steps es) (sym none) some.on;
         fits = core.goes;
       } in
@@ -301,7 +301,7 @@ module _ (y : System) (s : IsSystem y) (w : World) (h : ℕ) (stands : Stands y 
 
   module _ (bank : ℕ) (at_bank : IsAtBankOf y b code c bank) (goes : GoesOn y b code c) (lives : t.walker.ended ≡ false) (cleans : c.cleans ≡ [])
       (chosen : IsChosen y.plan.graph y.plan.boundaries node) (i : IsIn w h Run)
-      (way : IsOnWay y.plan code.thread places y.program w code.thread.number (bare y s w h below)
+      (way : IsOnWay y.plan code.thread places (on_machine y.program w code.thread.number (bare y s w h below))
       (record { aim = Arrives; node = node; seen = seen; bank = bank }) 0 []) where
     abbrev registers : List ℕ
     registers = way.registers
@@ -366,7 +366,7 @@ module _ (y : System) (s : IsSystem y) (w : World) (h : ℕ) (stands : Stands y 
         let number : code.thread.number ≡ h = s.codes.number h below in
         ap (λ (x : Hart). x.phase) (same_there (slice_get w.harts h) log.hart i.hart (ap (slice_get w.harts) (sym number) ∙ log.here) i.here) ∙ i.phase_is
 
-    keeps : IsOnSomeWay y.plan code.thread places y.program w code.thread.number (bare y s w h below)
+    keeps : IsOnSomeWay y.plan code.thread places (on_machine y.program w code.thread.number (bare y s w h below))
         (record { aim = Keeps; node = node; seen = seen; bank = bank_next }) (places.words node) ahead
     keeps = (arrivals_end y.plan code.thread y.program code.program code.is w code.thread.number (bare y s w h below) node seen bank []
         (placed y s w h below stands.trails.count) (bare_reads y s w h below) there.is there.at way).chosen chosen

@@ -18,7 +18,7 @@ use Rattle.thread_code.specs.Plans.{IsNodeOf}
 use Rattle.thread_code.specs.Entering.{Enters}
 use Rattle.thread_code.specs.Programs as code
 use Rattle.thread_code.specs.Programs.{IsResumed}
-use Rattle.thread_runs.specs.Ways.{Arrives, IsOnWay}
+use Rattle.thread_runs.specs.Ways.{Arrives, IsOnWay, on_machine}
 use Rattle.thread_runs.specs.Laws.{node_resumed, IsUnderWay, at_core, arrives}
 use Rattle.thread_runs.proofs.Cores.{ways_see_all, cores_see_all}
 use Rattle.thread_runs.proofs.Resuming.{resumed_go_on}
@@ -77,7 +77,7 @@ module _ (y : System) (s : IsSystem y) (w : World) (h : ℕ) (stands : Stands y 
     tells =
         subst (λ (done : Bool). Tells y.plan c (kept_of y b) (if done then course.new else course.old)) rests.committed (stands.trails.each h below).tells
 
-    go : GoesOn y.program y.plan c (kept_of y b) w i.hart course.new
+    go : GoesOn y.program c (kept_of y b) w i.hart course.new
     go =
         let ready : IsReady w h course.new = subst (λ (p : Phase). HasGathered w h course.new p) i.phase_is (ag.each h i.hart i.here) in
         harts_go_on y.program y.plan c (kept_of y b) w course.new tells (subst (λ (k : ℕ). IsReady w k course.new) (sym same) ready)
@@ -106,11 +106,13 @@ module _ (y : System) (s : IsSystem y) (w : World) (h : ℕ) (stands : Stands y 
     abbrev bank : ℕ
     bank = bank_of course.new.point
 
-    under_way : IsUnderWay y.plan c.thread c.is.places y.program after c.thread.number setting go.told.walker.at (seen_by (kept_of y b) go.told.walker) bank
+    under_way : IsUnderWay y.plan c.thread c.is.places (on_machine y.program after c.thread.number setting) go.told.walker.at
+        (seen_by (kept_of y b) go.told.walker) bank
         go.after.registers
     under_way =
         let r = resumed_there y c go.told.walker.at (resume_of course.new.point) go.told.own go.told.resumes in
-        subst (λ (node : ℕ). IsUnderWay y.plan c.thread c.is.places y.program after c.thread.number setting node (seen_by (kept_of y b) go.told.walker) bank
+        subst (λ (node : ℕ). IsUnderWay y.plan c.thread c.is.places (on_machine y.program after c.thread.number setting) node
+        (seen_by (kept_of y b) go.told.walker) bank
         go.after.registers) r.1
         (resumed_go_on y.plan c.thread y.program c.program c.is after c.thread.number setting (resume_of course.new.point) r.0
         (seen_by (kept_of y b) go.told.walker) bank go.after.registers (placed y s after h below count)
@@ -135,7 +137,8 @@ module _ (y : System) (s : IsSystem y) (w : World) (h : ℕ) (stands : Stands y 
     none_ahead : course.cleans ++ course.rest ≡ []
     none_ahead = ap₂ ◌++◌ rests.cleans rests.rest
 
-    runs_by : IsUnderWay y.plan c.thread c.is.places y.program after c.thread.number setting go.told.walker.at (seen_by (kept_of y b) go.told.walker) bank
+    runs_by : IsUnderWay y.plan c.thread c.is.places (on_machine y.program after c.thread.number setting) go.told.walker.at
+        (seen_by (kept_of y b) go.told.walker) bank
         go.after.registers → Runs y after b c course go.after go.told.walker
     runs_by (at_core core) = courses.at_core (record {
       bank = bank;
@@ -153,7 +156,7 @@ module _ (y : System) (s : IsSystem y) (w : World) (h : ℕ) (stands : Stands y 
       bank = bank;
       at_bank = λ some. refl;
       steps = way.steps;
-      way = subst (λ (es : List Effect). IsOnWay y.plan c.thread c.is.places y.program after c.thread.number setting
+      way = subst (λ (es : List Effect). IsOnWay y.plan c.thread c.is.places (on_machine y.program after c.thread.number setting)
           (record { aim = Arrives; node = go.told.walker.at; seen = seen_by (now_of y b) go.told.walker; bank = bank }) way.steps es) (sym none_ahead)
           (ways_see_all y.plan c.thread c.is.places y.program after c.thread.number setting
           (record { aim = Arrives; node = go.told.walker.at; seen = seen_by (kept_of y b) go.told.walker; bank = bank }) way.steps []

@@ -25,7 +25,7 @@ use Rattle.resumption.specs.Events.{steps_begun}
 use Rattle.resumption.specs.Laws.{HasLocked, HasUnlocked, IsKeptBy}
 use Rattle.resumption.proofs.Paths.{solo_holders}
 use Rattle.resumption.proofs.Removing.{last_first, more_empty}
-use Rattle.resumption.proofs.Settling.{LastStep, front_runs, last_step}
+use Rattle.resumption.proofs.Settling.{LastStep, prefix_runs, last_step}
 use Rattle.region_attempts.proofs.Following.{graph_stands}
 use Rattle.thread_runs.specs.Ways.{Aim, Arrives, Keeps, Asks, Took, Gives, Ends}
 use Rattle.recovered_threads.specs.Telling.{Code}
@@ -61,7 +61,7 @@ module _ (s : m.State) (t n : ℕ) (runs : m.runs_from s (replicate (suc n) t) �
   split = last_first n t [] ∙ more_empty (replicate (suc n) t)
 
   fewer_run : m.runs_from s (replicate n t) ≡ true
-  fewer_run = front_runs s (replicate n t) (t ∷ []) (ap (m.runs_from s) split ∙ runs)
+  fewer_run = prefix_runs s (replicate n t) (t ∷ []) (ap (m.runs_from s) split ∙ runs)
 
   one_more : (u : ℕ) → m.ended_from s (replicate (suc n) t) u ≡ m.ended_from s (replicate n t) u + m.ends_section (solo s t n) (solo s t (suc n)) u
   one_more u =

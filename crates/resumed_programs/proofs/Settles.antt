@@ -30,8 +30,8 @@ use Rattle.region_attempts.proofs.Following.{graph_stands, graph_follows, graph_
 use Rattle.log_states.specs.Logs.{Record}
 use Rattle.recovered_threads.specs.Telling.{Code, Tells}
 use Rattle.recovered_threads.proofs.Committing.{others_tell}
-use Rattle.resumed_programs.specs.Systems.{System, IsSystem, flat_of, shapes_of}
-use Rattle.resumed_programs.specs.Histories.{Beside, kept_of, now_of}
+use Rattle.resumed_programs.specs.Systems.{System, IsSystem, flat_of}
+use Rattle.resumed_programs.specs.Histories.{Beside, kept_of, now_of, attempts_of}
 use Rattle.resumed_programs.proofs.Orderly.{resumed, kept_matches}
 
 -- ---- Attempts
@@ -211,8 +211,8 @@ module _ (y : System) (s : IsSystem y) (b : Beside y) where
 
       -- so it cleans the same
       pub cleans_before : (first line : ℕ) →
-          CleansSince x (kept_of y behind) behind.moment (shapes_of y) y.left_out u first (attempt_of behind.moment u).done line →
-          CleansSince x (kept_of y b) old (shapes_of y) y.left_out u first done line
+          CleansSince (attempts_of y behind) u first (attempt_of behind.moment u).done line →
+          CleansSince (attempts_of y b) u first done line
       cleans_before first line c =
           let within = c.within in
           let same = done_same in

@@ -30,7 +30,7 @@ use Rattle.log_states.specs.Stages.{is_store}
 use Rattle.log_states.specs.Machines.{IsNext, IsElsewhere}
 use Rattle.log_states.proofs.Apart.{stores_nothing, one_effect}
 use Rattle.recovered_threads.proofs.Changes.{same_there}
-use Rattle.thread_runs.specs.Ways.{Stage, IsAtMark}
+use Rattle.thread_runs.specs.Ways.{Stage, IsAtMark, on_machine}
 use Rattle.thread_runs.specs.Laws as laws
 use Rattle.thread_runs.specs.Laws.{run_at}
 use Rattle.thread_runs.proofs.Cores.{stays_are_at_core}
@@ -67,9 +67,11 @@ not_bound c committed bound =
 
 module _ (y : System) (s : IsSystem y) (w : World) (h : ℕ) (stands : Stands y s w) (below : h < thread_count y) (core : AtCoreNow y s w h stands below)
     (setting : Setting) (e : a.Effect) (stage : Stage) (steps : ℕ) (effects : List Effect)
-    (at : IsAtMark y.plan (code y s w h stands below).thread (code y s w h stands below).is.places y.program w (number y s w h stands below) setting e stage
+    (at : IsAtMark y.plan (code y s w h stands below).thread (code y s w h stands below).is.places
+    (on_machine y.program w (number y s w h stands below) setting) e stage
     steps effects)
-    (stays : laws.Stays y.plan (code y s w h stands below).thread (code y s w h stands below).is.places y.program w (number y s w h stands below) setting e
+    (stays : laws.Stays y.plan (code y s w h stands below).thread (code y s w h stands below).is.places
+    (on_machine y.program w (number y s w h stands below) setting) e
     stage steps effects at) where
   abbrev n : ℕ
   n = number y s w h stands below

@@ -43,7 +43,7 @@ use Rattle.log_states.specs.Logs.{Record, log_word}
 use Rattle.log_states.specs.Stages.{is_store, fences_ahead}
 use Rattle.log_states.specs.Machines.{IsNext, IsLogEffect, StoresWord, CleansLine, PassesFence, moment_of}
 use Rattle.log_states.specs.Laws.{recorded_by}
-use Rattle.log_states.specs.Standing.{LogStands, Advances, Completes, WritesBack}
+use Rattle.log_states.specs.Standing.{LogStands, passage, Advances, Completes, WritesBack}
 use Rattle.log_states.proofs.Apart.{stores_nothing, one_effect}
 use Rattle.log_states.proofs.Going.{boundaries_stay_in}
 use Rattle.log_states.proofs.Committing.{point_store_is_last}
@@ -56,7 +56,7 @@ use Rattle.recovered_threads.proofs.Changes.{same_there, same_or_other}
 use Rattle.recovered_threads.proofs.Unlocks.{unlocks_enter}
 use Rattle.thread_code.specs.Entering.{Enters, IsAnswered, source_of}
 use Rattle.thread_code.specs.Performing.{keeping}
-use Rattle.thread_runs.specs.Ways.{Gives, stage_behind, effects_of, IsOnWay}
+use Rattle.thread_runs.specs.Ways.{Gives, stage_behind, effects_of, IsOnWay, on_machine}
 use Rattle.thread_runs.specs.Laws as laws
 use Rattle.thread_runs.specs.Laws.{IsAtSomeMark, MarksPass, run_at}
 use Rattle.thread_runs.proofs.Cores.{ways_see_all}
@@ -125,7 +125,8 @@ module _ (y : System) (s : IsSystem y) (w : World) (h : ℕ) (stands : Stands y 
   nothing_read : IsAnswered (source_of y.plan (code y s w h stands below).thread seen) here.around.loads node.action
   nothing_read = subst (λ (z : Action). IsAnswered (source_of y.plan (code y s w h stands below).thread seen) here.around.loads z) (sym action) tt
 
-  pub mark : IsAtSomeMark y.plan (code y s w h stands below).thread (code y s w h stands below).is.places y.program w n here walker.at seen core.bank
+  pub mark : IsAtSomeMark y.plan (code y s w h stands below).thread (code y s w h stands below).is.places (on_machine y.program w n here)
+      walker.at seen core.bank
       core.registers e
   mark =
       at_some_mark y s w h stands below core node at none e refl does
@@ -237,7 +238,7 @@ module _ (y : System) (s : IsSystem y) (w : World) (h : ℕ) (stands : Stands y 
 
   -- ---- The mark is passed
 
-  module _ (p : laws.Passes y.plan (code y s w h stands below).thread (code y s w h stands below).is.places y.program w n here e
+  module _ (p : laws.Passes y.plan (code y s w h stands below).thread (code y s w h stands below).is.places (on_machine y.program w n here) e
       (stage_behind y.plan (code y s w h stands below).thread (code y s w h stands below).is.places walker.at seen core.bank e) mark.steps mark.effects
       mark.at) where
     abbrev hart : Hart
@@ -284,7 +285,7 @@ module _ (y : System) (s : IsSystem y) (w : World) (h : ℕ) (stands : Stands y 
     }
 
     -- it is the first effect of the boundary
-    log_by : (f : Effect) (is : p.forward.effect ≡ f) → effects_all ≡ f ∷ p.later → Advances y.program n c.new new_record w (f ∷ []) p.later →
+    log_by : (f : Effect) (is : p.forward.effect ≡ f) → effects_all ≡ f ∷ p.later → Advances y.program (passage n c.new new_record) w (f ∷ []) p.later →
         LogStands n c.new new_record v p.later
     log_by f is same (Completes reply log) = log
     log_by f is same (WritesBack reply log) = let z : Moved ≡ Drained = sym p.forward.reply ∙ reply in cc
@@ -386,7 +387,7 @@ module _ (y : System) (s : IsSystem y) (w : World) (h : ℕ) (stands : Stands y 
           says.1 ∙ ap (λ (q : Bool). if q then core.bank else 1 - core.bank) (sym within)
     ]
 
-    way : IsOnWay y.plan (code y s w h stands below).thread (code y s w h stands below).is.places y.program v n here
+    way : IsOnWay y.plan (code y s w h stands below).thread (code y s w h stands below).is.places (on_machine y.program v n here)
         (record { aim = Gives walker.at mutex; node = next_node; seen = seen_by (now_of y next) walker_next; bank = bank_next }) mark.steps p.later
     way = ways_see_all y.plan (code y s w h stands below).thread (code y s w h stands below).is.places y.program v n here
         (stage_behind y.plan (code y s w h stands below).thread (code y s w h stands below).is.places walker.at seen core.bank e) mark.steps p.later
@@ -560,10 +561,10 @@ module _ (y : System) (s : IsSystem y) (w : World) (h : ℕ) (stands : Stands y 
       (stage_behind y.plan (code y s w h stands below).thread (code y s w h stands below).is.places walker.at seen core.bank e) mark.steps mark.effects
       stands.trails.sound mark.at)
     where
-      by : laws.Passes y.plan (code y s w h stands below).thread (code y s w h stands below).is.places y.program w n here e
+      by : laws.Passes y.plan (code y s w h stands below).thread (code y s w h stands below).is.places (on_machine y.program w n here) e
           (stage_behind y.plan (code y s w h stands below).thread (code y s w h stands below).is.places walker.at seen core.bank e) mark.steps mark.effects
           mark.at
-          ⊎ laws.Stays y.plan (code y s w h stands below).thread (code y s w h stands below).is.places y.program w n here e
+          ⊎ laws.Stays y.plan (code y s w h stands below).thread (code y s w h stands below).is.places (on_machine y.program w n here) e
           (stage_behind y.plan (code y s w h stands below).thread (code y s w h stands below).is.places walker.at seen core.bank e) mark.steps mark.effects
           mark.at → StepOf y s w h stands below n
       by (inl p) = unlock_passes p

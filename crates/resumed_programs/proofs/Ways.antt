@@ -25,7 +25,7 @@ use Rattle.hart_runs.specs.Steps as steps
 use Rattle.hart_runs.specs.Steps.{Contents, Changes, GoesForward, Drains, is_clean}
 use Rattle.hart_runs.specs.Standing.{OnRun}
 use Rattle.hart_runs.proofs.Reaching.{forward_reaches, drains_reach, cleans_reach_now, fences_settle}
-use Rattle.thread_runs.specs.Ways.{Aim, Arrives, Keeps, Asks, Took, Gives, Ends, Stage, IsOnWay, effects_of, end_of, AreApart}
+use Rattle.thread_runs.specs.Ways.{Aim, Arrives, Keeps, Asks, Took, Gives, Ends, Stage, IsOnWay, effects_of, end_of, AreApart, on_machine}
 use Rattle.thread_runs.proofs.Going.{seen_alike}
 use Rattle.thread_runs.specs.Laws as runs
 use Rattle.thread_runs.specs.Laws.{run_of, IsHeldUp, WaysGoOn}
@@ -56,7 +56,7 @@ use Rattle.log_states.proofs.Numbers.{byte_of_log, word_of_point}
 use Rattle.recovered_threads.specs.Telling.{Code}
 use Rattle.recovered_threads.proofs.Changes.{same_there}
 use Rattle.resumed_programs.specs.Systems.{System, IsSystem, IsOwnCode, flat_of, shapes_of, places_of}
-use Rattle.resumed_programs.specs.Histories.{Beside, kept_of, now_of}
+use Rattle.resumed_programs.specs.Histories.{Beside, kept_of, now_of, attempts_of}
 use Rattle.resumed_programs.specs.Courses as courses
 use Rattle.resumed_programs.specs.Courses.{Course, IsGuarded, AnswersGuarded, Fits, OnWay, Runs}
 use Rattle.resumed_programs.specs.Courses.{on_way, InPhase, IsComing, is_reached, is_ahead, IsFlushed, ThreadStands}
@@ -156,8 +156,8 @@ module _ (y : System) (s : IsSystem y) (w : World) (b : Beside y) (memory_is : m
     guards = g.guards;
   }
 
-  cleans_since : (first steps line : ℕ) → CleansSince (flat_of y) (kept_of y beside_risen) next_moment (shapes_of y) y.left_out number first steps line →
-      CleansSince (flat_of y) (kept_of y b) b.moment (shapes_of y) y.left_out number first steps line
+  cleans_since : (first steps line : ℕ) → CleansSince (attempts_of y beside_risen) number first steps line →
+      CleansSince (attempts_of y b) number first steps line
   cleans_since first steps line k = record {
     last = k.last;
     since = k.since;
@@ -297,8 +297,8 @@ module _ (y : System) (s : IsSystem y) (w : World) (b : Beside y) (memory_is : m
   abbrev stage : Stage
   stage = record { aim = o.aim; node = t.walker.at; seen = seen_by (now_of y b) t.walker; bank = o.bank }
 
-  way : IsOnWay y.plan code.thread code.is.places y.program w thread o.setting stage (suc left) (c.cleans ++ c.rest)
-  way = subst (λ (n : ℕ). IsOnWay y.plan code.thread code.is.places y.program w thread o.setting stage n (c.cleans ++ c.rest)) is o.way
+  way : IsOnWay y.plan code.thread code.is.places (on_machine y.program w thread o.setting) stage (suc left) (c.cleans ++ c.rest)
+  way = subst (λ (n : ℕ). IsOnWay y.plan code.thread code.is.places (on_machine y.program w thread o.setting) stage n (c.cleans ++ c.rest)) is o.way
 
   abbrev run : OnRun w thread
   run = run_of y.plan code.thread code.is.places way
@@ -315,7 +315,7 @@ module _ (y : System) (s : IsSystem y) (w : World) (b : Beside y) (memory_is : m
   -- ---- Whatever it makes
 
   module _ (raised : AreRaised (memory_in (places_of y) w.words) (memory_in (places_of y) behind.words)) (rest cleans : List Effect) (more : ℕ)
-      (on : IsOnWay y.plan code.thread code.is.places y.program behind thread o.setting stage more (cleans ++ rest))
+      (on : IsOnWay y.plan code.thread code.is.places (on_machine y.program behind thread o.setting) stage more (cleans ++ rest))
       (move : MovesTo thread w way.on.hart c.rest behind rest)
       (reach : (j position : ℕ) → Reaches w.words way.on.hart.queue j position → Reaches behind.words on.on.hart.queue j position)
       (ahead : (address : ℕ) → Contains c.cleans (Cleans address) → Contains cleans (Cleans address) ⊎ ((k : ℕ) → k < 8 →
@@ -428,7 +428,8 @@ module _ (y : System) (s : IsSystem y) (w : World) (b : Beside y) (memory_is : m
 
   -- ---- It is held up
 
-  held_up : IsHeldUp y.plan code.thread code.is.places y.program w thread o.setting stage left (c.cleans ++ c.rest) way → Stepped y w b code c thread
+  held_up : IsHeldUp y.plan code.thread code.is.places (on_machine y.program w thread o.setting) stage left (c.cleans ++ c.rest) way →
+      Stepped y w b code c thread
   held_up u =
       let d = u.drains in
       let none = held_up_stores_none d.effect way.on.hart.queue d.held_up in
@@ -449,7 +450,7 @@ module _ (y : System) (s : IsSystem y) (w : World) (b : Beside y) (memory_is : m
 
   -- ---- It goes on
 
-  module _ (g : runs.GoesOn y.plan code.thread code.is.places y.program w thread o.setting stage left (c.cleans ++ c.rest) way) where
+  module _ (g : runs.GoesOn y.plan code.thread code.is.places (on_machine y.program w thread o.setting) stage left (c.cleans ++ c.rest) way) where
     abbrev effect : Effect
     effect = g.forward.effect
 
@@ -469,7 +470,7 @@ module _ (y : System) (s : IsSystem y) (w : World) (b : Beside y) (memory_is : m
     forward_on j position r =
         subst (λ (x : Hart). Reaches behind.words x.queue j position) (sym g.same) (forward_reaches y.program w thread run g.forward j position r)
 
-    abbrev way_with : (es : List Effect) → g.later ≡ es → IsOnWay y.plan code.thread code.is.places y.program behind thread o.setting stage left es
+    abbrev way_with : (es : List Effect) → g.later ≡ es → IsOnWay y.plan code.thread code.is.places (on_machine y.program behind thread o.setting) stage left es
     way_with es same = record {
       meets = g.on.meets;
       agrees = g.on.agrees;
@@ -558,8 +559,7 @@ module _ (y : System) (s : IsSystem y) (w : World) (b : Beside y) (memory_is : m
           f.position ≤ (history_at (memory_in (places_of y) behind.words) v e).durable
       fence_settles is_fence v e un few f = by (f.comes cleaned)
         where
-          cleaned : CleansSince (flat_of y) (kept_of y b) b.moment (shapes_of y) y.left_out thread f.before (attempt_of b.moment thread).done
-              (line_of (shapes_of y) v e)
+          cleaned : CleansSince (attempts_of y b) thread f.before (attempt_of b.moment thread).done (line_of (shapes_of y) v e)
           cleaned =
               let r = resumed y s b in
               let within = f.within in

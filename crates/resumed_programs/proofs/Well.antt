@@ -20,7 +20,7 @@ use Rattle.hart_runs.specs.Calls as harts
 use Rattle.hart_runs.proofs.Well as harts_well
 use Rattle.resumption.specs.Moments.{now}
 use Rattle.thread_code.specs.Performing.{Places}
-use Rattle.thread_runs.specs.Ways.{Aim, Asks, Gives, Ends, IsOnWay, stage_behind}
+use Rattle.thread_runs.specs.Ways.{Aim, Asks, Gives, Ends, IsOnWay, stage_behind, on_machine}
 use Rattle.thread_runs.specs.Laws.{IsAtSomeMark, MarksPass}
 use Rattle.thread_runs.proofs.Others.{ways_are_well, marks_are_well}
 use Rattle.thread_runs.proofs.Well.{locks_are_well, unlocks_are_well, ends_are_well}
@@ -37,6 +37,7 @@ use Rattle.resumed_programs.specs.Laws.{NoneIsStuck, TakesMove}
 use Rattle.resumed_programs.proofs.Bare.{bare}
 use Rattle.resumed_programs.proofs.Locked.{runs_held}
 use Rattle.resumed_programs.proofs.Holding.{mutex_there}
+use Rattle.resumed_programs.proofs.AtCalls as at_calls
 use Rattle.resumed_programs.proofs.Calling as calls
 use Rattle.resumed_programs.proofs.Doing.{is_quiet, owes_here}
 use Rattle.resumed_programs.proofs.Quietly as quietly
@@ -80,14 +81,14 @@ module _ (y : System) (s : IsSystem y) (w : World) (h : ℕ) (stands : Stands y 
   on_way o steps is =
       ways_are_well harts_well.none_is_stuck y.plan code.thread places y.program w thread o.setting
       (record { aim = o.aim; node = t.walker.at; seen = seen; bank = o.bank }) steps (c.cleans ++ c.rest)
-      (subst (λ (n : ℕ). IsOnWay y.plan code.thread places y.program w thread o.setting
+      (subst (λ (n : ℕ). IsOnWay y.plan code.thread places (on_machine y.program w thread o.setting)
       (record { aim = o.aim; node = t.walker.at; seen = seen; bank = o.bank }) n (c.cleans ++ c.rest)) is o.way)
 
   -- at its end, where the thread makes a call
   module _ (held : AreHeld w stands.trails.courses (now_of y b)) (o : OnWayNow y s w h stands below) (over : o.steps ≡ 0) where
     asks : (mutex next : ℕ) → o.aim ≡ Asks mutex next → IsFree y w thread
     asks mutex next is =
-        let way = calls.asks y s w h stands below held mutex next o over is in
+        let way = at_calls.asks y s w h stands below held mutex next o over is in
         let within = mutex_there y s b code t.walker t.walks mutex next way.of_graph in
         let count = stands.trails.mutexes in
         elim (get_cases w.holders mutex) [
@@ -106,7 +107,7 @@ module _ (y : System) (s : IsSystem y) (w : World) (h : ℕ) (stands : Stands y 
     ends is =
         ends_are_well harts_well.none_is_stuck y.plan code.thread y.program code.program code.is w thread (bare y s w h below) t.walker.at seen o.bank []
         (calls.ending y s w h stands below held o over is)
-        (calls.none_from thread 0 w.holders (calls.none_here y s w h stands below held o over is))
+        (at_calls.none_from thread 0 w.holders (calls.none_here y s w h stands below held o over is))
 
     at_call : (aim : Aim) → moving.IsCalling y s w h stands below aim → o.aim ≡ aim → IsFree y w thread
     at_call _ (moving.asks mutex next) is = asks mutex next is
@@ -120,7 +121,7 @@ module _ (y : System) (s : IsSystem y) (w : World) (h : ℕ) (stands : Stands y 
     node = found y s w h stands below core marks none
 
     at_mark : (setting : Setting) (effect : a.Effect) →
-        IsAtSomeMark y.plan code.thread places y.program w thread setting t.walker.at seen core.bank core.registers effect → IsFree y w thread
+        IsAtSomeMark y.plan code.thread places (on_machine y.program w thread setting) t.walker.at seen core.bank core.registers effect → IsFree y w thread
     at_mark setting effect m =
         marks_are_well harts_well.none_is_stuck y.plan code.thread places y.program w thread setting effect
         (stage_behind y.plan code.thread places t.walker.at seen core.bank effect) m.steps m.effects m.at

@@ -24,10 +24,10 @@ use Rattle.log_states.specs.Stages.{fences_ahead, is_committed}
 use Rattle.log_states.specs.Machines.{moment_of}
 use Rattle.log_states.specs.Standing.{LogStands}
 use Rattle.hart_runs.specs.Steps.{is_clean}
-use Rattle.thread_runs.specs.Ways.{Aim, Arrives, Keeps, Asks, Took, Gives, Ends, IsOnWay, IsAtCore}
+use Rattle.thread_runs.specs.Ways.{Aim, Arrives, Keeps, Asks, Took, Gives, Ends, IsOnWay, IsAtCore, on_machine}
 use Rattle.recovered_threads.specs.Telling.{Code, Tells}
 use Rattle.resumed_programs.specs.Systems.{System, flat_of, shapes_of}
-use Rattle.resumed_programs.specs.Histories.{Beside, kept_of, now_of}
+use Rattle.resumed_programs.specs.Histories.{Beside, kept_of, now_of, attempts_of}
 
 -- what is said of a thread beside its walker
 pub record Course : Type 0 where
@@ -125,7 +125,7 @@ module _ (y : System) (w : World) (b : Beside y) (code : Code y.plan) (c : Cours
     pub bank : ℕ
     pub at_bank : IsAtBankOf y b code c bank
     pub steps : ℕ
-    pub way : IsOnWay y.plan code.thread code.is.places y.program w code.thread.number setting
+    pub way : IsOnWay y.plan code.thread code.is.places (on_machine y.program w code.thread.number setting)
         (record { aim = aim; node = walker.at; seen = seen_by (now_of y b) walker; bank = bank }) steps (c.cleans ++ c.rest)
     pub fits : Fits y b code c walker aim
 
@@ -166,8 +166,8 @@ module _ (y : System) (w : World) (b : Beside y) (code : Code y.plan) (c : Cours
     pub writes : WritesAt b.moment.kept code.thread.number before v e
     pub position : ℕ
     pub since : IsSince (history_at b.moment.memory v e) position
-    pub comes : CleansSince (flat_of y) (kept_of y b) b.moment (shapes_of y) y.left_out code.thread.number before
-        (attempt_of b.moment code.thread.number).done (line_of (shapes_of y) v e) → IsComing hart v e position
+    pub comes : CleansSince (attempts_of y b) code.thread.number before (attempt_of b.moment code.thread.number).done (line_of (shapes_of y) v e) →
+        IsComing hart v e position
     pub fenced : c.committed ≡ false → fences_ahead c.rest < 2 → position ≤ (history_at b.moment.memory v e).durable
 
   -- ---- All of it

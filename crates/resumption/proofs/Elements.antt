@@ -59,7 +59,8 @@ stored_in kind byte word number holds =
     let own = part_own (live_value word) byte (bytes_of kind) (register_of kind number) in
     appended_in kind byte word (with_part (live_value word) byte (bytes_of kind) (register_of kind number)) number
     (ap (λ (n : ℕ). reduced kind (pos n)) own
-    ∙ (reduced-same kind (pos (register_of kind number % modulus_of kind)) (pos (register_of kind number)) (Same-mod (register_of kind number) (modulus_of kind))
+    ∙ (reduced-same kind (pos (register_of kind number % modulus_of kind)) (pos (register_of kind number))
+    (Same-mod (register_of kind number) (modulus_of kind))
     ∙ reduced-register kind number holds))
 
 pub beside_in : BesideIn

@@ -3,7 +3,8 @@ use Rattle.std.proofs.Common.{◌≡◌, ◌⊎◌, inl, inr, refl, ℕ, zero, s
 use Rattle.std.specs.Prelude.{slice_index_or, pos}
 use Rattle.std.proofs.lemmas.List.{length-append, length-map}
 use Rattle.c_tree.specs.Source as m
-use Rattle.resumption.specs.Histories.{IsSince, History, history_of, live_number, durable_number, IsStable, with_number, after_crash, IsRaised, Memory, history_at, number_at, memory_of, crashed}
+use Rattle.resumption.specs.Histories.{IsSince, History, history_of, live_number, durable_number, IsStable, with_number}
+use Rattle.resumption.specs.Histories.{after_crash, IsRaised, Memory, history_at, number_at, memory_of, crashed}
 
 -- ---- Lists
 
@@ -16,10 +17,10 @@ index_end : {X : Type 0} (xs : List X) (n d : X) → slice_index_or (xs ++ n ∷
 index_end [] n d = refl
 index_end (x ∷ xs) n d = index_end xs n d
 
-index_front : {X : Type 0} (xs ys : List X) (k : ℕ) (d : X) → k < length xs → slice_index_or (xs ++ ys) k d ≡ slice_index_or xs k d
-index_front [] ys k d h = absurd (omega arith)
-index_front (x ∷ xs) ys zero d h = refl
-index_front (x ∷ xs) ys (suc k) d h = index_front xs ys k d (omega arith)
+index_prefix : {X : Type 0} (xs ys : List X) (k : ℕ) (d : X) → k < length xs → slice_index_or (xs ++ ys) k d ≡ slice_index_or xs k d
+index_prefix [] ys k d h = absurd (omega arith)
+index_prefix (x ∷ xs) ys zero d h = refl
+index_prefix (x ∷ xs) ys (suc k) d h = index_prefix xs ys k d (omega arith)
 
 -- ---- A history
 
@@ -35,7 +36,7 @@ stable_with : (h : History) (n : ℤ) → IsStable h n → IsStable (with_number
 stable_with h n s = record {
   there = let there = s.there in omega (arith, there, length-append h.values (n ∷ []));
   each = λ p low high. ⊎_elim
-      (λ within. index_front h.values (n ∷ []) p (pos 0) within ∙ s.each p low within)
+      (λ within. index_prefix h.values (n ∷ []) p (pos 0) within ∙ s.each p low within)
       (λ e. ap (λ (k : ℕ). slice_index_or (h.values ++ n ∷ []) k (pos 0)) e ∙ index_end h.values n (pos 0))
       (last p (let r : p < suc (length h.values) = omega (arith, high, length-append h.values (n ∷ [])) in r));
 }
@@ -80,11 +81,11 @@ stable_crashed h n s = subst (λ (z : ℤ). IsStable (history_of z) n) (sym (dur
 -- ---- Since a store
 
 -- no position is higher than the last one but that of the new value
-front_or_end : (p l : ℕ) → p < suc l → (p < l) ⊎ (p ≡ l)
-front_or_end zero zero g = inr refl
-front_or_end zero (suc l) g = inl (omega arith)
-front_or_end (suc p) zero g = absurd (omega (arith, g))
-front_or_end (suc p) (suc l) g = ⊎_elim (λ a. inl (omega (arith, a))) (λ e. inr (ap suc e)) (front_or_end p l (omega (arith, g)))
+before_or_last : (p l : ℕ) → p < suc l → (p < l) ⊎ (p ≡ l)
+before_or_last zero zero g = inr refl
+before_or_last zero (suc l) g = inl (omega arith)
+before_or_last (suc p) zero g = absurd (omega (arith, g))
+before_or_last (suc p) (suc l) g = ⊎_elim (λ a. inl (omega (arith, a))) (λ e. inr (ap suc e)) (before_or_last p l (omega (arith, g)))
 
 in_more : (h : History) (n : ℤ) (p : ℕ) → p < length (with_number h n).values → p < suc (length h.values)
 in_more h n p high = omega (arith, high, length-append h.values (n ∷ []))
@@ -106,9 +107,9 @@ since_again h q s = record {
   there = let there = s.there in omega (arith, there, length-append h.values (live_number h ∷ []));
   each = λ p low high.
       ⊎_elim
-      (λ within. index_front h.values (live_number h ∷ []) p (pos 0) within ∙ s.each p low within)
+      (λ within. index_prefix h.values (live_number h ∷ []) p (pos 0) within ∙ s.each p low within)
       (λ is. ap (λ (k : ℕ). slice_index_or (h.values ++ live_number h ∷ []) k (pos 0)) is ∙ index_end h.values (live_number h) (pos 0))
-      (front_or_end p (length h.values) (in_more h (live_number h) p high))
+      (before_or_last p (length h.values) (in_more h (live_number h) p high))
       ∙ sym (live_with h (live_number h));
 }
 

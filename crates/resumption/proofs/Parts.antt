@@ -8,7 +8,8 @@ use Rattle.ido_base.specs.Words.{part, with_part}
 low_digits : (x y a b d : ℕ) → (x + y * 2 ^ (d + (b + a))) / 2 ^ a % 2 ^ b ≡ x / 2 ^ a % 2 ^ b
 low_digits x y a b d =
     let whole : 2 ^ (d + (b + a)) ≡ 2 ^ d * (2 ^ b * 2 ^ a) = pow-add 2 d (b + a) ∙ ap (λ (n : ℕ). 2 ^ d * n) (pow-add 2 b a) in
-    let moved : y * 2 ^ (d + (b + a)) ≡ y * 2 ^ d * 2 ^ b * 2 ^ a = ap (λ (n : ℕ). y * n) whole ∙ (let e : y * (2 ^ d * (2 ^ b * 2 ^ a)) ≡ y * 2 ^ d * 2 ^ b * 2 ^ a = omega arith in e) in
+    let moved : y * 2 ^ (d + (b + a)) ≡ y * 2 ^ d * 2 ^ b * 2 ^ a =
+    ap (λ (n : ℕ). y * n) whole ∙ (let e : y * (2 ^ d * (2 ^ b * 2 ^ a)) ≡ y * 2 ^ d * 2 ^ b * 2 ^ a = omega arith in e) in
     ap (λ (n : ℕ). (x + n) / 2 ^ a % 2 ^ b) moved
     ∙ (ap (λ (n : ℕ). n % 2 ^ b) (add-mul-div_right x (y * 2 ^ d * 2 ^ b) (pow_pos a))
     ∙ add-mul-mod_self_right (x / 2 ^ a) (y * 2 ^ d) (2 ^ b))

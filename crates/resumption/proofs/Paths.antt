@@ -1,5 +1,6 @@
 -- A thread's own steps from two states that look the same to it.
-use Rattle.std.proofs.Common.{◌≡◌, ◌⊎◌, inl, inr, refl, ℕ, zero, suc, ◌≤◌, ◌==◌, List, [], ◌∷◌, replicate, sym, ◌∙◌, ap, subst, arith, true, Option, Some, None, ⊎_elim}
+use Rattle.std.proofs.Common.{◌≡◌, ◌⊎◌, inl, inr, refl, ℕ, zero, suc, ◌≤◌, ◌==◌, List, [], ◌∷◌}
+use Rattle.std.proofs.Common.{replicate, sym, ◌∙◌, ap, subst, arith, true, Option, Some, None, ⊎_elim}
 use Rattle.std.specs.Prelude.{slice_get}
 use Rattle.std.proofs.lemmas.Bool.{cases_eq}
 use Rattle.std.proofs.lemmas.Bool.Decides.{nat_tests}
@@ -78,7 +79,8 @@ module _ (x : f.Flat) (u : ℕ) where
   inner_along n a b ka kb i inner k l =
       let s = along k n a b ka kb i inner (omega (arith, l)) in
       let g = inner k l in
-      let r = beside (solo a u k) (solo b u k) g.next (run_keeps x a (replicate k u) ka) (run_keeps x b (replicate k u) kb) s g.is g.locks_none g.unlocks_none in
+      let r = beside (solo a u k) (solo b u k) g.next (run_keeps x a (replicate k u) ka) (run_keeps x b (replicate k u) kb) s g.is g.locks_none
+      g.unlocks_none in
       record {
         next = r.0;
         is = r.1;
@@ -89,7 +91,8 @@ module _ (x : f.Flat) (u : ℕ) where
 -- ---- What a thread writes
 
 -- the thread is the same behind its steps
-pub writes_at_same : (a b : m.State) (t k v e : ℕ) → slice_get (solo a t k).threads t ≡ slice_get (solo b t k).threads t → WritesAt b t k v e → WritesAt a t k v e
+pub writes_at_same : (a b : m.State) (t k v e : ℕ) → slice_get (solo a t k).threads t ≡ slice_get (solo b t k).threads t → WritesAt b t k v e →
+    WritesAt a t k v e
 writes_at_same a b t k v e own w = record {
   store = w.store;
   is = store_same (solo b t k) (solo a t k) t own ∙ w.is;
@@ -171,7 +174,8 @@ module _ (x : f.Flat) (t : ℕ) where
       let g = inner 0 (omega arith) in
       ap (λ (z : m.State). number_at z v e) (solo_first s g.next t k g.is)
       ∙ (solo_numbers k n g.next v e (inner_rest s t n inner g.next g.is) (omega (arith, l))
-      (λ w. none (let within = w.within in record { before = suc w.before; within = omega (arith, within); at = writes_at_first s g.next t w.before v e g.is w.at }))
+      (λ w. none (let within = w.within in
+      record { before = suc w.before; within = omega (arith, within); at = writes_at_first s g.next t w.before v e g.is w.at }))
       ∙ number_unstored s g.next t v e g.is (λ p is a b. none (record {
         before = 0;
         within = omega arith;

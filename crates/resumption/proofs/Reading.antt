@@ -1,5 +1,6 @@
 -- What the invariant says of reads, of durable memory and of the schedule.
-use Rattle.std.proofs.Common.{false, true, Bool, Option, zero, ◌+◌, ◌≡◌, refl, ℕ, suc, List, [], ◌∷◌, length, map, replicate, sym, ◌∙◌, ap, subst, arith, Some, ℤ, ⊎_elim}
+use Rattle.std.proofs.Common.{false, true, Bool, Option, zero, ◌+◌, ◌≡◌, refl, ℕ, suc, List, [], ◌∷◌}
+use Rattle.std.proofs.Common.{length, map, replicate, sym, ◌∙◌, ap, subst, arith, Some, ℤ, ⊎_elim}
 use Rattle.std.specs.Prelude.{slice_get, is_none, if◌then◌else◌, slice_index_or, pos}
 use Rattle.std.proofs.lemmas.Bool.{cases_eq}
 use Rattle.ido_base.specs.Locks.{is_held_by, held_from}
@@ -14,7 +15,8 @@ use Rattle.resumption.specs.Histories.{IsSince, IsStable, History, history_of, d
 use Rattle.resumption.specs.Attempts.{IsAhead}
 use Rattle.resumption.specs.Moments.{IsCaughtUp, now, attempt_of}
 use Rattle.resumption.specs.Events.{steps_begun}
-use Rattle.resumption.specs.Laws.{StoredIsSince, SinceStays, SinceIsRaised, SinceSettles, WritersGuard, WritersApart, BetweenIsKept, GoesAlone, SettlesAsItIs, PathsStay, ReadsAreRight, DurableIsKept, ScheduleGrows, SectionsStay, NowStays}
+use Rattle.resumption.specs.Laws.{StoredIsSince, SinceStays, SinceIsRaised, SinceSettles, WritersGuard, WritersApart, BetweenIsKept}
+use Rattle.resumption.specs.Laws.{GoesAlone, SettlesAsItIs, PathsStay, ReadsAreRight, DurableIsKept, ScheduleGrows, SectionsStay, NowStays}
 use Rattle.resumption.proofs.Histories.{since_own, since_again, since_raised, stable_since, durable_stable}
 use Rattle.resumption.proofs.Paths.{writes_more, held_same, writer_guards}
 use Rattle.resumption.proofs.Schedules.{alone, equal_self}

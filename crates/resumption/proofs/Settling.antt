@@ -1,5 +1,6 @@
 -- A thread's begun steps that are kept: the invariant holds.
-use Rattle.std.proofs.Common.{◌≡◌, ◌≢◌, ◌⊎◌, inl, inr, refl, ℕ, suc, ◌+◌, ◌≤◌, ◌==◌, List, [], ◌∷◌, ◌++◌, replicate, sym, ◌∙◌, ap, subst, arith, Bool, true, false, Option, Some, None, ℤ, ⊎_elim}
+use Rattle.std.proofs.Common.{◌≡◌, ◌≢◌, ◌⊎◌, inl, inr, refl, ℕ, suc, ◌+◌, ◌≤◌, ◌==◌, List, [], ◌∷◌, ◌++◌, replicate}
+use Rattle.std.proofs.Common.{sym, ◌∙◌, ap, subst, arith, Bool, true, false, Option, Some, None, ℤ, ⊎_elim}
 use Rattle.std.specs.Prelude.{slice_get, slice_index_or, pos, if◌then◌else◌}
 use Rattle.std.proofs.lemmas.Bool.{cases_eq}
 use Rattle.c_tree.specs.Flats as f
@@ -111,9 +112,9 @@ pub record LastStep (s : m.State) (t n : ℕ) : Type 0 where
   pub is : source_step (solo s t n) t ≡ Some next
   pub after : solo s t (suc n) ≡ next
 
-pub front_runs : (s : m.State) (us vs : List ℕ) → m.runs_from s (us ++ vs) ≡ true → m.runs_from s us ≡ true
-front_runs s [] vs h = refl
-front_runs s (u ∷ us) vs h = by (source_step s u) h (λ next e. front_runs next us vs e)
+pub prefix_runs : (s : m.State) (us vs : List ℕ) → m.runs_from s (us ++ vs) ≡ true → m.runs_from s us ≡ true
+prefix_runs s [] vs h = refl
+prefix_runs s (u ∷ us) vs h = by (source_step s u) h (λ next e. prefix_runs next us vs e)
   where
     by : (o : Option m.State) → runs_by (us ++ vs) o ≡ true → ((next : m.State) → m.runs_from next (us ++ vs) ≡ true → m.runs_from next us ≡ true) →
         runs_by us o ≡ true
@@ -123,7 +124,7 @@ front_runs s (u ∷ us) vs h = by (source_step s u) h (λ next e. front_runs nex
 pub last_step : (s : m.State) (t n : ℕ) → m.runs_from s (replicate (suc n) t) ≡ true → LastStep s t n
 last_step s t n runs =
     let split : m.runs_from s (replicate n t ++ t ∷ []) ≡ true = ap (m.runs_from s) (last_first n t [] ∙ more_empty (replicate (suc n) t)) ∙ runs in
-    let first = front_runs s (replicate n t) (t ∷ []) split in
+    let first = prefix_runs s (replicate n t) (t ∷ []) split in
     let on = goes_on s (replicate n t) (t ∷ []) first in
     let made = steps_made (solo s t n) (t ∷ []) (sym on.runs ∙ split) in
     record {

@@ -1,5 +1,6 @@
 -- Variables in words change as their words do.
-use Rattle.std.proofs.Common.{◌≡◌, ◌⊎◌, inl, inr, refl, ℕ, zero, suc, ◌+◌, ◌*◌, ◌/◌, ◌%◌, ◌<◌, ◌≤◌, List, [], ◌∷◌, length, map, sym, ◌∙◌, ap, subst, arith, Option, Some, None, ℤ, slice_set, ⊎_elim}
+use Rattle.std.proofs.Common.{◌≡◌, ◌⊎◌, inl, inr, refl, ℕ, zero, suc, ◌+◌, ◌*◌, ◌/◌, ◌%◌, ◌<◌, ◌≤◌, List, [], ◌∷◌}
+use Rattle.std.proofs.Common.{length, map, sym, ◌∙◌, ap, subst, arith, Option, Some, None, ℤ, slice_set, ⊎_elim}
 use Rattle.std.specs.Prelude.{slice_get, slice_index_or, pos}
 use Rattle.std.proofs.lemmas.Bool.{cases_eq, cases_lt}
 use Rattle.ido_ints.specs.declared.kinds.Kind.{Kind}
@@ -9,7 +10,8 @@ use Rattle.ido_base.specs.Words as w
 use Rattle.ido_base.specs.Words.{Word, word_of, word_at, with_value, with_part, live_value}
 use Rattle.resumption.specs.Histories.{History, Memory, history_of, history_at, live_number, with_number, after_crash, IsRaised, IsOther, IsStored, sizes}
 use Rattle.resumption.specs.Elements.{element_in}
-use Rattle.resumption.specs.Spots.{Spot, elements_in, variable_in, memory_in, IsAt, AreApart, MemoryStored, MemoryRaised, MemoryCrashed, MemoryLoaded, MemoryStays}
+use Rattle.resumption.specs.Spots.{Spot, elements_in, variable_in, memory_in, IsAt, AreApart}
+use Rattle.resumption.specs.Spots.{MemoryStored, MemoryRaised, MemoryCrashed, MemoryLoaded, MemoryStays}
 use Rattle.resumption.proofs.Histories.{index_map}
 use Rattle.resumption.proofs.Elements.{live_in, raised_in, crashed_in, stored_in, beside_in}
 

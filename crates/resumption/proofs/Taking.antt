@@ -1,5 +1,6 @@
 -- A mutex that another thread gave back by a step that isn't kept is that thread's in what is kept.
-use Rattle.std.proofs.Common.{◌⊎◌, inl, inr, replicate, ◌≡◌, ◌≢◌, refl, ℕ, suc, ◌<◌, ◌≤◌, ◌==◌, List, [], ◌∷◌, ◌++◌, sym, ◌∙◌, ap, subst, arith, Bool, true, false, Option, Some, None, ⊎_elim}
+use Rattle.std.proofs.Common.{◌⊎◌, inl, inr, replicate, ◌≡◌, ◌≢◌, refl, ℕ, suc, ◌<◌, ◌≤◌, ◌==◌, List, [], ◌∷◌}
+use Rattle.std.proofs.Common.{◌++◌, sym, ◌∙◌, ap, subst, arith, Bool, true, false, Option, Some, None, ⊎_elim}
 use Rattle.std.specs.Prelude.{slice_get, if◌then◌else◌}
 use Rattle.std.proofs.lemmas.Bool.{cases_eq}
 use Rattle.c_tree.specs.Programs.{Variable}
@@ -21,7 +22,7 @@ use Rattle.resumption.specs.Moments.{Moment, now, attempt_of, Invariant}
 use Rattle.resumption.specs.Laws.{LeftIsFree, HasLocked, HasUnlocked, HeldNow, HeldBefore}
 use Rattle.resumption.proofs.Paths.{none_some, held_same, solo_holders}
 use Rattle.resumption.proofs.Schedules.{equal_self}
-use Rattle.resumption.proofs.Settling.{front_runs, LastStep, last_step}
+use Rattle.resumption.proofs.Settling.{prefix_runs, LastStep, last_step}
 
 -- ---- A front of a schedule
 
@@ -40,8 +41,8 @@ assoc : (xs ys zs : List ℕ) → (xs ++ ys) ++ zs ≡ xs ++ (ys ++ zs)
 assoc [] ys zs = refl
 assoc (x ∷ xs) ys zs = ap (λ (ks : List ℕ). x ∷ ks) (assoc xs ys zs)
 
-pub front_hands : (s : m.State) (us vs : List ℕ) → ¬ (ChangesHands s (us ++ vs)) → ¬ (ChangesHands s us)
-front_hands s us vs never c = never (record {
+pub prefix_hands : (s : m.State) (us vs : List ℕ) → ¬ (ChangesHands s (us ++ vs)) → ¬ (ChangesHands s us)
+prefix_hands s us vs never c = never (record {
   before = c.before;
   giver = c.giver;
   between = c.between;
@@ -61,8 +62,8 @@ left_is_free x old t i free c =
     let z = m.after_from old.kept c.before in
     let n = steps_of c.giver c.before in
     let a = attempt_of old c.giver in
-    let runs = front_runs old.kept c.before (c.giver ∷ c.rest) (ap (m.runs_from old.kept) (sym c.is) ∙ i.runs) in
-    let hands = front_hands old.kept c.before (c.giver ∷ c.rest) (subst (λ (us : List ℕ). ¬ (ChangesHands old.kept us)) c.is i.hands) in
+    let runs = prefix_runs old.kept c.before (c.giver ∷ c.rest) (ap (m.runs_from old.kept) (sym c.is) ∙ i.runs) in
+    let hands = prefix_hands old.kept c.before (c.giver ∷ c.rest) (subst (λ (us : List ℕ). ¬ (ChangesHands old.kept us)) c.is i.hands) in
     let more : n < steps_of c.giver old.pending = subst (λ (us : List ℕ). n < steps_of c.giver us) (sym c.is) (more_counted c.giver c.before c.rest) in
     let tried = i.tried c.giver in
     let within = tried.within in

@@ -6,7 +6,9 @@ use Rattle.std.proofs.lemmas.Bool.{ltb-true, leb-true}
 use Rattle.ido_base.specs.Layout.{line_count}
 use Rattle.run_scripts.specs.Pieces.{Piece, lines_at}
 use Rattle.run_scripts.specs.Schedules.{is_digit, number_limit}
-use Rattle.run_scripts.specs.Scripts.{Fault, LineRead, Says, Fails, Rule, any_number, hart_number, line_number, mask_number, number_then, argument_then, end_then, steps_line, evict_line, line_of, Line, Read, Lines, Refused, before_lines, with_line, lines_of, read, IsDoable, IsEviction}
+use Rattle.run_scripts.specs.Scripts.{Fault, LineRead, Says, Fails, Rule, any_number, hart_number, line_number, mask_number}
+use Rattle.run_scripts.specs.Scripts.{number_then, argument_then, end_then, steps_line, evict_line, line_of, Line, Read}
+use Rattle.run_scripts.specs.Scripts.{Lines, Refused, before_lines, with_line, lines_of, read, IsDoable, IsEviction}
 use Rattle.run_scripts.specs.declared.script.Command.{Command}
 use Rattle.run_scripts.specs.declared.script.Line as declared
 use Rattle.run_scripts.specs.links.ScriptViews.{line_of as shown}
@@ -43,12 +45,14 @@ record Taken (rule : Rule) (behind : (number place : ℕ) → List ℕ → LineR
   fits : rule place number ≡ None
   says : behind number next rest ≡ Says x
 
-chosen : (b : Bool) (f : Fault) (o : Option Fault) (y : LineRead) (x : Command) → (if b then Fails f else elim o [ Some g ↦ Fails g | None ↦ y ]) ≡ Says x → (o ≡ None) × (y ≡ Says x)
+chosen : (b : Bool) (f : Fault) (o : Option Fault) (y : LineRead) (x : Command) → (if b then Fails f else elim o [ Some g ↦ Fails g | None ↦ y ]) ≡ Says x →
+    (o ≡ None) × (y ≡ Says x)
 chosen true f o y x e = cc
 chosen false f (Some g) y x e = cc
 chosen false f None y x e = (refl, e)
 
-number_taken : (rule : Rule) (place : ℕ) (bytes : List ℕ) (behind : (number place : ℕ) → List ℕ → LineRead) (x : Command) → number_then rule place bytes behind ≡ Says x → Taken rule behind x
+number_taken : (rule : Rule) (place : ℕ) (bytes : List ℕ) (behind : (number place : ℕ) → List ℕ → LineRead) (x : Command) →
+    number_then rule place bytes behind ≡ Says x → Taken rule behind x
 number_taken rule place bytes behind x e =
     let both = chosen (prefix_len is_digit bytes == 0) _ _ _ x e in
     record { place = place; number = _; next = _; rest = _; fits = both.0; says = both.1 }
@@ -57,7 +61,8 @@ spaced : (b : Bool) (y : LineRead) (f : Fault) (x : Command) → (if b then y el
 spaced true y f x e = e
 spaced false y f x e = cc
 
-argument_taken : (rule : Rule) (place : ℕ) (bytes : List ℕ) (behind : (number place : ℕ) → List ℕ → LineRead) (x : Command) → argument_then rule place bytes behind ≡ Says x → Taken rule behind x
+argument_taken : (rule : Rule) (place : ℕ) (bytes : List ℕ) (behind : (number place : ℕ) → List ℕ → LineRead) (x : Command) →
+    argument_then rule place bytes behind ≡ Says x → Taken rule behind x
 argument_taken rule place [] behind x e = cc
 argument_taken rule place (c ∷ cs) behind x e = number_taken rule (place + 1) cs behind x (spaced (c == 32) _ _ x e)
 
@@ -78,21 +83,27 @@ module _ (harts : ℕ) where
       argument_then (hart_number harts) place bytes (λ hart p behind. end_then p behind (make hart)) ≡ Says x → IsDoable harts (IsEviction harts) x
   one_line make place bytes x given e =
       let hart = argument_taken (hart_number harts) place bytes (λ hart p behind. end_then p behind (make hart)) x e in
-      subst (IsDoable harts (IsEviction harts)) (ended hart.next hart.rest (make hart.number) x hart.says) (given hart.number (hart_fits harts hart.place hart.number hart.fits))
+      subst (IsDoable harts (IsEviction harts)) (ended hart.next hart.rest (make hart.number) x hart.says)
+      (given hart.number (hart_fits harts hart.place hart.number hart.fits))
 
   steps_doable : (place : ℕ) (bytes : List ℕ) (x : Command) → steps_line harts place bytes ≡ Says x → IsDoable harts (IsEviction harts) x
   steps_doable place bytes x e =
-      let hart = argument_taken (hart_number harts) place bytes (λ hart p behind. argument_then any_number p behind (λ count q end. end_then q end (Steps hart count))) x e in
+      let hart = argument_taken (hart_number harts) place bytes
+      (λ hart p behind. argument_then any_number p behind (λ count q end. end_then q end (Steps hart count))) x e in
       let count = argument_taken any_number hart.next hart.rest (λ count q end. end_then q end (Steps hart.number count)) x hart.says in
-      subst (IsDoable harts (IsEviction harts)) (ended count.next count.rest (Steps hart.number count.number) x count.says) (hart_fits harts hart.place hart.number hart.fits)
+      subst (IsDoable harts (IsEviction harts)) (ended count.next count.rest (Steps hart.number count.number) x count.says)
+      (hart_fits harts hart.place hart.number hart.fits)
 
   evict_doable : (place : ℕ) (bytes : List ℕ) (x : Command) → evict_line harts place bytes ≡ Says x → IsDoable harts (IsEviction harts) x
   evict_doable place bytes x e =
-      let line = argument_taken (line_number harts) place bytes (λ line p behind. argument_then mask_number p behind (λ mask q end. end_then q end (Evict line mask))) x e in
+      let line = argument_taken (line_number harts) place bytes
+      (λ line p behind. argument_then mask_number p behind (λ mask q end. end_then q end (Evict line mask))) x e in
       let mask = argument_taken mask_number line.next line.rest (λ mask q end. end_then q end (Evict line.number mask)) x line.says in
-      subst (IsDoable harts (IsEviction harts)) (ended mask.next mask.rest (Evict line.number mask.number) x mask.says) (line_fits harts line.place line.number line.fits, mask_fits mask.place mask.number mask.fits)
+      subst (IsDoable harts (IsEviction harts)) (ended mask.next mask.rest (Evict line.number mask.number) x mask.says)
+      (line_fits harts line.place line.number line.fits, mask_fits mask.place mask.number mask.fits)
 
-  either : (b : Bool) (y z : LineRead) (x : Command) → (y ≡ Says x → IsDoable harts (IsEviction harts) x) → (z ≡ Says x → IsDoable harts (IsEviction harts) x) → (if b then y else z) ≡ Says x → IsDoable harts (IsEviction harts) x
+  either : (b : Bool) (y z : LineRead) (x : Command) → (y ≡ Says x → IsDoable harts (IsEviction harts) x) → (z ≡ Says x → IsDoable harts (IsEviction harts) x) →
+      (if b then y else z) ≡ Says x → IsDoable harts (IsEviction harts) x
   either true y z x one other e = one e
   either false y z x one other e = other e
 
@@ -119,19 +130,23 @@ module _ (harts : ℕ) where
   said_first place (Says command) got xs e = (command, refl, e)
   said_first place (Fails f) got xs e = cc
 
-  pub lines_doable : (ps : List Piece) (xs : List Line) → lines_of harts ps ≡ Lines xs → AllByRecursion (λ (l : Line). IsDoable harts (IsEviction harts) l.command) xs
+  pub lines_doable : (ps : List Piece) (xs : List Line) → lines_of harts ps ≡ Lines xs →
+      AllByRecursion (λ (l : Line). IsDoable harts (IsEviction harts) l.command) xs
   lines_doable [] [] e = tt
   lines_doable [] (x ∷ xs) e = cc
   lines_doable (p ∷ ps) xs e =
       let said = said_first p.place (line_of harts p.place p.bytes) (lines_of harts ps) xs e in
       let first = line_first (record { place = p.place; command = said.0 }) (lines_of harts ps) xs said.2 in
-      subst (AllByRecursion (λ (l : Line). IsDoable harts (IsEviction harts) l.command)) first.2 (line_doable p.place p.bytes said.0 said.1, lines_doable ps first.0 first.1)
+      subst (AllByRecursion (λ (l : Line). IsDoable harts (IsEviction harts) l.command)) first.2
+      (line_doable p.place p.bytes said.0 said.1, lines_doable ps first.0 first.1)
 
-shown_doable : (P : Command → Type 0) (items : List declared.Line) → AllByRecursion (λ (l : Line). P l.command) (map shown items) → AllByRecursion (λ (l : declared.Line). P l.command) items
+shown_doable : (P : Command → Type 0) (items : List declared.Line) → AllByRecursion (λ (l : Line). P l.command) (map shown items) →
+    AllByRecursion (λ (l : declared.Line). P l.command) items
 shown_doable P [] h = tt
 shown_doable P (x ∷ xs) h = (h.0, shown_doable P xs h.1)
 
-pub script_doable : (harts : ℕ) (text : List ℕ) (items : List declared.Line) → read harts text ≡ Lines (map shown items) → All (λ (l : declared.Line). IsDoable harts (IsEviction harts) l.command) items
+pub script_doable : (harts : ℕ) (text : List ℕ) (items : List declared.Line) → read harts text ≡ Lines (map shown items) →
+    All (λ (l : declared.Line). IsDoable harts (IsEviction harts) l.command) items
 unfolding read
 script_doable harts text items e =
     All-from_recursion (λ (l : declared.Line). IsDoable harts (IsEviction harts) l.command) items

@@ -1,5 +1,6 @@
 -- A script, made line by line.
-use Rattle.std.proofs.Common.{◌≡◌, ℕ, ◌+◌, ◌-◌, ◌<◌, ◌≤◌, List, [], ◌∷◌, ◌++◌, length, take, drop, map, Bool, true, false, nat_le, nat_lt, cond, Option, Some, sym, ◌∙◌, ap, arith, append_assoc, length-append}
+use Rattle.std.proofs.Common.{◌≡◌, ℕ, ◌+◌, ◌-◌, ◌<◌, ◌≤◌, List, [], ◌∷◌, ◌++◌, length, take, drop, map, Bool, true, false}
+use Rattle.std.proofs.Common.{nat_le, nat_lt, cond, Option, Some, sym, ◌∙◌, ap, arith, append_assoc, length-append}
 use Rattle.std.specs.Prelude.{◌↔◌}
 use Rattle.std.proofs.lemmas.Grind.{common_steps}
 use Rattle.std.proofs.lemmas.Bool.{lt-ltb, le-ltb, leb-true, leb-false}
@@ -15,7 +16,8 @@ use Rattle.run_scripts.specs.Plays.{line_events, script_events, excess_at}
 use Rattle.run_scripts.proofs.Cuts.{take_all, cut}
 
 -- what can be asked of a core can be asked of it later
-pub doable_later : (harts now : ℕ) (evictable later : ℕ → ℕ → Type 0) (command : Command) → now ≡ harts → ((line mask : ℕ) → later line mask ↔ evictable line mask) → IsDoable harts evictable command → IsDoable now later command
+pub doable_later : (harts now : ℕ) (evictable later : ℕ → ℕ → Type 0) (command : Command) → now ≡ harts →
+    ((line mask : ℕ) → later line mask ↔ evictable line mask) → IsDoable harts evictable command → IsDoable now later command
 doable_later harts now evictable later (Steps hart count) same e h = omega (arith, same, h)
 doable_later harts now evictable later (Point hart) same e h = omega (arith, same, h)
 doable_later harts now evictable later (Fence hart) same e h = omega (arith, same, h)
@@ -57,12 +59,14 @@ module _ {M : Type 0} (b : Behaviour M) (opening : M) (before now new whole : Li
         so_far ∙ sym (append_assoc now (line_events b (played b opening now) line.command) rest) ∙ ap (λ xs. xs ++ rest) (sym all_made)
         ∙ ap (λ m. new ++ script_events b m lines) meaning_after
 
-    pub no_excess : (after : ℕ) → after + length (line_events b (played b opening now) line.command) ≡ left → excess_at b (played b opening now) left (line ∷ lines) ≡ excess_at b (played b opening new) after lines
+    pub no_excess : (after : ℕ) → after + length (line_events b (played b opening now) line.command) ≡ left →
+        excess_at b (played b opening now) left (line ∷ lines) ≡ excess_at b (played b opening new) after lines
     no_excess after room =
         let n = length (line_events b (played b opening now) line.command) in
         let fits : nat_lt left n ≡ false = le-ltb left n (leb-true _ _ all) in
         let e : left - n ≡ after = omega (arith, room) in
-        ap (λ t. chosen t (Some line.place) (excess_at b (played b (played b opening now) (line_events b (played b opening now) line.command)) (left - n) lines)) fits
+        ap (λ t. chosen t (Some line.place)
+        (excess_at b (played b (played b opening now) (line_events b (played b opening now) line.command)) (left - n) lines)) fits
         ∙ ap (λ k. excess_at b (played b (played b opening now) (line_events b (played b opening now) line.command)) k lines) e
         ∙ ap (λ m. excess_at b m after lines) meaning_after
       where
@@ -74,7 +78,11 @@ module _ {M : Type 0} (b : Behaviour M) (opening : M) (before now new whole : Li
     below = leb-false _ _ few
 
     pub is_excess : excess_at b (played b opening now) left (line ∷ lines) ≡ Some line.place
-    is_excess = ap (λ t. cond t (Some line.place) (excess_at b (played b (played b opening now) (line_events b (played b opening now) line.command)) (left - length (line_events b (played b opening now) line.command)) lines)) (lt-ltb left (length (line_events b (played b opening now) line.command)) below)
+    is_excess =
+        ap (λ t. cond t (Some line.place)
+        (excess_at b (played b (played b opening now) (line_events b (played b opening now) line.command))
+        (left - length (line_events b (played b opening now) line.command)) lines))
+        (lt-ltb left (length (line_events b (played b opening now) line.command)) below)
 
     pub excess_left : (most : ℕ) → length now + left ≡ length before + most → new ≡ before ++ take most whole
     excess_left most full =
@@ -83,5 +91,6 @@ module _ {M : Type 0} (b : Behaviour M) (opening : M) (before now new whole : Li
         let parted : now ++ (all ++ tail) ≡ new ++ (drop left all ++ tail) =
         ap (λ xs. now ++ (xs ++ tail)) (sym (split all left)) ∙ ap (λ xs. now ++ xs) (append_assoc (take left all) (drop left all) tail)
         ∙ sym (append_assoc now (take left all) (drop left all ++ tail)) ∙ ap (λ xs. xs ++ (drop left all ++ tail)) (sym more) in
-        let size : length new ≡ length before + most = ap length more ∙ length-append now (take left all) ∙ ap (λ n. length now + n) (length-take all left (omega (arith, below))) ∙ full in
+        let size : length new ≡ length before + most =
+        ap length more ∙ length-append now (take left all) ∙ ap (λ n. length now + n) (length-take all left (omega (arith, below))) ∙ full in
         cut before new whole (drop left all ++ tail) most (so_far ∙ parted) size

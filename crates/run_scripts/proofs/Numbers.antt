@@ -21,7 +21,8 @@ digit_value_of c low high = rw (digit_value, not_below c 48 low, lt-ltb c 58 hig
 is_digit_of : (c : ℕ) → 48 ≤ c → c < 58 → is_digit c ≡ true
 is_digit_of c low high = rw (is_digit, lt-ltb 47 c (omega (arith, low)), lt-ltb c 58 high) refl
 
-pub all_more : (text : List ℕ) (i : ℕ) → i < length text → list_all is_digit (take i text) ≡ true → 48 ≤ get_or text i 0 → get_or text i 0 < 58 → list_all is_digit (take (i + 1) text) ≡ true
+pub all_more : (text : List ℕ) (i : ℕ) → i < length text → list_all is_digit (take i text) ≡ true → 48 ≤ get_or text i 0 → get_or text i 0 < 58 →
+    list_all is_digit (take (i + 1) text) ≡ true
 all_more text i within all low high = list_all_more is_digit text i 0 within ∙ rw (all, is_digit_of (get_or text i 0) low high) refl
 
 pub value_more : (text : List ℕ) (i n : ℕ) → i < length text → 48 ≤ get_or text i 0 → get_or text i 0 < 58 → n ≡ min (digits_value 10 (take i text)) 4294967296

@@ -1,12 +1,14 @@
 -- Lines of a script, read from left to right.
-use Rattle.std.proofs.Common.{◌≡◌, ℕ, suc, ◌+◌, ◌<◌, ◌≤◌, List, [], ◌∷◌, length, take, drop, get_or, Bool, true, false, ◌++◌, cond, subst, Result, Ok, Err, refl, sym, ◌∙◌, ap, arith, append_assoc}
+use Rattle.std.proofs.Common.{◌≡◌, ℕ, suc, ◌+◌, ◌<◌, ◌≤◌, List, [], ◌∷◌, length, take, drop, get_or, Bool, true}
+use Rattle.std.proofs.Common.{false, ◌++◌, cond, subst, Result, Ok, Err, refl, sym, ◌∙◌, ap, arith, append_assoc}
 use Rattle.std.specs.Prelude.{◌==◌, ◌&&◌, nat_lt, if◌then◌else◌, IfOk, IfErr, IsErrAnd}
 use Rattle.std.proofs.lemmas.List.{at_drop_more, length-take-le}
 use Rattle.std.proofs.lemmas.List.Sums.{prefix_len-le-length}
 use Rattle.std.proofs.lemmas.Bool.{lt-ltb}
 use Rattle.std.specs.List.{prefix_len, list_all}
 use Rattle.run_scripts.specs.Schedules.{is_digit, is_numeral}
-use Rattle.run_scripts.specs.Scripts.{Rule, LineRead, Says, Fails, BadWord, Line, Read, Lines, Refused, before_lines, with_line, lines_of, number_then, argument_then, end_then, line_of}
+use Rattle.run_scripts.specs.Scripts.{Rule, LineRead, Says, Fails, BadWord, Line, Read, Lines, Refused, before_lines}
+use Rattle.run_scripts.specs.Scripts.{with_line, lines_of, number_then, argument_then, end_then, line_of}
 use Rattle.run_scripts.specs.declared.script.Command.{Command}
 use Rattle.run_scripts.specs.links.ScriptViews.{behind_lines, fault_of, IsLineRead}
 use Rattle.run_scripts.specs.declared.script.ScriptFault.{ScriptFault}
@@ -15,11 +17,12 @@ use Rattle.run_scripts.specs.Pieces.{lines_at}
 abbrev one_more : Bool → ℕ → ℕ
 one_more b k = cond b (1 + k) 0
 
-digits_at_front : (text : List ℕ) → list_all is_digit (take (prefix_len is_digit text) text) ≡ true
-digits_at_front [] = refl
-digits_at_front (c ∷ cs) = by_test (is_digit c) refl (digits_at_front cs)
+digit_prefix : (text : List ℕ) → list_all is_digit (take (prefix_len is_digit text) text) ≡ true
+digit_prefix [] = refl
+digit_prefix (c ∷ cs) = by_test (is_digit c) refl (digit_prefix cs)
   where
-    by_test : (b : Bool) → is_digit c ≡ b → list_all is_digit (take (prefix_len is_digit cs) cs) ≡ true → list_all is_digit (take (prefix_len is_digit (c ∷ cs)) (c ∷ cs)) ≡ true
+    by_test : (b : Bool) → is_digit c ≡ b → list_all is_digit (take (prefix_len is_digit cs) cs) ≡ true →
+        list_all is_digit (take (prefix_len is_digit (c ∷ cs)) (c ∷ cs)) ≡ true
     by_test true e more =
         let k = prefix_len is_digit cs in
         let count : prefix_len is_digit (c ∷ cs) ≡ suc k = ap (λ b. one_more b k) e ∙ (let n : 1 + k ≡ suc k = omega arith in n) in
@@ -41,11 +44,13 @@ argument_number rule line place at behind within space =
 numeral_of : (d : ℕ) (ds : List ℕ) → list_all is_digit (d ∷ ds) ≡ true → is_numeral (d ∷ ds) ≡ true
 numeral_of d ds all = ap (λ b. nat_lt 0 (length (d ∷ ds)) && b) all ∙ rw (lt-ltb 0 (length (d ∷ ds)) (omega arith)) refl
 
-pub no_number : (rule : Rule) (text digits : List ℕ) (place n : ℕ) (behind : ℕ → ℕ → List ℕ → LineRead) → n ≡ prefix_len is_digit text → digits ≡ take n text → is_numeral digits ≡ false → number_then rule place text behind ≡ Fails (BadWord place)
+pub no_number : (rule : Rule) (text digits : List ℕ) (place n : ℕ) (behind : ℕ → ℕ → List ℕ → LineRead) → n ≡ prefix_len is_digit text → digits ≡ take n text →
+    is_numeral digits ≡ false → number_then rule place text behind ≡ Fails (BadWord place)
 no_number rule text digits place n behind count taken none =
     let is : digits ≡ take (prefix_len is_digit text) text = taken ∙ ap (λ k. take k text) count in
-    let empty : length digits ≡ 0 = no_digits digits none (ap (list_all is_digit) is ∙ digits_at_front text) in
-    let zero_is : prefix_len is_digit text ≡ 0 = omega (arith, empty, ap length is, length-take-le (prefix_len is_digit text) text (prefix_len-le-length is_digit text)) in
+    let empty : length digits ≡ 0 = no_digits digits none (ap (list_all is_digit) is ∙ digit_prefix text) in
+    let zero_is : prefix_len is_digit text ≡ 0 =
+    omega (arith, empty, ap length is, length-take-le (prefix_len is_digit text) text (prefix_len-le-length is_digit text)) in
     rw zero_is refl
   where
     is_true : Bool → Type 0
@@ -92,16 +97,19 @@ script_goes_on harts text bytes done new whole place middle next command reached
 
 -- ---- The letter of a line
 
-line_at_front : (line : List ℕ) → 1 ≤ length line → line ≡ get_or line 0 0 ∷ drop 1 line
-line_at_front [] some = absurd (omega (arith, some))
-line_at_front (c ∷ cs) some = refl
+line_by_head : (line : List ℕ) → 1 ≤ length line → line ≡ get_or line 0 0 ∷ drop 1 line
+line_by_head [] some = absurd (omega (arith, some))
+line_by_head (c ∷ cs) some = refl
 
 -- a line that fails is a fault that is handed on
-pub failed : (read : LineRead) (fault : ScriptFault) (r : Result Command ScriptFault) → IsErrAnd r (λ e. e ≡ fault) → read ≡ Fails (fault_of fault) → IsLineRead read r
+pub failed : (read : LineRead) (fault : ScriptFault) (r : Result Command ScriptFault) → IsErrAnd r (λ e. e ≡ fault) → read ≡ Fails (fault_of fault) →
+    IsLineRead read r
 failed read fault (Ok x) h e = absurd h
 failed read fault (Err f) h e = e ∙ ap (λ x. Fails (fault_of x)) (sym h)
 
-pub by_letter : (harts place letter : ℕ) (line : List ℕ) (r : Result Command ScriptFault) → 1 ≤ length line → get_or line 0 0 ≡ letter → IsLineRead (line_of harts place (letter ∷ drop 1 line)) r → IsLineRead (line_of harts place line) r
+pub by_letter : (harts place letter : ℕ) (line : List ℕ) (r : Result Command ScriptFault) → 1 ≤ length line → get_or line 0 0 ≡ letter →
+    IsLineRead (line_of harts place (letter ∷ drop 1 line)) r → IsLineRead (line_of harts place line) r
 by_letter harts place letter line r some is h =
-    let e : line_of harts place line ≡ line_of harts place (letter ∷ drop 1 line) = ap (line_of harts place) (line_at_front line some) ∙ ap (λ c. line_of harts place (c ∷ drop 1 line)) is in
+    let e : line_of harts place line ≡ line_of harts place (letter ∷ drop 1 line) =
+    ap (line_of harts place) (line_by_head line some) ∙ ap (λ c. line_of harts place (c ∷ drop 1 line)) is in
     subst (λ x. IsLineRead x r) (sym e) h

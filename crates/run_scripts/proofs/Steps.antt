@@ -3,7 +3,7 @@ use Rattle.std.proofs.Common.{◌≡◌, ℕ, ◌+◌, List, [], ◌∷◌, ◌+
 use Rattle.std.proofs.lemmas.List.{append-nil}
 use Rattle.run_scripts.specs.Pieces.{Piece, words_at}
 use Rattle.run_scripts.specs.Schedules.{Read, Steps, Refused, before_steps, steps_from}
-use Rattle.run_scripts.specs.WordLengths.{behind_steps}
+use Rattle.run_scripts.specs.links.WordLengths.{behind_steps}
 
 pub behind_none : (r : Read) → behind_steps [] r ≡ r
 behind_none (Steps ts) = refl
@@ -28,5 +28,6 @@ goes_on text done new whole place thread count middle next w reached word run be
     ∙ ap (λ d. behind_steps d (steps_from (length done + count) (words_at next (drop next text)))) (sym added)
     ∙ ap (λ n. behind_steps new (steps_from n (words_at next (drop next text)))) (sym longer)
 
-pub no_word : (text done : List ℕ) (whole : Read) (place n : ℕ) → whole ≡ behind_steps done (steps_from n (words_at place (drop place text))) → drop place text ≡ [] → whole ≡ Steps done
+pub no_word : (text done : List ℕ) (whole : Read) (place n : ℕ) → whole ≡ behind_steps done (steps_from n (words_at place (drop place text))) →
+    drop place text ≡ [] → whole ≡ Steps done
 no_word text done whole place n reached ends = reached ∙ ap (λ rest. behind_steps done (steps_from n (words_at place rest))) ends ∙ ap Steps (append-nil done)

@@ -3,17 +3,10 @@ use Rattle.std.specs.Prelude.{ℕ, zero, suc, ◌-◌, List, [], ◌∷◌, ◌+
 use Rattle.ido_base.specs.declared.event.Event.{Event}
 use Rattle.ido_base.specs.declared.event.Event.TheVariants as events
 use Rattle.ido_base.specs.Cores.{Behaviour, played}
+use Rattle.ido_base.specs.declared.limits.TheConstants.{MOST_STEPS_TO}
 use Rattle.run_scripts.specs.declared.script.Command.{Command}
 use Rattle.run_scripts.specs.declared.script.Command.TheVariants.{Steps, Point, Fence, Evict, Crash}
 use Rattle.run_scripts.specs.Scripts.{Line}
-
--- events that a script may have
-abbrev pub most_events : ℕ
-most_events = 4000000
-
--- steps that a line `b` or `f` may have
-abbrev pub most_steps_to : ℕ
-most_steps_to = 65536
 
 -- steps of a hart up to the first that passes the test, at most so many; none or no more once the hart is stopped
 unfoldable pub steps_until : {M : Type 0} → Behaviour M → (test : M → Event → Bool) → (hart most : ℕ) → M → List Event
@@ -26,8 +19,8 @@ steps_until b test hart (suc most) m =
 -- the events of a line
 abbrev pub line_events : {M : Type 0} → Behaviour M → M → Command → List Event
 line_events b m (Steps hart count) = replicate count (events.Step hart)
-line_events b m (Point hart) = steps_until b (λ m. b.stores_point m hart) hart most_steps_to m
-line_events b m (Fence hart) = steps_until b (λ m. b.finishes_fence m hart) hart most_steps_to m
+line_events b m (Point hart) = steps_until b (λ m. b.stores_point m hart) hart MOST_STEPS_TO m
+line_events b m (Fence hart) = steps_until b (λ m. b.finishes_fence m hart) hart MOST_STEPS_TO m
 line_events b m (Evict line mask) = events.Evict line mask ∷ []
 line_events b m Crash = events.Crash ∷ []
 

@@ -3,6 +3,7 @@ use Rattle.std.specs.Prelude.{ℕ, ◌+◌, List, [], ◌∷◌, ◌++◌, lengt
 use Rattle.std.specs.List.{list_all, before_first, after_first}
 use Rattle.std.specs.Cmp.Lexicographic.{pointwise}
 use Rattle.std.specs.Str.Parse.{digits_value}
+use Rattle.ido_base.specs.declared.limits.TheConstants.{MOST_STEPS}
 use Rattle.run_scripts.specs.Pieces.{Piece, words_at}
 
 -- ---- What a word says
@@ -24,10 +25,6 @@ pub data Read : Type 0 where
 -- numbers are below this
 abbrev pub number_limit : ℕ
 number_limit = 4294967296
-
--- steps that a schedule may have
-abbrev pub most_steps : ℕ
-most_steps = 4000000
 
 abbrev pub is_digit : (byte : ℕ) → Bool
 is_digit c = nat_lt 47 c && nat_lt c 58
@@ -71,7 +68,7 @@ steps_from done (w ∷ ws) =
     if not (is_run w.bytes) then Refused (BadWord w.place)
     else if not (nat_lt (thread_number w.bytes) number_limit) then Refused (BadNumber w.place)
     else if not (nat_lt (count_number w.bytes) number_limit) then Refused (BadNumber (count_place w))
-    else if nat_lt most_steps (done + count_number w.bytes) then Refused (TooMany w.place)
+    else if nat_lt MOST_STEPS (done + count_number w.bytes) then Refused (TooMany w.place)
     else before_steps (thread_number w.bytes) (count_number w.bytes) (steps_from (done + count_number w.bytes) ws)
 
 -- the first word may be `schedule`

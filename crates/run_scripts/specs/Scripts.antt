@@ -66,7 +66,8 @@ end_then place (c ∷ cs) command = Fails (BadWord place)
 
 -- `s H N`, `b H`, `f H` and `e LINE MASK`, each behind its letter
 abbrev pub steps_line : (harts place : ℕ) → List ℕ → LineRead
-steps_line harts place bytes = argument_then (hart_number harts) place bytes (λ hart p behind. argument_then any_number p behind (λ count q end. end_then q end (Steps hart count)))
+steps_line harts place bytes =
+    argument_then (hart_number harts) place bytes (λ hart p behind. argument_then any_number p behind (λ count q end. end_then q end (Steps hart count)))
 
 abbrev pub point_line : (harts place : ℕ) → List ℕ → LineRead
 point_line harts place bytes = argument_then (hart_number harts) place bytes (λ hart p behind. end_then p behind (Point hart))
@@ -75,7 +76,8 @@ abbrev pub fence_line : (harts place : ℕ) → List ℕ → LineRead
 fence_line harts place bytes = argument_then (hart_number harts) place bytes (λ hart p behind. end_then p behind (Fence hart))
 
 abbrev pub evict_line : (harts place : ℕ) → List ℕ → LineRead
-evict_line harts place bytes = argument_then (line_number harts) place bytes (λ line p behind. argument_then mask_number p behind (λ mask q end. end_then q end (Evict line mask)))
+evict_line harts place bytes =
+    argument_then (line_number harts) place bytes (λ line p behind. argument_then mask_number p behind (λ mask q end. end_then q end (Evict line mask)))
 
 -- one of these by its letter, or `c`, at a machine of so many harts
 abbrev pub line_of : (harts place : ℕ) → List ℕ → LineRead

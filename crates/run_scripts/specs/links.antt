@@ -1,3 +1,5 @@
 pub mod Lengths
 pub mod ScriptViews
 pub mod Goals
+pub mod ReportViews
+pub mod WordLengths

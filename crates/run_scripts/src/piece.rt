@@ -12,7 +12,7 @@ pub(crate) enum Gap {
     LineEnd,
 }
 
-// A byte of a gap comes next, or nothing.
+/// A byte of a gap comes next, or nothing.
 fn begins_gap(gap: Gap, text: &[u8]) -> bool
     ensures { result ≡ is_gap gap text.now }
 {
@@ -23,7 +23,7 @@ fn begins_gap(gap: Gap, text: &[u8]) -> bool
     }
 }
 
-// How far the gap at the front reaches.
+/// How far the gap at the front reaches.
 fn gap_length(gap: Gap, text: &[u8]) -> usize
     ensures value { result ≡ gap_length (is_gap gap) text.now }
     ensures bound { result ≤ length text.now }
@@ -35,7 +35,7 @@ fn gap_length(gap: Gap, text: &[u8]) -> usize
     at
 }
 
-// How far the piece at the front reaches.
+/// How far the piece at the front reaches.
 fn piece_length(gap: Gap, text: &[u8]) -> usize
     ensures value { result ≡ piece_length (is_gap gap) text.now }
     ensures bound { result ≤ length text.now }
@@ -62,7 +62,8 @@ pub(crate) fn next_piece(gap: Gap, text: &[u8], at: usize) -> usize
 pub(crate) fn piece_at(gap: Gap, text: &[u8], at: usize) -> &[u8]
     requires within { at < length text.now }
     requires piece { is_gap gap (drop at text.now) ≡ false }
-    ensures piece { pieces_at (is_gap gap) at (drop at text.now) ≡ record { place = at; bytes = result.now } ∷ pieces_at (is_gap gap) (at + length result.now) (drop (at + length result.now) text.now) }
+    ensures piece { pieces_at (is_gap gap) at (drop at text.now)
+        ≡ record { place = at; bytes = result.now } ∷ pieces_at (is_gap gap) (at + length result.now) (drop (at + length result.now) text.now) }
     ensures bound { at + length result.now ≤ length text.now }
     ensures filled { 0 < length result.now }
 {

@@ -9,15 +9,10 @@ ghost use Rattle.run_scripts.specs.links.ScriptViews as views;
 
 use crate::script::{Command, Script};
 use ido_base::event::Event;
+use ido_base::limits::{MOST_EVENTS, MOST_STEPS_TO};
 use ido_base::machine::Core;
 use ido_base::place::Place;
 use thiserror::Error;
-
-/// Events that a script may have.
-const MOST_EVENTS: u64 = 4_000_000;
-
-/// Steps that a line `b` or `f` may have.
-const MOST_STEPS_TO: u64 = 65_536;
 
 /// The events go past 4,000,000 with those of this line.
 #[derive(Clone, Copy, Debug, PartialEq, Eq, Drop, Error)]
@@ -34,7 +29,7 @@ enum Goal {
     Fence,
 }
 
-// How often the hart has reached the goal.
+/// How often the hart has reached the goal.
 fn times_reached<C: Core>(core: &C, hart: u32, goal: Goal) -> u64
     requires { hart < C.hart_count core.now }
     ensures { result ≡ passed_count C.behaviour (reaches C.behaviour goal hart) (C.opening core.now) (C.history core.now) }
@@ -45,7 +40,7 @@ fn times_reached<C: Core>(core: &C, hart: u32, goal: Goal) -> u64
     }
 }
 
-// Makes so many steps of a hart.
+/// Makes so many steps of a hart.
 fn make_steps<C: Core>(core: &mut C, hart: u32, count: u64)
     requires hart { hart < C.hart_count core.old }
     requires room { count ≤ C.space core.old }
@@ -60,7 +55,7 @@ fn make_steps<C: Core>(core: &mut C, hart: u32, count: u64)
     }
 }
 
-// Makes steps of a hart as long as there is room above the floor, at most so many. Answers whether that many were made.
+/// Makes steps of a hart as long as there is room above the floor, at most so many. Answers whether that many were made.
 fn play_steps<C: Core>(core: &mut C, hart: u32, count: u64, floor: u64) -> bool
     requires hart { hart < C.hart_count core.old }
     requires floor { floor ≤ C.space core.old }
@@ -77,14 +72,18 @@ fn play_steps<C: Core>(core: &mut C, hart: u32, count: u64, floor: u64) -> bool
     count <= left
 }
 
-// Makes steps of a hart until one of them reaches the goal, at most so many, as long as there is room above the
-// floor. Answers whether it got there.
+/// Makes steps of a hart until one of them reaches the goal, at most so many, as long as there is room above the
+/// floor. Answers whether it got there.
 fn play_until<C: Core>(core: &mut C, hart: u32, goal: Goal, floor: u64) -> bool
     requires hart { hart < C.hart_count core.old }
     requires floor { floor ≤ C.space core.old }
     ensures opening { C.opening core.new ≡ C.opening core.old }
-    ensures history { C.history core.new ≡ C.history core.old ++ take (C.space core.old - floor) (steps_until C.behaviour (reaches C.behaviour goal hart) hart 65536 (played C.behaviour (C.opening core.old) (C.history core.old))) }
-    ensures all { result ≡ nat_le (length (steps_until C.behaviour (reaches C.behaviour goal hart) hart 65536 (played C.behaviour (C.opening core.old) (C.history core.old)))) (C.space core.old - floor) }
+    ensures history { C.history core.new
+        ≡ C.history core.old ++ take (C.space core.old - floor)
+        (steps_until C.behaviour (reaches C.behaviour goal hart) hart MOST_STEPS_TO (played C.behaviour (C.opening core.old) (C.history core.old))) }
+    ensures all { result ≡ nat_le
+        (length (steps_until C.behaviour (reaches C.behaviour goal hart) hart MOST_STEPS_TO (played C.behaviour (C.opening core.old) (C.history core.old))))
+        (C.space core.old - floor) }
     ensures room { C.space core.new + length (C.history core.new) ≡ C.space core.old + length (C.history core.old) }
     ensures floor { floor ≤ C.space core.new }
     ensures harts { C.hart_count core.new ≡ C.hart_count core.old }
@@ -106,7 +105,7 @@ fn play_until<C: Core>(core: &mut C, hart: u32, goal: Goal, floor: u64) -> bool
     true
 }
 
-// Makes an event if there is room above the floor. Answers whether there was.
+/// Makes an event if there is room above the floor. Answers whether there was.
 fn play_event<C: Core>(core: &mut C, event: Event, floor: u64) -> bool
     requires valid { IsValid (C.hart_count core.old) (C.evictable core.old) event }
     requires floor { floor ≤ C.space core.old }
@@ -125,13 +124,16 @@ fn play_event<C: Core>(core: &mut C, event: Event, floor: u64) -> bool
     true
 }
 
-// Makes the events of a line as long as there is room above the floor. Answers whether these were all of them.
+/// Makes the events of a line as long as there is room above the floor. Answers whether these were all of them.
 fn play_line<C: Core>(core: &mut C, command: Command, floor: u64) -> bool
     requires doable { IsDoable (C.hart_count core.old) (C.evictable core.old) command }
     requires floor { floor ≤ C.space core.old }
     ensures opening { C.opening core.new ≡ C.opening core.old }
-    ensures history { C.history core.new ≡ C.history core.old ++ take (C.space core.old - floor) (line_events C.behaviour (played C.behaviour (C.opening core.old) (C.history core.old)) command) }
-    ensures all { result ≡ nat_le (length (line_events C.behaviour (played C.behaviour (C.opening core.old) (C.history core.old)) command)) (C.space core.old - floor) }
+    ensures history { C.history core.new
+        ≡ C.history core.old ++ take (C.space core.old - floor)
+        (line_events C.behaviour (played C.behaviour (C.opening core.old) (C.history core.old)) command) }
+    ensures all { result ≡ nat_le (length (line_events C.behaviour (played C.behaviour (C.opening core.old) (C.history core.old)) command))
+        (C.space core.old - floor) }
     ensures room { C.space core.new + length (C.history core.new) ≡ C.space core.old + length (C.history core.old) }
     ensures floor { floor ≤ C.space core.new }
     ensures harts { C.hart_count core.new ≡ C.hart_count core.old }
@@ -141,7 +143,7 @@ fn play_line<C: Core>(core: &mut C, command: Command, floor: u64) -> bool
         Command::Steps { hart, count } => play_steps(core, hart, u64::from(count), floor),
         Command::Point { hart } => play_until(core, hart, Goal::Point, floor),
         Command::Fence { hart } => play_until(core, hart, Goal::Fence, floor),
-        Command::Evict { line, mask } => play_event(core, Event::Evict(line, mask), floor),
+        Command::Evict { line, mask } => play_event(core, Event::Evict { line, mask }, floor),
         Command::Crash => play_event(core, Event::Crash, floor),
     }
 }
@@ -150,11 +152,16 @@ fn play_line<C: Core>(core: &mut C, command: Command, floor: u64) -> bool
 /// whose events go past that, and the 4,000,000 before the excess are made.
 pub fn play<C: Core>(script: &Script, core: &mut C) -> Result<(), TooManyEvents>
     requires lines { All (λ line. IsDoable (C.hart_count core.old) (C.evictable core.old) line.command) script.now.lines.items }
-    requires room { 4000000 ≤ C.space core.old }
+    requires room { MOST_EVENTS ≤ C.space core.old }
     ensures opening { C.opening core.new ≡ C.opening core.old }
-    ensures events { C.history core.new ≡ C.history core.old ++ take 4000000 (script_events C.behaviour (played C.behaviour (C.opening core.old) (C.history core.old)) (map views.line_of script.now.lines.items)) }
-    ensures whole { IfOk result (λ x. excess_at C.behaviour (played C.behaviour (C.opening core.old) (C.history core.old)) 4000000 (map views.line_of script.now.lines.items) ≡ None) }
-    ensures excess { IfErr result (λ e. excess_at C.behaviour (played C.behaviour (C.opening core.old) (C.history core.old)) 4000000 (map views.line_of script.now.lines.items) ≡ Some e.line.0) }
+    ensures events { C.history core.new
+        ≡ C.history core.old ++ take MOST_EVENTS
+        (script_events C.behaviour (played C.behaviour (C.opening core.old) (C.history core.old)) (map views.line_of script.now.lines.items)) }
+    ensures whole { IfOk result (λ x.
+        excess_at C.behaviour (played C.behaviour (C.opening core.old) (C.history core.old)) MOST_EVENTS (map views.line_of script.now.lines.items) ≡ None) }
+    ensures excess { IfErr result (λ e.
+        excess_at C.behaviour (played C.behaviour (C.opening core.old) (C.history core.old)) MOST_EVENTS (map views.line_of script.now.lines.items)
+        ≡ Some e.line.0) }
     ensures room { C.space core.new + length (C.history core.new) ≡ C.space core.old + length (C.history core.old) }
     ensures harts { C.hart_count core.new ≡ C.hart_count core.old }
     ensures evictable { (line mask : ℕ) → C.evictable core.new line mask ↔ C.evictable core.old line mask }

@@ -1,10 +1,11 @@
 //! Reports.
 ghost use Rattle.std.specs.Prelude.{◌≡◌, ◌+◌, ◌<◌, ◌≤◌, ◌^◌, ◌∷◌, ◌++◌, [], length, map, OnOk, IfOk, IfSome, IfNone, ◌==◌, flat_map};
 ghost use Rattle.std.specs.List.{prefix_len};
-ghost use Rattle.run_scripts.specs.Reports.{element_text, variable_line, ended_line, ended_lines, run_text, runs_of, schedule_line, hart_text, unsettled_line, settled_report, report};
-ghost use Rattle.run_scripts.specs.ReportViews.{variable_of, state_of};
+ghost use Rattle.run_scripts.specs.Reports.{element_text, variable_line, ended_line, ended_lines, run_text, runs_of};
+ghost use Rattle.run_scripts.specs.Reports.{schedule_line, hart_text, unsettled_line, settled_report, report};
+ghost use Rattle.run_scripts.specs.links.ReportViews.{variable_of, state_of};
 
-use ido_base::memory::Memory;
+use ido_base::memory::OutOfMemory;
 use std::alloc::Global;
 
 /// A variable as it is reported: its name, and the number of each element.
@@ -27,25 +28,25 @@ pub struct Reported {
     pub schedule: Vec<u32>,
 }
 
-// Adds bytes.
-fn put(report: &mut Vec<u8>, bytes: &[u8]) -> Result<(), Memory>
+/// Adds bytes.
+fn put(report: &mut Vec<u8>, bytes: &[u8]) -> Result<(), OutOfMemory>
     ensures { OnOk result (report.new.items ≡ report.old.items ++ bytes.now) }
 {
     report.extend_from_slice(bytes)?;
     Ok(())
 }
 
-// Adds ` 6`.
+/// Adds ` 6`.
 #[tactic(auto, unfolding(crate::specs::Reports::element_text))]
-fn put_element(alloc: Global, report: &mut Vec<u8>, number: i128) -> Result<(), Memory>
+fn put_element(alloc: Global, report: &mut Vec<u8>, number: i128) -> Result<(), OutOfMemory>
     ensures { OnOk result (report.new.items ≡ report.old.items ++ element_text number) }
 {
     let text = format!(in alloc; " {number}")?;
     put(report, text.as_bytes())
 }
 
-// Adds ` 1 2 3`.
-fn put_elements(alloc: Global, report: &mut Vec<u8>, numbers: &[i128]) -> Result<(), Memory>
+/// Adds ` 1 2 3`.
+fn put_elements(alloc: Global, report: &mut Vec<u8>, numbers: &[i128]) -> Result<(), OutOfMemory>
     ensures { OnOk result (report.new.items ≡ report.old.items ++ flat_map element_text numbers.now) }
 {
     for number in numbers {
@@ -54,9 +55,9 @@ fn put_elements(alloc: Global, report: &mut Vec<u8>, numbers: &[i128]) -> Result
     Ok(())
 }
 
-// Adds the line `x = 6` of a variable.
+/// Adds the line `x = 6` of a variable.
 #[tactic(auto, unfolding(crate::specs::Reports::variable_line))]
-fn put_variable(alloc: Global, report: &mut Vec<u8>, variable: &Variable) -> Result<(), Memory>
+fn put_variable(alloc: Global, report: &mut Vec<u8>, variable: &Variable) -> Result<(), OutOfMemory>
     ensures { OnOk result (report.new.items ≡ report.old.items ++ variable_line (variable_of variable.now)) }
 {
     put(report, &variable.name)?;
@@ -65,8 +66,12 @@ fn put_variable(alloc: Global, report: &mut Vec<u8>, variable: &Variable) -> Res
     put(report, b"\n")
 }
 
-// Adds the lines of variables.
-fn put_variables(alloc: Global, report: &mut Vec<u8>, variables: &[Variable]) -> Result<(), Memory>
+/// Adds the lines of variables.
+fn put_variables(
+    alloc: Global,
+    report: &mut Vec<u8>,
+    variables: &[Variable],
+) -> Result<(), OutOfMemory>
     ensures { OnOk result (report.new.items ≡ report.old.items ++ flat_map variable_line (map variable_of variables.now)) }
 {
     for variable in variables {
@@ -75,22 +80,22 @@ fn put_variables(alloc: Global, report: &mut Vec<u8>, variables: &[Variable]) ->
     Ok(())
 }
 
-// Adds the line `ended T N` of a thread.
+/// Adds the line `ended T N` of a thread.
 #[tactic(auto, unfolding(crate::specs::Reports::ended_line))]
 fn put_ended(
     alloc: Global,
     report: &mut Vec<u8>,
     thread: usize,
     sections: u64,
-) -> Result<(), Memory>
+) -> Result<(), OutOfMemory>
     ensures { OnOk result (report.new.items ≡ report.old.items ++ ended_line thread sections) }
 {
     let text = format!(in alloc; "ended {thread} {sections}\n")?;
     put(report, text.as_bytes())
 }
 
-// Adds a line for each thread.
-fn put_all_ended(alloc: Global, report: &mut Vec<u8>, ended: &[u64]) -> Result<(), Memory>
+/// Adds a line for each thread.
+fn put_all_ended(alloc: Global, report: &mut Vec<u8>, ended: &[u64]) -> Result<(), OutOfMemory>
     ensures { OnOk result (report.new.items ≡ report.old.items ++ ended_lines 0 ended.now) }
 {
     for (thread, sections) in ended.iter().enumerate() {
@@ -99,7 +104,7 @@ fn put_all_ended(alloc: Global, report: &mut Vec<u8>, ended: &[u64]) -> Result<(
     Ok(())
 }
 
-// How many numbers at the front are this one.
+/// How many numbers at the front are this one.
 fn run_length(schedule: &[u32], thread: u32) -> usize
     ensures value { result ≡ prefix_len (λ t. t == thread) schedule.now }
     ensures bound { result ≤ length schedule.now }
@@ -107,7 +112,7 @@ fn run_length(schedule: &[u32], thread: u32) -> usize
     schedule.iter().take_while(|t| **t == thread).count()
 }
 
-// The first of the longest runs of a schedule, its thread and its steps, and what stands behind it.
+/// The first of the longest runs of a schedule, its thread and its steps, and what stands behind it.
 fn first_run(schedule: &[u32]) -> Option<(u32, usize, &[u32])>
     ensures none { IfNone result (runs_of schedule.now ≡ []) }
     ensures some { IfSome result (λ r. runs_of schedule.now ≡ record { thread = r.0; steps = r.1 } ∷ runs_of r.2.now) }
@@ -121,17 +126,22 @@ fn first_run(schedule: &[u32]) -> Option<(u32, usize, &[u32])>
     Some((*thread, more + 1, rest))
 }
 
-// Adds ` T*N`.
+/// Adds ` T*N`.
 #[tactic(auto, unfolding(crate::specs::Reports::run_text))]
-fn put_run(alloc: Global, report: &mut Vec<u8>, thread: u32, steps: usize) -> Result<(), Memory>
+fn put_run(
+    alloc: Global,
+    report: &mut Vec<u8>,
+    thread: u32,
+    steps: usize,
+) -> Result<(), OutOfMemory>
     ensures { OnOk result (report.new.items ≡ report.old.items ++ run_text (record { thread = thread; steps = steps })) }
 {
     let text = format!(in alloc; " {thread}*{steps}")?;
     put(report, text.as_bytes())
 }
 
-// Adds ` T*N` for each longest run of a schedule.
-fn put_runs(alloc: Global, report: &mut Vec<u8>, schedule: &[u32]) -> Result<(), Memory>
+/// Adds ` T*N` for each longest run of a schedule.
+fn put_runs(alloc: Global, report: &mut Vec<u8>, schedule: &[u32]) -> Result<(), OutOfMemory>
     ensures { OnOk result (report.new.items ≡ report.old.items ++ flat_map run_text (runs_of schedule.now)) }
 {
     let mut rest = schedule;
@@ -142,9 +152,9 @@ fn put_runs(alloc: Global, report: &mut Vec<u8>, schedule: &[u32]) -> Result<(),
     Ok(())
 }
 
-// Adds the line of a schedule.
+/// Adds the line of a schedule.
 #[tactic(auto, unfolding(crate::specs::Reports::schedule_line))]
-fn put_schedule(alloc: Global, report: &mut Vec<u8>, schedule: &[u32]) -> Result<(), Memory>
+fn put_schedule(alloc: Global, report: &mut Vec<u8>, schedule: &[u32]) -> Result<(), OutOfMemory>
     ensures { OnOk result (report.new.items ≡ report.old.items ++ schedule_line schedule.now) }
 {
     put(report, b"schedule")?;
@@ -152,17 +162,17 @@ fn put_schedule(alloc: Global, report: &mut Vec<u8>, schedule: &[u32]) -> Result
     put(report, b"\n")
 }
 
-// Adds ` H`.
+/// Adds ` H`.
 #[tactic(auto, unfolding(crate::specs::Reports::hart_text))]
-fn put_hart(alloc: Global, report: &mut Vec<u8>, hart: u32) -> Result<(), Memory>
+fn put_hart(alloc: Global, report: &mut Vec<u8>, hart: u32) -> Result<(), OutOfMemory>
     ensures { OnOk result (report.new.items ≡ report.old.items ++ hart_text hart) }
 {
     let text = format!(in alloc; " {hart}")?;
     put(report, text.as_bytes())
 }
 
-// Adds ` H` for each hart.
-fn put_harts(alloc: Global, report: &mut Vec<u8>, harts: &[u32]) -> Result<(), Memory>
+/// Adds ` H` for each hart.
+fn put_harts(alloc: Global, report: &mut Vec<u8>, harts: &[u32]) -> Result<(), OutOfMemory>
     ensures { OnOk result (report.new.items ≡ report.old.items ++ flat_map hart_text harts.now) }
 {
     for hart in harts {
@@ -171,9 +181,9 @@ fn put_harts(alloc: Global, report: &mut Vec<u8>, harts: &[u32]) -> Result<(), M
     Ok(())
 }
 
-// The line `unsettled H ..`.
+/// The line `unsettled H ..`.
 #[tactic(auto, unfolding(crate::specs::Reports::unsettled_line))]
-fn unsettled_line(alloc: Global, harts: &[u32]) -> Result<Vec<u8>, Memory>
+fn unsettled_line(alloc: Global, harts: &[u32]) -> Result<Vec<u8>, OutOfMemory>
     ensures { IfOk result (λ output. output.items ≡ unsettled_line harts.now) }
 {
     let mut output = Vec::new(alloc);
@@ -183,9 +193,9 @@ fn unsettled_line(alloc: Global, harts: &[u32]) -> Result<Vec<u8>, Memory>
     Ok(output)
 }
 
-// The report of a settled state.
+/// The report of a settled state.
 #[tactic(auto, unfolding(crate::specs::Reports::settled_report))]
-fn settled_report(alloc: Global, state: &Reported) -> Result<Vec<u8>, Memory>
+fn settled_report(alloc: Global, state: &Reported) -> Result<Vec<u8>, OutOfMemory>
     ensures { IfOk result (λ output. output.items ≡ settled_report (state_of state.now)) }
 {
     let mut output = Vec::new(alloc);
@@ -199,7 +209,7 @@ fn settled_report(alloc: Global, state: &Reported) -> Result<Vec<u8>, Memory>
 /// each thread, and the line of the schedule with its longest runs, as `schedule 0*4 1*2`; or, where a
 /// hart isn't settled, the line `unsettled H ..` alone. Each line ends with LF.
 #[tactic(auto, unfolding(crate::specs::Reports::report))]
-pub fn report(alloc: Global, state: &Reported) -> Result<Vec<u8>, Memory>
+pub fn report(alloc: Global, state: &Reported) -> Result<Vec<u8>, OutOfMemory>
     ensures { IfOk result (λ output. output.items ≡ report (state_of state.now)) }
 {
     if state.unsettled.is_empty() {

@@ -1,20 +1,21 @@
 //! Schedules, as they are written.
-ghost use Rattle.std.specs.Prelude.{◌≡◌, ◌+◌, ◌-◌, ◌*◌, ◌<◌, ◌≤◌, ◌^◌, ◌∷◌, ◌++◌, List, length, drop, min, replicate, true, false, IfOk, IfErr, IfSome, IfNone, IsTrue, OnOk};
+ghost use Rattle.std.specs.Prelude.{◌≡◌, ◌+◌, ◌-◌, ◌*◌, ◌<◌, ◌≤◌, ◌^◌, ◌∷◌, ◌++◌, List, length, drop, min};
+ghost use Rattle.std.specs.Prelude.{replicate, true, false, IfOk, IfErr, IfSome, IfNone, IsTrue, OnOk};
 ghost use Rattle.std.specs.List.{position_or_len};
 ghost use Rattle.std.specs.Str.Parse.{digits_value};
+ghost use Rattle.ido_base.specs.declared.limits.TheConstants.{MOST_INPUT_BYTES};
 ghost use Rattle.run_scripts.specs.Pieces.{Piece, words_at, begins_gap};
-ghost use Rattle.run_scripts.specs.Schedules.{steps_of_words, is_digit, is_numeral, is_star, thread_text, count_text, steps_from, before_steps, read, Steps, Refused};
-ghost use Rattle.run_scripts.specs.WordLengths.{fault_of};
+ghost use Rattle.run_scripts.specs.Schedules.{steps_of_words, is_digit, is_numeral, is_star, thread_text};
+ghost use Rattle.run_scripts.specs.Schedules.{count_text, steps_from, before_steps, read, Steps, Refused};
+ghost use Rattle.run_scripts.specs.links.WordLengths.{fault_of};
 
 use crate::number::{NUMBER_LIMIT, numeral};
 use crate::piece::{Gap, next_piece, piece_at};
-use ido_base::memory::Memory;
+use ido_base::limits::MOST_STEPS;
+use ido_base::memory::OutOfMemory;
 use ido_base::place::Place;
 use std::alloc::Global;
 use thiserror::Error;
-
-/// Steps that a schedule may have.
-const MOST_STEPS: u64 = 4_000_000;
 
 /// Why a schedule isn't read.
 #[derive(Clone, Copy, Debug, PartialEq, Eq, Drop, Error)]
@@ -33,17 +34,17 @@ pub enum ScheduleError {
     Memory,
 }
 
-impl From<Memory> for ScheduleError {
+impl From<OutOfMemory> for ScheduleError {
     ghost use Rattle.run_scripts.specs.declared.schedule.ScheduleError.TheVariants.{Memory as Unremembered};
 
     ghost from_gives = { λ _ e. e ≡ Unremembered };
 
-    fn from(_: Memory) -> Self {
+    fn from(_: OutOfMemory) -> Self {
         ScheduleError::Memory
     }
 }
 
-// How many bytes stand before the first `*`.
+/// How many bytes stand before the first `*`.
 fn star_position(word: &[u8]) -> usize
     ensures value { result ≡ position_or_len is_star word.now }
     ensures bound { result ≤ length word.now }
@@ -51,7 +52,7 @@ fn star_position(word: &[u8]) -> usize
     word.iter().take_while(|c| **c != b'*').count()
 }
 
-// What stands before the first `*` and behind it.
+/// What stands before the first `*` and behind it.
 fn split_at_star(word: &[u8]) -> (&[u8], &[u8])
     ensures thread { result.0.now ≡ thread_text word.now }
     ensures count { result.1.now ≡ count_text word.now }
@@ -71,13 +72,15 @@ struct Run {
     count: u64,
 }
 
-// The run that a word at a place spells behind so many steps.
+/// The run that a word at a place spells behind so many steps.
 fn run_of(word: &[u8], place: u32, done: u64) -> Result<Run, ScheduleError>
     requires place { place + length word.now < 2 ^ 32 }
-    requires done { done ≤ 4000000 }
-    ensures run { IfOk result (λ r. (ws : List Piece) → steps_from done (record { place = place; bytes = word.now } ∷ ws) ≡ before_steps r.thread r.count (steps_from (done + r.count) ws)) }
-    ensures bound { IfOk result (λ r. done + r.count ≤ 4000000) }
-    ensures refused { IfErr result (λ e. IfSome (fault_of e) (λ f. (ws : List Piece) → steps_from done (record { place = place; bytes = word.now } ∷ ws) ≡ Refused f)) }
+    requires done { done ≤ MOST_STEPS }
+    ensures run { IfOk result (λ r. (ws : List Piece) →
+        steps_from done (record { place = place; bytes = word.now } ∷ ws) ≡ before_steps r.thread r.count (steps_from (done + r.count) ws)) }
+    ensures bound { IfOk result (λ r. done + r.count ≤ MOST_STEPS) }
+    ensures refused { IfErr result (λ e.
+        IfSome (fault_of e) (λ f. (ws : List Piece) → steps_from done (record { place = place; bytes = word.now } ∷ ws) ≡ Refused f)) }
 {
     let (thread_text, count_text) = split_at_star(word);
     let (Some(thread), Some(count)) = (numeral(thread_text), numeral(count_text)) else {
@@ -101,8 +104,8 @@ fn run_of(word: &[u8], place: u32, done: u64) -> Result<Run, ScheduleError>
     })
 }
 
-// Adds so many steps of a thread.
-fn push_run(steps: &mut Vec<u32>, run: Run) -> Result<(), Memory>
+/// Adds so many steps of a thread.
+fn push_run(steps: &mut Vec<u32>, run: Run) -> Result<(), OutOfMemory>
     ensures { OnOk result (steps.new.items ≡ steps.old.items ++ replicate run.count run.thread) }
 {
     for _ in 0..run.count {
@@ -111,7 +114,7 @@ fn push_run(steps: &mut Vec<u32>, run: Run) -> Result<(), Memory>
     Ok(())
 }
 
-// Where the runs begin: behind the first word, where that is `schedule`.
+/// Where the runs begin: behind the first word, where that is `schedule`.
 fn first_run(text: &[u8]) -> usize
     ensures runs { steps_of_words (words_at 0 text.now) ≡ steps_from 0 (words_at result (drop result text.now)) }
     ensures bound { result ≤ length text.now }
@@ -128,7 +131,7 @@ fn first_run(text: &[u8]) -> usize
 /// The steps of a schedule: words `T*N`, each of them N steps of thread T, between spaces and line
 /// ends; the first word may be `schedule`. A CR ends a line only before an LF.
 pub fn read_schedule(alloc: Global, text: &[u8]) -> Result<Vec<u32>, ScheduleError>
-    requires { length text.now ≤ 67108864 }
+    requires { length text.now ≤ MOST_INPUT_BYTES }
     ensures steps { IfOk result (λ steps. read text.now ≡ Steps steps.items) }
     ensures refused { IfErr result (λ e. IfSome (fault_of e) (λ f. read text.now ≡ Refused f)) }
 {

@@ -1,8 +1,10 @@
 //! Scripts, as they are written.
 ghost use Rattle.std.specs.Prelude.{◌≡◌, ◌+◌, ◌<◌, ◌≤◌, ◌^◌, ℕ, List, All, drop, length, map, min, option_map, OnOk, IfOk, IfErr, IfSome, ◌++◌, ◌∷◌, []};
 ghost use Rattle.std.specs.List.{prefix_len};
+ghost use Rattle.ido_base.specs.declared.limits.TheConstants.{MOST_INPUT_BYTES};
 ghost use Rattle.run_scripts.specs.Schedules.{is_digit};
-ghost use Rattle.run_scripts.specs.Scripts.{LineRead, Says, Fails, number_then, argument_then, end_then, steps_line, point_line, fence_line, evict_line, line_of, read, Lines, Refused, IsDoable, IsEviction};
+ghost use Rattle.run_scripts.specs.Scripts.{LineRead, Says, Fails, number_then, argument_then, end_then, steps_line, point_line};
+ghost use Rattle.run_scripts.specs.Scripts.{fence_line, evict_line, line_of, read, Lines, Refused, IsDoable, IsEviction};
 ghost use Rattle.run_scripts.specs.declared.script.Command.{Command};
 ghost use Rattle.run_scripts.specs.declared.script.Command.TheVariants as c;
 ghost use Rattle.run_scripts.specs.links.ScriptViews as views;
@@ -10,16 +12,11 @@ ghost use Rattle.run_scripts.specs.links.ScriptViews.{ending};
 
 use crate::number::{NUMBER_LIMIT, numeral};
 use crate::piece::{Gap, next_piece, piece_at};
-use ido_base::memory::Memory;
+use ido_base::limits::{LOG_LINES, VARIABLE_LINES};
+use ido_base::memory::OutOfMemory;
 use ido_base::place::Place;
 use std::alloc::Global;
 use thiserror::Error;
-
-/// The number of the first line of logs.
-const VARIABLE_LINES: u64 = 1024;
-
-/// Lines of a thread's log.
-const LOG_LINES: u64 = 16;
 
 /// Masks are up to this.
 const GREATEST_MASK: u64 = 255;
@@ -90,12 +87,12 @@ impl From<ScriptFault> for ScriptError {
     }
 }
 
-impl From<Memory> for ScriptError {
+impl From<OutOfMemory> for ScriptError {
     ghost use Rattle.run_scripts.specs.declared.script.ScriptError.TheVariants as answers;
 
     ghost from_gives = { λ _ e. e ≡ answers.Memory };
 
-    fn from(_: Memory) -> Self {
+    fn from(_: OutOfMemory) -> Self {
         ScriptError::Memory
     }
 }
@@ -111,7 +108,7 @@ enum Rule {
     Mask,
 }
 
-// What the rule refuses of a number, which stands for all from the limit on.
+/// What the rule refuses of a number, which stands for all from the limit on.
 fn refused(rule: Rule, place: Place, number: u64) -> Option<ScriptFault>
     ensures { (n : ℕ) → number ≡ min n 4294967296 → views.rule_of rule place.0 n ≡ option_map views.fault_of result }
 {
@@ -136,7 +133,7 @@ struct Taken {
     end: usize,
 }
 
-// How many digits stand at the front.
+/// How many digits stand at the front.
 fn digit_count(text: &[u8]) -> usize
     ensures value { result ≡ prefix_len is_digit text.now }
     ensures bound { result ≤ length text.now }
@@ -144,13 +141,15 @@ fn digit_count(text: &[u8]) -> usize
     text.iter().take_while(|c| c.is_ascii_digit()).count()
 }
 
-// The number that comes next in a line that stands at a place, where the rule doesn't refuse it.
+/// The number that comes next in a line that stands at a place, where the rule doesn't refuse it.
 fn number(line: &[u8], place: u32, at: usize, rule: Rule) -> Result<Taken, ScriptFault>
     requires within { at ≤ length line.now }
     requires short { place + length line.now < 2 ^ 32 }
-    ensures number { IfOk result (λ x. (behind : ℕ → ℕ → List ℕ → LineRead) → number_then (views.rule_of rule) (place + at) (drop at line.now) behind ≡ behind x.number (place + x.end) (drop x.end line.now)) }
+    ensures number { IfOk result (λ x. (behind : ℕ → ℕ → List ℕ → LineRead) →
+        number_then (views.rule_of rule) (place + at) (drop at line.now) behind ≡ behind x.number (place + x.end) (drop x.end line.now)) }
     ensures bound { IfOk result (λ x. x.end ≤ length line.now) }
-    ensures refused { IfErr result (λ e. (behind : ℕ → ℕ → List ℕ → LineRead) → number_then (views.rule_of rule) (place + at) (drop at line.now) behind ≡ Fails (views.fault_of e)) }
+    ensures refused { IfErr result (λ e.
+        (behind : ℕ → ℕ → List ℕ → LineRead) → number_then (views.rule_of rule) (place + at) (drop at line.now) behind ≡ Fails (views.fault_of e)) }
 {
     let here = Place(place + at as u32);
     let rest = &line[at..];
@@ -167,13 +166,15 @@ fn number(line: &[u8], place: u32, at: usize, rule: Rule) -> Result<Taken, Scrip
     }
 }
 
-// The number that comes next behind a space, where the rule doesn't refuse it.
+/// The number that comes next behind a space, where the rule doesn't refuse it.
 fn argument(line: &[u8], place: u32, at: usize, rule: Rule) -> Result<Taken, ScriptFault>
     requires within { at ≤ length line.now }
     requires short { place + length line.now < 2 ^ 32 }
-    ensures number { IfOk result (λ x. (behind : ℕ → ℕ → List ℕ → LineRead) → argument_then (views.rule_of rule) (place + at) (drop at line.now) behind ≡ behind x.number (place + x.end) (drop x.end line.now)) }
+    ensures number { IfOk result (λ x. (behind : ℕ → ℕ → List ℕ → LineRead) →
+        argument_then (views.rule_of rule) (place + at) (drop at line.now) behind ≡ behind x.number (place + x.end) (drop x.end line.now)) }
     ensures bound { IfOk result (λ x. x.end ≤ length line.now) }
-    ensures refused { IfErr result (λ e. (behind : ℕ → ℕ → List ℕ → LineRead) → argument_then (views.rule_of rule) (place + at) (drop at line.now) behind ≡ Fails (views.fault_of e)) }
+    ensures refused { IfErr result (λ e.
+        (behind : ℕ → ℕ → List ℕ → LineRead) → argument_then (views.rule_of rule) (place + at) (drop at line.now) behind ≡ Fails (views.fault_of e)) }
 {
     if at < line.len() && line[at] == b' ' {
         number(line, place, at + 1, rule)
@@ -182,7 +183,7 @@ fn argument(line: &[u8], place: u32, at: usize, rule: Rule) -> Result<Taken, Scr
     }
 }
 
-// The line ends there.
+/// The line ends there.
 fn end(line: &[u8], place: u32, at: usize) -> Result<(), ScriptFault>
     requires within { at ≤ length line.now }
     requires short { place + length line.now < 2 ^ 32 }
@@ -196,19 +197,21 @@ fn end(line: &[u8], place: u32, at: usize) -> Result<(), ScriptFault>
     }
 }
 
-// The number that comes next behind a space, and with which the line ends.
+/// The number that comes next behind a space, and with which the line ends.
 fn last_argument(line: &[u8], place: u32, at: usize, rule: Rule) -> Result<u32, ScriptFault>
     requires within { at ≤ length line.now }
     requires short { place + length line.now < 2 ^ 32 }
-    ensures number { IfOk result (λ x. (make : ℕ → Command) → argument_then (views.rule_of rule) (place + at) (drop at line.now) (ending make) ≡ Says (make x)) }
-    ensures refused { IfErr result (λ e. (make : ℕ → Command) → argument_then (views.rule_of rule) (place + at) (drop at line.now) (ending make) ≡ Fails (views.fault_of e)) }
+    ensures number { IfOk result (λ x. (make : ℕ → Command) →
+        argument_then (views.rule_of rule) (place + at) (drop at line.now) (ending make) ≡ Says (make x)) }
+    ensures refused { IfErr result (λ e.
+        (make : ℕ → Command) → argument_then (views.rule_of rule) (place + at) (drop at line.now) (ending make) ≡ Fails (views.fault_of e)) }
 {
     let last = argument(line, place, at, rule)?;
     end(line, place, last.end)?;
     Ok(last.number)
 }
 
-// The two numbers behind the letter of a line, each behind a space, and with which the line ends.
+/// The two numbers behind the letter of a line, each behind a space, and with which the line ends.
 fn two_arguments(
     line: &[u8],
     place: u32,
@@ -217,15 +220,19 @@ fn two_arguments(
 ) -> Result<(u32, u32), ScriptFault>
     requires within { 1 ≤ length line.now }
     requires short { place + length line.now < 2 ^ 32 }
-    ensures numbers { IfOk result (λ x. (make : ℕ → ℕ → Command) → argument_then (views.rule_of first) (place + 1) (drop 1 line.now) (λ n p behind. argument_then (views.rule_of last) p behind (ending (make n))) ≡ Says (make x.0 x.1)) }
-    ensures refused { IfErr result (λ e. (make : ℕ → ℕ → Command) → argument_then (views.rule_of first) (place + 1) (drop 1 line.now) (λ n p behind. argument_then (views.rule_of last) p behind (ending (make n))) ≡ Fails (views.fault_of e)) }
+    ensures numbers { IfOk result (λ x.
+        (make : ℕ → ℕ → Command) → argument_then (views.rule_of first) (place + 1) (drop 1 line.now)
+        (λ n p behind. argument_then (views.rule_of last) p behind (ending (make n))) ≡ Says (make x.0 x.1)) }
+    ensures refused { IfErr result (λ e.
+        (make : ℕ → ℕ → Command) → argument_then (views.rule_of first) (place + 1) (drop 1 line.now)
+        (λ n p behind. argument_then (views.rule_of last) p behind (ending (make n))) ≡ Fails (views.fault_of e)) }
 {
     let one = argument(line, place, 1, first)?;
     let other = last_argument(line, place, one.end, last)?;
     Ok((one.number, other))
 }
 
-// The line `s H N`.
+/// The line `s H N`.
 fn steps_line(line: &[u8], place: u32, harts: u32) -> Result<Command, ScriptFault>
     requires within { 1 ≤ length line.now }
     requires short { place + length line.now < 2 ^ 32 }
@@ -235,7 +242,7 @@ fn steps_line(line: &[u8], place: u32, harts: u32) -> Result<Command, ScriptFaul
     Ok(Command::Steps { hart, count })
 }
 
-// The line `b H`.
+/// The line `b H`.
 fn point_line(line: &[u8], place: u32, harts: u32) -> Result<Command, ScriptFault>
     requires within { 1 ≤ length line.now }
     requires short { place + length line.now < 2 ^ 32 }
@@ -245,7 +252,7 @@ fn point_line(line: &[u8], place: u32, harts: u32) -> Result<Command, ScriptFaul
     Ok(Command::Point { hart })
 }
 
-// The line `f H`.
+/// The line `f H`.
 fn fence_line(line: &[u8], place: u32, harts: u32) -> Result<Command, ScriptFault>
     requires within { 1 ≤ length line.now }
     requires short { place + length line.now < 2 ^ 32 }
@@ -255,7 +262,7 @@ fn fence_line(line: &[u8], place: u32, harts: u32) -> Result<Command, ScriptFaul
     Ok(Command::Fence { hart })
 }
 
-// The line `e LINE MASK`.
+/// The line `e LINE MASK`.
 fn evict_line(line: &[u8], place: u32, harts: u32) -> Result<Command, ScriptFault>
     requires within { 1 ≤ length line.now }
     requires short { place + length line.now < 2 ^ 32 }
@@ -268,7 +275,7 @@ fn evict_line(line: &[u8], place: u32, harts: u32) -> Result<Command, ScriptFaul
     })
 }
 
-// The line `c`.
+/// The line `c`.
 fn crash_line(line: &[u8], place: u32) -> Result<Command, ScriptFault>
     requires within { 1 ≤ length line.now }
     requires short { place + length line.now < 2 ^ 32 }
@@ -278,7 +285,7 @@ fn crash_line(line: &[u8], place: u32) -> Result<Command, ScriptFault>
     Ok(Command::Crash)
 }
 
-// What a line says that stands at a place, at a machine of so many harts.
+/// What a line says that stands at a place, at a machine of so many harts.
 fn command_of(line: &[u8], place: u32, harts: u32) -> Result<Command, ScriptFault>
     requires { place + length line.now < 2 ^ 32 }
     ensures { views.IsLineRead (line_of harts place line.now) result }
@@ -296,8 +303,8 @@ fn command_of(line: &[u8], place: u32, harts: u32) -> Result<Command, ScriptFaul
     }
 }
 
-// Adds a line.
-fn push_line(lines: &mut Vec<Line>, place: u32, command: Command) -> Result<(), Memory>
+/// Adds a line.
+fn push_line(lines: &mut Vec<Line>, place: u32, command: Command) -> Result<(), OutOfMemory>
     ensures { OnOk result (map views.line_of lines.new.items ≡ map views.line_of lines.old.items ++ record { place = place; command = command } ∷ []) }
 {
     lines.push(Line {
@@ -310,7 +317,7 @@ fn push_line(lines: &mut Vec<Line>, place: u32, command: Command) -> Result<(), 
 /// The script of a text, for a machine of so many harts. A line ends with an LF, which may have a CR before it, or
 /// with the text; empty lines are passed over. Where it is refused, the fault is the first one by place.
 pub fn read_script(alloc: Global, text: &[u8], harts: u32) -> Result<Script, ScriptError>
-    requires { length text.now ≤ 67108864 }
+    requires { length text.now ≤ MOST_INPUT_BYTES }
     ensures lines { IfOk result (λ script. read harts text.now ≡ Lines (map views.line_of script.lines.items)) }
     ensures doable { IfOk result (λ script. All (λ line. IsDoable harts (IsEviction harts) line.command) script.lines.items) }
     ensures refused { IfErr result (λ e. IfSome (views.refused_fault e) (λ f. read harts text.now ≡ Refused f)) }

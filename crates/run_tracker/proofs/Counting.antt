@@ -1,5 +1,6 @@
 -- What is counted of harts along events.
-use Rattle.std.proofs.Common.{◌≡◌, ◌≢◌, ◌⊎◌, ℕ, ◌+◌, ◌<◌, ◌≤◌, List, [], ◌∷◌, length, slice_index, slice_set, Bool, true, false, cond, ◌==◌, if◌then◌else◌, refl, ap, sym, subst, ◌∙◌, arith, inl, inr, get_or-set_same, get_or-set_other}
+use Rattle.std.proofs.Common.{◌≡◌, ◌≢◌, ◌⊎◌, ℕ, ◌+◌, ◌<◌, ◌≤◌, List, [], ◌∷◌, length, slice_index, slice_set, Bool, true, false, cond, ◌==◌}
+use Rattle.std.proofs.Common.{if◌then◌else◌, refl, ap, sym, subst, ◌∙◌, arith, inl, inr, get_or-set_same, get_or-set_other, length-set}
 use Rattle.std.proofs.lemmas.Bool.{cases_eq, eqb-true}
 use Rattle.ido_base.specs.declared.event.Event.{Event}
 use Rattle.ido_base.specs.declared.event.Event.TheVariants.{Step}
@@ -8,6 +9,7 @@ use Rattle.rv64_isa.specs.declared.object.Slot.{Slot}
 use Rattle.rv64_isa.specs.Machine.{World}
 use Rattle.rv64_isa.specs.Rows.{Effect}
 use Rattle.rv64_isa.specs.Schedule.{completes}
+use Rattle.run_tracker.specs.links.Parts.{AreCounted}
 
 -- no more than there are events
 pub passed-few : {M : Type 0} (b : Behaviour M) (test : M → Event → Bool) (m : M) (events : List Event) → passed_count b test m events ≤ length events
@@ -39,3 +41,18 @@ counted-step counts h g done does within is others = by_place (cases_eq g h)
         let P : ℕ → Type 0 = λ k. slice_index (slice_set counts h (slice_index counts h + cond done 1 0)) k ≡ slice_index counts k + cond (does k) 1 0 in
         subst P (sym same) (get_or-set_same counts h (slice_index counts h + cond done 1 0) 0 within ∙ ap (λ (b : Bool). slice_index counts h + cond b 1 0) is)
     by_place (inr ne) = get_or-set_other counts h g (slice_index counts h + cond done 1 0) 0 ne ∙ plus_none (slice_index counts g) (does g) (others g ne)
+
+-- so each count is that of what is done
+pub counted-one : (old new : List ℕ) (h : ℕ) (done : Bool) (does : ℕ → Bool) → new ≡ slice_set old h (slice_index old h + cond done 1 0) → h < length old →
+    done ≡ does h → ((k : ℕ) → k ≢ h → does k ≡ false) → AreCounted old new does
+counted-one old new h done does set within is others = record {
+  size = ap length set ∙ length-set old h _;
+  each = λ g below. ap (λ (xs : List ℕ). slice_index xs g) set ∙ counted-step old h g done does within is others;
+}
+
+-- and so it is where nothing is done
+pub counted-none : (counts : List ℕ) (does : ℕ → Bool) → ((k : ℕ) → does k ≡ false) → AreCounted counts counts does
+counted-none counts does none = record {
+  size = refl;
+  each = λ g below. plus_none (slice_index counts g) (does g) (none g);
+}

@@ -1,5 +1,6 @@
 -- What is durable of words is so behind each step that writes nothing back.
-use Rattle.std.proofs.Common.{◌≡◌, ◌⊎◌, ℕ, ◌/◌, ◌<◌, ◌≤◌, ◌==◌, List, [], ◌∷◌, length, slice_set, slice_get, Option, Some, None, Bool, false, cond, nat_lt, inl, inr, refl, ap, sym, subst, ◌∙◌, get_or-set_same, get_or-set_other}
+use Rattle.std.proofs.Common.{◌≡◌, ◌⊎◌, ℕ, ◌/◌, ◌<◌, ◌≤◌, ◌==◌, List, [], ◌∷◌, length, slice_set, slice_get, Option, Some, None}
+use Rattle.std.proofs.Common.{Bool, false, cond, nat_lt, inl, inr, refl, ap, sym, subst, ◌∙◌, get_or-set_same, get_or-set_other}
 use Rattle.std.proofs.lemmas.Bool.{cases_eq, cases_lt, cond_both}
 use Rattle.std.proofs.lemmas.List.{set_past}
 use Rattle.ido_base.specs.declared.event.Event.TheVariants.{Step}
@@ -13,7 +14,9 @@ use Rattle.rv64_isa.specs.declared.phase.Phase.{Phase}
 use Rattle.rv64_isa.specs.declared.phase.Phase.TheVariants.{Take, Wait, Resume, Run, Done, Ended}
 use Rattle.rv64_isa.specs.Rows.{Effect, GoesOn, Loads, Stores, Cleans, Fences, Calls, row, read}
 use Rattle.rv64_isa.specs.Programs.{fetched}
-use Rattle.rv64_isa.specs.Machine.{Hart, World, Outcome, moved, with_holder, access, drain_one, fenced, cleaned, acquired, released, ended, called, applied, executed, taken, waited, record_of, taking_from, hart_step, run_step, done_if_over, over_after, phase_step, stepped, happens, after_event, reply_to}
+use Rattle.rv64_isa.specs.Machine.{Hart, World, Outcome, moved, with_holder, access, drain_one, fenced, cleaned, acquired}
+use Rattle.rv64_isa.specs.Machine.{released, ended, called, applied, executed, taken, waited, record_of, taking_from, hart_step}
+use Rattle.rv64_isa.specs.Machine.{run_step, done_if_over, over_after, phase_step, stepped, happens, after_event, reply_to}
 use Rattle.run_tracker.specs.links.Parts.{is_drained}
 
 abbrev pub SameDurable : (old new : List Word) → Type 0
@@ -28,7 +31,8 @@ set_durable words i values j = by_place (cases_eq j i) (cases_lt i (length words
 
     by_place : (j ≡ i) ⊎ (j ≡ i → ⊥) → (i < length words) ⊎ (length words ≤ i) → (word_at (slice_set words i new) j).durable ≡ (word_at words j).durable
     by_place (inl same) (inl within) =
-        subst (λ (k : ℕ). (word_at (slice_set words i new) k).durable ≡ (word_at words k).durable) (sym same) (ap (λ (w : Word). w.durable) (get_or-set_same words i new (word_of 0) within))
+        subst (λ (k : ℕ). (word_at (slice_set words i new) k).durable ≡ (word_at words k).durable) (sym same)
+        (ap (λ (w : Word). w.durable) (get_or-set_same words i new (word_of 0) within))
     by_place (inl same) (inr past) = ap (λ (ws : List Word). (word_at ws j).durable) (set_past words i new past)
     by_place (inr ne) place = ap (λ (w : Word). w.durable) (get_or-set_other words i j new (word_of 0) ne)
 
@@ -101,7 +105,7 @@ module _ (h : ℕ) (w : World) (hart : Hart) where
   waits None = λ e j. refl
   waits (Some taking) = λ e j. refl
 
-settles : (h : ℕ) (w v : World) (hart : Option Hart) → (done_if_over w h hart v).words ≡ v.words
+pub settles : (h : ℕ) (w v : World) (hart : Option Hart) → (done_if_over w h hart v).words ≡ v.words
 settles h w v None = refl
 settles h w v (Some hart) = cond_both (over_after w v h) _ _ (λ (u : World). u.words ≡ v.words) (λ _. refl) (λ _. refl)
 

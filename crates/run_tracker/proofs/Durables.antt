@@ -11,7 +11,8 @@ abbrev pub durable_from : List Word → (at count : ℕ) → List ℕ
 durable_from words at count = map (λ i. durable_value (word_at words i)) (numbers_from at count)
 
 -- with one more
-pub durable_next : (words : List Word) (at count : ℕ) → durable_from words at (count + 1) ≡ durable_from words at count ++ durable_value (word_at words (at + count)) ∷ []
+pub durable_next : (words : List Word) (at count : ℕ) →
+    durable_from words at (count + 1) ≡ durable_from words at count ++ durable_value (word_at words (at + count)) ∷ []
 durable_next words at zero = let same : at ≡ at + 0 = omega arith in ap (λ (i : ℕ). durable_value (word_at words i) ∷ []) same
 durable_next words at (suc count) =
     let same : at + 1 + count ≡ at + suc count = omega arith in
@@ -46,5 +47,6 @@ left_is words variable_words logs within long =
     let all = map durable_value words in
     let count : length (drop 8192 all) ≤ logs = omega (arith, length-drop 8192 all, length-map words durable_value, long) in
     let first : durable_from words 0 variable_words ≡ take variable_words all = sym (durable_part words 0 variable_words (omega (arith, within))) in
-    let behind : durable_from words 8192 logs ≡ drop 8192 all = sym (durable_part words 8192 logs (omega (arith, long))) ∙ take_all logs (drop 8192 all) count in
+    let behind : durable_from words 8192 logs ≡ drop 8192 all =
+    sym (durable_part words 8192 logs (omega (arith, long))) ∙ take_all logs (drop 8192 all) count in
     ap (λ (xs : List ℕ). xs ++ durable_from words 8192 logs) first ∙ ap (λ (xs : List ℕ). take variable_words all ++ xs) behind

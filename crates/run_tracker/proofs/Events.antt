@@ -1,5 +1,6 @@
 -- What an event does to steps, and to what is counted along events.
-use Rattle.std.proofs.Common.{◌≡◌, ℕ, zero, suc, ◌+◌, ◌<◌, ◌≤◌, List, [], ◌∷◌, ◌++◌, length, replicate, sum_by, Bool, true, false, cond, if◌then◌else◌, refl, ap, ◌∙◌, arith, inl, length-set}
+use Rattle.std.proofs.Common.{◌≡◌, ℕ, zero, suc, ◌+◌, ◌<◌, ◌≤◌, List, [], ◌∷◌, ◌++◌, length, replicate, sum_by}
+use Rattle.std.proofs.Common.{Bool, true, false, cond, if◌then◌else◌, refl, ap, ◌∙◌, arith, inl, length-set}
 use Rattle.std.proofs.lemmas.List.{length-replicate}
 use Rattle.std.proofs.lemmas.List.Sums.{sum_by-cons}
 use Rattle.ido_base.specs.declared.event.Event.{Event}
@@ -12,7 +13,8 @@ use Rattle.rv64_isa.specs.declared.object.Slot.{Slot}
 use Rattle.rv64_isa.specs.Frames.{IsSound}
 use Rattle.rv64_isa.proofs.Frames.{steps_touch, evictions_touch}
 use Rattle.rv64_isa.specs.Machine.{World, IsValidEvent, after_event, after_events}
-use Rattle.rv64_isa.specs.Schedule.{Steps, no_steps, with_begun, with_bound, with_step, with_all_kept, steps_after, steps_along, passes_mark, stores_point, finishes_fence}
+use Rattle.rv64_isa.specs.Schedule.{Steps, no_steps, with_begun, with_bound, with_step, with_all_kept}
+use Rattle.rv64_isa.specs.Schedule.{steps_after, steps_along, passes_mark, stores_point, finishes_fence}
 use Rattle.run_tracker.specs.links.Accounts.{AreOrdered, weight, hart_weight, point_word}
 use Rattle.run_tracker.specs.Lives.{Moment, living}
 use Rattle.run_tracker.proofs.Weights.{weight-begun, weight-bound, weight-all_kept, harts-all_kept}
@@ -20,12 +22,14 @@ use Rattle.run_tracker.proofs.Orders.{ordered_later, ordered-begun, ordered-boun
 
 -- ---- One more event
 
-pub after_more : (program : List (List Slot)) (w : World) (events : List Event) (event : Event) → after_events program w (events ++ event ∷ []) ≡ after_event program (after_events program w events) event
+pub after_more : (program : List (List Slot)) (w : World) (events : List Event) (event : Event) →
+    after_events program w (events ++ event ∷ []) ≡ after_event program (after_events program w events) event
 after_more program w [] event = refl
 after_more program w (e ∷ es) event = after_more program (after_event program w e) es event
 
 pub along_more : (marks : List (List ℕ)) (program : List (List Slot)) (w : World) (events : List Event) (event : Event) (s : Steps)
-    → steps_along marks program w (events ++ event ∷ []) s ≡ steps_after marks program (after_events program w events) event (steps_along marks program w events s)
+    → steps_along marks program w (events ++ event ∷ []) s
+    ≡ steps_after marks program (after_events program w events) event (steps_along marks program w events s)
 along_more marks program w [] event s = refl
 along_more marks program w (e ∷ es) event s = along_more marks program (after_event program w e) es event (steps_after marks program w e s)
 
@@ -34,13 +38,15 @@ played_is m [] = refl
 played_is m (e ∷ es) = played_is (record m { world = after_event m.program m.world e }) es
 
 pub points_more : (m : Moment) (events : List Event) (event : Event) (h : ℕ)
-    → point_stores living m (events ++ event ∷ []) h ≡ point_stores living m events h + cond (stores_point m.program (after_events m.program m.world events) event h) 1 0
+    → point_stores living m (events ++ event ∷ []) h
+    ≡ point_stores living m events h + cond (stores_point m.program (after_events m.program m.world events) event h) 1 0
 points_more m events event h =
     passed_count-more living (λ (n : Moment). living.stores_point n h) m events event
     ∙ ap (λ (n : Moment). point_stores living m events h + cond (living.stores_point n h event) 1 0) (played_is m events)
 
 pub fences_more : (m : Moment) (events : List Event) (event : Event) (h : ℕ)
-    → finished_fences living m (events ++ event ∷ []) h ≡ finished_fences living m events h + cond (finishes_fence m.program (after_events m.program m.world events) event h) 1 0
+    → finished_fences living m (events ++ event ∷ []) h
+    ≡ finished_fences living m events h + cond (finishes_fence m.program (after_events m.program m.world events) event h) 1 0
 fences_more m events event h =
     passed_count-more living (λ (n : Moment). living.finishes_fence n h) m events event
     ∙ ap (λ (n : Moment). finished_fences living m events h + cond (living.finishes_fence n h event) 1 0) (played_is m events)
@@ -67,22 +73,26 @@ weight-begun_if true h s within = omega (arith, weight-begun h s within)
 weight-begun_if false h s within = omega arith
 
 pub weight-noted : (mark point : Bool) (h position : ℕ) (s : Steps) → h < length s.harts → weight (noted mark point h position s) ≤ weight s + 1
-weight-noted mark true h position s within = omega (arith, weight-bound h position (begun_if mark h s) (omega (arith, within, harts-begun mark h s)), weight-begun_if mark h s within)
+weight-noted mark true h position s within =
+    omega (arith, weight-bound h position (begun_if mark h s) (omega (arith, within, harts-begun mark h s)), weight-begun_if mark h s within)
 weight-noted mark false h position s within = weight-begun_if mark h s within
 
 ordered-begun_if : (words : List Word) (mark : Bool) (h : ℕ) (s : Steps) → AreOrdered words s → AreOrdered words (begun_if mark h s)
 ordered-begun_if words true h s ordered = ordered-begun words h s ordered
 ordered-begun_if words false h s ordered = ordered
 
-pub ordered-noted : (words : List Word) (mark point : Bool) (h position : ℕ) (s : Steps) → position ≡ last_position (word_at words (point_word h)) → AreOrdered words s → AreOrdered words (noted mark point h position s)
+pub ordered-noted : (words : List Word) (mark point : Bool) (h position : ℕ) (s : Steps) → position ≡ last_position (word_at words (point_word h)) →
+    AreOrdered words s → AreOrdered words (noted mark point h position s)
 ordered-noted words mark true h position s e ordered = ordered-bound words h position (begun_if mark h s) e (ordered-begun_if words mark h s ordered)
 ordered-noted words mark false h position s e ordered = ordered-begun_if words mark h s ordered
 
 -- ---- Steps after an event
 
-pub harts-after : (marks : List (List ℕ)) (program : List (List Slot)) (w : World) (event : Event) (s : Steps) → length (steps_after marks program w event s).harts ≡ length s.harts
+pub harts-after : (marks : List (List ℕ)) (program : List (List Slot)) (w : World) (event : Event) (s : Steps) →
+    length (steps_after marks program w event s).harts ≡ length s.harts
 unfolding steps_after
-harts-after marks program w (Step h) s = harts-all_kept _ (length s.harts) (with_step marks program w h s) ∙ harts-noted (passes_mark marks program w h) (stores_point program w (Step h) h) h _ s
+harts-after marks program w (Step h) s =
+    harts-all_kept _ (length s.harts) (with_step marks program w h s) ∙ harts-noted (passes_mark marks program w h) (stores_point program w (Step h) h) h _ s
 harts-after marks program w (Evict line mask) s = harts-all_kept _ (length s.harts) s
 harts-after marks program w Crash s = length-replicate (length s.harts) no_steps
 
@@ -90,14 +100,21 @@ pub weightless : (count : ℕ) → sum_by hart_weight (replicate count no_steps)
 weightless zero = refl
 weightless (suc count) = sum_by-cons hart_weight no_steps (replicate count no_steps) ∙ omega (arith, weightless count)
 
-pub weight-after : (marks : List (List ℕ)) (program : List (List Slot)) (w : World) (event : Event) (s : Steps) → IsValidEvent (length s.harts) event → weight (steps_after marks program w event s) ≤ weight s + 1
+pub weight-after : (marks : List (List ℕ)) (program : List (List Slot)) (w : World) (event : Event) (s : Steps) → IsValidEvent (length s.harts) event →
+    weight (steps_after marks program w event s) ≤ weight s + 1
 unfolding steps_after
 weight-after marks program w (Step h) s valid =
     let position = last_position (word_at (after_event program w (Step h)).words (point_word h)) in
     let mark = passes_mark marks program w h in
     let point = stores_point program w (Step h) h in
-    omega (arith, weight-all_kept (after_event program w (Step h)).words (length s.harts) (with_step marks program w h s) (omega (arith, harts-noted mark point h position s)), weight-noted mark point h position s valid)
-weight-after marks program w (Evict line mask) s valid = omega (arith, weight-all_kept (after_event program w (Evict line mask)).words (length s.harts) s (omega arith))
+    omega (
+      arith,
+      weight-all_kept (after_event program w (Step h)).words (length s.harts) (with_step marks program w h s)
+          (omega (arith, harts-noted mark point h position s)),
+      weight-noted mark point h position s valid,
+    )
+weight-after marks program w (Evict line mask) s valid =
+    omega (arith, weight-all_kept (after_event program w (Evict line mask)).words (length s.harts) s (omega arith))
 weight-after marks program w Crash s valid = omega (arith, weightless (length s.harts))
 
 pub changed_by_step : (program : List (List Slot)) (w : World) (h : ℕ) → IsSound w → AreChanged w.words (after_event program w (Step h)).words
@@ -108,29 +125,30 @@ changed_by_eviction program w line mask =
     let raised = (evictions_touch program w line mask).0 in
     record { size = raised.size; each = λ j. inl (raised.each j) }
 
-pub ordered-after : (marks : List (List ℕ)) (program : List (List Slot)) (w : World) (event : Event) (s : Steps) → IsSound w → AreOrdered w.words s → AreOrdered (after_event program w event).words (steps_after marks program w event s)
+pub ordered-after : (marks : List (List ℕ)) (program : List (List Slot)) (w : World) (event : Event) (s : Steps) → IsSound w → AreOrdered w.words s →
+    AreOrdered (after_event program w event).words (steps_after marks program w event s)
 unfolding steps_after
 ordered-after marks program w (Step h) s sound ordered =
     let words = (after_event program w (Step h)).words in
     ordered-all_kept words words (length s.harts) (with_step marks program w h s)
-    (ordered-noted words (passes_mark marks program w h) (stores_point program w (Step h) h) h (last_position (word_at words (point_word h))) s refl (ordered_later w.words words s (changed_by_step program w h sound) ordered))
+    (ordered-noted words (passes_mark marks program w h) (stores_point program w (Step h) h) h (last_position (word_at words (point_word h))) s refl
+    (ordered_later w.words words s (changed_by_step program w h sound) ordered))
 ordered-after marks program w (Evict line mask) s sound ordered =
     let words = (after_event program w (Evict line mask)).words in
     ordered-all_kept words words (length s.harts) s (ordered_later w.words words s (changed_by_eviction program w line mask) ordered)
-ordered-after marks program w Crash s sound ordered = ordered-none (after_event program w Crash).words (record s { pending = []; harts = replicate (length s.harts) no_steps }) (length s.harts) refl
+ordered-after marks program w Crash s sound ordered =
+    ordered-none (after_event program w Crash).words (record s { pending = []; harts = replicate (length s.harts) no_steps }) (length s.harts) refl
 
 -- ---- What was noted of an event is what the definition says
 
-pub step_is : (marks : List (List ℕ)) (program : List (List Slot)) (w : World) (h : ℕ) (s : Steps) (n : ℕ) (mark point : Bool) (position : ℕ)
-    → mark ≡ passes_mark marks program w h → point ≡ stores_point program w (Step h) h → position ≡ last_position (word_at (after_event program w (Step h)).words (point_word h)) → n ≡ length s.harts
-    → with_all_kept (after_event program w (Step h)).words n (noted mark point h position s) ≡ steps_after marks program w (Step h) s
-unfolding steps_after
-step_is marks program w h s n mark point position mark_is point_is position_is n_is =
-    let words = (after_event program w (Step h)).words in
-    ap (λ (k : ℕ). with_all_kept words k (noted mark point h position s)) n_is
-    ∙ ap (λ (m : Bool). with_all_kept words (length s.harts) (noted m point h position s)) mark_is
-    ∙ ap (λ (p : Bool). with_all_kept words (length s.harts) (noted (passes_mark marks program w h) p h position s)) point_is
-    ∙ ap (λ (p : ℕ). with_all_kept words (length s.harts) (noted (passes_mark marks program w h) (stores_point program w (Step h) h) h p s)) position_is
+pub noted_is : (marks : List (List ℕ)) (program : List (List Slot)) (w : World) (h : ℕ) (s : Steps) (mark point : Bool) (position : ℕ)
+    → mark ≡ passes_mark marks program w h → point ≡ stores_point program w (Step h) h →
+    position ≡ last_position (word_at (after_event program w (Step h)).words (point_word h))
+    → noted mark point h position s ≡ with_step marks program w h s
+noted_is marks program w h s mark point position mark_is point_is position_is =
+    ap (λ (m : Bool). noted m point h position s) mark_is
+    ∙ ap (λ (p : Bool). noted (passes_mark marks program w h) p h position s) point_is
+    ∙ ap (λ (p : ℕ). noted (passes_mark marks program w h) (stores_point program w (Step h) h) h p s) position_is
 
 pub eviction_is : (marks : List (List ℕ)) (program : List (List Slot)) (w : World) (line mask : ℕ) (s : Steps) (n : ℕ) → n ≡ length s.harts
     → with_all_kept (after_event program w (Evict line mask)).words n s ≡ steps_after marks program w (Evict line mask) s

@@ -37,13 +37,17 @@ module _ (machine : Machine) (account : Account) (h : ℕ) (has : HasSteps machi
   pub has_room : length account.kept.items + total (bound_at account h) ≤ vec_capacity account.kept
   has_room = let light = hart-light has.steps h in_steps in omega (arith, light, ap total same_bound, ap length has.stands.kept, has.room)
 
-  pub has_later : (after : Account) → AccountStands after (with_kept has.world.words h has.steps) → vec_capacity after.kept ≡ vec_capacity account.kept → HasSteps machine after
+  pub has_later : (after : Account) → AccountStands after (with_kept has.world.words h has.steps) → vec_capacity after.kept ≡ vec_capacity account.kept →
+      HasSteps machine after
   has_later after stands capacity = record {
     world = has.world;
     at = has.at;
     steps = with_kept has.world.words h has.steps;
     stands = stands;
-    ascending = each_hart (λ g x. IsAscending x.bound) has.steps h (record { free = (hart_steps has.steps h).free; bound = later durable (hart_steps has.steps h).bound }) (ascending_later durable (hart_steps has.steps h).bound (has.ascending h)) has.ascending;
+    ascending =
+        each_hart (λ g x. IsAscending x.bound) has.steps h
+        (record { free = (hart_steps has.steps h).free; bound = later durable (hart_steps has.steps h).bound })
+        (ascending_later durable (hart_steps has.steps h).bound (has.ascending h)) has.ascending;
     room = omega (arith, capacity, same, has.room);
     few = omega (arith, same, has.few);
   }

@@ -1,5 +1,6 @@
 -- A life stands behind an event.
-use Rattle.std.proofs.Common.{Vec, Global, ◌≡◌, ℕ, ◌+◌, ◌/◌, ◌<◌, ◌≤◌, List, [], ◌∷◌, ◌++◌, length, map, Bool, cond, ap, sym, subst, ◌∙◌, arith, length-append}
+use Rattle.std.proofs.Common.{Vec, Global, ◌≡◌, ℕ, ◌+◌, ◌/◌, ◌<◌, ◌≤◌, ◌^◌, List, [], ◌∷◌, ◌++◌, length}
+use Rattle.std.proofs.Common.{map, slice_index, Bool, cond, ap, sym, subst, ◌∙◌, arith, length-append}
 use Rattle.std.specs.Vec.{vec_capacity, vec_len}
 use Rattle.ido_base.specs.declared.event.Event.{Event}
 use Rattle.ido_base.specs.Cores.{point_stores, finished_fences}
@@ -11,11 +12,12 @@ use Rattle.rv64_isa.specs.Schedule.{Steps, steps_after, stores_point, finishes_f
 use Rattle.ido_machine.specs.declared.machine.Machine.{Machine}
 use Rattle.ido_machine.specs.Machines.{MachineStands, program_in, events_of}
 use Rattle.run_tracker.specs.declared.account.Account.{Account}
+use Rattle.run_tracker.specs.declared.counts.Counts.{Counts}
 use Rattle.run_tracker.specs.declared.life.Life.TheInside.{Inside}
 use Rattle.run_tracker.specs.links.Accounts.{AccountStands, AreOpen, AreOrdered, weight}
-use Rattle.run_tracker.specs.links.MarkTables.{AreTables}
+use Rattle.run_tracker.specs.links.SignTables.{AreTables}
 use Rattle.run_tracker.specs.Lives.{Course, world_of, steps_in, with_event, living, opening_of}
-use Rattle.run_tracker.specs.links.Parts.{AreCounted, IsReady, HasCounts}
+use Rattle.run_tracker.specs.links.Parts.{AreCounted, HaveCounted, IsReady, HasCounts}
 use Rattle.run_tracker.specs.links.Insides.{course_of, opening_by, AreCounts, LifeStands}
 use Rattle.run_tracker.proofs.Events.{after_more, along_more, points_more, fences_more, harts-after, weight-after, ordered-after}
 use Rattle.run_tracker.proofs.Counting.{passed-few}
@@ -45,31 +47,31 @@ module _ (life : Inside) (stands : LifeStands life) where
     };
   }
 
-  few_counts : (counts : List ℕ) (done : ℕ → ℕ) → AreCounts counts (length (program_in life.machine)) done → ((h : ℕ) → done h ≤ length life.journal.items) → HasCounts counts (length (program_in life.machine))
-  few_counts counts done are few = record {
-    size = are.0;
-    few = λ h below. omega (arith, are.1 h below, few h, stands.within, stands.few);
+  few_counts : (counts : List ℕ) (done : ℕ → ℕ) → AreCounts counts (length (program_in life.machine)) done → ((h : ℕ) → done h ≤ length life.journal.items) →
+      (h : ℕ) → h < length (program_in life.machine) → slice_index counts h < 2 ^ 63
+  few_counts counts done are few h below = omega (arith, are.1 h below, few h, stands.within, stands.few)
+
+  pub has_counts : HasCounts life.counts (length (program_in life.machine))
+  has_counts = record {
+    points = stands.points.0;
+    fences = stands.fences.0;
+    few_points = few_counts life.counts.points.items (point_stores living (opening_of (course_of life)) life.journal.items) stands.points
+        (λ h. passed-few living (λ m. living.stores_point m h) (opening_of (course_of life)) life.journal.items);
+    few_fences = few_counts life.counts.fences.items (finished_fences living (opening_of (course_of life)) life.journal.items) stands.fences
+        (λ h. passed-few living (λ m. living.finishes_fence m h) (opening_of (course_of life)) life.journal.items);
   }
 
-  pub has_points : HasCounts life.points.items (length (program_in life.machine))
-  has_points = few_counts life.points.items (point_stores living (opening_of (course_of life)) life.journal.items) stands.points
-      (λ h. passed-few living (λ m. living.stores_point m h) (opening_of (course_of life)) life.journal.items)
-
-  pub has_fences : HasCounts life.fences.items (length (program_in life.machine))
-  has_fences = few_counts life.fences.items (finished_fences living (opening_of (course_of life)) life.journal.items) stands.fences
-      (λ h. passed-few living (λ m. living.finishes_fence m h) (opening_of (course_of life)) life.journal.items)
-
-  module _ (event : Event) (machine : Machine) (account : Account) (journal : Vec Event Global) (points fences : Vec ℕ Global)
+  module _ (event : Event) (machine : Machine) (account : Account) (journal : Vec Event Global) (counts : Counts)
       (valid : IsValidEvent (length (program_in life.machine)) event) (room : length life.journal.items < life.cap)
       (same : program_in machine ≡ program_in life.machine) (events : events_of machine ≡ events_of life.machine + 1)
       (world : MachineStands machine (after_event (program_in life.machine) (world_of (course_of life)) event))
-      (steps : AccountStands account (steps_after (map (λ a. a.items) life.addresses.items) (program_in life.machine) (world_of (course_of life)) event (steps_in (course_of life))))
-      (points_are : AreCounted life.points.items points.items (λ h. stores_point (program_in life.machine) (world_of (course_of life)) event h))
-      (fences_are : AreCounted life.fences.items fences.items (λ h. finishes_fence (program_in life.machine) (world_of (course_of life)) event h))
+      (steps : AccountStands account
+      (steps_after (map (λ a. a.items) life.addresses.items) (program_in life.machine) (world_of (course_of life)) event (steps_in (course_of life))))
+      (counted : HaveCounted life.counts counts (program_in life.machine) (world_of (course_of life)) event)
       (journal_is : journal.items ≡ life.journal.items ++ event ∷ []) (journal_room : vec_capacity journal ≡ vec_capacity life.journal)
       (kept_room : vec_capacity account.kept ≡ vec_capacity life.account.kept) (stores_room : vec_capacity account.stores ≡ vec_capacity life.account.stores)
       (stores : vec_len account.stores ≤ vec_len life.account.stores + 1) where
-    pub course_is : course_of (record life { machine = machine; account = account; journal = journal; points = points; fences = fences }) ≡ with_event (course_of life) event
+    pub course_is : course_of (record life { machine = machine; account = account; journal = journal; counts = counts }) ≡ with_event (course_of life) event
     course_is =
         let at : List (List Slot) → List Event → Course = λ p j. record {
           program = p;
@@ -85,15 +87,19 @@ module _ (life : Inside) (stands : LifeStands life) where
     world_is : world_of (with_event (course_of life) event) ≡ after_event (program_in life.machine) (world_of (course_of life)) event
     world_is = after_more (program_in life.machine) (course_of life).opening life.journal.items event
 
-    steps_are : steps_in (with_event (course_of life) event) ≡ steps_after (map (λ a. a.items) life.addresses.items) (program_in life.machine) (world_of (course_of life)) event (steps_in (course_of life))
+    steps_are : steps_in (with_event (course_of life) event)
+        ≡ steps_after (map (λ a. a.items) life.addresses.items) (program_in life.machine) (world_of (course_of life)) event (steps_in (course_of life))
     steps_are = along_more (map (λ a. a.items) life.addresses.items) (program_in life.machine) (course_of life).opening life.journal.items event _
 
     -- what is so of the course with the event is so of the new one
-    moved : (P : Course → Type 0) → P (with_event (course_of life) event) → P (course_of (record life { machine = machine; account = account; journal = journal; points = points; fences = fences }))
+    moved : (P : Course → Type 0) → P (with_event (course_of life) event) →
+        P (course_of (record life { machine = machine; account = account; journal = journal; counts = counts }))
     moved P h = subst P (sym course_is) h
 
-    counts_are : (old new : List ℕ) (done now : ℕ → ℕ) (does : ℕ → Bool) → AreCounts old (length (program_in life.machine)) done → AreCounted old new does → ((h : ℕ) → now h ≡ done h + cond (does h) 1 0) → AreCounts new (length (program_in life.machine)) now
-    counts_are old new done now does are counted more = (counted.size ∙ are.0, λ h below. counted.each h (omega (arith, below, are.0)) ∙ ap (λ (n : ℕ). n + cond (does h) 1 0) (are.1 h below) ∙ sym (more h))
+    counts_are : (old new : List ℕ) (done now : ℕ → ℕ) (does : ℕ → Bool) → AreCounts old (length (program_in life.machine)) done → AreCounted old new does →
+        ((h : ℕ) → now h ≡ done h + cond (does h) 1 0) → AreCounts new (length (program_in life.machine)) now
+    counts_are old new done now does are grown more =
+        (grown.size ∙ are.0, λ h below. grown.each h (omega (arith, below, are.0)) ∙ ap (λ (n : ℕ). n + cond (does h) 1 0) (are.1 h below) ∙ sym (more h))
 
     longer : length journal.items ≡ length life.journal.items + 1
     longer = ap length journal_is ∙ length-append life.journal.items (event ∷ [])
@@ -101,30 +107,45 @@ module _ (life : Inside) (stands : LifeStands life) where
     valid_steps : IsValidEvent (length (steps_in (course_of life)).harts) event
     valid_steps = subst (λ (n : ℕ). IsValidEvent n event) (sym steps_count) valid
 
-    pub lasts : LifeStands (record life { machine = machine; account = account; journal = journal; points = points; fences = fences })
+    pub lasts : LifeStands (record life { machine = machine; account = account; journal = journal; counts = counts })
     lasts = record {
       machine = moved (λ (x : Course). MachineStands machine (world_of x)) (subst (MachineStands machine) (sym world_is) world);
-      sound = moved (λ (x : Course). IsSound (world_of x)) (subst IsSound (sym world_is) (queues_stand (program_in life.machine) (world_of (course_of life)) event (sym hart_count) stands.sound).0);
+      sound =
+          moved (λ (x : Course). IsSound (world_of x))
+          (subst IsSound (sym world_is) (queues_stand (program_in life.machine) (world_of (course_of life)) event (sym hart_count) stands.sound).0);
       events = omega (arith, events, stands.events, longer);
       tables = subst (λ (p : List (List Slot)). AreTables life.tables.items p (map (λ a. a.items) life.addresses.items)) (sym same) stands.tables;
       account = moved (λ (x : Course). AccountStands account (steps_in x)) (subst (AccountStands account) (sym steps_are) steps);
-      harts = sym steps.count ∙ harts-after (map (λ a. a.items) life.addresses.items) (program_in life.machine) (world_of (course_of life)) event (steps_in (course_of life)) ∙ steps_count ∙ ap length (sym same);
+      harts =
+          sym steps.count ∙ harts-after (map (λ a. a.items) life.addresses.items) (program_in life.machine) (world_of (course_of life)) event
+          (steps_in (course_of life)) ∙ steps_count ∙ ap length (sym same);
       ordered = moved (λ (x : Course). AreOrdered (world_of x).words (steps_in x))
           (subst (λ (w : World). AreOrdered w.words (steps_in (with_event (course_of life) event))) (sym world_is)
-          (subst (AreOrdered (after_event (program_in life.machine) (world_of (course_of life)) event).words) (sym steps_are) (ordered-after (map (λ a. a.items) life.addresses.items) (program_in life.machine) (world_of (course_of life)) event (steps_in (course_of life)) stands.sound stands.ordered)));
+          (subst (AreOrdered (after_event (program_in life.machine) (world_of (course_of life)) event).words) (sym steps_are)
+          (ordered-after (map (λ a. a.items) life.addresses.items) (program_in life.machine) (world_of (course_of life)) event (steps_in (course_of life))
+          stands.sound stands.ordered)));
       are_open = moved (λ (x : Course). AreOpen (world_of x).words (steps_in x))
           (subst (λ (w : World). AreOpen w.words (steps_in (with_event (course_of life) event))) (sym world_is)
-          (subst (AreOpen (after_event (program_in life.machine) (world_of (course_of life)) event).words) (sym steps_are) (open-after (map (λ a. a.items) life.addresses.items) (program_in life.machine) (world_of (course_of life)) event (steps_in (course_of life)))));
+          (subst (AreOpen (after_event (program_in life.machine) (world_of (course_of life)) event).words) (sym steps_are)
+          (open-after (map (λ a. a.items) life.addresses.items) (program_in life.machine) (world_of (course_of life)) event (steps_in (course_of life)))));
       light = moved (λ (x : Course). weight (steps_in x) ≤ length life.before.items + length journal.items)
           (subst (λ (s : Steps). weight s ≤ length life.before.items + length journal.items) (sym steps_are)
-          (omega (arith, weight-after (map (λ a. a.items) life.addresses.items) (program_in life.machine) (world_of (course_of life)) event (steps_in (course_of life)) valid_steps, stands.light, longer)));
-      points = moved (λ (x : Course). AreCounts points.items (length x.program) (point_stores living (opening_of x) x.journal))
-          (counts_are life.points.items points.items (point_stores living (opening_of (course_of life)) life.journal.items) (point_stores living (opening_of (course_of life)) (life.journal.items ++ event ∷ []))
-          (λ h. stores_point (program_in life.machine) (world_of (course_of life)) event h) stands.points points_are
+          (omega (
+            arith,
+            weight-after (map (λ a. a.items) life.addresses.items) (program_in life.machine) (world_of (course_of life)) event
+                (steps_in (course_of life)) valid_steps,
+            stands.light,
+            longer,
+          )));
+      points = moved (λ (x : Course). AreCounts counts.points.items (length x.program) (point_stores living (opening_of x) x.journal))
+          (counts_are life.counts.points.items counts.points.items (point_stores living (opening_of (course_of life)) life.journal.items)
+          (point_stores living (opening_of (course_of life)) (life.journal.items ++ event ∷ []))
+          (λ h. stores_point (program_in life.machine) (world_of (course_of life)) event h) stands.points counted.points
           (λ h. points_more (opening_of (course_of life)) life.journal.items event h));
-      fences = moved (λ (x : Course). AreCounts fences.items (length x.program) (finished_fences living (opening_of x) x.journal))
-          (counts_are life.fences.items fences.items (finished_fences living (opening_of (course_of life)) life.journal.items) (finished_fences living (opening_of (course_of life)) (life.journal.items ++ event ∷ []))
-          (λ h. finishes_fence (program_in life.machine) (world_of (course_of life)) event h) stands.fences fences_are
+      fences = moved (λ (x : Course). AreCounts counts.fences.items (length x.program) (finished_fences living (opening_of x) x.journal))
+          (counts_are life.counts.fences.items counts.fences.items (finished_fences living (opening_of (course_of life)) life.journal.items)
+          (finished_fences living (opening_of (course_of life)) (life.journal.items ++ event ∷ []))
+          (λ h. finishes_fence (program_in life.machine) (world_of (course_of life)) event h) stands.fences counted.fences
           (λ h. fences_more (opening_of (course_of life)) life.journal.items event h));
       within = omega (arith, room, longer);
       few = stands.few;

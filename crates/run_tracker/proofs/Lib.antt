@@ -1,8 +1,10 @@
+pub mod Behind
 pub mod Bounds
 pub mod Counting
 pub mod Drains
 pub mod Durables
 pub mod Events
+pub mod Growing
 pub mod Keeping
 pub mod Lasting
 pub mod Openings

@@ -14,7 +14,8 @@ use Rattle.ido_machine.specs.Machines.{MachineStands, program_in}
 use Rattle.run_tracker.specs.links.Insides.{opening_by}
 
 -- where a machine stands after a crash, there are as many words as its logs ask for
-crash_sound : (machine : Machine) (program : List (List Slot)) (locks : ℕ) (words : List ℕ) → program_in machine ≡ program → MachineStands machine (after_crash_of program locks words) → IsSound (after_crash_of program locks words)
+crash_sound : (machine : Machine) (program : List (List Slot)) (locks : ℕ) (words : List ℕ) → program_in machine ≡ program →
+    MachineStands machine (after_crash_of program locks words) → IsSound (after_crash_of program locks words)
 unfolding after_crash_of
 crash_sound machine program locks words same stands =
     (crashes_stand program locks words (sym (length-map words word_of) ∙ stands.words.size ∙ ap word_count (machine.logged ∙ ap length same))).0
@@ -29,4 +30,5 @@ module _ (machine : Machine) (object : Object) (words : List ℕ) (left : Vec �
   left_stands = subst (MachineStands machine) (sym opening_is) stands
 
   pub left_sound : IsSound (opening_by (program_of object) object.mutexes object.initial.items (Some left))
-  left_sound = subst IsSound (sym opening_is) (crash_sound machine (program_of object) object.mutexes (spread_words (length object.initial.items / 8) words) same stands)
+  left_sound =
+      subst IsSound (sym opening_is) (crash_sound machine (program_of object) object.mutexes (spread_words (length object.initial.items / 8) words) same stands)

@@ -1,5 +1,6 @@
 -- Bound steps stay in order.
-use Rattle.std.proofs.Common.{◌≡◌, ◌⊎◌, ℕ, zero, suc, ◌+◌, ◌<◌, ◌≤◌, List, [], ◌∷◌, ◌++◌, length, slice_set, get_or, replicate, refl, ap, sym, subst, ◌∙◌, arith, inl, inr, length-append, get_or-set_same, get_or-set_other}
+use Rattle.std.proofs.Common.{◌≡◌, ◌⊎◌, ℕ, zero, suc, ◌+◌, ◌<◌, ◌≤◌, List, [], ◌∷◌, ◌++◌, length, slice_set, get_or, replicate}
+use Rattle.std.proofs.Common.{refl, ap, sym, subst, ◌∙◌, arith, inl, inr, length-append, get_or-set_same, get_or-set_other}
 use Rattle.std.proofs.lemmas.Bool.{cases_eq, cases_lt}
 use Rattle.std.proofs.lemmas.List.{set_past}
 use Rattle.ido_base.specs.Words.{Word, word_at, last_position}
@@ -9,7 +10,8 @@ use Rattle.run_tracker.specs.links.Accounts.{AllUpTo, IsAscending, AreOrdered, p
 use Rattle.run_tracker.proofs.Bounds.{later, up_to_more, up_to_push, ascending_push, up_to_later, ascending_later}
 
 -- what holds of the hart's new steps and of all others' old ones holds of all
-pub each_hart : (P : ℕ → HartSteps → Type 0) (s : Steps) (h : ℕ) (x : HartSteps) → P h x → ((g : ℕ) → P g (hart_steps s g)) → (g : ℕ) → P g (get_or (slice_set s.harts h x) g no_steps)
+pub each_hart : (P : ℕ → HartSteps → Type 0) (s : Steps) (h : ℕ) (x : HartSteps) → P h x → ((g : ℕ) → P g (hart_steps s g)) → (g : ℕ) →
+    P g (get_or (slice_set s.harts h x) g no_steps)
 each_hart P s h x here all g = by_place (cases_eq g h) (cases_lt h (length s.harts))
   where
     by_place : (g ≡ h) ⊎ (g ≡ h → ⊥) → (h < length s.harts) ⊎ (length s.harts ≤ h) → P g (get_or (slice_set s.harts h x) g no_steps)
@@ -29,23 +31,30 @@ last_grows old new (inr pushed) =
 pub ordered_later : (old new : List Word) (s : Steps) → AreChanged old new → AreOrdered old s → AreOrdered new s
 ordered_later old new s changed ordered = record {
   ascending = ordered.ascending;
-  up_to = λ h. up_to_more (last_position (word_at old (point_word h))) (last_position (word_at new (point_word h))) (hart_steps s h).bound (last_grows _ _ (changed.each (point_word h))) (ordered.up_to h);
+  up_to =
+      λ h. up_to_more (last_position (word_at old (point_word h))) (last_position (word_at new (point_word h))) (hart_steps s h).bound
+      (last_grows _ _ (changed.each (point_word h))) (ordered.up_to h);
 }
 
 pub ordered-begun : (words : List Word) (h : ℕ) (s : Steps) → AreOrdered words s → AreOrdered words (with_begun h s)
 ordered-begun words h s ordered = record {
   ascending = each_hart (λ g x. IsAscending x.bound) s h (record (hart_steps s h) { free = (hart_steps s h).free + 1 }) (ordered.ascending h) ordered.ascending;
-  up_to = each_hart (λ g x. AllUpTo (last_position (word_at words (point_word g))) x.bound) s h (record (hart_steps s h) { free = (hart_steps s h).free + 1 }) (ordered.up_to h) ordered.up_to;
+  up_to =
+      each_hart (λ g x. AllUpTo (last_position (word_at words (point_word g))) x.bound) s h (record (hart_steps s h) { free = (hart_steps s h).free + 1 })
+      (ordered.up_to h) ordered.up_to;
 }
 
-pub ordered-bound : (words : List Word) (h position : ℕ) (s : Steps) → position ≡ last_position (word_at words (point_word h)) → AreOrdered words s → AreOrdered words (with_bound h position s)
+pub ordered-bound : (words : List Word) (h position : ℕ) (s : Steps) → position ≡ last_position (word_at words (point_word h)) → AreOrdered words s →
+    AreOrdered words (with_bound h position s)
 ordered-bound words h position s e ordered =
     let b : Bound = record { position = position; steps = (hart_steps s h).free } in
     let all : AllUpTo position (hart_steps s h).bound = subst (λ (p : ℕ). AllUpTo p (hart_steps s h).bound) (sym e) (ordered.up_to h) in
     let x : HartSteps = record { free = 0; bound = (hart_steps s h).bound ++ b ∷ [] } in
     record {
       ascending = each_hart (λ g x. IsAscending x.bound) s h x (ascending_push (hart_steps s h).bound b (ordered.ascending h) all) ordered.ascending;
-      up_to = each_hart (λ g x. AllUpTo (last_position (word_at words (point_word g))) x.bound) s h x (up_to_push (last_position (word_at words (point_word h))) (hart_steps s h).bound b (ordered.up_to h) (omega (arith, e))) ordered.up_to;
+      up_to =
+          each_hart (λ g x. AllUpTo (last_position (word_at words (point_word g))) x.bound) s h x
+          (up_to_push (last_position (word_at words (point_word h))) (hart_steps s h).bound b (ordered.up_to h) (omega (arith, e))) ordered.up_to;
     }
 
 pub ordered-kept : (words now : List Word) (h : ℕ) (s : Steps) → AreOrdered words s → AreOrdered words (with_kept now h s)
@@ -54,7 +63,9 @@ ordered-kept words now h s ordered =
     let x : HartSteps = record { free = (hart_steps s h).free; bound = later durable (hart_steps s h).bound } in
     record {
       ascending = each_hart (λ g x. IsAscending x.bound) s h x (ascending_later durable (hart_steps s h).bound (ordered.ascending h)) ordered.ascending;
-      up_to = each_hart (λ g x. AllUpTo (last_position (word_at words (point_word g))) x.bound) s h x (up_to_later (last_position (word_at words (point_word h))) durable (hart_steps s h).bound (ordered.up_to h)) ordered.up_to;
+      up_to =
+          each_hart (λ g x. AllUpTo (last_position (word_at words (point_word g))) x.bound) s h x
+          (up_to_later (last_position (word_at words (point_word h))) durable (hart_steps s h).bound (ordered.up_to h)) ordered.up_to;
     }
 
 pub ordered-all_kept : (words now : List Word) (n : ℕ) (s : Steps) → AreOrdered words s → AreOrdered words (with_all_kept now n s)

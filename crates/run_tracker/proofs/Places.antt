@@ -8,7 +8,8 @@ use Rattle.run_tracker.specs.links.Accounts.{point_word}
 pub point_place : (h : ℕ) → point_word h ≡ 8 * (1024 + 16 * h) + 0
 point_place h = by_test (nat_lt (point_at h) logs_base) refl
   where
-    number_is : (b : Bool) → nat_lt (point_at h) logs_base ≡ b → byte_number (point_at h) ≡ (if b then point_at h - variables_base else 64 * 1024 + (point_at h - logs_base))
+    number_is : (b : Bool) → nat_lt (point_at h) logs_base ≡ b →
+        byte_number (point_at h) ≡ (if b then point_at h - variables_base else 64 * 1024 + (point_at h - logs_base))
     number_is b e = ap (λ (c : Bool). if c then point_at h - variables_base else 64 * 1024 + (point_at h - logs_base)) e
 
     by_test : (b : Bool) → nat_lt (point_at h) logs_base ≡ b → point_word h ≡ 8 * (1024 + 16 * h) + 0

@@ -24,16 +24,19 @@ module _ (stores : List PointStore) (h d at : ℕ) (within : at < length stores)
       ap (durable_steps d) here ∙ durable_no d (bound_of (get_or stores at no_store)) (bound_in (drop (at + 1) stores) h) above
       ∙ none_durable d (get_or stores at no_store).position (bound_in (drop (at + 1) stores) h) above parts.0
 
-  pub stops_later : IsAscending (bound_in (drop at stores) h) → d < (get_or stores at no_store).position → later d (bound_in (drop at stores) h) ≡ bound_in (drop at stores) h
+  pub stops_later : IsAscending (bound_in (drop at stores) h) → d < (get_or stores at no_store).position →
+      later d (bound_in (drop at stores) h) ≡ bound_in (drop at stores) h
   stops_later ascending above =
       let parts : IsAscending (bound_of (get_or stores at no_store) ∷ bound_in (drop (at + 1) stores) h) = subst IsAscending here ascending in
       ap (later d) here ∙ later_yes d (bound_of (get_or stores at no_store)) (bound_in (drop (at + 1) stores) h) above
-      ∙ ap (λ (bs : List Bound). bound_of (get_or stores at no_store) ∷ bs) (all_later d (get_or stores at no_store).position (bound_in (drop (at + 1) stores) h) above parts.0)
+      ∙ ap (λ (bs : List Bound). bound_of (get_or stores at no_store) ∷ bs)
+      (all_later d (get_or stores at no_store).position (bound_in (drop (at + 1) stores) h) above parts.0)
       ∙ sym here
 
   -- the steps of a durable one are among those that are durable
   pub counts : (get_or stores at no_store).position ≤ d → (get_or stores at no_store).steps ≤ durable_steps d (bound_in (drop at stores) h)
-  counts below = let e = ap (durable_steps d) here ∙ durable_yes d (bound_of (get_or stores at no_store)) (bound_in (drop (at + 1) stores) h) below in omega (arith, e)
+  counts below = let e = ap (durable_steps d) here ∙ durable_yes d (bound_of (get_or stores at no_store)) (bound_in (drop (at + 1) stores) h) below in
+      omega (arith, e)
 
 pub durable_few : (d : ℕ) (bs : List Bound) → durable_steps d bs ≤ total bs
 durable_few d bs = omega (arith, total_split d bs)

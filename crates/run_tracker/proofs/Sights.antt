@@ -1,17 +1,24 @@
--- What is seen of a hart before its step tells whether the step passes a mark.
-use Rattle.std.proofs.Common.{◌≡◌, ◌⊎◌, ℕ, zero, suc, ◌-◌, ◌/◌, ◌%◌, ◌<◌, ◌≤◌, List, [], ◌∷◌, length, slice_get, slice_index_or, Option, Some, None, Bool, true, false, nat_le, ◌==◌, ◌&&◌, if◌then◌else◌, refl, ap, sym, subst, ◌∙◌, arith, inl, inr}
+-- What the sign of a code word tells of a hart that executes it.
+use Rattle.std.proofs.Common.{◌≡◌, ◌⊎◌, ℕ, zero, suc, ◌-◌, ◌/◌, ◌%◌, ◌<◌, ◌≤◌, List, [], ◌∷◌, length, slice_get, Option, Some, None}
+use Rattle.std.proofs.Common.{Bool, true, false, nat_le, ◌==◌, ◌&&◌, if◌then◌else◌, refl, ap, sym, subst, ◌∙◌, arith, inl, inr}
 use Rattle.std.specs.List.{list_any}
 use Rattle.std.proofs.lemmas.Bool.{cases_eq, eq-eqb, eqb-true, le-leb, leb-true, and_parts}
 use Rattle.ido_base.specs.declared.event.Event.TheVariants.{Step}
 use Rattle.ido_base.specs.declared.event.Reply.{Reply}
+use Rattle.rv64_isa.specs.declared.instr.Instr.{Instr}
+use Rattle.rv64_isa.specs.declared.instr.Instr.TheVariants.{Lui, Auipc, Jal, Jalr, Branch, Load, Store, OpImmediate}
+use Rattle.rv64_isa.specs.declared.instr.Instr.TheVariants.{ShiftImmediate, ShiftImmediateWord, Op, CboClean, Fence, Ecall}
 use Rattle.rv64_isa.specs.declared.object.Slot.{Slot}
+use Rattle.rv64_isa.specs.declared.object.Slot.TheVariants.{Row, NoRow}
 use Rattle.rv64_isa.specs.declared.phase.Phase.{Phase}
 use Rattle.rv64_isa.specs.declared.phase.Phase.TheVariants.{Take, Wait, Resume, Run, Done, Ended}
+use Rattle.rv64_isa.specs.Rows.{Effect, row}
 use Rattle.rv64_isa.specs.Programs.{fetched, code_of, code_start}
 use Rattle.rv64_isa.specs.Machine.{Hart, World, reply_to, happens, stepped, phase_step, executed}
-use Rattle.rv64_isa.specs.Schedule.{completing, has_moved, is_running, passes_mark, is_mark}
-use Rattle.run_tracker.specs.declared.marks.MarkTable.{MarkTable}
-use Rattle.run_tracker.specs.links.MarkTables.{is_word_at, marked_at, IsTableOf}
+use Rattle.rv64_isa.specs.Schedule.{completes, completing, effect_at, has_moved, is_fence, is_running, passes_mark, is_mark}
+use Rattle.run_tracker.specs.declared.signs.Sign.{Sign}
+use Rattle.run_tracker.specs.declared.signs.SignTable.{SignTable}
+use Rattle.run_tracker.specs.links.SignTables.{is_fence_slot, is_word_at, sign_at, sign_in, IsTableOf}
 
 -- ---- Tables
 
@@ -51,26 +58,42 @@ in_length [] k x e = cc
 in_length (y ∷ ys) zero x e = omega arith
 in_length (y ∷ ys) (suc k) x e = let rest = in_length ys k x e in omega arith
 
-pub table_tells : (table : MarkTable) (program : List (List Slot)) (h pc : ℕ) (addresses : List ℕ) (slot : Slot) → IsTableOf table (code_start program h) (length (code_of program h)) addresses
-    → fetched program h pc ≡ Some slot → marked_at table pc ≡ list_any (λ m. m == pc) addresses
-table_tells table program h pc addresses slot is there = by_test (nat_le start pc && (pc % 4 == 0)) refl
-  where
-    start : ℕ
-    start = code_start program h
+-- where a word of the code stands
+module _ (program : List (List Slot)) (h pc : ℕ) (slot : Slot) (there : fetched program h pc ≡ Some slot) where
+  pub fetched_place : (code_start program h ≤ pc) × (pc % 4 ≡ 0) × (slice_get (code_of program h) ((pc - code_start program h) / 4) ≡ Some slot)
+  fetched_place = by_test (nat_le (code_start program h) pc && (pc % 4 == 0)) refl
+    where
+      fetched_if : (t : Bool) → (nat_le (code_start program h) pc && (pc % 4 == 0)) ≡ t →
+          fetched program h pc ≡ (if t then slice_get (code_of program h) ((pc - code_start program h) / 4) else None)
+      fetched_if t e = ap (λ (b : Bool). if b then slice_get (code_of program h) ((pc - code_start program h) / 4) else None) e
 
-    by_test : (t : Bool) → (nat_le (code_start program h) pc && (pc % 4 == 0)) ≡ t → marked_at table pc ≡ list_any (λ m. m == pc) addresses
-    by_test false e =
-        let none : fetched program h pc ≡ None = ap (λ (t : Bool). if t then slice_get (code_of program h) ((pc - code_start program h) / 4) else None) e in
-        cc
-    by_test true e =
-        let parts = and_parts (nat_le (code_start program h) pc) (pc % 4 == 0) e in
-        let k : ℕ = (pc - code_start program h) / 4 in
-        let found : slice_get (code_of program h) k ≡ Some slot = sym (ap (λ (t : Bool). if t then slice_get (code_of program h) ((pc - code_start program h) / 4) else None) e) ∙ there in
-        let looked : marked_at table pc ≡ slice_index_or table.marked.items k false =
-        ap (λ (s : ℕ). if nat_le s pc && (pc % 4 == 0) then slice_index_or table.marked.items ((pc - s) / 4) false else false) is.starts
-        ∙ ap (λ (t : Bool). if t then slice_index_or table.marked.items k false else false) e in
-        looked ∙ is.each k (in_length (code_of program h) k slot found)
-        ∙ any_same (is_word_at (code_start program h) k) (λ m. m == pc) addresses (λ m. same_word (code_start program h) pc m (leb-true (code_start program h) pc parts.0) (eqb-true (pc % 4) 0 parts.1))
+      by_test : (t : Bool) → (nat_le (code_start program h) pc && (pc % 4 == 0)) ≡ t →
+          (code_start program h ≤ pc) × (pc % 4 ≡ 0) × (slice_get (code_of program h) ((pc - code_start program h) / 4) ≡ Some slot)
+      by_test false e =
+          let none : fetched program h pc ≡ None = fetched_if false e in
+          cc
+      by_test true e =
+          let parts = and_parts (nat_le (code_start program h) pc) (pc % 4 == 0) e in
+          (leb-true (code_start program h) pc parts.0, eqb-true (pc % 4) 0 parts.1, sym (fetched_if true e) ∙ there)
+
+  module _ (table : SignTable) (addresses : List ℕ) (is : IsTableOf table (code_start program h) (code_of program h) addresses) where
+    -- the word has a sign
+    pub has_sign : (table.start ≤ pc) × ((pc - table.start) / 4 < length table.signs.items)
+    has_sign =
+        let within = in_length (code_of program h) ((pc - code_start program h) / 4) slot fetched_place.2 in
+        (rw is.starts fetched_place.0, rw (is.starts, is.size) within)
+
+    sign_is : sign_at table pc ≡ sign_in table.signs.items ((pc - code_start program h) / 4)
+    sign_is = ap (λ (start : ℕ). sign_in table.signs.items ((pc - start) / 4)) is.starts
+
+    pub mark_tells : (sign_at table pc).mark ≡ list_any (λ m. m == pc) addresses
+    mark_tells =
+        ap (λ (x : Sign). x.mark) sign_is ∙ is.marks _ (in_length (code_of program h) _ slot fetched_place.2)
+        ∙ any_same (is_word_at (code_start program h) ((pc - code_start program h) / 4)) (λ m. m == pc) addresses
+        (λ m. same_word (code_start program h) pc m fetched_place.0 fetched_place.1)
+
+    pub fence_tells : (sign_at table pc).fence ≡ is_fence_slot slot
+    fence_tells = ap (λ (x : Sign). x.fence) sign_is ∙ is.fences _ slot fetched_place.2
 
 -- ---- A hart that goes on has an instruction
 
@@ -78,13 +101,15 @@ moved_executed : (w : World) (h : ℕ) (hart : Hart) (found : Option Slot) → h
 moved_executed w h hart None e = cc
 moved_executed w h hart (Some slot) e = (slot, refl)
 
-pub moved_fetched : (program : List (List Slot)) (w : World) (h : ℕ) (hart : Hart) → slice_get w.harts h ≡ Some hart → is_running hart.phase ≡ true → has_moved (reply_to program w (Step h)) ≡ true → (slot : Slot) × (fetched program h hart.pc ≡ Some slot)
+pub moved_fetched : (program : List (List Slot)) (w : World) (h : ℕ) (hart : Hart) → slice_get w.harts h ≡ Some hart → is_running hart.phase ≡ true →
+    has_moved (reply_to program w (Step h)) ≡ true → (slot : Slot) × (fetched program h hart.pc ≡ Some slot)
 unfolding happens
 moved_fetched program w h hart there running moves = by_phase hart.phase refl running
   where
     by_phase : (p : Phase) → hart.phase ≡ p → is_running p ≡ true → (slot : Slot) × (fetched program h hart.pc ≡ Some slot)
     by_phase Run e r =
-        let is : stepped program w h (slice_get w.harts h) ≡ phase_step program w h hart Run = ap (stepped program w h) there ∙ ap (phase_step program w h hart) e in
+        let is : stepped program w h (slice_get w.harts h) ≡ phase_step program w h hart Run =
+        ap (stepped program w h) there ∙ ap (phase_step program w h hart) e in
         moved_executed w h hart (fetched program h hart.pc) (sym (ap (λ (o : World × Reply). has_moved o.1) is) ∙ moves)
     by_phase Take e r = cc
     by_phase Wait e r = cc
@@ -92,36 +117,67 @@ moved_fetched program w h hart there running moves = by_phase hart.phase refl ru
     by_phase Done e r = cc
     by_phase Ended e r = cc
 
--- ---- Marks
+-- ---- What a step completes
 
-pub passes_is : (marks : List (List ℕ)) (program : List (List Slot)) (w : World) (h : ℕ) (hart : Hart) → slice_get w.harts h ≡ Some hart
-    → passes_mark marks program w h ≡ ((is_running hart.phase && has_moved (reply_to program w (Step h))) && is_mark marks h hart.pc)
-passes_is marks program w h hart there = by_test (is_running hart.phase && has_moved (reply_to program w (Step h))) refl
-  where
-    completing_is : (b : Bool) → (is_running hart.phase && has_moved (reply_to program w (Step h))) ≡ b → completing program w h ≡ (if b then Some hart else None)
-    completing_is b e = rw (completing, there) (ap (λ (c : Bool). if c then Some hart else None) e)
+module _ (program : List (List Slot)) (w : World) (h : ℕ) (hart : Hart) (there : slice_get w.harts h ≡ Some hart) where
+  completing_is : (b : Bool) → (is_running hart.phase && has_moved (reply_to program w (Step h))) ≡ b → completing program w h ≡ (if b then Some hart else None)
+  completing_is b e = rw (completing, there) (ap (λ (c : Bool). if c then Some hart else None) e)
 
-    by_test : (b : Bool) → (is_running hart.phase && has_moved (reply_to program w (Step h))) ≡ b → passes_mark marks program w h ≡ (b && is_mark marks h hart.pc)
-    by_test true e = rw (passes_mark, completing_is true e) refl
-    by_test false e = rw (passes_mark, completing_is false e) refl
+  -- no instruction, where the hart executes none or doesn't go on
+  pub none_running : is_running hart.phase ≡ false → completing program w h ≡ None
+  none_running idle = completing_is false (ap (λ (r : Bool). r && has_moved (reply_to program w (Step h))) idle)
 
-pub sight_is : (marks : List (List ℕ)) (program : List (List Slot)) (w : World) (h : ℕ) (hart : Hart) (table : MarkTable) → slice_get w.harts h ≡ Some hart
-    → IsTableOf table (code_start program h) (length (code_of program h)) (slice_index_or marks h [])
-    → ((is_running hart.phase && marked_at table hart.pc) && has_moved (reply_to program w (Step h))) ≡ passes_mark marks program w h
-sight_is marks program w h hart table there is = by_tests (is_running hart.phase) (has_moved (reply_to program w (Step h))) refl refl ∙ sym (passes_is marks program w h hart there)
-  where
-    by_tests : (r m : Bool) → is_running hart.phase ≡ r → has_moved (reply_to program w (Step h)) ≡ m → ((r && marked_at table hart.pc) && m) ≡ ((r && m) && is_mark marks h hart.pc)
-    by_tests false m er em = refl
-    by_tests true false er em = not_and (marked_at table hart.pc)
-      where
-        not_and : (b : Bool) → (b && false) ≡ false
-        not_and true = refl
-        not_and false = refl
-    by_tests true true er em =
-        let some = moved_fetched program w h hart there er em in
-        let tells : marked_at table hart.pc ≡ is_mark marks h hart.pc = table_tells table program h hart.pc (slice_index_or marks h []) some.0 is some.1 in
-        and_true (marked_at table hart.pc) ∙ tells
-      where
-        and_true : (b : Bool) → (b && true) ≡ b
-        and_true true = refl
-        and_true false = refl
+  pub none_moved : has_moved (reply_to program w (Step h)) ≡ false → completing program w h ≡ None
+  none_moved held = completing_is false (ap (λ (m : Bool). is_running hart.phase && m) held ∙ and_false (is_running hart.phase))
+    where
+      and_false : (b : Bool) → (b && false) ≡ false
+      and_false true = refl
+      and_false false = refl
+
+  pub one_moved : is_running hart.phase ≡ true → has_moved (reply_to program w (Step h)) ≡ true → completing program w h ≡ Some hart
+  one_moved running moves = completing_is true (ap (λ (r : Bool). r && has_moved (reply_to program w (Step h))) running ∙ moves)
+
+-- what the instruction tells, where there is one
+abbrev pub slot_tells : (test : Effect → Bool) → Hart → Option Slot → Bool
+slot_tells test hart None = false
+slot_tells test hart (Some (NoRow word)) = false
+slot_tells test hart (Some (Row instr)) = test (row instr hart.registers hart.pc)
+
+module _ (program : List (List Slot)) (w : World) (h : ℕ) where
+  pub passes_none : (marks : List (List ℕ)) → completing program w h ≡ None → passes_mark marks program w h ≡ false
+  passes_none marks none = rw (passes_mark, none) refl
+
+  pub completes_none : (test : Effect → Bool) → completing program w h ≡ None → completes test program w (Step h) h ≡ false
+  completes_none test none = rw (completes, none, eq-eqb h h refl) refl
+
+  pub passes_one : (marks : List (List ℕ)) (hart : Hart) → completing program w h ≡ Some hart → passes_mark marks program w h ≡ is_mark marks h hart.pc
+  passes_one marks hart one = rw (passes_mark, one) refl
+
+  pub completes_one : (test : Effect → Bool) (hart : Hart) (found : Option Slot) → completing program w h ≡ Some hart → fetched program h hart.pc ≡ found →
+      completes test program w (Step h) h ≡ slot_tells test hart found
+  completes_one test hart None one there = rw (completes, one, eq-eqb h h refl, effect_at, there) refl
+  completes_one test hart (Some (NoRow word)) one there = rw (completes, one, eq-eqb h h refl, effect_at, there) refl
+  completes_one test hart (Some (Row instr)) one there = rw (completes, one, eq-eqb h h refl, effect_at, there) refl
+
+-- ---- Fences
+
+instr_tells : (instr : Instr) (registers : List ℕ) (pc : ℕ) → is_fence (row instr registers pc) ≡ is_fence_slot (Row instr)
+unfolding row
+instr_tells (Lui rd immediate) registers pc = refl
+instr_tells (Auipc rd immediate) registers pc = refl
+instr_tells (Jal rd offset) registers pc = refl
+instr_tells (Jalr rd rs1 offset) registers pc = refl
+instr_tells (Branch condition rs1 rs2 offset) registers pc = refl
+instr_tells (Load kind rd rs1 offset) registers pc = refl
+instr_tells (Store kind rs2 rs1 offset) registers pc = refl
+instr_tells (OpImmediate operation rd rs1 immediate) registers pc = refl
+instr_tells (ShiftImmediate operation rd rs1 count) registers pc = refl
+instr_tells (ShiftImmediateWord operation rd rs1 count) registers pc = refl
+instr_tells (Op operation rd rs1 rs2) registers pc = refl
+instr_tells (CboClean rs1) registers pc = refl
+instr_tells Fence registers pc = refl
+instr_tells Ecall registers pc = refl
+
+pub fence_is : (hart : Hart) (slot : Slot) → slot_tells is_fence hart (Some slot) ≡ is_fence_slot slot
+fence_is hart (Row instr) = instr_tells instr hart.registers hart.pc
+fence_is hart (NoRow word) = refl

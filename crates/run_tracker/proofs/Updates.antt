@@ -1,5 +1,7 @@
 -- The account where one hart's steps change.
-use Rattle.std.proofs.Common.{◌≡◌, ◌≢◌, ◌⊎◌, ℕ, zero, suc, ◌<◌, ◌≤◌, List, [], ◌∷◌, ◌++◌, length, drop, slice_index_or, slice_set, get_or, replicate, Bool, true, false, ◌==◌, if◌then◌else◌, refl, ap, sym, subst, ◌∙◌, arith, inl, inr, length-set, length-append, get_or-set_same, get_or-set_other, append-nil}
+use Rattle.std.proofs.Common.{◌≡◌, ◌≢◌, ◌⊎◌, ℕ, zero, suc, ◌<◌, ◌≤◌, List, [], ◌∷◌, ◌++◌, length, drop, slice_index_or}
+use Rattle.std.proofs.Common.{slice_set, get_or, replicate, Bool, true, false, ◌==◌, if◌then◌else◌, refl, ap, sym, subst}
+use Rattle.std.proofs.Common.{◌∙◌, arith, inl, inr, length-set, length-append, get_or-set_same, get_or-set_other, append-nil}
 use Rattle.std.proofs.lemmas.Bool.{cases_eq, eq-eqb, eqb-true}
 use Rattle.std.proofs.lemmas.List.{drop-append-le, length-replicate}
 use Rattle.ido_base.specs.Words.{Word, word_at}
@@ -17,7 +19,8 @@ pub bound_in-append : (xs ys : List PointStore) (h : ℕ) → bound_in (xs ++ ys
 bound_in-append [] ys h = refl
 bound_in-append (x ∷ xs) ys h = by_test (x.hart == h) (bound_in-append xs ys h)
   where
-    by_test : (t : Bool) → bound_in (xs ++ ys) h ≡ bound_in xs h ++ bound_in ys h → (if t then bound_of x ∷ bound_in (xs ++ ys) h else bound_in (xs ++ ys) h) ≡ (if t then bound_of x ∷ bound_in xs h else bound_in xs h) ++ bound_in ys h
+    by_test : (t : Bool) → bound_in (xs ++ ys) h ≡ bound_in xs h ++ bound_in ys h →
+        (if t then bound_of x ∷ bound_in (xs ++ ys) h else bound_in (xs ++ ys) h) ≡ (if t then bound_of x ∷ bound_in xs h else bound_in xs h) ++ bound_in ys h
     by_test true e = ap (λ (bs : List Bound). bound_of x ∷ bs) e
     by_test false e = e
 
@@ -32,8 +35,10 @@ bound_no x xs h ne = rw (differs (x.hart == h) refl) refl
     differs false e = e
 
 -- one store more
-pub bound_push : (stores : List PointStore) (x : PointStore) (first h : ℕ) → first ≤ length stores → bound_in (drop first (stores ++ x ∷ [])) h ≡ bound_in (drop first stores) h ++ bound_in (x ∷ []) h
-bound_push stores x first h within = ap (λ (xs : List PointStore). bound_in xs h) (drop-append-le first stores (x ∷ []) within) ∙ bound_in-append (drop first stores) (x ∷ []) h
+pub bound_push : (stores : List PointStore) (x : PointStore) (first h : ℕ) → first ≤ length stores →
+    bound_in (drop first (stores ++ x ∷ [])) h ≡ bound_in (drop first stores) h ++ bound_in (x ∷ []) h
+bound_push stores x first h within =
+    ap (λ (xs : List PointStore). bound_in xs h) (drop-append-le first stores (x ∷ []) within) ∙ bound_in-append (drop first stores) (x ∷ []) h
 
 -- ---- Steps where those of one hart change
 
@@ -69,11 +74,13 @@ updated before after s t h part x stands within kept harts parts is first grown 
     each_is : (g : ℕ) → g < length after.harts.items → (g ≡ h) ⊎ (g ≡ h → ⊥) → hart_steps t g ≡ steps_of after.stores.items g (open_at after g)
     each_is g below (inl same) =
         let here : hart_steps t h ≡ steps_of after.stores.items h (open_at after h) =
-        ap (λ (xs : List HartSteps). slice_index_or xs h no_steps) harts ∙ get_or-set_same s.harts h x no_steps (omega (arith, stands.count, within)) ∙ is ∙ ap (steps_of after.stores.items h) (sym part_here) in
+        ap (λ (xs : List HartSteps). slice_index_or xs h no_steps) harts ∙ get_or-set_same s.harts h x no_steps (omega (arith, stands.count, within)) ∙ is
+        ∙ ap (steps_of after.stores.items h) (sym part_here) in
         let P : ℕ → Type 0 = λ k. hart_steps t k ≡ steps_of after.stores.items k (open_at after k) in
         subst P (sym same) here
     each_is g below (inr ne) =
-        ap (λ (xs : List HartSteps). slice_index_or xs g no_steps) harts ∙ get_or-set_other s.harts h g x no_steps ne ∙ stands.each g (as_before g below) ∙ sym (others g ne (as_before g below)) ∙ ap (steps_of after.stores.items g) (sym (part_there g ne))
+        ap (λ (xs : List HartSteps). slice_index_or xs g no_steps) harts ∙ get_or-set_other s.harts h g x no_steps ne ∙ stands.each g (as_before g below)
+        ∙ sym (others g ne (as_before g below)) ∙ ap (steps_of after.stores.items g) (sym (part_there g ne))
 
     within_is : (g : ℕ) → g < length after.harts.items → (g ≡ h) ⊎ (g ≡ h → ⊥) → (open_at after g).first ≤ length after.stores.items
     within_is g below (inl same) =
@@ -90,7 +97,8 @@ pub bound-stands : (before after : Account) (s : Steps) (h position free first :
     → after.harts.items ≡ slice_set before.harts.items h (record { free = 0; first = first })
     → AccountStands after (with_bound h position s)
 bound-stands before after s h position free first stands within was kept stores parts =
-    updated before after s (with_bound h position s) h (record { free = 0; first = first }) (record { free = 0; bound = (hart_steps s h).bound ++ record { position = position; steps = (hart_steps s h).free } ∷ [] })
+    updated before after s (with_bound h position s) h (record { free = 0; first = first })
+    (record { free = 0; bound = (hart_steps s h).bound ++ record { position = position; steps = (hart_steps s h).free } ∷ [] })
     stands within (stands.kept ∙ sym kept) refl parts is first_within grown others
   where
     store : PointStore
@@ -114,10 +122,12 @@ bound-stands before after s h position free first stands within was kept stores 
         ∙ ap (λ (bs : List Bound). bound_in (drop first before.stores.items) h ++ bs) (bound_yes store [] h refl)
         ∙ sym (ap (λ (x : HartSteps). x.bound ++ record { position = position; steps = x.free } ∷ []) had)
 
-    is : record { free = 0; bound = (hart_steps s h).bound ++ record { position = position; steps = (hart_steps s h).free } ∷ [] } ≡ steps_of after.stores.items h (record { free = 0; first = first })
+    is : record { free = 0; bound = (hart_steps s h).bound ++ record { position = position; steps = (hart_steps s h).free } ∷ [] }
+        ≡ steps_of after.stores.items h (record { free = 0; first = first })
     is = ap (λ (bs : List Bound). record { free = 0; bound = bs }) (sym new_bound)
 
-    others : (g : ℕ) → g ≢ h → g < length before.harts.items → steps_of after.stores.items g (open_at before g) ≡ steps_of before.stores.items g (open_at before g)
+    others : (g : ℕ) → g ≢ h → g < length before.harts.items →
+        steps_of after.stores.items g (open_at before g) ≡ steps_of before.stores.items g (open_at before g)
     others g ne below =
         let same : bound_in (drop (open_at before g).first after.stores.items) g ≡ bound_in (drop (open_at before g).first before.stores.items) g =
         ap (λ (xs : List PointStore). bound_in (drop (open_at before g).first xs) g) stores
@@ -127,7 +137,8 @@ bound-stands before after s h position free first stands within was kept stores 
         ap (λ (bs : List Bound). record { free = (open_at before g).free; bound = bs }) same
 
 -- the durable ones among them are kept
-pub kept-stands : (before after : Account) (words : List Word) (s : Steps) (h durable free first was_first count : ℕ) → AccountStands before s → h < length before.harts.items
+pub kept-stands : (before after : Account) (words : List Word) (s : Steps) (h durable free first was_first count : ℕ) → AccountStands before s →
+    h < length before.harts.items
     → durable ≡ (word_at words (point_word h)).durable
     → open_at before h ≡ record { free = free; first = was_first }
     → after.kept.items ≡ before.kept.items ++ replicate count h → after.stores.items ≡ before.stores.items
@@ -136,7 +147,8 @@ pub kept-stands : (before after : Account) (words : List Word) (s : Steps) (h du
     → bound_in (drop first before.stores.items) h ≡ later durable (bound_in (drop was_first before.stores.items) h) → first ≤ length before.stores.items
     → AccountStands after (with_kept words h s)
 kept-stands before after words s h durable free first was_first count stands within durable_is was kept stores parts counted rest first_within =
-    updated before after s (with_kept words h s) h (record { free = free; first = first }) (record { free = (hart_steps s h).free; bound = later (word_at words (point_word h)).durable (hart_steps s h).bound })
+    updated before after s (with_kept words h s) h (record { free = free; first = first })
+    (record { free = (hart_steps s h).free; bound = later (word_at words (point_word h)).durable (hart_steps s h).bound })
     stands within kept_is refl parts is (subst (λ (xs : List PointStore). first ≤ length xs) (sym stores) first_within) (omega (arith, ap length stores)) others
   where
     had : hart_steps s h ≡ record { free = free; bound = bound_in (drop was_first before.stores.items) h }
@@ -149,18 +161,23 @@ kept-stands before after words s h durable free first was_first count stands wit
     kept_is = ap (λ (n : ℕ). s.kept ++ replicate n h) count_is ∙ ap (λ (ks : List ℕ). ks ++ replicate count h) stands.kept ∙ sym kept
 
     rest_is : later (word_at words (point_word h)).durable (hart_steps s h).bound ≡ bound_in (drop first after.stores.items) h
-    rest_is = ap (λ (d : ℕ). later d (hart_steps s h).bound) (sym durable_is) ∙ ap (λ (x : HartSteps). later durable x.bound) had ∙ sym rest ∙ sym (ap (λ (xs : List PointStore). bound_in (drop first xs) h) stores)
+    rest_is =
+        ap (λ (d : ℕ). later d (hart_steps s h).bound) (sym durable_is) ∙ ap (λ (x : HartSteps). later durable x.bound) had ∙ sym rest
+        ∙ sym (ap (λ (xs : List PointStore). bound_in (drop first xs) h) stores)
 
-    is : record { free = (hart_steps s h).free; bound = later (word_at words (point_word h)).durable (hart_steps s h).bound } ≡ steps_of after.stores.items h (record { free = free; first = first })
+    is : record { free = (hart_steps s h).free; bound = later (word_at words (point_word h)).durable (hart_steps s h).bound }
+        ≡ steps_of after.stores.items h (record { free = free; first = first })
     is = ap (λ (n : ℕ). record { free = n; bound = later (word_at words (point_word h)).durable (hart_steps s h).bound }) (ap (λ (x : HartSteps). x.free) had)
         ∙ ap (λ (bs : List Bound). record { free = free; bound = bs }) rest_is
 
-    others : (g : ℕ) → g ≢ h → g < length before.harts.items → steps_of after.stores.items g (open_at before g) ≡ steps_of before.stores.items g (open_at before g)
+    others : (g : ℕ) → g ≢ h → g < length before.harts.items →
+        steps_of after.stores.items g (open_at before g) ≡ steps_of before.stores.items g (open_at before g)
     others g ne below = ap (λ (xs : List PointStore). steps_of xs g (open_at before g)) stores
 
 -- all that isn't kept is lost
 pub lost-stands : (before after : Account) (s : Steps) → AccountStands before s → after.kept.items ≡ before.kept.items
-    → after.stores.items ≡ [] → length after.harts.items ≡ length before.harts.items → ((h : ℕ) → h < length after.harts.items → open_at after h ≡ nothing_open) → AccountStands after (without_open s)
+    → after.stores.items ≡ [] → length after.harts.items ≡ length before.harts.items →
+    ((h : ℕ) → h < length after.harts.items → open_at after h ≡ nothing_open) → AccountStands after (without_open s)
 lost-stands before after s stands kept empty size none = record {
   kept = stands.kept ∙ sym kept;
   count = length-replicate (length s.harts) no_steps ∙ stands.count ∙ sym size;

@@ -16,14 +16,24 @@ pub weight-bound : (h position : ℕ) (s : Steps) → h < length s.harts → wei
 weight-bound h position s within =
     let it = hart_steps s h in
     let b : Bound = record { position = position; steps = it.free } in
-    omega (arith, sum_by-set hart_weight s.harts h (record { free = 0; bound = it.bound ++ b ∷ [] }) no_steps within, sum_by_push (λ (b : Bound). b.steps) it.bound b)
+    omega (
+      arith,
+      sum_by-set hart_weight s.harts h (record { free = 0; bound = it.bound ++ b ∷ [] }) no_steps within,
+      sum_by_push (λ (b : Bound). b.steps) it.bound b,
+    )
 
 pub weight-kept : (words : List Word) (h : ℕ) (s : Steps) → h < length s.harts → weight (with_kept words h s) ≡ weight s
 weight-kept words h s within =
     let it = hart_steps s h in
     let durable = (word_at words (point_word h)).durable in
     let count = durable_steps durable it.bound in
-    omega (arith, sum_by-set hart_weight s.harts h (record { free = it.free; bound = later durable it.bound }) no_steps within, total_split durable it.bound, length-append s.kept (replicate count h), length-replicate count h)
+    omega (
+      arith,
+      sum_by-set hart_weight s.harts h (record { free = it.free; bound = later durable it.bound }) no_steps within,
+      total_split durable it.bound,
+      length-append s.kept (replicate count h),
+      length-replicate count h,
+    )
 
 pub harts-kept : (words : List Word) (h : ℕ) (s : Steps) → length (with_kept words h s).harts ≡ length s.harts
 harts-kept words h s = length-set s.harts h _

@@ -1,4 +1,4 @@
 pub mod Accounts
 pub mod Insides
-pub mod MarkTables
+pub mod SignTables
 pub mod Parts

@@ -5,7 +5,7 @@ ghost use Rattle.ido_base.specs.Words.{Word, word_at};
 ghost use Rattle.rv64_isa.specs.Schedule.{Steps, first_steps, no_steps, with_begun, with_bound, with_kept, durable_steps};
 ghost use Rattle.run_tracker.specs.links.Accounts.{AccountStands, IsAscending, open_at, bound_in, bound_at, total, point_word, without_open};
 
-use ido_base::memory::Memory;
+use ido_base::memory::OutOfMemory;
 use std::alloc::Global;
 
 /// A store of a hart's point, with the steps that are bound to it: they are kept once the point's word is durable up
@@ -81,7 +81,7 @@ fn push_steps(kept: &mut Vec<u32>, hart: u32, count: u64)
 
 impl Account {
     /// Before any step, with a schedule that is kept already and room for so many steps more.
-    pub fn new(alloc: Global, harts: u32, before: &[u32], cap: u64) -> Result<Account, Memory>
+    pub fn new(alloc: Global, harts: u32, before: &[u32], cap: u64) -> Result<Account, OutOfMemory>
         requires few { length before.now + cap < 2 ^ 63 }
         ensures stands { IfOk result (λ account. AccountStands account (first_steps harts before.now)) }
         ensures kept { IfOk result (λ account. vec_capacity account.kept ≡ length before.now + cap) }

@@ -3,8 +3,7 @@
 #![tactic(auto)]
 
 mod account;
+mod counts;
 pub mod life;
-mod marks;
+mod signs;
 mod stepping;
-#[cfg(test)]
-mod tests;

@@ -15,11 +15,13 @@ ghost use Rattle.run_tracker.specs.Lives.{is_stopped, is_stopped_phase, living, 
 ghost use Rattle.run_tracker.specs.links.Insides.{opening_by};
 
 use crate::account::Account;
-use crate::marks::{MarkTable, nodes_of, tables_of};
+use crate::counts::Counts;
+use crate::signs::{SignTable, nodes_of, tables_of};
 use crate::stepping::make;
 use ido_base::event::{Event, Reply};
+use ido_base::limits::{LOG_LINES, LOG_WORDS, VARIABLE_LINES, VARIABLE_WORDS};
 use ido_base::machine::Core;
-use ido_base::memory::Memory;
+use ido_base::memory::OutOfMemory;
 use ido_machine::machine::Machine;
 use rv64_isa::object::{Marks, Object};
 use rv64_isa::phase::Phase;
@@ -27,16 +29,7 @@ use std::alloc::Global;
 use std::marker::Model;
 
 /// The line of hart 0's point, which is its word 0.
-const POINT_LINE: u32 = 1024;
-
-/// From the line of one hart's point to that of the next.
-const LOG_LINES: u32 = 16;
-
-/// Words that the variables may have: the logs stand behind them.
-const VARIABLE_WORDS: u32 = 8192;
-
-/// The words of a log.
-const LOG_WORDS: u32 = 128;
+const POINT_LINE: u32 = VARIABLE_LINES as u32;
 
 /// A machine that runs a compiled object, with the journal of its events and the account of the steps of the source
 /// that it has begun and kept. It has room for its events from the start.
@@ -50,12 +43,11 @@ pub struct Life {
     left: Option<Vec<u64>>,
     /// The schedule that was kept before the first event.
     before: Vec<u32>,
-    tables: Vec<MarkTable>,
+    tables: Vec<SignTable>,
     machine: Machine,
     account: Account,
     journal: Vec<Event>,
-    points: Vec<u64>,
-    fences: Vec<u64>,
+    counts: Counts,
     cap: u64,
 }
 
@@ -83,7 +75,7 @@ fn is_settled_hart(machine: &Machine, hart: u32) -> bool
     requires { hart < length (program_in machine.now) }
     ensures { (w : World) → MachineStands machine.now w → result ≡ is_settled_hart w hart }
 {
-    let line = POINT_LINE + LOG_LINES * hart;
+    let line = POINT_LINE + LOG_LINES as u32 * hart;
     !machine.holds(hart) && machine.durable_word(line, 0) == 0 && machine.live_word(line, 0) == 0
 }
 
@@ -116,7 +108,7 @@ fn push_durable(machine: &Machine, words: &mut Vec<u64>, from: u32, count: u32)
 
 impl Life {
     /// The life of an object at its start, with room for so many events.
-    pub fn new(alloc: Global, object: &Object, marks: &Marks, cap: u64) -> Result<Life, Memory>
+    pub fn new(alloc: Global, object: &Object, marks: &Marks, cap: u64) -> Result<Life, OutOfMemory>
         requires limits { IsWithinLimits object.now }
         requires marks { length marks.now.threads.items ≡ length object.now.code.items }
         requires cap { cap < 2 ^ 63 }
@@ -135,7 +127,7 @@ impl Life {
         words: &[u64],
         schedule: &[u32],
         cap: u64,
-    ) -> Result<Life, Memory>
+    ) -> Result<Life, OutOfMemory>
         requires limits { IsWithinLimits object.now }
         requires marks { length marks.now.threads.items ≡ length object.now.code.items }
         requires count { length words.now ≡ length object.now.initial.items / 8 + 128 * length object.now.code.items }
@@ -156,7 +148,7 @@ impl Life {
         left: Option<Vec<u64>>,
         before: &[u32],
         cap: u64,
-    ) -> Result<Life, Memory>
+    ) -> Result<Life, OutOfMemory>
         requires limits { IsWithinLimits object.now }
         requires marks { length marks.now.threads.items ≡ length object.now.code.items }
         requires program { program_in machine ≡ program_of object.now }
@@ -174,12 +166,11 @@ impl Life {
             addresses: nodes_of(alloc, marks)?,
             left,
             before: before.to_vec(alloc)?,
-            tables: tables_of(alloc, object, marks)?,
+            tables: tables_of(alloc, object, machine.program(), marks)?,
             machine,
             account: Account::new(alloc, harts, before, cap)?,
             journal: Vec::with_capacity(alloc, cap as usize)?,
-            points: vec![in alloc; 0u64; harts as usize]?,
-            fences: vec![in alloc; 0u64; harts as usize]?,
+            counts: Counts::new(alloc, harts)?,
             cap,
         })
     }
@@ -253,7 +244,7 @@ impl Life {
     }
 
     /// What a crash would leave: the durable words of the variables and, behind them, of the logs.
-    pub fn durable_words(&self, alloc: Global) -> Result<Vec<u64>, Memory>
+    pub fn durable_words(&self, alloc: Global) -> Result<Vec<u64>, OutOfMemory>
         ensures { IfOk result (λ words. words.items ≡ left_words self.now.variable_words (world_of self.now).words) }
     {
         let variables = (self.initial.len() / 8) as u32;
@@ -265,22 +256,21 @@ impl Life {
     }
 
     /// Makes an event.
+    #[inline(always)]
     pub fn event(&mut self, event: Event) -> Reply
         requires valid { IsValidEvent (length self.old.program) event }
         requires room { length self.old.journal < self.old.cap }
         ensures reply { result ≡ reply_to self.old.program (world_of self.old) event }
         ensures life { self.new ≡ with_event self.old event }
     {
-        let reply = make(
+        self.journal.push_reserved(event);
+        make(
             event,
-            &self.tables,
             &mut self.machine,
             &mut self.account,
-            &mut self.points,
-            &mut self.fences,
-        );
-        self.journal.push_reserved(event);
-        reply
+            &mut self.counts,
+            &self.tables,
+        )
     }
 
     /// The hart has ended, or its recovery is done.
@@ -296,7 +286,7 @@ impl Life {
         requires { hart < length self.now.program }
         ensures { result ≡ point_stores living (opening_of self.now) self.now.journal hart }
     {
-        self.points[hart as usize]
+        self.counts.points[hart as usize]
     }
 
     /// How many fences the hart has finished.
@@ -304,7 +294,7 @@ impl Life {
         requires { hart < length self.now.program }
         ensures { result ≡ finished_fences living (opening_of self.now) self.now.journal hart }
     {
-        self.fences[hart as usize]
+        self.counts.fences[hart as usize]
     }
 }
 
@@ -331,6 +321,7 @@ impl Core for Life {
         Life::harts(self)
     }
 
+    #[inline(always)]
     fn event(&mut self, event: Event) -> Reply {
         Life::event(self, event)
     }

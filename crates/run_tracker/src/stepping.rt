@@ -1,36 +1,39 @@
-//! What an event does to the machine and to the account.
-ghost use Rattle.std.specs.Prelude.{◌≡◌, ◌+◌, ◌<◌, ◌≤◌, ◌^◌, ◌&&◌, ◌||◌, List, false, ℕ, length, slice_set, slice_index, if◌then◌else◌};
+//! What an event does to the machine, to the account and to the counts. What a step goes through is marked inline down to
+//! that of `hart_core`: a run makes millions of them.
+ghost use Rattle.std.specs.Prelude.{◌≡◌, ◌+◌, ◌<◌, ◌≤◌, ◌^◌, List, true, ℕ, length};
 ghost use Rattle.std.specs.Vec.{vec_capacity, vec_len};
 ghost use Rattle.ido_base.specs.declared.event.Event.TheVariants.{Step, Evict, Crash};
+ghost use Rattle.ido_base.specs.declared.event.Reply.TheVariants.{Moved};
 ghost use Rattle.ido_base.specs.Layout.{line_count};
+ghost use Rattle.ido_base.specs.Words.{word_at, last_position};
+ghost use Rattle.rv64_isa.specs.declared.object.Slot.{Slot};
 ghost use Rattle.rv64_isa.specs.Machine.{World, IsValidEvent, happens};
-ghost use Rattle.rv64_isa.specs.Schedule.{Steps, has_moved, is_running, stores_point, finishes_fence, steps_after, with_all_kept};
+ghost use Rattle.rv64_isa.specs.Schedule.{Steps, is_running, with_step, steps_after, with_all_kept};
 ghost use Rattle.ido_machine.specs.Machines.{MachineStands, IsAfter, program_in, events_of};
-ghost use Rattle.run_tracker.specs.links.Accounts.{AccountStands, AreOpen};
-ghost use Rattle.run_tracker.specs.links.MarkTables.{AreTables};
-ghost use Rattle.run_tracker.specs.links.Parts.{is_drained, IsSeen, IsAtSome, IsReady, HasSteps, HasCounts, AreCounted};
+ghost use Rattle.run_tracker.specs.links.Accounts.{AccountStands, AreOpen, point_word};
+ghost use Rattle.run_tracker.specs.links.SignTables.{AreTables};
+ghost use Rattle.run_tracker.specs.links.Parts.{IsSeen, seen_step, HasStepped, IsBehind, IsReady, HasSteps, HasCounts, HaveCounted};
 
 use crate::account::Account;
-use crate::marks::MarkTable;
+use crate::counts::Counts;
+use crate::signs::SignTable;
 use ido_base::event::{Event, Reply};
+use ido_base::limits::{LOG_LINES, VARIABLE_LINES};
 use ido_machine::machine::Machine;
 use rv64_isa::phase::Phase;
 
 /// The line of hart 0's point, which is its word 0.
-const POINT_LINE: u32 = 1024;
-
-/// From the line of one hart's point to that of the next.
-const LOG_LINES: u32 = 16;
+const POINT_LINE: u32 = VARIABLE_LINES as u32;
 
 /// What is seen of a hart before its step.
 #[derive(Clone, Copy, Debug, Drop)]
 pub(crate) struct Sight {
-    /// It executes instructions, and is at a mark.
-    pub marked: bool,
-    /// The step stores its point.
-    pub point: bool,
-    /// The step finishes a fence.
-    pub fence: bool,
+    /// It executes instructions.
+    pub running: bool,
+    /// The address of the instruction that it executes next.
+    pub pc: u64,
+    /// Where the newest value of its point stands among those that the point's word has had.
+    pub position: u64,
 }
 
 /// The hart executes instructions.
@@ -40,39 +43,23 @@ fn is_running(phase: Phase) -> bool
     matches!(phase, Phase::Run)
 }
 
-/// The hart went on.
-fn has_moved(reply: Reply) -> bool
-    ensures { result ≡ has_moved reply }
+/// Where the newest value of a hart's point stands among those that the point's word has had.
+fn point_position(machine: &Machine, hart: u32) -> u64
+    requires { hart < length (program_in machine.now) }
+    ensures { (w : World) → MachineStands machine.now w → result ≡ last_position (word_at w.words (point_word hart)) }
 {
-    matches!(reply, Reply::Moved)
+    machine.last_position(POINT_LINE + LOG_LINES as u32 * hart, 0)
 }
 
-/// The hart executes instructions, and is at a mark.
-fn is_ready(phase: Phase, marked: bool) -> bool
-    ensures { result ≡ (is_running phase && marked) }
+/// What is seen of a hart.
+fn look(machine: &Machine, hart: u32) -> Sight
+    requires { hart < length (program_in machine.now) }
+    ensures { (w : World) → MachineStands machine.now w → IsSeen w hart result }
 {
-    is_running(phase) && marked
-}
-
-/// A hart that was ready went on: it has passed a mark.
-fn passes(marked: bool, reply: Reply) -> bool
-    ensures { result ≡ (marked && has_moved reply) }
-{
-    marked && has_moved(reply)
-}
-
-/// What is seen of a hart before its step.
-fn look(machine: &Machine, tables: &[MarkTable], hart: u32) -> Sight
-    requires exists { hart < length (program_in machine.now) }
-    requires tables { length tables.now ≡ length (program_in machine.now) }
-    ensures { (marks : List (List ℕ)) (w : World) → AreTables tables.now (program_in machine.now) marks → MachineStands machine.now w
-        → IsSeen marks (program_in machine.now) w hart result }
-{
-    let marked = tables[hart as usize].is_marked(machine.pc(hart));
     Sight {
-        marked: is_ready(machine.phase(hart), marked),
-        point: machine.stores_point(hart),
-        fence: machine.finishes_fence(hart),
+        running: is_running(machine.phase(hart)),
+        pc: machine.pc(hart),
+        position: point_position(machine, hart),
     }
 }
 
@@ -88,62 +75,108 @@ fn keep_all(machine: &Machine, account: &mut Account)
     for hart in 0..machine.harts() {
         account.keep(
             hart,
-            machine.durable_position(POINT_LINE + LOG_LINES * hart, 0),
+            machine.durable_position(POINT_LINE + LOG_LINES as u32 * hart, 0),
         );
     }
 }
 
-/// A queued entry was written back.
-fn is_drained(reply: Reply) -> bool
-    ensures { result ≡ is_drained reply }
-{
-    matches!(reply, Reply::Drained)
-}
-
-/// Steps may have become durable with a step: it has stored the hart's point, or has written something back.
-fn is_due(point: bool, reply: Reply) -> bool
-    ensures { result ≡ (point || is_drained reply) }
-{
-    point || is_drained(reply)
-}
-
-/// Keeps the steps whose points have become durable, where some may have.
-fn keep_if(due: bool, machine: &Machine, account: &mut Account)
+/// A hart of which this was seen has completed an instruction. Where that is a mark a step of the source is begun, and where
+/// it stored the point, the steps begun so far are bound to that. None is durable yet.
+fn complete(
+    machine: &Machine,
+    account: &mut Account,
+    counts: &mut Counts,
+    tables: &[SignTable],
+    sight: Sight,
+    hart: u32,
+)
+    requires exists { hart < length (program_in machine.now) }
+    requires behind { IsBehind tables.now machine.now account.old (seen_step hart sight Moved) }
+    requires running { sight.running ≡ true }
     requires harts { length account.old.harts.items ≡ length (program_in machine.now) }
-    requires at { HasSteps machine.now account.old }
-    ensures stands { (w : World) (s : Steps) → MachineStands machine.now w → AccountStands account.old s → (due ≡ false → AreOpen w.words s)
-        → AccountStands account.new (with_all_kept w.words (length account.old.harts.items) s) }
-    ensures stores { account.new.stores ≡ account.old.stores }
+    requires counts { HasCounts counts.old (length (program_in machine.now)) }
+    requires room { vec_len account.old.stores < vec_capacity account.old.stores }
+    ensures steps { (program : List (List Slot)) (marks : List (List ℕ)) (w : World) (s : Steps)
+        → HasStepped program tables.now marks machine.now (seen_step hart sight Moved) w → AccountStands account.old s
+        → AccountStands account.new (with_step marks program w hart s) }
+    ensures counts { (program : List (List Slot)) (marks : List (List ℕ)) (w : World)
+        → HasStepped program tables.now marks machine.now (seen_step hart sight Moved) w → HaveCounted counts.old counts.new program w (Step hart) }
+    ensures stores { vec_len account.new.stores ≤ vec_len account.old.stores + 1 }
+    ensures reserved { vec_capacity account.new.stores ≡ vec_capacity account.old.stores }
     ensures capacity { vec_capacity account.new.kept ≡ vec_capacity account.old.kept }
 {
-    if !due {
-        return;
-    }
-    keep_all(machine, account);
+    let sign = tables[hart as usize].sign_at(sight.pc);
+    let position = point_position(machine, hart);
+    let point = position != sight.position;
+    account.begin_if(sign.mark, hart);
+    account.bind_if(point, hart, position);
+    counts.add(hart, point, sign.fence);
 }
 
-/// A step of a hart of which this was seen.
-fn step(machine: &mut Machine, account: &mut Account, sight: Sight, hart: u32) -> Reply
+/// Accounts for the step of a hart of which this was seen, by the reply to it.
+fn note(
+    machine: &Machine,
+    account: &mut Account,
+    counts: &mut Counts,
+    tables: &[SignTable],
+    sight: Sight,
+    reply: Reply,
+    hart: u32,
+)
+    requires exists { hart < length (program_in machine.now) }
+    requires behind { IsBehind tables.now machine.now account.old (seen_step hart sight reply) }
+    requires harts { length account.old.harts.items ≡ length (program_in machine.now) }
+    requires counts { HasCounts counts.old (length (program_in machine.now)) }
+    requires room { vec_len account.old.stores < vec_capacity account.old.stores }
+    ensures steps { (program : List (List Slot)) (marks : List (List ℕ)) (w : World) (s : Steps)
+        → HasStepped program tables.now marks machine.now (seen_step hart sight reply) w → AccountStands account.old s → AreOpen w.words s
+        → AccountStands account.new (steps_after marks program w (Step hart) s) }
+    ensures counts { (program : List (List Slot)) (marks : List (List ℕ)) (w : World)
+        → HasStepped program tables.now marks machine.now (seen_step hart sight reply) w → HaveCounted counts.old counts.new program w (Step hart) }
+    ensures stores { vec_len account.new.stores ≤ vec_len account.old.stores + 1 }
+    ensures reserved { vec_capacity account.new.stores ≡ vec_capacity account.old.stores }
+    ensures capacity { vec_capacity account.new.kept ≡ vec_capacity account.old.kept }
+{
+    match reply {
+        Reply::Moved => {
+            if sight.running {
+                complete(machine, account, counts, tables, sight, hart);
+            }
+        }
+        Reply::Drained => keep_all(machine, account),
+        _ => {}
+    }
+}
+
+/// A step of a hart.
+#[inline(always)]
+fn step(
+    machine: &mut Machine,
+    account: &mut Account,
+    counts: &mut Counts,
+    tables: &[SignTable],
+    hart: u32,
+) -> Reply
     requires exists { hart < length (program_in machine.old) }
     requires harts { length account.old.harts.items ≡ length (program_in machine.old) }
+    requires counts { HasCounts counts.old (length (program_in machine.old)) }
     requires events { events_of machine.old < 2 ^ 63 }
     requires room { vec_len account.old.stores < vec_capacity account.old.stores }
-    requires at { (marks : List (List ℕ)) × IsAtSome (program_in machine.old) marks sight hart machine.old account.old }
+    requires at { IsReady tables.now machine.old account.old }
     ensures world { (w : World) → MachineStands machine.old w → IsAfter machine.new result (happens (program_in machine.old) w (Step hart)) }
-    ensures steps { (marks : List (List ℕ)) (w : World) (s : Steps) → MachineStands machine.old w → AccountStands account.old s
-        → IsSeen marks (program_in machine.old) w hart sight → AreOpen w.words s
+    ensures steps { (marks : List (List ℕ)) (w : World) (s : Steps) → AreTables tables.now (program_in machine.old) marks
+        → MachineStands machine.old w → AccountStands account.old s → AreOpen w.words s
         → AccountStands account.new (steps_after marks (program_in machine.old) w (Step hart) s) }
+    ensures counts { (w : World) → MachineStands machine.old w → HaveCounted counts.old counts.new (program_in machine.old) w (Step hart) }
     ensures program { program_in machine.new ≡ program_in machine.old }
     ensures events { events_of machine.new ≡ events_of machine.old + 1 }
     ensures stores { vec_len account.new.stores ≤ vec_len account.old.stores + 1 }
     ensures reserved { vec_capacity account.new.stores ≡ vec_capacity account.old.stores }
     ensures capacity { vec_capacity account.new.kept ≡ vec_capacity account.old.kept }
 {
-    let reply = machine.event(Event::Step(hart));
-    account.begin_if(passes(sight.marked, reply), hart);
-    let position = machine.last_position(POINT_LINE + LOG_LINES * hart, 0);
-    account.bind_if(sight.point, hart, position);
-    keep_if(is_due(sight.point, reply), machine, account);
+    let sight = look(machine, hart);
+    let reply = machine.step(hart);
+    note(machine, account, counts, tables, sight, reply, hart);
     reply
 }
 
@@ -162,7 +195,7 @@ fn evict(machine: &mut Machine, account: &mut Account, line: u32, mask: u32) -> 
     ensures stores { account.new.stores ≡ account.old.stores }
     ensures capacity { vec_capacity account.new.kept ≡ vec_capacity account.old.kept }
 {
-    let reply = machine.event(Event::Evict(line, mask));
+    let reply = machine.evict(line, mask);
     keep_all(machine, account);
     reply
 }
@@ -179,35 +212,23 @@ fn crash(machine: &mut Machine, account: &mut Account) -> Reply
     ensures reserved { vec_capacity account.new.stores ≡ vec_capacity account.old.stores }
     ensures capacity { vec_capacity account.new.kept ≡ vec_capacity account.old.kept }
 {
-    let reply = machine.event(Event::Crash);
+    let reply = machine.crash();
     account.lose();
     reply
 }
 
-/// Counts what a hart has done.
-fn count(counts: &mut [u64], hart: u32, done: bool)
-    requires exists { hart < length counts.old }
-    requires room { slice_index counts.old hart < 2 ^ 63 }
-    ensures { counts.new ≡ slice_set counts.old hart (slice_index counts.old hart + (if done then 1 else 0)) }
-{
-    if done {
-        counts[hart as usize] += 1;
-    }
-}
-
 /// Makes an event.
+#[inline(always)]
 pub(crate) fn make(
     event: Event,
-    tables: &[MarkTable],
     machine: &mut Machine,
     account: &mut Account,
-    points: &mut [u64],
-    fences: &mut [u64],
+    counts: &mut Counts,
+    tables: &[SignTable],
 ) -> Reply
     requires valid { IsValidEvent (length (program_in machine.old)) event }
     requires harts { length account.old.harts.items ≡ length (program_in machine.old) }
-    requires points { HasCounts points.old (length (program_in machine.old)) }
-    requires fences { HasCounts fences.old (length (program_in machine.old)) }
+    requires counts { HasCounts counts.old (length (program_in machine.old)) }
     requires events { events_of machine.old < 2 ^ 63 }
     requires room { vec_len account.old.stores < vec_capacity account.old.stores }
     requires at { IsReady tables.now machine.old account.old }
@@ -215,8 +236,7 @@ pub(crate) fn make(
     ensures steps { (marks : List (List ℕ)) (w : World) (s : Steps) → AreTables tables.now (program_in machine.old) marks
         → MachineStands machine.old w → AccountStands account.old s → AreOpen w.words s
         → AccountStands account.new (steps_after marks (program_in machine.old) w event s) }
-    ensures points { (w : World) → MachineStands machine.old w → AreCounted points.old points.new (λ h. stores_point (program_in machine.old) w event h) }
-    ensures fences { (w : World) → MachineStands machine.old w → AreCounted fences.old fences.new (λ h. finishes_fence (program_in machine.old) w event h) }
+    ensures counts { (w : World) → MachineStands machine.old w → HaveCounted counts.old counts.new (program_in machine.old) w event }
     ensures program { program_in machine.new ≡ program_in machine.old }
     ensures events { events_of machine.new ≡ events_of machine.old + 1 }
     ensures stores { vec_len account.new.stores ≤ vec_len account.old.stores + 1 }
@@ -224,13 +244,8 @@ pub(crate) fn make(
     ensures capacity { vec_capacity account.new.kept ≡ vec_capacity account.old.kept }
 {
     match event {
-        Event::Step(hart) => {
-            let sight = look(machine, tables, hart);
-            count(points, hart, sight.point);
-            count(fences, hart, sight.fence);
-            step(machine, account, sight, hart)
-        }
-        Event::Evict(line, mask) => evict(machine, account, line, mask),
+        Event::Step(hart) => step(machine, account, counts, tables, hart),
+        Event::Evict { line, mask } => evict(machine, account, line, mask),
         Event::Crash => crash(machine, account),
     }
 }

@@ -6,11 +6,12 @@ use Rattle.std.specs.Option.{option_map}
 use Rattle.std.proofs.lemmas.Option.{slice_get_within}
 use Rattle.std.proofs.lemmas.List.Sums.{sum_by-cons}
 use Rattle.ido_base.specs.declared.location.Location.{Location}
+use Rattle.ido_base.specs.declared.limits.TheConstants.{MOST_PRICE}
 use Rattle.c_tree.specs.Exprs as e
 use Rattle.c_tree.specs.Flats as f
 use Rattle.c_tree.specs.Locking.{Held}
 use Rattle.c_tree.specs.Prices.{node_price, thread_price}
-use Rattle.c_tree.specs.Temporaries.{most_price, price_fault}
+use Rattle.c_tree.specs.Temporaries.{price_fault}
 use Rattle.c_tree.specs.WellFormed.{AreFlatStatements}
 use Rattle.lock_discipline.specs.Steps.{assign_steps, steps, steps_of_all, steps_of_arms, thread_steps}
 use Rattle.flow_graph.specs.declared.graph.Part.{Part}
@@ -81,10 +82,10 @@ none_found test (y ∷ xs) zero x h g =
     subst (λ z. test z ≡ false) same (none_chosen (test y) y (find test xs) h).0
 none_found test (y ∷ xs) (suc k) x h g = none_found test xs k x (none_chosen (test y) y (find test xs) h).1 g
 
-thread_cheap : (x : f.Flat) (k : ℕ) (t : f.Thread) → price_fault x ≡ None → slice_get x.threads k ≡ Some t → nat_lt most_price (thread_price t) ≡ false
+thread_cheap : (x : f.Flat) (k : ℕ) (t : f.Thread) → price_fault x ≡ None → slice_get x.threads k ≡ Some t → nat_lt MOST_PRICE (thread_price t) ≡ false
 unfolding price_fault
-thread_cheap x k t h g = none_found (λ (u : f.Thread). nat_lt most_price (thread_price u)) x.threads k t
-    (none_mapped (λ (u : f.Thread). u.name.place) (find (λ (u : f.Thread). nat_lt most_price (thread_price u)) x.threads) h) g
+thread_cheap x k t h g = none_found (λ (u : f.Thread). nat_lt MOST_PRICE (thread_price u)) x.threads k t
+    (none_mapped (λ (u : f.Thread). u.name.place) (find (λ (u : f.Thread). nat_lt MOST_PRICE (thread_price u)) x.threads) h) g
 
 not_above : (n m : ℕ) → nat_lt n m ≡ false → m ≤ n
 not_above n m h = grind arith
@@ -187,14 +188,14 @@ module _ (p : Plan) (plan : IsPlan p) where
 
     -- ---- Prices
 
-    pub cheap : prices (thread_nodes th.text t.part.first) ≤ most_price
+    pub cheap : prices (thread_nodes th.text t.part.first) ≤ MOST_PRICE
     cheap = omega (
       arith,
       price_thread th.text t.part.first,
-      not_above most_price (thread_price th.text) (thread_cheap p.flat t.number th.text plan.priced th.of_text),
+      not_above MOST_PRICE (thread_price th.text) (thread_cheap p.flat t.number th.text plan.priced th.of_text),
     )
 
-    pub cheap_node : (node : ℕ) (is : Node) → IsNodeOf t node → NodeAt p.graph node is → node_price (action_nodes is.action) ≤ most_price
+    pub cheap_node : (node : ℕ) (is : Node) → IsNodeOf t node → NodeAt p.graph node is → node_price (action_nodes is.action) ≤ MOST_PRICE
     cheap_node node is own at =
         omega (arith, cheap, prices_at (thread_nodes th.text t.part.first) (node - t.part.first) is (node_in node is own at))
 

@@ -276,16 +276,16 @@ sound_at x ks lo hi v (m ∷ ns) (suc k) n h g = sound_at x ks lo hi v ns k n h.
 
 -- ---- Where threads stand among all nodes
 
-get_front : {X : Type 0} (xs ys : List X) (k : ℕ) → k < length xs → slice_get (xs ++ ys) k ≡ slice_get xs k
-get_front [] ys k h = absurd (omega (arith, h))
-get_front (y ∷ xs) ys zero h = refl
-get_front (y ∷ xs) ys (suc k) h = get_front xs ys k (omega (arith, h))
+get_prefix : {X : Type 0} (xs ys : List X) (k : ℕ) → k < length xs → slice_get (xs ++ ys) k ≡ slice_get xs k
+get_prefix [] ys k h = absurd (omega (arith, h))
+get_prefix (y ∷ xs) ys zero h = refl
+get_prefix (y ∷ xs) ys (suc k) h = get_prefix xs ys k (omega (arith, h))
 
-get_back : {X : Type 0} (xs ys : List X) (n k : ℕ) → n ≡ length xs → slice_get (xs ++ ys) (n + k) ≡ slice_get ys k
-get_back [] ys n k e = ap (slice_get ys) (omega (arith, e))
-get_back (y ∷ xs) ys n k e =
+get_suffix : {X : Type 0} (xs ys : List X) (n k : ℕ) → n ≡ length xs → slice_get (xs ++ ys) (n + k) ≡ slice_get ys k
+get_suffix [] ys n k e = ap (slice_get ys) (omega (arith, e))
+get_suffix (y ∷ xs) ys n k e =
     let s : n + k ≡ suc (length xs + k) = omega (arith, e) in
-    ap (slice_get (y ∷ (xs ++ ys))) s ∙ get_back xs ys (length xs) k refl
+    ap (slice_get (y ∷ (xs ++ ys))) s ∙ get_suffix xs ys (length xs) k refl
 
 pub part_is : (ts : List f.Thread) (first k : ℕ) (t : f.Thread) (q : Part) → slice_get ts k ≡ Some t → slice_get (parts ts first) k ≡ Some q →
     q ≡ part t q.first
@@ -313,14 +313,14 @@ node_of_thread (u ∷ us) first zero t q i j g h l s =
     let short : i < length (thread_nodes u first) =
     omega (arith, l, length-thread_nodes u first, ap (λ (z : f.Thread). thread_count z) same) in
     ap (slice_get (thread_nodes u first ++ threads_nodes us (first + thread_count u))) there
-    ∙ get_front (thread_nodes u first) (threads_nodes us (first + thread_count u)) i short
+    ∙ get_prefix (thread_nodes u first) (threads_nodes us (first + thread_count u)) i short
     ∙ ap₂ (λ (z : f.Thread) (m : ℕ). slice_get (thread_nodes z m) i) same e
 node_of_thread (u ∷ us) first (suc k) t q i j g h l s =
     let behind : first + thread_count u ≤ q.first = part_from us (first + thread_count u) k q h in
     let rest : ℕ = j - thread_count u in
     let e : j ≡ thread_count u + rest = omega (arith, s, behind) in
     ap (slice_get (thread_nodes u first ++ threads_nodes us (first + thread_count u))) e
-    ∙ get_back (thread_nodes u first) (threads_nodes us (first + thread_count u)) (thread_count u) rest (sym (length-thread_nodes u first))
+    ∙ get_suffix (thread_nodes u first) (threads_nodes us (first + thread_count u)) (thread_count u) rest (sym (length-thread_nodes u first))
     ∙ node_of_thread us (first + thread_count u) k t q i rest g h l (omega (arith, s, behind))
 
 -- a thread of this number that the node is one of
@@ -339,7 +339,7 @@ thread_of_node (u ∷ us) first j n g = ⊎_elim
     let rest : ℕ = j - thread_count u in
     let e : j ≡ thread_count u + rest = omega (arith, l) in
     let there : slice_get (threads_nodes us (first + thread_count u)) rest ≡ Some n =
-    sym (get_back (thread_nodes u first) (threads_nodes us (first + thread_count u)) (thread_count u) rest (sym (length-thread_nodes u first)))
+    sym (get_suffix (thread_nodes u first) (threads_nodes us (first + thread_count u)) (thread_count u) rest (sym (length-thread_nodes u first)))
     ∙ ap (slice_get (thread_nodes u first ++ threads_nodes us (first + thread_count u))) (sym e) ∙ g in
     let h = thread_of_node us (first + thread_count u) rest n there in
     (suc h.0, h.1, record { is = h.2.is; from_first = omega (arith, h.2.from_first, e); below_end = omega (arith, h.2.below_end, e) }))

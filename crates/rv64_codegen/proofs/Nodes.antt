@@ -20,16 +20,16 @@ use Rattle.flow_graph.proofs.Standing.{AreThreads}
 
 -- ---- Nodes among others, from a place on
 
-get_front : {X : Type 0} (xs ys : List X) (k : ℕ) (x : X) → slice_get xs k ≡ Some x → slice_get (xs ++ ys) k ≡ Some x
-get_front [] ys k x h = absurd (none-some x h)
-get_front (y ∷ xs) ys zero x h = h
-get_front (y ∷ xs) ys (suc k) x h = get_front xs ys k x h
+get_prefix : {X : Type 0} (xs ys : List X) (k : ℕ) (x : X) → slice_get xs k ≡ Some x → slice_get (xs ++ ys) k ≡ Some x
+get_prefix [] ys k x h = absurd (none-some x h)
+get_prefix (y ∷ xs) ys zero x h = h
+get_prefix (y ∷ xs) ys (suc k) x h = get_prefix xs ys k x h
 
-get_back : {X : Type 0} (xs ys : List X) (k : ℕ) → slice_get (xs ++ ys) (length xs + k) ≡ slice_get ys k
-get_back [] ys k = let same : 0 + k ≡ k = omega arith in ap (slice_get ys) same
-get_back (y ∷ xs) ys k =
+get_suffix : {X : Type 0} (xs ys : List X) (k : ℕ) → slice_get (xs ++ ys) (length xs + k) ≡ slice_get ys k
+get_suffix [] ys k = let same : 0 + k ≡ k = omega arith in ap (slice_get ys) same
+get_suffix (y ∷ xs) ys k =
     let same : suc (length xs) + k ≡ suc (length xs + k) = omega arith in
-    ap (slice_get (y ∷ (xs ++ ys))) same ∙ get_back xs ys k
+    ap (slice_get (y ∷ (xs ++ ys))) same ∙ get_suffix xs ys k
 
 get_own : {X : Type 0} (xs ys : List X) (k : ℕ) (x : X) → k < length xs → slice_get (xs ++ ys) k ≡ Some x → slice_get xs k ≡ Some x
 get_own [] ys k x l g = absurd (omega (arith, l))
@@ -42,12 +42,12 @@ at_same all n m s h a = ap (slice_get all) (sym h) ∙ a
 record Has (all : List Node) (first : ℕ) (xs : List Node) : Type 0 where
   each : (k : ℕ) (s : Node) → slice_get xs k ≡ Some s → slice_get all (first + k) ≡ Some s
 
-has_front : (all : List Node) (first : ℕ) (xs ys : List Node) → Has all first (xs ++ ys) → Has all first xs
-has_front all first xs ys h = record { each = λ k s g. h.each k s (get_front xs ys k s g) }
+has_prefix : (all : List Node) (first : ℕ) (xs ys : List Node) → Has all first (xs ++ ys) → Has all first xs
+has_prefix all first xs ys h = record { each = λ k s g. h.each k s (get_prefix xs ys k s g) }
 
-has_back : (all : List Node) (first n : ℕ) (xs ys : List Node) → length xs ≡ n → Has all first (xs ++ ys) → Has all (first + n) ys
-has_back all first n xs ys same h = record {
-  each = λ k s g. at_same all (first + (length xs + k)) (first + n + k) s (omega (arith, same)) (h.each (length xs + k) s (get_back xs ys k ∙ g));
+has_suffix : (all : List Node) (first n : ℕ) (xs ys : List Node) → length xs ≡ n → Has all first (xs ++ ys) → Has all (first + n) ys
+has_suffix all first n xs ys same h = record {
+  each = λ k s g. at_same all (first + (length xs + k)) (first + n + k) s (omega (arith, same)) (h.each (length xs + k) s (get_suffix xs ys k ∙ g));
 }
 
 has_tail : (all : List Node) (first : ℕ) (x : Node) (xs : List Node) → Has all first (x ∷ xs) → Has all (suc first) xs
@@ -163,13 +163,14 @@ module _ (x : f.Flat) (ks : List Kind) (lo hi : ℕ) (all : List Node) where
         let whole : first + (arms_count arms + statements_count otherwise) ≤ hi = b in
         let last : IsInside (entry (statements_count otherwise) (first + arms_count arms) next) =
         entry_in (statements_count otherwise) (first + arms_count arms) next (omega arith) (omega (arith, whole)) c d in
-        let front = arms_nodes arms place (entry (statements_count otherwise) (first + arms_count arms) next) first next in
-        let back = statements_nodes otherwise (first + arms_count arms) next in
-        both front back
-        (arms_known arms place (entry (statements_count otherwise) (first + arms_count arms) next) first next w.1 (has_front all first front back h) a
+        let prefix = arms_nodes arms place (entry (statements_count otherwise) (first + arms_count arms) next) first next in
+        let suffix = statements_nodes otherwise (first + arms_count arms) next in
+        both prefix suffix
+        (arms_known arms place (entry (statements_count otherwise) (first + arms_count arms) next) first next w.1 (has_prefix all first prefix suffix h) a
         (omega (arith, whole)) last.0 last.1 c d)
         (statements_known otherwise (first + arms_count arms) next w.2
-        (has_back all first (arms_count arms) front back (length-arms_nodes arms place (entry (statements_count otherwise) (first + arms_count arms) next) first
+        (has_suffix all first (arms_count arms) prefix suffix
+        (length-arms_nodes arms place (entry (statements_count otherwise) (first + arms_count arms) next) first
         next) h)
         (omega arith) (omega (arith, whole)) c d)
     statement_known (f.While place condition body) first next w h a b c d =
@@ -181,9 +182,9 @@ module _ (x : f.Flat) (ks : List Kind) (lo hi : ℕ) (all : List Node) where
         )
     statement_known (f.Do place body condition) first next w h a b c d =
         let whole : first + suc (statements_count body) ≤ hi = b in
-        let front = statements_nodes body first (first + statements_count body) in
-        both front (test_node place condition first next ∷ [])
-        (statements_known body first (first + statements_count body) w.0 (has_front all first front (test_node place condition first next ∷ []) h) a
+        let prefix = statements_nodes body first (first + statements_count body) in
+        both prefix (test_node place condition first next ∷ [])
+        (statements_known body first (first + statements_count body) w.0 (has_prefix all first prefix (test_node place condition first next ∷ []) h) a
         (omega (arith, whole)) (omega arith) (omega (arith, whole)))
         (record { condition_is = w.1; uses = refl; assigns = refl; holds_inside = (a, omega (arith, whole)); fails_inside = (c, d) }, tt)
     statement_known (f.Lock place mutex) first next w h a b c d = (record { assigns = refl; inside = (c, d) }, tt)
@@ -196,13 +197,14 @@ module _ (x : f.Flat) (ks : List Kind) (lo hi : ℕ) (all : List Node) where
         let whole : first + (count y + statements_count rest) ≤ hi = b in
         let behind : IsInside (entry (statements_count rest) (first + count y) next) =
         entry_in (statements_count rest) (first + count y) next (omega arith) (omega (arith, whole)) c d in
-        let front = statement_nodes y first (entry (statements_count rest) (first + count y) next) in
-        let back = statements_nodes rest (first + count y) next in
-        both front back
-        (statement_known y first (entry (statements_count rest) (first + count y) next) w.0 (has_front all first front back h) a (omega (arith, whole)) behind.0
+        let prefix = statement_nodes y first (entry (statements_count rest) (first + count y) next) in
+        let suffix = statements_nodes rest (first + count y) next in
+        both prefix suffix
+        (statement_known y first (entry (statements_count rest) (first + count y) next) w.0 (has_prefix all first prefix suffix h) a
+        (omega (arith, whole)) behind.0
         behind.1)
         (statements_known rest (first + count y) next w.1
-        (has_back all first (count y) front back (length-statement_nodes y first (entry (statements_count rest) (first + count y) next)) h) (omega arith)
+        (has_suffix all first (count y) prefix suffix (length-statement_nodes y first (entry (statements_count rest) (first + count y) next)) h) (omega arith)
         (omega (arith, whole)) c d)
 
     arms_known : (xs : f.Arms) (place : Place) (last first next : ℕ) → AreFlatArms x ks xs → Has all first (arms_nodes xs place last first next) →
@@ -214,14 +216,14 @@ module _ (x : f.Flat) (ks : List Kind) (lo hi : ℕ) (all : List Node) where
         entry_in (statements_count body) (suc first) next (omega arith) (omega (arith, whole)) c d in
         let rest_in : IsInside (entry (arms_count rest) (suc first + statements_count body) last) =
         entry_in (arms_count rest) (suc first + statements_count body) last (omega arith) (omega (arith, whole)) l m in
-        let front = statements_nodes body (suc first) next in
-        let back = arms_nodes rest place last (suc first + statements_count body) next in
+        let prefix = statements_nodes body (suc first) next in
+        let suffix = arms_nodes rest place last (suc first + statements_count body) next in
         let inner = has_tail all first _ _ h in (
           record { condition_is = w.0; uses = refl; assigns = refl; holds_inside = body_in; fails_inside = rest_in },
-          both front back
-              (statements_known body (suc first) next w.1 (has_front all (suc first) front back inner) (omega arith) (omega (arith, whole)) c d)
+          both prefix suffix
+              (statements_known body (suc first) next w.1 (has_prefix all (suc first) prefix suffix inner) (omega arith) (omega (arith, whole)) c d)
               (arms_known rest place last (suc first + statements_count body) next w.2
-              (has_back all (suc first) (statements_count body) front back (length-statements_nodes body (suc first) next) inner) (omega arith)
+              (has_suffix all (suc first) (statements_count body) prefix suffix (length-statements_nodes body (suc first) next) inner) (omega arith)
               (omega (arith, whole)) l m c d),
         )
 
@@ -229,9 +231,10 @@ module _ (x : f.Flat) (ks : List Kind) (lo hi : ℕ) (all : List Node) where
       first + thread_count t ≤ hi → AllKnown (thread_nodes t first)
   thread_known t first w h a b =
       let whole : first + suc (statements_count t.body) ≤ hi = b in
-      let front = statements_nodes t.body first (first + statements_count t.body) in
-      both front (plain_node t.closing End ∷ [])
-      (statements_known t.body first (first + statements_count t.body) w (has_front all first front (plain_node t.closing End ∷ []) h) a (omega (arith, whole))
+      let prefix = statements_nodes t.body first (first + statements_count t.body) in
+      both prefix (plain_node t.closing End ∷ [])
+      (statements_known t.body first (first + statements_count t.body) w (has_prefix all first prefix (plain_node t.closing End ∷ []) h) a
+      (omega (arith, whole))
       (omega arith) (omega (arith, whole)))
       (tt, tt)
 
@@ -256,7 +259,7 @@ known_from x all (t ∷ ts) first zero own text w h g i k n found a b =
     let many : length (thread_nodes t first) ≡ thread_count t = length-thread_nodes t first in
     known_at x t.locals first (first + thread_count t) all (thread_nodes t first) k n
     (thread_known x t.locals first (first + thread_count t) all t first w.0
-    (has_front all first (thread_nodes t first) (threads_nodes ts (first + thread_count t)) h) (omega arith) (omega arith))
+    (has_prefix all first (thread_nodes t first) (threads_nodes ts (first + thread_count t)) h) (omega arith) (omega arith))
     (get_own (thread_nodes t first) (threads_nodes ts (first + thread_count t)) k n (omega (arith, below, many)) found))
     a b)
 known_from x all (t ∷ ts) first (suc number) own text w h g i k n found a b =
@@ -264,10 +267,10 @@ known_from x all (t ∷ ts) first (suc number) own text w h g i k n found a b =
     let many : length (thread_nodes t first) ≡ thread_count t = length-thread_nodes t first in
     let split : k ≡ length (thread_nodes t first) + (k - thread_count t) = omega (arith, from, many, a) in
     let at : slice_get (threads_nodes ts (first + thread_count t)) (k - thread_count t) ≡ Some n =
-    sym (get_back (thread_nodes t first) (threads_nodes ts (first + thread_count t)) (k - thread_count t)) ∙
+    sym (get_suffix (thread_nodes t first) (threads_nodes ts (first + thread_count t)) (k - thread_count t)) ∙
     ap (slice_get (thread_nodes t first ++ threads_nodes ts (first + thread_count t))) (sym split) ∙ found in
     known_from x all ts (first + thread_count t) number own text w.1
-    (has_back all first (thread_count t) (thread_nodes t first) (threads_nodes ts (first + thread_count t)) many h) g i (k - thread_count t) n at
+    (has_suffix all first (thread_count t) (thread_nodes t first) (threads_nodes ts (first + thread_count t)) many h) g i (k - thread_count t) n at
     (omega (arith, from, a)) (omega (arith, from, a, b))
 
 -- a node of the thread of that number

@@ -5,9 +5,9 @@ use Rattle.std.specs.Prelude.{slice_get, slice_index_or, sum_by, IsTrue, Vec, po
 use Rattle.std.specs.Global.{Global}
 use Rattle.std.specs.List.{list_all}
 use Rattle.std.proofs.lemmas.List.Sums.{sum_by-append}
+use Rattle.ido_base.specs.declared.limits.TheConstants.{MOST_PRICE}
 use Rattle.c_tree.specs.Exprs as e
 use Rattle.c_tree.specs.Prices.{node_price}
-use Rattle.c_tree.specs.Temporaries.{most_price}
 use Rattle.c_tree.specs.WellFormed.{IsExpr, IsTarget}
 use Rattle.rv64_isa.specs.declared.object.CodeItem.{CodeItem}
 use Rattle.rv64_link.specs.LabelledCode.{most_words_of}
@@ -246,7 +246,7 @@ module _ (x : opened.ThreadPlan) (node : ℕ) where
       formed_by a at (subst (λ (b : Action). sound.IsFormed q.flat o.thread.text.locals u.part.first u.part.end o.plan.formed.shared.variables b)
       at.action_is s.formed)
 
-  pub cheap_at : (a : Action) (at : IsAt x node a) → node_price (action_nodes a) ≤ most_price
+  pub cheap_at : (a : Action) (at : IsAt x node a) → node_price (action_nodes a) ≤ MOST_PRICE
   cheap_at a at =
       let o = at.own.open_is in
       omega (arith, cheap_node q o.plan u o.thread node at.is at.own.own at.at, ap (λ (b : Action). action_nodes b) at.action_is)

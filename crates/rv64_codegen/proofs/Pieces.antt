@@ -36,7 +36,7 @@ is_evaluation h target t code piece sel comp = record {
   where
     evaluates : (at : Site piece) → Computes code piece at → (s : Source) (x : List ℕ) → AreRegisters x → MayReach h s at.linking.setting.around x target →
         MayEvaluate h s at.linking.setting.around x t.expr →
-        Leads piece at x (begin_of piece at) (end_of piece at) (Mark ∷ []) (IsAssigned h s target t.expr x)
+        Leads at x (begin_of piece at) (end_of piece at) (Mark ∷ []) (IsAssigned h s target t.expr x)
     evaluates at c s x are reach may =
         let b : ℕ = begin_of piece at in
         let end : Ends at.linking.setting.around code (may_write h target) (λ y. Has h s y target (value s.locals s.numbers t.expr)) (moment x b) =
@@ -65,7 +65,7 @@ is_test h t turned label code other test piece short none sel turns choice = rec
 }
   where
     tests : (at : Site piece) → Chooses code test label piece at → (s : Source) (x : List ℕ) → AreRegisters x → MayEvaluate h s at.linking.setting.around x t →
-        Leads piece at x (begin_of piece at) (if is_taken turned (value s.locals s.numbers t) then label_of piece at label else end_of piece at) (Mark ∷ [])
+        Leads at x (begin_of piece at) (if is_taken turned (value s.locals s.numbers t) then label_of piece at label else end_of piece at) (Mark ∷ [])
         (IsTested x)
     tests at c s x are may =
         let b : ℕ = begin_of piece at in
@@ -80,5 +80,5 @@ is_test h t turned label code other test piece short none sel turns choice = rec
         weaker at.linking.setting (way x b (to (is_taken turned (value s.locals s.numbers t))) (words_in piece at)) (Mark ∷ [])
         (λ z. z ≡ end.registers) (IsTested x)
         (λ z f. subst (λ (v : List ℕ). IsTested x v) (sym f) (record { are = end.are; unchanged = end.unchanged }))
-        (subst (λ (p : Bool). Leads piece at x b (to p) (Mark ∷ []) (λ z. z ≡ end.registers)) taken
+        (subst (λ (p : Bool). Leads at x b (to p) (Mark ∷ []) (λ z. z ≡ end.registers)) taken
         (c.chooses x end.registers (record { run = end.leads; short = end.short })))

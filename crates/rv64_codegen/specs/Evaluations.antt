@@ -3,11 +3,11 @@ use Rattle.std.specs.Prelude.{◌≡◌, ℕ, ◌+◌, ◌*◌, ◌<◌, ◌≤�
 use Rattle.std.specs.Prelude.{◌==◌, ◌||◌}
 use Rattle.std.specs.Prelude.{if◌then◌else◌}
 use Rattle.std.specs.List.{AllByRecursion}
+use Rattle.ido_base.specs.declared.limits.TheConstants.{MOST_TEMPORARIES}
 use Rattle.ido_ints.specs.Operators.{is_zero}
 use Rattle.ido_ints.specs.Typed.{Typed, converted}
 use Rattle.c_tree.specs.Exprs as e
 use Rattle.c_tree.specs.Prices.{need_of, nodes_of}
-use Rattle.c_tree.specs.Temporaries.{most_temporaries}
 use Rattle.c_tree.specs.Values.{value, element_at}
 use Rattle.c_tree.specs.WellFormed.{IsDeclared, IndexFits}
 use Rattle.rv64_isa.specs.declared.object.CodeItem.{CodeItem}
@@ -29,17 +29,17 @@ use Rattle.node_code.specs.Pieces.{IsClosed, Leads, marks_in, resumes_in}
 
 -- the expressions need few enough
 abbrev pub NeedFew : List e.Placed → Type 0
-NeedFew xs = AllByRecursion (λ (y : e.Placed). need_of y.expr ≤ most_temporaries) xs
+NeedFew xs = AllByRecursion (λ (y : e.Placed). need_of y.expr ≤ MOST_TEMPORARIES) xs
 
 -- it needs more than there are
 abbrev pub is_needy : e.Placed → Bool
-is_needy x = nat_lt most_temporaries (need_of x.expr)
+is_needy x = nat_lt MOST_TEMPORARIES (need_of x.expr)
 
 -- where it is said so one of them needs too many, and the first one is named; want of memory may come at any time
 pub record NeedsTooMany (xs : List e.Placed) : Type 0 where
   pub one : e.Placed
   pub among : Contains xs one
-  pub needs : most_temporaries < need_of one.expr
+  pub needs : MOST_TEMPORARIES < need_of one.expr
   pub first : find is_needy xs ≡ Some one
 
 abbrev pub IsRefused : List e.Placed → SelectError → Type 0
@@ -96,7 +96,7 @@ pub record IsAssigned (h : Homes) (s : Source) (target : e.Target) (t : e.Expr) 
 -- the mark, and the evaluation; its loads are those of elements that the index and the value read
 pub record Evaluates (h : Homes) (target : e.Target) (t : e.Expr) (piece : List CodeItem) (at : Site piece) : Type 0 where
   pub evaluates : (s : Source) (x : List ℕ) → AreRegisters x → MayReach h s at.linking.setting.around x target → MayEvaluate h s at.linking.setting.around x t →
-      Leads piece at x (begin_of piece at) (end_of piece at) (Mark ∷ []) (IsAssigned h s target t x)
+      Leads at x (begin_of piece at) (end_of piece at) (Mark ∷ []) (IsAssigned h s target t x)
   pub marks : marks_in piece at ≡ begin_of piece at ∷ []
   pub resumes : resumes_in piece at ≡ []
 
@@ -120,7 +120,7 @@ is_taken turned v = if turned then is_zero v.number else not (is_zero v.number)
 -- the mark, and the test: to the label where the condition isn't 0 or, turned round, where it is, else to the piece's end
 pub record Tests (h : Homes) (t : e.Expr) (turned : Bool) (label : ℕ) (piece : List CodeItem) (at : Site piece) : Type 0 where
   pub tests : (s : Source) (x : List ℕ) → AreRegisters x → MayEvaluate h s at.linking.setting.around x t →
-      Leads piece at x (begin_of piece at) (if is_taken turned (value s.locals s.numbers t) then label_of piece at label else end_of piece at) (Mark ∷ [])
+      Leads at x (begin_of piece at) (if is_taken turned (value s.locals s.numbers t) then label_of piece at label else end_of piece at) (Mark ∷ [])
       (IsTested x)
   pub marks : marks_in piece at ≡ begin_of piece at ∷ []
   pub resumes : resumes_in piece at ≡ []

@@ -15,7 +15,7 @@ use crate::tests_of_conditions::push_test;
 use crate::thread::ThreadPlan;
 use c_tree::expr::{Placed, Target};
 use flow_graph::graph::Action;
-use ido_base::memory::Memory;
+use ido_base::memory::OutOfMemory;
 use ido_ints::Kind;
 use node_code::{push_end, push_jump, push_lock, push_store, push_unlock};
 use rv64_isa::object::CodeItem;
@@ -34,7 +34,7 @@ fn push_way(
     thread: &ThreadPlan,
     node: usize,
     next: usize,
-) -> Result<(), Memory>
+) -> Result<(), OutOfMemory>
     requires { IsOwn thread.now next }
     ensures { OnOk result (Appends items.old.items items.new.items (Goes thread.now node next)) }
 {
@@ -150,7 +150,7 @@ fn push_making(
     variable: u32,
     kind: Kind,
     next: usize,
-) -> Result<(), Memory>
+) -> Result<(), OutOfMemory>
     requires { IsAt thread.now node (Store variable kind next) }
     ensures { OnOk result (Appends items.old.items items.new.items (Does thread.now node (Store variable kind next))) }
 {
@@ -166,7 +166,7 @@ fn push_taking(
     node: usize,
     mutex: u32,
     next: usize,
-) -> Result<(), Memory>
+) -> Result<(), OutOfMemory>
     requires { IsAt thread.now node (Lock mutex next) }
     ensures { OnOk result (Appends items.old.items items.new.items (Does thread.now node (Lock mutex next))) }
 {
@@ -183,7 +183,7 @@ fn push_giving(
     node: usize,
     mutex: u32,
     next: usize,
-) -> Result<(), Memory>
+) -> Result<(), OutOfMemory>
     requires { IsAt thread.now node (Unlock mutex next) }
     ensures { OnOk result (Appends items.old.items items.new.items (Does thread.now node (Unlock mutex next))) }
 {
@@ -193,7 +193,11 @@ fn push_giving(
 }
 
 /// The thread ends.
-fn push_ending(items: &mut Vec<CodeItem>, thread: &ThreadPlan, node: usize) -> Result<(), Memory>
+fn push_ending(
+    items: &mut Vec<CodeItem>,
+    thread: &ThreadPlan,
+    node: usize,
+) -> Result<(), OutOfMemory>
     requires { IsAt thread.now node End }
     ensures { OnOk result (Appends items.old.items items.new.items (Does thread.now node End)) }
 {
@@ -201,7 +205,7 @@ fn push_ending(items: &mut Vec<CodeItem>, thread: &ThreadPlan, node: usize) -> R
 }
 
 /// The answer, where only want of memory can be the reason.
-fn answer(done: Result<(), Memory>) -> Result<(), EmitError>
+fn answer(done: Result<(), OutOfMemory>) -> Result<(), EmitError>
     ensures { result ≡ emit_result done }
 {
     match done {

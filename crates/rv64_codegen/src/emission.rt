@@ -1,5 +1,6 @@
 //! The code of all threads.
 ghost use Rattle.std.specs.Prelude.{◌≡◌, ◌<◌, ◌≤◌, ◌++◌, ◌∷◌, [], ℕ, length, map, sum_by, All, IfOk, IfErr, OnOk, MatchResult};
+ghost use Rattle.ido_base.specs.declared.limits.TheConstants.{MOST_THREADS, MOST_CODE_WORDS};
 ghost use Rattle.rv64_isa.specs.declared.object.CodeItem.TheVariants.{Here};
 ghost use Rattle.rv64_link.specs.LabelledCode.{most_words_of};
 ghost use Rattle.rv64_link.specs.links.Threads.{items_in};
@@ -20,7 +21,7 @@ use crate::registers::{live_lists, registers};
 use crate::shapes::shapes;
 use crate::thread::ThreadPlan;
 use expr_code::Frame;
-use ido_base::memory::Memory;
+use ido_base::memory::OutOfMemory;
 use region_cutter::cleaned_later;
 use rv64_isa::field::Register;
 use rv64_isa::object::{Code, CodeItem, Label};
@@ -28,7 +29,7 @@ use std::alloc::Global;
 use variable_layout::{addresses, initial_bytes};
 
 /// Appends a label.
-fn push_label(items: &mut Vec<CodeItem>, label: Label) -> Result<(), Memory>
+fn push_label(items: &mut Vec<CodeItem>, label: Label) -> Result<(), OutOfMemory>
     ensures { OnOk result (items.new.items ≡ items.old.items ++ Here label ∷ []) }
 {
     let item = CodeItem::Here(label);
@@ -165,7 +166,7 @@ fn emit_threads(
 }
 
 /// Of each node whether a later store cleans the line that it stores into.
-fn cleaned(alloc: Global, plan: &Plan) -> Result<Vec<bool>, Memory>
+fn cleaned(alloc: Global, plan: &Plan) -> Result<Vec<bool>, OutOfMemory>
     requires { IsPlan (plan_of plan.now) }
     ensures { IfOk result (λ r. AreCleaned (plan_of plan.now) r.items) }
 {
@@ -177,8 +178,8 @@ fn cleaned(alloc: Global, plan: &Plan) -> Result<Vec<bool>, Memory>
 pub fn emit(alloc: Global, plan: &Plan) -> Result<Code, EmitError>
     requires { IsPlan (plan_of plan.now) }
     ensures code { IfOk result (λ code. IsCode (plan_of plan.now) (map items_in code.threads.items)) }
-    ensures threads { IfOk result (λ code. length code.threads.items ≤ 8) }
-    ensures few { IfOk result (λ code. All (λ items. sum_by most_words_of items.items ≤ 65536) code.threads.items) }
+    ensures threads { IfOk result (λ code. length code.threads.items ≤ MOST_THREADS) }
+    ensures few { IfOk result (λ code. All (λ items. sum_by most_words_of items.items ≤ MOST_CODE_WORDS) code.threads.items) }
     ensures initial { IfOk result (λ code. AreInitial (plan_of plan.now).flat.variables code.initial.items) }
     ensures mutexes { IfOk result (λ code. code.mutexes ≡ length (plan_of plan.now).flat.mutexes) }
     ensures temporaries { IfOk result (λ _. AllNeedFew (plan_of plan.now).graph) }

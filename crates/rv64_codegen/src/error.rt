@@ -3,7 +3,7 @@ ghost use Rattle.std.specs.Prelude.{◌≡◌};
 ghost use Rattle.rv64_codegen.specs.links.Errors.{IsSameError};
 
 use expr_code::SelectError;
-use ido_base::memory::Memory;
+use ido_base::memory::OutOfMemory;
 use ido_base::place::Place;
 use std::alloc::{AllocError, AllocFailed};
 use thiserror::Error;
@@ -19,12 +19,12 @@ pub enum EmitError {
     Memory,
 }
 
-impl From<Memory> for EmitError {
+impl From<OutOfMemory> for EmitError {
     ghost use Rattle.rv64_codegen.specs.declared.error.EmitError.TheVariants.{Memory as Unremembered};
 
     ghost from_gives = { λ _ e. e ≡ Unremembered };
 
-    fn from(_: Memory) -> Self {
+    fn from(_: OutOfMemory) -> Self {
         EmitError::Memory
     }
 }

@@ -1,8 +1,9 @@
 //! Evaluations.
 ghost use Rattle.std.specs.Prelude.{◌≡◌, ◌≤◌, ◌+◌, MatchResult};
+ghost use Rattle.ido_base.specs.declared.limits.TheConstants.{MOST_PRICE};
 ghost use Rattle.c_tree.specs.Exprs.{expr_of, placed_of, target_of};
 ghost use Rattle.c_tree.specs.Prices.{nodes_of, node_price};
-ghost use Rattle.c_tree.specs.Temporaries.{most_price, assign_exprs};
+ghost use Rattle.c_tree.specs.Temporaries.{assign_exprs};
 ghost use Rattle.expr_code.specs.Evaluating.{AreAtHome, homes_of};
 ghost use Rattle.node_code.specs.Pieces.{Appends};
 ghost use Rattle.rv64_codegen.specs.Evaluations.{IsRefused, NeedFew, IsAtHome, IsEvaluation, target_nodes};
@@ -25,7 +26,7 @@ fn target_code(
 ) -> Result<Vec<Instr>, SelectError>
     requires target { IsAtHome (homes_of frame.now) (target_of target.now) }
     requires home { AreAtHome (homes_of frame.now) (expr_of value.now.expr) }
-    requires price { node_price (target_nodes (target_of target.now) + nodes_of (expr_of value.now.expr)) ≤ most_price }
+    requires price { node_price (target_nodes (target_of target.now) + nodes_of (expr_of value.now.expr)) ≤ MOST_PRICE }
     ensures { MatchResult result
         (λ code. IsSelected (homes_of frame.now) (target_of target.now) (placed_of value.now) code.items)
         (λ error. IsRefused (assign_exprs (target_of target.now) (placed_of value.now)) error) }
@@ -71,7 +72,7 @@ pub fn push_evaluation(
 ) -> Result<(), SelectError>
     requires target { IsAtHome (homes_of frame.now) (target_of target.now) }
     requires home { AreAtHome (homes_of frame.now) (expr_of value.now.expr) }
-    requires price { node_price (target_nodes (target_of target.now) + nodes_of (expr_of value.now.expr)) ≤ most_price }
+    requires price { node_price (target_nodes (target_of target.now) + nodes_of (expr_of value.now.expr)) ≤ MOST_PRICE }
     ensures { MatchResult result
         (λ _. NeedFew (assign_exprs (target_of target.now) (placed_of value.now)) ×
         Appends items.old.items items.new.items (IsEvaluation (homes_of frame.now) (target_of target.now) (expr_of value.now.expr)))

@@ -8,7 +8,7 @@ ghost use Rattle.rv64_codegen.specs.links.Threads.{IsOwn, Guards, gives};
 use crate::plan::Plan;
 use crate::thread::ThreadPlan;
 use flow_graph::graph::{Action, Node};
-use ido_base::memory::Memory;
+use ido_base::memory::OutOfMemory;
 use node_code::push_boundary;
 use rv64_isa::object::CodeItem;
 use std::alloc::Global;
@@ -38,7 +38,7 @@ pub(crate) fn push_guard(
     items: &mut Vec<CodeItem>,
     thread: &ThreadPlan,
     node: usize,
-) -> Result<(), Memory>
+) -> Result<(), OutOfMemory>
     requires { IsOwn thread.now node }
     ensures { OnOk result (Appends items.old.items items.new.items (Guards thread.now node)) }
 {

@@ -8,14 +8,15 @@ ghost use Rattle.rv64_codegen.specs.links.Live.{HasLive, AreLiveLocals, AreLiveR
 use crate::plan::Plan;
 use flow_graph::graph::{Action, Node, Part};
 use flow_graph::live_sets::LiveSets;
-use ido_base::memory::Memory;
+use ido_base::limits::LOCAL_REGISTERS;
+use ido_base::memory::OutOfMemory;
 use log_layout::roles::LOCALS;
 use rv64_isa::field::Register;
 use std::alloc::Global;
 
 /// The register of locals with this number among them.
 fn local_register(number: usize) -> Register
-    requires { number < 18 }
+    requires { number < LOCAL_REGISTERS }
     ensures is { result ≡ slice_index local_numbers number }
     ensures local { is_local result ≡ true }
 {
@@ -23,8 +24,8 @@ fn local_register(number: usize) -> Register
 }
 
 /// The registers of a thread's locals, of which these are the numbers among the registers of locals.
-pub(crate) fn registers(alloc: Global, colours: &[u8]) -> Result<Vec<Register>, Memory>
-    requires { (colour : ℕ) → Contains colours.now colour → colour < 18 }
+pub(crate) fn registers(alloc: Global, colours: &[u8]) -> Result<Vec<Register>, OutOfMemory>
+    requires { (colour : ℕ) → Contains colours.now colour → colour < LOCAL_REGISTERS }
     ensures { IfOk result (λ r. r.items ≡ map (λ (colour : ℕ). slice_index local_numbers colour) colours.now) }
 {
     let mut registers = Vec::new(alloc);
@@ -57,11 +58,11 @@ fn live_locals(
     registers: &[Register],
     live: &LiveSets,
     node: usize,
-) -> Result<Vec<Register>, Memory>
-    ensures { IfOk result (λ r. AreLiveLocals registers.now live.now node 18 r.items) }
+) -> Result<Vec<Register>, OutOfMemory>
+    ensures { IfOk result (λ r. AreLiveLocals registers.now live.now node LOCAL_REGISTERS r.items) }
 {
     let mut found = Vec::new(alloc);
-    for number in 0..18 {
+    for number in 0..LOCAL_REGISTERS {
         let register = local_register(number);
         if is_live_register(registers, live, node, register) {
             found.push(register)?;
@@ -81,7 +82,7 @@ fn is_store(node: &Node) -> bool
 }
 
 /// Before a store those of what it stores are live too.
-fn with_pending(mut found: Vec<Register>, is_store: bool) -> Result<Vec<Register>, Memory>
+fn with_pending(mut found: Vec<Register>, is_store: bool) -> Result<Vec<Register>, OutOfMemory>
     ensures { IfOk result (λ r. AreWithPending found.items is_store r.items) }
 {
     if is_store {
@@ -97,7 +98,7 @@ fn live_registers(
     plan: &Plan,
     registers: &[Register],
     node: usize,
-) -> Result<Vec<Register>, Memory>
+) -> Result<Vec<Register>, OutOfMemory>
     requires { node < length plan.now.graph.now.nodes.items }
     ensures { IfOk result (λ r. AreLiveRegisters (graph_of plan.now.graph.now) registers.now plan.now.live.now node r.items) }
 {
@@ -111,7 +112,7 @@ pub(crate) fn live_lists(
     plan: &Plan,
     registers: &[Register],
     part: Part,
-) -> Result<Vec<Vec<Register>>, Memory>
+) -> Result<Vec<Vec<Register>>, OutOfMemory>
     requires order { part.first ≤ part.end }
     requires end { part.end ≤ length plan.now.graph.now.nodes.items }
     ensures { IfOk result (λ r. AreLists (graph_of plan.now.graph.now) registers.now plan.now.live.now part.first part.end r.items) }

@@ -5,7 +5,7 @@ ghost use Rattle.c_tree.specs.WellFormed.{shape_of};
 
 use c_tree::program::Variable;
 use ido_base::location::Shape;
-use ido_base::memory::Memory;
+use ido_base::memory::OutOfMemory;
 use std::alloc::Global;
 
 /// How a variable stands in memory: one that is no array has one element.
@@ -19,7 +19,7 @@ fn shape(variable: &Variable) -> Shape
 }
 
 /// The shapes of variables, in order of declaration.
-pub(crate) fn shapes(alloc: Global, variables: &[Variable]) -> Result<Vec<Shape>, Memory>
+pub(crate) fn shapes(alloc: Global, variables: &[Variable]) -> Result<Vec<Shape>, OutOfMemory>
     ensures { IfOk result (λ r. r.items ≡ map shape_of (map variable_of variables.now)) }
 {
     let mut shapes = Vec::new(alloc);

@@ -1,9 +1,10 @@
 //! Code that evaluates what is assigned.
 ghost use Rattle.std.specs.Prelude.{◌≡◌, ◌<◌, ◌≤◌, ◌+◌, ◌++◌, [], ◌∷◌, length, slice_index, IfOk, MatchResult, true};
+ghost use Rattle.ido_base.specs.declared.limits.TheConstants.{MOST_PRICE};
 ghost use Rattle.log_layout.specs.Roles.{is_local};
 ghost use Rattle.c_tree.specs.Exprs.{expr_of, placed_of, ToLocal, ToVariable, ToElement};
 ghost use Rattle.c_tree.specs.Prices.{nodes_of, node_price};
-ghost use Rattle.c_tree.specs.Temporaries.{most_price, assign_exprs};
+ghost use Rattle.c_tree.specs.Temporaries.{assign_exprs};
 ghost use Rattle.expr_code.specs.Evaluating.{AreAtHome, homes_of};
 ghost use Rattle.rv64_codegen.specs.Evaluations.{IsRefused};
 ghost use Rattle.rv64_codegen.specs.links.Targets.{IsSelected};
@@ -12,7 +13,7 @@ use c_tree::expr::Placed;
 use expr_code::{
     Frame, SelectError, select_converted, select_element_address, select_variable_address,
 };
-use ido_base::memory::Memory;
+use ido_base::memory::OutOfMemory;
 use ido_base::place::Place;
 use ido_ints::Kind;
 use rv64_isa::field::Register;
@@ -34,7 +35,7 @@ pub(crate) struct Assigned {
 }
 
 /// Code behind code.
-fn joined(mut first: Vec<Instr>, second: &[Instr]) -> Result<Vec<Instr>, Memory>
+fn joined(mut first: Vec<Instr>, second: &[Instr]) -> Result<Vec<Instr>, OutOfMemory>
     ensures { IfOk result (λ code. code.items ≡ first.items ++ second.now) }
 {
     first.extend_from_slice(second)?;
@@ -52,7 +53,7 @@ pub(crate) fn local_code(
     requires local { local < length frame.now.registers.now }
     requires register { is_local (slice_index frame.now.registers.now local) ≡ true }
     requires home { AreAtHome (homes_of frame.now) (expr_of value.now.expr) }
-    requires price { node_price (nodes_of (expr_of value.now.expr)) ≤ most_price }
+    requires price { node_price (nodes_of (expr_of value.now.expr)) ≤ MOST_PRICE }
     ensures { MatchResult result
         (λ code. IsSelected (homes_of frame.now) (ToLocal local kind) (placed_of value.now) code.items)
         (λ error. IsRefused (assign_exprs (ToLocal local kind) (placed_of value.now)) error) }
@@ -69,7 +70,7 @@ pub(crate) fn variable_code(
 ) -> Result<Vec<Instr>, SelectError>
     requires variable { assigned.variable < length frame.now.addresses.now }
     requires home { AreAtHome (homes_of frame.now) (expr_of value.now.expr) }
-    requires price { node_price (nodes_of (expr_of value.now.expr)) ≤ most_price }
+    requires price { node_price (nodes_of (expr_of value.now.expr)) ≤ MOST_PRICE }
     ensures { MatchResult result
         (λ code. IsSelected (homes_of frame.now) (ToVariable assigned.place assigned.variable assigned.kind) (placed_of value.now) code.items)
         (λ error. IsRefused (assign_exprs (ToVariable assigned.place assigned.variable assigned.kind) (placed_of value.now)) error) }
@@ -99,7 +100,7 @@ pub(crate) fn element_code(
     requires variable { assigned.variable < length frame.now.addresses.now }
     requires index { AreAtHome (homes_of frame.now) (expr_of index.now.expr) }
     requires home { AreAtHome (homes_of frame.now) (expr_of value.now.expr) }
-    requires price { node_price (nodes_of (expr_of index.now.expr) + nodes_of (expr_of value.now.expr)) ≤ most_price }
+    requires price { node_price (nodes_of (expr_of index.now.expr) + nodes_of (expr_of value.now.expr)) ≤ MOST_PRICE }
     ensures { MatchResult result
         (λ code. IsSelected (homes_of frame.now) (ToElement assigned.place assigned.variable assigned.kind (placed_of index.now))
         (placed_of value.now) code.items)

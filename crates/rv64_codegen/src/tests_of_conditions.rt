@@ -1,8 +1,8 @@
 //! Tests.
 ghost use Rattle.std.specs.Prelude.{◌≡◌, ◌≤◌, [], ◌∷◌, MatchResult};
+ghost use Rattle.ido_base.specs.declared.limits.TheConstants.{MOST_PRICE};
 ghost use Rattle.c_tree.specs.Exprs.{expr_of, placed_of};
 ghost use Rattle.c_tree.specs.Prices.{nodes_of, node_price};
-ghost use Rattle.c_tree.specs.Temporaries.{most_price};
 ghost use Rattle.expr_code.specs.Evaluating.{AreAtHome, homes_of};
 ghost use Rattle.node_code.specs.Pieces.{Appends};
 ghost use Rattle.rv64_codegen.specs.Evaluations.{IsRefused, NeedFew, IsTest};
@@ -33,7 +33,7 @@ pub fn push_test(
     to: Label,
 ) -> Result<(), SelectError>
     requires home { AreAtHome (homes_of frame.now) (expr_of condition.now.expr) }
-    requires price { node_price (nodes_of (expr_of condition.now.expr)) ≤ most_price }
+    requires price { node_price (nodes_of (expr_of condition.now.expr)) ≤ MOST_PRICE }
     ensures { MatchResult result
         (λ _. NeedFew (placed_of condition.now ∷ []) ×
         Appends items.old.items items.new.items (IsTest (homes_of frame.now) (expr_of condition.now.expr) is_turned to.0))

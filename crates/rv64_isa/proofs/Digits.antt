@@ -32,7 +32,14 @@ pub format_r-below : (o d f a b s : ℕ) → AreFields o d f a b s → format_r 
 format_r-below o d f a b s h = omega arith
 
 pub are_fields-bits : (w : ℕ) → w < 2 ^ 32 → AreFields (bits_of w 0 7) (bits_of w 7 5) (bits_of w 12 3) (bits_of w 15 5) (bits_of w 20 5) (bits_of w 25 7)
-are_fields-bits w h = record { opcode_fits = omega arith; rd_fits = omega arith; funct3_fits = omega arith; rs1_fits = omega arith; rs2_fits = omega arith; funct7_fits = omega arith }
+are_fields-bits w h = record {
+  opcode_fits = omega arith;
+  rd_fits = omega arith;
+  funct3_fits = omega arith;
+  rs1_fits = omega arith;
+  rs2_fits = omega arith;
+  funct7_fits = omega arith;
+}
 
 pub format_r-bits : (w : ℕ) → w < 2 ^ 32 → format_r (bits_of w 0 7) (bits_of w 12 3) (bits_of w 25 7) (bits_of w 7 5) (bits_of w 15 5) (bits_of w 20 5) ≡ w
 format_r-bits w h = omega arith

@@ -1,5 +1,6 @@
 -- What a step touches, effect by effect.
-use Rattle.std.proofs.Common.{◌≡◌, ◌≢◌, ◌⊎◌, inl, inr, ℕ, zero, suc, ◌+◌, ◌-◌, ◌*◌, ◌/◌, ◌%◌, ◌<◌, ◌≤◌, List, [], ◌∷◌, ◌++◌, length, map, replicate, refl, ap, arith, sym, ◌∙◌, subst, set, cond, Bool, true, false, Option, Some, None, take, drop}
+use Rattle.std.proofs.Common.{◌≡◌, ◌≢◌, ◌⊎◌, inl, inr, ℕ, zero, suc, ◌+◌, ◌-◌, ◌*◌, ◌/◌, ◌%◌, ◌<◌, ◌≤◌, List, [], ◌∷◌, ◌++◌, length, map}
+use Rattle.std.proofs.Common.{replicate, refl, ap, arith, sym, ◌∙◌, subst, set, cond, Bool, true, false, Option, Some, None, take, drop}
 use Rattle.std.specs.Prelude.{slice_get, nat_lt, nat_le, ◌==◌, ◌&&◌, ◌||◌, not}
 use Rattle.std.proofs.lemmas.Bool.{cases_lt, cases_eq, cond_both, and_parts, ltb-true, eqb-true, ltb-false, leb-true, or_cases}
 use Rattle.std.proofs.Math.ListN.{length-set, length-append}
@@ -11,14 +12,17 @@ use Rattle.ido_base.specs.Words.{Word, Entry, entry_of, stored, drained, evicted
 use Rattle.ido_base.specs.Locks.{is_held_by, least_held, missing_from}
 use Rattle.ido_base.specs.Layout.{in_range, aligned, byte_number, word_count, initial_words, words_of_bytes, variables_base, logs_base}
 use Rattle.ido_base.specs.Growth.{AreChanged, AreRaised, IsEntry, AreEntries}
-use Rattle.ido_base.proofs.Growth.{changed_refl, changed_by_raised, stores_change, evictions_raise, write_backs_raise, entries_stay, entries_append, clean_entry, are_raised_refl}
+use Rattle.ido_base.proofs.Growth.{changed_refl, changed_by_raised, stores_change, evictions_raise}
+use Rattle.ido_base.proofs.Growth.{write_backs_raise, entries_stay, entries_append, clean_entry, are_raised_refl}
 use Rattle.rv64_isa.specs.declared.object.Slot.{Slot}
 use Rattle.rv64_isa.specs.declared.object.Slot.TheVariants.{Row, NoRow}
 use Rattle.rv64_isa.specs.declared.phase.Phase.{Phase}
 use Rattle.rv64_isa.specs.declared.phase.Phase.TheVariants.{Take, Wait, Resume, Run, Done, Ended}
 use Rattle.rv64_isa.specs.Rows.{Effect, GoesOn, Loads, Stores, Cleans, Fences, Calls, row, read, next}
 use Rattle.rv64_isa.specs.Programs.{fetched}
-use Rattle.rv64_isa.specs.Machine.{Hart, World, Outcome, moved, with_hart, with_holder, drain_one, access, cleaned, fenced, acquired, released, ended, called, applied, executed, hart_step, taken, waited, taking_from, record_of, over_after, done_if_over, run_step, phase_step, stepped, happens, after_event, durable_point, phase_after_crash, start_of, after_crash_of, fresh_hart, numbers_from}
+use Rattle.rv64_isa.specs.Machine.{Hart, World, Outcome, moved, with_hart, with_holder, drain_one, access, cleaned, fenced, acquired, released, ended, called}
+use Rattle.rv64_isa.specs.Machine.{applied, executed, hart_step, taken, waited, taking_from, record_of, over_after, done_if_over, run_step, phase_step}
+use Rattle.rv64_isa.specs.Machine.{stepped, happens, after_event, durable_point, phase_after_crash, start_of, after_crash_of, fresh_hart, numbers_from}
 use Rattle.rv64_isa.specs.Frames.{IsHeldOn, Stays, Takes, Gives, Touches, IsSound, StepsTouch, EvictionsTouch, QueuesStand, StartsStand, CrashesStand}
 
 -- ---- Lists
@@ -52,14 +56,17 @@ set_none (z ∷ zs) (suc i) x e = ap (λ ys. z ∷ ys) (set_none zs i x e)
 line_inside : (harts address : ℕ) → in_range harts address 1 ≡ true → 8 * (byte_number address / 64) + 8 ≤ word_count harts
 line_inside harts address inside = by_half (nat_lt address logs_base) refl (or_cases _ _ inside)
   where
-    in_variables : (nat_le variables_base address && nat_le (address + 1) (variables_base + 65536)) ≡ true → (variables_base ≤ address) × (address + 1 ≤ variables_base + 65536)
+    in_variables : (nat_le variables_base address && nat_le (address + 1) (variables_base + 65536)) ≡ true →
+        (variables_base ≤ address) × (address + 1 ≤ variables_base + 65536)
     in_variables e = let h = and_parts _ _ e in (leb-true _ _ h.0, leb-true _ _ h.1)
 
-    in_logs : (nat_le logs_base address && nat_le (address + 1) (logs_base + 1024 * harts)) ≡ true → (logs_base ≤ address) × (address + 1 ≤ logs_base + 1024 * harts)
+    in_logs : (nat_le logs_base address && nat_le (address + 1) (logs_base + 1024 * harts)) ≡ true →
+        (logs_base ≤ address) × (address + 1 ≤ logs_base + 1024 * harts)
     in_logs e = let h = and_parts _ _ e in (leb-true _ _ h.0, leb-true _ _ h.1)
 
     by_half : (b : Bool) → nat_lt address logs_base ≡ b
-        → ((nat_le variables_base address && nat_le (address + 1) (variables_base + 65536)) ≡ true) ⊎ ((nat_le logs_base address && nat_le (address + 1) (logs_base + 1024 * harts)) ≡ true)
+        → ((nat_le variables_base address && nat_le (address + 1) (variables_base + 65536)) ≡ true)
+        ⊎ ((nat_le logs_base address && nat_le (address + 1) (logs_base + 1024 * harts)) ≡ true)
         → 8 * (byte_number address / 64) + 8 ≤ word_count harts
     by_half true e (inl h) =
         let r = in_variables h in
@@ -78,7 +85,8 @@ pub record Goes (h : ℕ) (old new : World) : Type 0 where
   pub touches : Touches h old new
   pub own : (hart : Hart) → slice_get new.harts h ≡ Some hart → AreEntries new.words hart.queue
 
-module _ (h : ℕ) (w : World) (hart : Hart) (here : slice_get w.harts h ≡ Some hart) (queued : AreEntries w.words hart.queue) (size : length w.words ≡ word_count (length w.harts)) where
+module _ (h : ℕ) (w : World) (hart : Hart) (here : slice_get w.harts h ≡ Some hart) (queued : AreEntries w.words hart.queue)
+    (size : length w.words ≡ word_count (length w.harts)) where
   queue_of : List Word → Option Hart → Type 0
   queue_of ws None = Unit {0}
   queue_of ws (Some x) = AreEntries ws x.queue
@@ -111,7 +119,8 @@ module _ (h : ℕ) (w : World) (hart : Hart) (here : slice_get w.harts h ≡ Som
   moves after same = goes w.words after (changed_refl w.words) (subst (λ (q : List Entry). AreEntries w.words q) (sym same) queued)
 
   -- the hart and a lock
-  locks : (lock : ℕ) (holder : Option ℕ) (after : Hart) → after.queue ≡ hart.queue → IsHeldOn h (slice_get w.holders lock) (Some holder) → (old : Option ℕ) → slice_get w.holders lock ≡ Some old
+  locks : (lock : ℕ) (holder : Option ℕ) (after : Hart) → after.queue ≡ hart.queue → IsHeldOn h (slice_get w.holders lock) (Some holder) → (old : Option ℕ) →
+      slice_get w.holders lock ≡ Some old
       → Goes h w (with_hart (with_holder w lock holder) h after)
   unfolding queue_of
   locks lock holder after same changed old there = record {
@@ -127,7 +136,9 @@ module _ (h : ℕ) (w : World) (hart : Hart) (here : slice_get w.harts h ≡ Som
       words = changed_refl w.words;
       recovering = refl;
     };
-    own = λ other e. subst (λ (x : Option Hart). queue_of w.words x) (sym (get-set_same w.harts h after hart here) ∙ e) (subst (λ (q : List Entry). AreEntries w.words q) (sym same) queued);
+    own =
+        λ other e. subst (λ (x : Option Hart). queue_of w.words x) (sym (get-set_same w.harts h after hart here) ∙ e)
+        (subst (λ (q : List Entry). AreEntries w.words q) (sym same) queued);
   }
 
   -- ---- Each effect
@@ -142,7 +153,8 @@ module _ (h : ℕ) (w : World) (hart : Hart) (here : slice_get w.harts h ≡ Som
   fences [] entries = moves (record hart { pc = next hart.pc }) refl
   fences (e ∷ es) entries = drains (e ∷ es) entries
 
-  accesses : (address bytes : ℕ) (outcome : Outcome) → (in_range (length w.harts) address bytes ≡ true → Goes h w outcome.0) → Goes h w (access w address bytes outcome).0
+  accesses : (address bytes : ℕ) (outcome : Outcome) → (in_range (length w.harts) address bytes ≡ true → Goes h w outcome.0) →
+      Goes h w (access w address bytes outcome).0
   accesses address bytes outcome goes_on =
       cond_both (in_range (length w.harts) address bytes) _ _ (λ (o : Outcome). Goes h w o.0)
       (λ inside. cond_both (aligned address bytes) _ _ (λ (o : Outcome). Goes h w o.0) (λ _. goes_on inside) (λ _. stays))
@@ -182,7 +194,8 @@ module _ (h : ℕ) (w : World) (hart : Hart) (here : slice_get w.harts h ≡ Som
 
   -- the line of an address exists
   line_exists : (address : ℕ) → in_range (length w.harts) address 1 ≡ true → 8 * (byte_number address / 64) + 8 ≤ length w.words
-  line_exists address inside = let e : 8 * (byte_number address / 64) + 8 ≤ word_count (length w.harts) = line_inside (length w.harts) address inside in omega (arith, e, size)
+  line_exists address inside = let e : 8 * (byte_number address / 64) + 8 ≤ word_count (length w.harts) = line_inside (length w.harts) address inside in
+      omega (arith, e, size)
 
   pub applies : (effect : Effect) → Goes h w (applied w h hart effect).0
   applies (GoesOn registers pc) = moves (record hart { registers = registers; pc = pc }) refl
@@ -323,8 +336,10 @@ length-initial threads bytes =
     let c = length-append (words_of_bytes bytes 8192) (replicate (128 * threads) 0) in
     omega (arith, a, b, c)
 
-fresh_harts : (program : List (List Slot)) (phase : ℕ → Phase) → length (map (λ thread. fresh_hart program (phase thread) thread) (numbers_from 0 (length program))) ≡ length program
-fresh_harts program phase = length-map (numbers_from 0 (length program)) (λ thread. fresh_hart program (phase thread) thread) ∙ length-numbers 0 (length program)
+fresh_harts : (program : List (List Slot)) (phase : ℕ → Phase) →
+    length (map (λ thread. fresh_hart program (phase thread) thread) (numbers_from 0 (length program))) ≡ length program
+fresh_harts program phase =
+    length-map (numbers_from 0 (length program)) (λ thread. fresh_hart program (phase thread) thread) ∙ length-numbers 0 (length program)
 
 pub starts_stand : StartsStand
 unfolding start_of

@@ -1,7 +1,8 @@
 -- An instruction's word is read back as it.
 use Rattle.std.proofs.Common.{◌≡◌, ℕ, ◌+◌, ◌*◌, ◌/◌, ◌%◌, ◌^◌, ◌<◌, Some, refl, ap, ◌∙◌, arith}
 use Rattle.rv64_isa.specs.declared.instr.Instr.{Instr}
-use Rattle.rv64_isa.specs.declared.instr.Instr.TheVariants.{Lui, Auipc, Jal, Jalr, Branch, Load, Store, OpImmediate, ShiftImmediate, ShiftImmediateWord, Op, CboClean, Fence, Ecall}
+use Rattle.rv64_isa.specs.declared.instr.Instr.TheVariants.{Lui, Auipc, Jal, Jalr, Branch, Load, Store, OpImmediate}
+use Rattle.rv64_isa.specs.declared.instr.Instr.TheVariants.{ShiftImmediate, ShiftImmediateWord, Op, CboClean, Fence, Ecall}
 use Rattle.rv64_isa.specs.declared.instr.Condition.{Condition}
 use Rattle.rv64_isa.specs.declared.instr.Condition.TheVariants.{Beq, Bne, Blt, Bge, Bltu, Bgeu}
 use Rattle.rv64_isa.specs.declared.instr.LoadKind.{LoadKind}
@@ -13,17 +14,23 @@ use Rattle.rv64_isa.specs.declared.instr.ImmediateOperation.TheVariants.{Addi, S
 use Rattle.rv64_isa.specs.declared.instr.ShiftOperation.{ShiftOperation}
 use Rattle.rv64_isa.specs.declared.instr.ShiftOperation.TheVariants.{Slli, Srli, Srai}
 use Rattle.rv64_isa.specs.declared.instr.Operation.{Operation}
-use Rattle.rv64_isa.specs.declared.instr.Operation.TheVariants.{Add, Sub, Sll, Slt, Sltu, Xor, Srl, Sra, Or, And, Mul, Mulh, Mulhsu, Mulhu, Div, Divu, Rem, Remu, Addw, Subw, Sllw, Srlw, Sraw, Mulw, Divw, Divuw, Remw, Remuw}
-use Rattle.rv64_isa.specs.Formats.{IsInstruction, word_of, decoded, decoded_fields, bits_of, format_r, condition_funct3, load_funct3, store_funct3, immediate_opcode, immediate_funct3, immediate_of, store_immediate_of, branch_offset_of, jump_offset_of, upper_immediate_of, op_opcode, op_funct3, op_funct7}
+use Rattle.rv64_isa.specs.declared.instr.Operation.TheVariants.{Add, Sub, Sll, Slt, Sltu, Xor, Srl, Sra, Or, And, Mul, Mulh, Mulhsu, Mulhu, Div}
+use Rattle.rv64_isa.specs.declared.instr.Operation.TheVariants.{Divu, Rem, Remu, Addw, Subw, Sllw, Srlw, Sraw, Mulw, Divw, Divuw, Remw, Remuw}
+use Rattle.rv64_isa.specs.Formats.{IsInstruction, word_of, decoded, decoded_fields, bits_of, format_r, condition_funct3}
+use Rattle.rv64_isa.specs.Formats.{load_funct3, store_funct3, immediate_opcode, immediate_funct3, immediate_of, store_immediate_of}
+use Rattle.rv64_isa.specs.Formats.{branch_offset_of, jump_offset_of, upper_immediate_of, op_opcode, op_funct3, op_funct7}
 use Rattle.rv64_isa.proofs.Digits.{AreFields, format_r-opcode, format_r-rd, format_r-funct3, format_r-rs1, format_r-rs2, format_r-funct7}
 
 -- equal arguments of a function of six give equal results
-same_six : {A : Type 0} (g : ℕ → ℕ → ℕ → ℕ → ℕ → ℕ → A) (o d f a b s o' d' f' a' b' s' : ℕ) → o ≡ o' → d ≡ d' → f ≡ f' → a ≡ a' → b ≡ b' → s ≡ s' → g o d f a b s ≡ g o' d' f' a' b' s'
+same_six : {A : Type 0} (g : ℕ → ℕ → ℕ → ℕ → ℕ → ℕ → A) (o d f a b s o' d' f' a' b' s' : ℕ) → o ≡ o' → d ≡ d' → f ≡ f' → a ≡ a' → b ≡ b' → s ≡ s' →
+    g o d f a b s ≡ g o' d' f' a' b' s'
 same_six g o d f a b s o' d' f' a' b' s' p q r t u v = cc
 
 decoded-format : (o d f a b s : ℕ) → AreFields o d f a b s → decoded (format_r o f s d a b) ≡ decoded_fields o d f a b s
 unfolding decoded
-decoded-format o d f a b s h = same_six (λ o d f a b s. decoded_fields o d f a b s) _ _ _ _ _ _ o d f a b s (format_r-opcode o d f a b s h) (format_r-rd o d f a b s h) (format_r-funct3 o d f a b s h) (format_r-rs1 o d f a b s h) (format_r-rs2 o d f a b s h) (format_r-funct7 o d f a b s h)
+decoded-format o d f a b s h =
+    same_six (λ o d f a b s. decoded_fields o d f a b s) _ _ _ _ _ _ o d f a b s (format_r-opcode o d f a b s h) (format_r-rd o d f a b s h)
+    (format_r-funct3 o d f a b s h) (format_r-rs1 o d f a b s h) (format_r-rs2 o d f a b s h) (format_r-funct7 o d f a b s h)
 
 -- the word has these fields, which are read as this instruction
 read : (w o d f a b s : ℕ) (i : Instr) → AreFields o d f a b s → w ≡ format_r o f s d a b → decoded_fields o d f a b s ≡ Some i → decoded w ≡ Some i
@@ -54,7 +61,8 @@ store_fields Sh d a b s = refl
 store_fields Sw d a b s = refl
 store_fields Sd d a b s = refl
 
-immediate_fields : (o : ImmediateOperation) (d a b s : ℕ) → decoded_fields (immediate_opcode o) d (immediate_funct3 o) a b s ≡ Some (OpImmediate o d a (immediate_of b s))
+immediate_fields : (o : ImmediateOperation) (d a b s : ℕ) →
+    decoded_fields (immediate_opcode o) d (immediate_funct3 o) a b s ≡ Some (OpImmediate o d a (immediate_of b s))
 immediate_fields Addi d a b s = refl
 immediate_fields Slti d a b s = refl
 immediate_fields Sltiu d a b s = refl
@@ -119,7 +127,8 @@ upper_immediate_of-parts n = omega arith
 branch_offset_of-parts : (n : ℕ) → n % 2 ≡ 0 → branch_offset_of (n / 2 ^ 11 % 2 + 2 * (n / 2 % 2 ^ 4)) (n / 2 ^ 5 % 2 ^ 6 + 2 ^ 6 * (n / 2 ^ 12)) ≡ n
 branch_offset_of-parts n h = omega arith
 
-jump_offset_of-parts : (n : ℕ) → n % 2 ≡ 0 → jump_offset_of (n / 2 ^ 12 % 2 ^ 3) (n / 2 ^ 15 % 2 ^ 5) (n / 2 ^ 11 % 2 + 2 * (n / 2 % 2 ^ 4)) (n / 2 ^ 5 % 2 ^ 6 + 2 ^ 6 * (n / 2 ^ 20)) ≡ n
+jump_offset_of-parts : (n : ℕ) → n % 2 ≡ 0 →
+    jump_offset_of (n / 2 ^ 12 % 2 ^ 3) (n / 2 ^ 15 % 2 ^ 5) (n / 2 ^ 11 % 2 + 2 * (n / 2 % 2 ^ 4)) (n / 2 ^ 5 % 2 ^ 6 + 2 ^ 6 * (n / 2 ^ 20)) ≡ n
 jump_offset_of-parts n h = omega arith
 
 count-parts : (n : ℕ) → n % 2 ^ 5 + 2 ^ 5 * (n / 2 ^ 5) ≡ n
@@ -132,46 +141,71 @@ fits o d f a b s p q r t u v = record { opcode_fits = p; rd_fits = q; funct3_fit
 
 lui_read : (d n : ℕ) → d < 32 → n < 2 ^ 20 → decoded (word_of (Lui d n)) ≡ Some (Lui d n)
 unfolding word_of
-lui_read d n h k = read _ 0b0110111 d (n % 2 ^ 3) (n / 2 ^ 3 % 2 ^ 5) (n / 2 ^ 8 % 2 ^ 5) (n / 2 ^ 13) _ (fits _ _ _ _ _ _ (omega arith) h (omega arith) (omega arith) (omega arith) (omega arith)) (omega arith) (ap (λ m. Some (Lui d m)) (upper_immediate_of-parts n))
+lui_read d n h k =
+    read _ 0b0110111 d (n % 2 ^ 3) (n / 2 ^ 3 % 2 ^ 5) (n / 2 ^ 8 % 2 ^ 5) (n / 2 ^ 13) _
+    (fits _ _ _ _ _ _ (omega arith) h (omega arith) (omega arith) (omega arith) (omega arith)) (omega arith)
+    (ap (λ m. Some (Lui d m)) (upper_immediate_of-parts n))
 
 auipc_read : (d n : ℕ) → d < 32 → n < 2 ^ 20 → decoded (word_of (Auipc d n)) ≡ Some (Auipc d n)
 unfolding word_of
-auipc_read d n h k = read _ 0b0010111 d (n % 2 ^ 3) (n / 2 ^ 3 % 2 ^ 5) (n / 2 ^ 8 % 2 ^ 5) (n / 2 ^ 13) _ (fits _ _ _ _ _ _ (omega arith) h (omega arith) (omega arith) (omega arith) (omega arith)) (omega arith) (ap (λ m. Some (Auipc d m)) (upper_immediate_of-parts n))
+auipc_read d n h k =
+    read _ 0b0010111 d (n % 2 ^ 3) (n / 2 ^ 3 % 2 ^ 5) (n / 2 ^ 8 % 2 ^ 5) (n / 2 ^ 13) _
+    (fits _ _ _ _ _ _ (omega arith) h (omega arith) (omega arith) (omega arith) (omega arith)) (omega arith)
+    (ap (λ m. Some (Auipc d m)) (upper_immediate_of-parts n))
 
 jal_read : (d n : ℕ) → d < 32 → n < 2 ^ 21 → n % 2 ≡ 0 → decoded (word_of (Jal d n)) ≡ Some (Jal d n)
 unfolding word_of
-jal_read d n h k e = read _ 0b1101111 d (n / 2 ^ 12 % 2 ^ 3) (n / 2 ^ 15 % 2 ^ 5) (n / 2 ^ 11 % 2 + 2 * (n / 2 % 2 ^ 4)) (n / 2 ^ 5 % 2 ^ 6 + 2 ^ 6 * (n / 2 ^ 20)) _ (fits _ _ _ _ _ _ (omega arith) h (omega arith) (omega arith) (omega arith) (omega arith)) (omega arith) (ap (λ m. Some (Jal d m)) (jump_offset_of-parts n e))
+jal_read d n h k e =
+    read _ 0b1101111 d (n / 2 ^ 12 % 2 ^ 3) (n / 2 ^ 15 % 2 ^ 5) (n / 2 ^ 11 % 2 + 2 * (n / 2 % 2 ^ 4)) (n / 2 ^ 5 % 2 ^ 6 + 2 ^ 6 * (n / 2 ^ 20)) _
+    (fits _ _ _ _ _ _ (omega arith) h (omega arith) (omega arith) (omega arith) (omega arith)) (omega arith)
+    (ap (λ m. Some (Jal d m)) (jump_offset_of-parts n e))
 
 jalr_read : (d a n : ℕ) → d < 32 → a < 32 → n < 2 ^ 12 → decoded (word_of (Jalr d a n)) ≡ Some (Jalr d a n)
 unfolding word_of
-jalr_read d a n h k l = read _ 0b1100111 d 0b000 a (n % 2 ^ 5) (n / 2 ^ 5) _ (fits _ _ _ _ _ _ (omega arith) h (omega arith) k (omega arith) (omega arith)) (omega arith) (ap (λ m. Some (Jalr d a m)) (immediate_of-parts n))
+jalr_read d a n h k l =
+    read _ 0b1100111 d 0b000 a (n % 2 ^ 5) (n / 2 ^ 5) _ (fits _ _ _ _ _ _ (omega arith) h (omega arith) k (omega arith) (omega arith)) (omega arith)
+    (ap (λ m. Some (Jalr d a m)) (immediate_of-parts n))
 
 branch_read : (c : Condition) (a b n : ℕ) → a < 32 → b < 32 → n < 2 ^ 13 → n % 2 ≡ 0 → decoded (word_of (Branch c a b n)) ≡ Some (Branch c a b n)
 unfolding word_of
-branch_read c a b n h k l e = read _ 0b1100011 (n / 2 ^ 11 % 2 + 2 * (n / 2 % 2 ^ 4)) (condition_funct3 c) a b (n / 2 ^ 5 % 2 ^ 6 + 2 ^ 6 * (n / 2 ^ 12)) _ (fits _ _ _ _ _ _ (omega arith) (omega arith) (condition_funct3-below c) h k (omega arith)) (omega arith) (condition_fields c _ a b _ ∙ ap (λ m. Some (Branch c a b m)) (branch_offset_of-parts n e))
+branch_read c a b n h k l e =
+    read _ 0b1100011 (n / 2 ^ 11 % 2 + 2 * (n / 2 % 2 ^ 4)) (condition_funct3 c) a b (n / 2 ^ 5 % 2 ^ 6 + 2 ^ 6 * (n / 2 ^ 12)) _
+    (fits _ _ _ _ _ _ (omega arith) (omega arith) (condition_funct3-below c) h k (omega arith)) (omega arith)
+    (condition_fields c _ a b _ ∙ ap (λ m. Some (Branch c a b m)) (branch_offset_of-parts n e))
 
 load_read : (k : LoadKind) (d a n : ℕ) → d < 32 → a < 32 → n < 2 ^ 12 → decoded (word_of (Load k d a n)) ≡ Some (Load k d a n)
 unfolding word_of
-load_read k d a n h l m = read _ 0b0000011 d (load_funct3 k) a (n % 2 ^ 5) (n / 2 ^ 5) _ (fits _ _ _ _ _ _ (omega arith) h (load_funct3-below k) l (omega arith) (omega arith)) (omega arith) (load_fields k d a _ _ ∙ ap (λ m. Some (Load k d a m)) (immediate_of-parts n))
+load_read k d a n h l m =
+    read _ 0b0000011 d (load_funct3 k) a (n % 2 ^ 5) (n / 2 ^ 5) _ (fits _ _ _ _ _ _ (omega arith) h (load_funct3-below k) l (omega arith) (omega arith))
+    (omega arith) (load_fields k d a _ _ ∙ ap (λ m. Some (Load k d a m)) (immediate_of-parts n))
 
 store_read : (k : StoreKind) (b a n : ℕ) → b < 32 → a < 32 → n < 2 ^ 12 → decoded (word_of (Store k b a n)) ≡ Some (Store k b a n)
 unfolding word_of
-store_read k b a n h l m = read _ 0b0100011 (n % 2 ^ 5) (store_funct3 k) a b (n / 2 ^ 5) _ (fits _ _ _ _ _ _ (omega arith) (omega arith) (store_funct3-below k) l h (omega arith)) (omega arith) (store_fields k _ a b _ ∙ ap (λ m. Some (Store k b a m)) (immediate_of-parts n))
+store_read k b a n h l m =
+    read _ 0b0100011 (n % 2 ^ 5) (store_funct3 k) a b (n / 2 ^ 5) _ (fits _ _ _ _ _ _ (omega arith) (omega arith) (store_funct3-below k) l h (omega arith))
+    (omega arith) (store_fields k _ a b _ ∙ ap (λ m. Some (Store k b a m)) (immediate_of-parts n))
 
 immediate_read : (o : ImmediateOperation) (d a n : ℕ) → d < 32 → a < 32 → n < 2 ^ 12 → decoded (word_of (OpImmediate o d a n)) ≡ Some (OpImmediate o d a n)
 unfolding word_of
-immediate_read o d a n h l m = read _ (immediate_opcode o) d (immediate_funct3 o) a (n % 2 ^ 5) (n / 2 ^ 5) _ (fits _ _ _ _ _ _ ((immediate_funct3-below o).0) h ((immediate_funct3-below o).1) l (omega arith) (omega arith)) (omega arith) (immediate_fields o d a _ _ ∙ ap (λ m. Some (OpImmediate o d a m)) (immediate_of-parts n))
+immediate_read o d a n h l m =
+    read _ (immediate_opcode o) d (immediate_funct3 o) a (n % 2 ^ 5) (n / 2 ^ 5) _
+    (fits _ _ _ _ _ _ ((immediate_funct3-below o).0) h ((immediate_funct3-below o).1) l (omega arith) (omega arith)) (omega arith)
+    (immediate_fields o d a _ _ ∙ ap (λ m. Some (OpImmediate o d a m)) (immediate_of-parts n))
 
 shift_read : (o : ShiftOperation) (d a n : ℕ) → d < 32 → a < 32 → n < 64 → decoded (word_of (ShiftImmediate o d a n)) ≡ Some (ShiftImmediate o d a n)
 unfolding word_of
 shift_read Slli d a n h l m = let high : n / 2 ^ 5 / 2 ≡ 0 = omega arith in let low : n / 2 ^ 5 % 2 ≡ n / 2 ^ 5 = omega arith in
-    read _ 0b0010011 d 0b001 a (n % 2 ^ 5) (n / 2 ^ 5) _ (fits _ _ _ _ _ _ (omega arith) h (omega arith) l (omega arith) (omega arith)) (omega arith) (rw (high, low) (ap (λ m. Some (ShiftImmediate Slli d a m)) (count-parts n)))
+    read _ 0b0010011 d 0b001 a (n % 2 ^ 5) (n / 2 ^ 5) _ (fits _ _ _ _ _ _ (omega arith) h (omega arith) l (omega arith) (omega arith)) (omega arith)
+    (rw (high, low) (ap (λ m. Some (ShiftImmediate Slli d a m)) (count-parts n)))
 shift_read Srli d a n h l m = let high : n / 2 ^ 5 / 2 ≡ 0 = omega arith in let low : n / 2 ^ 5 % 2 ≡ n / 2 ^ 5 = omega arith in
-    read _ 0b0010011 d 0b101 a (n % 2 ^ 5) (n / 2 ^ 5) _ (fits _ _ _ _ _ _ (omega arith) h (omega arith) l (omega arith) (omega arith)) (omega arith) (rw (high, low) (ap (λ m. Some (ShiftImmediate Srli d a m)) (count-parts n)))
+    read _ 0b0010011 d 0b101 a (n % 2 ^ 5) (n / 2 ^ 5) _ (fits _ _ _ _ _ _ (omega arith) h (omega arith) l (omega arith) (omega arith)) (omega arith)
+    (rw (high, low) (ap (λ m. Some (ShiftImmediate Srli d a m)) (count-parts n)))
 shift_read Srai d a n h l m = let high : (n / 2 ^ 5 + 2 ^ 5) / 2 ≡ 2 ^ 4 = omega arith in let low : (n / 2 ^ 5 + 2 ^ 5) % 2 ≡ n / 2 ^ 5 = omega arith in
-    read _ 0b0010011 d 0b101 a (n % 2 ^ 5) (n / 2 ^ 5 + 2 ^ 5) _ (fits _ _ _ _ _ _ (omega arith) h (omega arith) l (omega arith) (omega arith)) (omega arith) (rw (high, low) (ap (λ m. Some (ShiftImmediate Srai d a m)) (count-parts n)))
+    read _ 0b0010011 d 0b101 a (n % 2 ^ 5) (n / 2 ^ 5 + 2 ^ 5) _ (fits _ _ _ _ _ _ (omega arith) h (omega arith) l (omega arith) (omega arith)) (omega arith)
+    (rw (high, low) (ap (λ m. Some (ShiftImmediate Srai d a m)) (count-parts n)))
 
-shift_word_read : (o : ShiftOperation) (d a n : ℕ) → d < 32 → a < 32 → n < 32 → decoded (word_of (ShiftImmediateWord o d a n)) ≡ Some (ShiftImmediateWord o d a n)
+shift_word_read : (o : ShiftOperation) (d a n : ℕ) → d < 32 → a < 32 → n < 32 →
+    decoded (word_of (ShiftImmediateWord o d a n)) ≡ Some (ShiftImmediateWord o d a n)
 unfolding word_of
 shift_word_read Slli d a n h l m = read _ 0b0011011 d 0b001 a n 0 _ (fits _ _ _ _ _ _ (omega arith) h (omega arith) l m (omega arith)) (omega arith) refl
 shift_word_read Srli d a n h l m = read _ 0b0011011 d 0b101 a n 0 _ (fits _ _ _ _ _ _ (omega arith) h (omega arith) l m (omega arith)) (omega arith) refl
@@ -179,7 +213,9 @@ shift_word_read Srai d a n h l m = read _ 0b0011011 d 0b101 a n (2 ^ 5) _ (fits 
 
 operation_read : (o : Operation) (d a b : ℕ) → d < 32 → a < 32 → b < 32 → decoded (word_of (Op o d a b)) ≡ Some (Op o d a b)
 unfolding word_of
-operation_read o d a b h k l = read _ (op_opcode o) d (op_funct3 o) a b (op_funct7 o) _ (fits _ _ _ _ _ _ ((op_funct3-below o).0) h ((op_funct3-below o).1) k l ((op_funct3-below o).2)) refl (operation_fields o d a b)
+operation_read o d a b h k l =
+    read _ (op_opcode o) d (op_funct3 o) a b (op_funct7 o) _ (fits _ _ _ _ _ _ ((op_funct3-below o).0) h ((op_funct3-below o).1) k l ((op_funct3-below o).2))
+    refl (operation_fields o d a b)
 
 clean_read : (a : ℕ) → a < 32 → decoded (word_of (CboClean a)) ≡ Some (CboClean a)
 unfolding word_of
@@ -224,6 +260,7 @@ word_of-below Fence h = omega arith
 word_of-below Ecall h = omega arith
 
 -- what the fields of a word are read as is what the word is read as
-pub decoded_at : (w o d f a b s : ℕ) → o ≡ bits_of w 0 7 → d ≡ bits_of w 7 5 → f ≡ bits_of w 12 3 → a ≡ bits_of w 15 5 → b ≡ bits_of w 20 5 → s ≡ bits_of w 25 7 → decoded_fields o d f a b s ≡ decoded w
+pub decoded_at : (w o d f a b s : ℕ) → o ≡ bits_of w 0 7 → d ≡ bits_of w 7 5 → f ≡ bits_of w 12 3 → a ≡ bits_of w 15 5 → b ≡ bits_of w 20 5 →
+    s ≡ bits_of w 25 7 → decoded_fields o d f a b s ≡ decoded w
 unfolding decoded
 decoded_at w o d f a b s p q r t u v = same_six (λ o d f a b s. decoded_fields o d f a b s) o d f a b s _ _ _ _ _ _ p q r t u v

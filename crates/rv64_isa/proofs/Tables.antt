@@ -6,7 +6,8 @@ use Rattle.rv64_isa.specs.declared.instr.LoadKind.{LoadKind}
 use Rattle.rv64_isa.specs.declared.instr.LoadKind.TheVariants.{Lb, Lh, Lw, Ld, Lbu, Lhu, Lwu}
 use Rattle.rv64_isa.specs.declared.instr.StoreKind.{StoreKind}
 use Rattle.rv64_isa.specs.declared.instr.StoreKind.TheVariants.{Sb, Sh, Sw, Sd}
-use Rattle.rv64_isa.specs.Formats.{condition_at, condition_funct3, load_at, load_funct3, store_at, store_funct3, immediate_operation_at, immediate_opcode, immediate_funct3, shift_at, shift_funct3, shift_upper, operation_at, word_operation_at, op_opcode, op_funct3, op_funct7}
+use Rattle.rv64_isa.specs.Formats.{condition_at, condition_funct3, load_at, load_funct3, store_at, store_funct3, immediate_operation_at, immediate_opcode}
+use Rattle.rv64_isa.specs.Formats.{immediate_funct3, shift_at, shift_funct3, shift_upper, operation_at, word_operation_at, op_opcode, op_funct3, op_funct7}
 
 pub condition_at-funct3 : (c : Condition) → condition_at (condition_funct3 c) ≡ Some c
 condition_at-funct3 Beq = refl

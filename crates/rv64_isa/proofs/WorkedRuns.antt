@@ -38,7 +38,8 @@ boundary : (thread mask : ℕ) → (slots cleans : List Instr) → (resume : ℕ
 unfolding move log point
 boundary thread mask slots cleans resume =
     OpImmediate Xori 3 3 256 ∷ log thread ++ Op Add 30 31 3 ∷ move 7 mask ∷ Store Sd 7 30 64 ∷ slots
-    ++ OpImmediate Addi 7 30 64 ∷ CboClean 7 ∷ cleans ++ Fence ∷ Auipc 30 0 ∷ OpImmediate Addi 30 30 (28 + resume) ∷ ShiftImmediate Srli 7 3 8 ∷ Op Add 30 30 7 ∷ point 30
+    ++ OpImmediate Addi 7 30 64 ∷ CboClean 7 ∷ cleans ++ Fence ∷ Auipc 30 0 ∷ OpImmediate Addi 30 30 (28 + resume) ∷ ShiftImmediate Srli 7 3 8 ∷
+    Op Add 30 30 7 ∷ point 30
 
 acquire : (thread lock mask : ℕ) → List Instr
 unfolding move boundary
@@ -163,17 +164,21 @@ unfolding p1 programs one_section node node_acquire node_store code_of acquire a
 words_of_code = refl
 
 run_whole : told (many p1 p1_marks 100 (Step 0) p1_start) ≡ record { x = 6; y = 0; kept = 0 ∷ 0 ∷ 0 ∷ 0 ∷ []; settled = true }
-unfolding told many make p1_start p1_marks p1 programs marks_from marks_of one_section node node_acquire node_store code_of acquire add store last_release end boundary log point move start_of initial_words happens row result_of steps_after
+unfolding told many make p1_start p1_marks p1 programs marks_from marks_of one_section node node_acquire node_store code_of acquire add store last_release end
+    boundary log point move start_of initial_words happens row result_of steps_after
 run_whole = refl
 
 -- up to the first point's store, and a crash: the point was lost
 point_lost : told (make p1 p1_marks Crash (to_point p1 p1_marks 100 0 p1_start)) ≡ record { x = 5; y = 0; kept = []; settled = true }
-unfolding told to_point make p1_start p1_marks p1 programs marks_from marks_of one_section node node_acquire node_store code_of acquire add store release last_release end boundary log point move start_of after_crash_of initial_words spread_words happens row result_of steps_after
+unfolding told to_point make p1_start p1_marks p1 programs marks_from marks_of one_section node node_acquire node_store code_of acquire add store release
+    last_release end boundary log point move start_of after_crash_of initial_words spread_words happens row result_of steps_after
 point_lost = refl
 
 -- the same, with the point's word evicted before the crash
-point_evicted : told (many p1 p1_marks 120 (Step 0) (make p1 p1_marks Crash (make p1 p1_marks (Evict 1024 1) (to_point p1 p1_marks 100 0 p1_start)))) ≡ record { x = 6; y = 0; kept = 0 ∷ 0 ∷ 0 ∷ 0 ∷ []; settled = true }
-unfolding told to_point many make p1_start p1_marks p1 programs marks_from marks_of one_section node node_acquire node_store code_of acquire add store release last_release end boundary log point move start_of after_crash_of initial_words spread_words happens row result_of steps_after
+point_evicted : told (many p1 p1_marks 120 (Step 0) (make p1 p1_marks Crash (make p1 p1_marks (Evict 1024 1) (to_point p1 p1_marks 100 0 p1_start))))
+    ≡ record { x = 6; y = 0; kept = 0 ∷ 0 ∷ 0 ∷ 0 ∷ []; settled = true }
+unfolding told to_point many make p1_start p1_marks p1 programs marks_from marks_of one_section node node_acquire node_store code_of acquire add store release
+    last_release end boundary log point move start_of after_crash_of initial_words spread_words happens row result_of steps_after
 point_evicted = refl
 
 -- up to the last point's store: x is durable, its point isn't given up
@@ -181,7 +186,8 @@ three_points : Run
 three_points = to_point p1 p1_marks 100 0 (to_point p1 p1_marks 100 0 (to_point p1 p1_marks 100 0 p1_start))
 
 store_again : told (many p1 p1_marks 120 (Step 0) (make p1 p1_marks Crash three_points)) ≡ record { x = 6; y = 0; kept = 0 ∷ 0 ∷ 0 ∷ 0 ∷ []; settled = true }
-unfolding three_points told to_point many make p1_start p1_marks p1 programs marks_from marks_of one_section node node_acquire node_store code_of acquire add store release last_release end boundary log point move start_of after_crash_of initial_words spread_words happens row result_of steps_after
+unfolding three_points told to_point many make p1_start p1_marks p1 programs marks_from marks_of one_section node node_acquire node_store code_of acquire add
+    store release last_release end boundary log point move start_of after_crash_of initial_words spread_words happens row result_of steps_after
 store_again = refl
 
 -- crashes in each phase of recovery, and behind it
@@ -191,7 +197,8 @@ crash_after zero steps r = r
 crash_after (suc count) steps r = crash_after count (steps + 1) (many p1 p1_marks steps (Step 0) (make p1 p1_marks Crash r))
 
 crashes_in_recovery : told (many p1 p1_marks 120 (Step 0) (crash_after 12 1 three_points)) ≡ record { x = 6; y = 0; kept = 0 ∷ 0 ∷ 0 ∷ 0 ∷ []; settled = true }
-unfolding crash_after three_points told to_point many make p1_start p1_marks p1 programs marks_from marks_of one_section node node_acquire node_store code_of acquire add store release last_release end boundary log point move start_of after_crash_of initial_words spread_words happens row result_of steps_after
+unfolding crash_after three_points told to_point many make p1_start p1_marks p1 programs marks_from marks_of one_section node node_acquire node_store code_of
+    acquire add store release last_release end boundary log point move start_of after_crash_of initial_words spread_words happens row result_of steps_after
 crashes_in_recovery = refl
 
 -- ---- Two harts
@@ -201,7 +208,8 @@ to_fences : List (List Slot) → List (List ℕ) → (most fences h : ℕ) → R
 unfolding make
 to_fences program marks zero fences h r = r
 to_fences program marks (suc most) zero h r = r
-to_fences program marks (suc most) (suc fences) h r = to_fences program marks most (cond (finishes_fence program r.world (Step h) h) fences (suc fences)) h (make program marks (Step h) r)
+to_fences program marks (suc most) (suc fences) h r =
+    to_fences program marks most (cond (finishes_fence program r.world (Step h) h) fences (suc fences)) h (make program marks (Step h) r)
 
 pair : List (List Slot)
 pair = programs (one_section 0 1 ∷ one_section 1 10 ∷ [])
@@ -213,7 +221,8 @@ pair_marks = marks_from 0x1_0000 (one_section 0 1 ∷ one_section 1 10 ∷ [])
 second_waits : told (many pair pair_marks 120 (Step 0) (many pair pair_marks 8 (Step 1) (make pair pair_marks Crash (many pair pair_marks 5 (Step 1)
     (to_fences pair pair_marks 100 2 0 (record { world = start_of pair 1 (5 ∷ []); steps = first_steps 2 [] }))))))
     ≡ record { x = 6; y = 0; kept = 0 ∷ 0 ∷ 0 ∷ 0 ∷ []; settled = true }
-unfolding told to_fences many make pair_marks pair programs marks_from marks_of one_section node node_acquire node_store code_of acquire add store release last_release end boundary log point move start_of after_crash_of initial_words spread_words happens row result_of steps_after
+unfolding told to_fences many make pair_marks pair programs marks_from marks_of one_section node node_acquire node_store code_of acquire add store release
+    last_release end boundary log point move start_of after_crash_of initial_words spread_words happens row result_of steps_after
 second_waits = refl
 
 -- all six fences of the section are finished and its ECALL isn't reached: the lock is still held, and a crash loses nothing
@@ -221,11 +230,13 @@ six_fences : Run
 six_fences = to_fences p1 p1_marks 100 6 0 p1_start
 
 still_held : told six_fences ≡ record { x = 6; y = 0; kept = 0 ∷ 0 ∷ 0 ∷ 0 ∷ []; settled = false }
-unfolding six_fences told to_fences make p1_start p1_marks p1 programs marks_from marks_of one_section node node_acquire node_store code_of acquire add store release last_release end boundary log point move start_of initial_words happens row result_of steps_after
+unfolding six_fences told to_fences make p1_start p1_marks p1 programs marks_from marks_of one_section node node_acquire node_store code_of acquire add store
+    release last_release end boundary log point move start_of initial_words happens row result_of steps_after
 still_held = refl
 
 released_durably : told (make p1 p1_marks Crash six_fences) ≡ record { x = 6; y = 0; kept = 0 ∷ 0 ∷ 0 ∷ 0 ∷ []; settled = true }
-unfolding six_fences told to_fences make p1_start p1_marks p1 programs marks_from marks_of one_section node node_acquire node_store code_of acquire add store release last_release end boundary log point move start_of after_crash_of initial_words spread_words happens row result_of steps_after
+unfolding six_fences told to_fences make p1_start p1_marks p1 programs marks_from marks_of one_section node node_acquire node_store code_of acquire add store
+    release last_release end boundary log point move start_of after_crash_of initial_words spread_words happens row result_of steps_after
 released_durably = refl
 
 overlap : List (List Slot)
@@ -238,22 +249,30 @@ overlap_start : Run
 overlap_start = record { world = start_of overlap 2 (1 ∷ 0 ∷ 0 ∷ 0 ∷ 0 ∷ 0 ∷ 0 ∷ 0 ∷ 2 ∷ []); steps = first_steps 2 [] }
 
 -- the first lock is given up durably, and not by its ECALL: the second hart waits for it until the crash
-given_up : told (many overlap overlap_marks 200 (Step 0) (make overlap overlap_marks Crash (many overlap overlap_marks 5 (Step 1) (to_fences overlap overlap_marks 300 8 0 overlap_start))))
+given_up : told (many overlap overlap_marks 200 (Step 0)
+    (make overlap overlap_marks Crash (many overlap overlap_marks 5 (Step 1) (to_fences overlap overlap_marks 300 8 0 overlap_start))))
     ≡ record { x = 2; y = 3; kept = 0 ∷ 0 ∷ 0 ∷ 0 ∷ 0 ∷ 0 ∷ 0 ∷ 0 ∷ []; settled = true }
-unfolding overlap_start told to_fences many make overlap_marks overlap programs marks_from marks_of one_section two_locks node node_acquire node_store code_of acquire add store release last_release end boundary log point move start_of after_crash_of initial_words spread_words happens row result_of steps_after
+unfolding overlap_start told to_fences many make overlap_marks overlap programs marks_from marks_of one_section two_locks node node_acquire node_store code_of
+    acquire add store release last_release end boundary log point move start_of after_crash_of initial_words spread_words happens row result_of steps_after
 given_up = refl
 
 -- both harts resume, after the one that is ready has waited for the other
 both_taken : Run
-both_taken = many overlap overlap_marks 3 (Step 1) (make overlap overlap_marks Crash (to_fences overlap overlap_marks 100 2 1 (to_fences overlap overlap_marks 300 9 0 overlap_start)))
+both_taken =
+    many overlap overlap_marks 3 (Step 1)
+    (make overlap overlap_marks Crash (to_fences overlap overlap_marks 100 2 1 (to_fences overlap overlap_marks 300 9 0 overlap_start)))
 
 waits_for_the_other : reply_to overlap both_taken.world (Step 1) ≡ Barrier 0
-unfolding both_taken overlap_start to_fences many make overlap_marks overlap programs marks_from marks_of one_section two_locks node node_acquire node_store code_of acquire add store release last_release end boundary log point move start_of after_crash_of initial_words spread_words happens row result_of steps_after
+unfolding both_taken overlap_start to_fences many make overlap_marks overlap programs marks_from marks_of one_section two_locks node node_acquire node_store
+    code_of acquire add store release last_release end boundary log point move start_of after_crash_of initial_words spread_words happens row
+    result_of steps_after
 waits_for_the_other = refl
 
 both_resume : told (many overlap overlap_marks 100 (Step 1) (many overlap overlap_marks 200 (Step 0) both_taken))
     ≡ record { x = 11; y = 3; kept = 0 ∷ 0 ∷ 0 ∷ 0 ∷ 0 ∷ 1 ∷ 0 ∷ 0 ∷ 0 ∷ 1 ∷ 1 ∷ 1 ∷ []; settled = true }
-unfolding told both_taken overlap_start to_fences many make overlap_marks overlap programs marks_from marks_of one_section two_locks node node_acquire node_store code_of acquire add store release last_release end boundary log point move start_of after_crash_of initial_words spread_words happens row result_of steps_after
+unfolding told both_taken overlap_start to_fences many make overlap_marks overlap programs marks_from marks_of one_section two_locks node node_acquire
+    node_store code_of acquire add store release last_release end boundary log point move start_of after_crash_of initial_words spread_words happens row
+    result_of steps_after
 both_resume = refl
 
 -- ---- A run that begins after a crash, and releases
@@ -268,9 +287,11 @@ from_words : World
 from_words = after_events p1 (after_crash_of p1 1 (spread_words 8 left_words)) (replicate 120 (Step 0))
 
 resumed_from_words : live_value (word_at from_words.words 0) ≡ 6
-unfolding from_words left_words to_point make p1_start p1_marks p1 programs marks_from marks_of one_section node node_acquire node_store code_of acquire add store release last_release end boundary log point move start_of after_crash_of initial_words spread_words happens row result_of steps_after
+unfolding from_words left_words to_point make p1_start p1_marks p1 programs marks_from marks_of one_section node node_acquire node_store code_of acquire add
+    store release last_release end boundary log point move start_of after_crash_of initial_words spread_words happens row result_of steps_after
 resumed_from_words = refl
 
 released_once : released_count p1 p1_start.world (replicate 100 (Step 0)) 0 ≡ 1
-unfolding p1_start p1 programs one_section node node_acquire node_store code_of acquire add store release last_release end boundary log point move start_of initial_words happens row result_of
+unfolding p1_start p1 programs one_section node node_acquire node_store code_of acquire add store release last_release end boundary log point move start_of
+    initial_words happens row result_of
 released_once = refl

@@ -2,9 +2,11 @@
 -- Listings"; Zicbom, "cbo.clean"), and the instruction of a word.
 use Rattle.std.specs.Prelude.{◌≡◌, ℕ, ◌+◌, ◌*◌, ◌/◌, ◌%◌, ◌^◌, ◌<◌, ◌==◌, if◌then◌else◌, Option, Some, None, option_map}
 use Rattle.rv64_isa.specs.declared.instr.Instr.{Instr}
-use Rattle.rv64_isa.specs.declared.instr.Instr.TheVariants.{Lui, Auipc, Jal, Jalr, Branch, Load, Store, OpImmediate, ShiftImmediate, ShiftImmediateWord, Op, CboClean, Fence, Ecall}
+use Rattle.rv64_isa.specs.declared.instr.Instr.TheVariants.{Lui, Auipc, Jal, Jalr, Branch, Load, Store, OpImmediate}
+use Rattle.rv64_isa.specs.declared.instr.Instr.TheVariants.{ShiftImmediate, ShiftImmediateWord, Op, CboClean, Fence, Ecall}
 use Rattle.rv64_isa.specs.declared.instr.Operation.{Operation}
-use Rattle.rv64_isa.specs.declared.instr.Operation.TheVariants.{Add, Sub, Sll, Slt, Sltu, Xor, Srl, Sra, Or, And, Mul, Mulh, Mulhsu, Mulhu, Div, Divu, Rem, Remu, Addw, Subw, Sllw, Srlw, Sraw, Mulw, Divw, Divuw, Remw, Remuw}
+use Rattle.rv64_isa.specs.declared.instr.Operation.TheVariants.{Add, Sub, Sll, Slt, Sltu, Xor, Srl, Sra, Or, And, Mul, Mulh, Mulhsu, Mulhu, Div}
+use Rattle.rv64_isa.specs.declared.instr.Operation.TheVariants.{Divu, Rem, Remu, Addw, Subw, Sllw, Srlw, Sraw, Mulw, Divw, Divuw, Remw, Remuw}
 use Rattle.rv64_isa.specs.declared.instr.ImmediateOperation.{ImmediateOperation}
 use Rattle.rv64_isa.specs.declared.instr.ImmediateOperation.TheVariants.{Addi, Slti, Sltiu, Xori, Ori, Andi, Addiw}
 use Rattle.rv64_isa.specs.declared.instr.ShiftOperation.{ShiftOperation}
@@ -51,14 +53,17 @@ format_s opcode funct3 rs1 rs2 immediate = opcode + 2 ^ 7 * (immediate % 2 ^ 5) 
 
 -- imm[11] at bit 7, imm[4:1] at 8, imm[10:5] at 25, imm[12] at 31
 abbrev pub format_b : (opcode funct3 rs1 rs2 offset : ℕ) → ℕ
-format_b opcode funct3 rs1 rs2 offset = opcode + 2 ^ 7 * (offset / 2 ^ 11 % 2) + 2 ^ 8 * (offset / 2 % 2 ^ 4) + 2 ^ 12 * funct3 + 2 ^ 15 * rs1 + 2 ^ 20 * rs2 + 2 ^ 25 * (offset / 2 ^ 5 % 2 ^ 6) + 2 ^ 31 * (offset / 2 ^ 12)
+format_b opcode funct3 rs1 rs2 offset =
+    opcode + 2 ^ 7 * (offset / 2 ^ 11 % 2) + 2 ^ 8 * (offset / 2 % 2 ^ 4) + 2 ^ 12 * funct3 + 2 ^ 15 * rs1 + 2 ^ 20 * rs2 + 2 ^ 25 * (offset / 2 ^ 5 % 2 ^ 6)
+    + 2 ^ 31 * (offset / 2 ^ 12)
 
 abbrev pub format_u : (opcode rd immediate : ℕ) → ℕ
 format_u opcode rd immediate = opcode + 2 ^ 7 * rd + 2 ^ 12 * immediate
 
 -- imm[19:12] at bit 12, imm[11] at 20, imm[10:1] at 21, imm[20] at 31
 abbrev pub format_j : (opcode rd offset : ℕ) → ℕ
-format_j opcode rd offset = opcode + 2 ^ 7 * rd + 2 ^ 12 * (offset / 2 ^ 12 % 2 ^ 8) + 2 ^ 20 * (offset / 2 ^ 11 % 2) + 2 ^ 21 * (offset / 2 % 2 ^ 10) + 2 ^ 31 * (offset / 2 ^ 20)
+format_j opcode rd offset =
+    opcode + 2 ^ 7 * rd + 2 ^ 12 * (offset / 2 ^ 12 % 2 ^ 8) + 2 ^ 20 * (offset / 2 ^ 11 % 2) + 2 ^ 21 * (offset / 2 % 2 ^ 10) + 2 ^ 31 * (offset / 2 ^ 20)
 
 abbrev pub condition_funct3 : Condition → ℕ
 condition_funct3 Beq = 0b000
@@ -225,29 +230,41 @@ abbrev pub bits_of : (word at count : ℕ) → ℕ
 bits_of word at count = word / 2 ^ at % 2 ^ count
 
 abbrev pub condition_at : (funct3 : ℕ) → Option Condition
-condition_at f = if f == 0b000 then Some Beq else if f == 0b001 then Some Bne else if f == 0b100 then Some Blt else if f == 0b101 then Some Bge else if f == 0b110 then Some Bltu else if f == 0b111 then Some Bgeu else None
+condition_at f =
+    if f == 0b000 then Some Beq else if f == 0b001 then Some Bne else if f == 0b100 then Some Blt else if f == 0b101 then Some Bge else if f == 0b110
+    then Some Bltu else if f == 0b111 then Some Bgeu else None
 
 abbrev pub load_at : (funct3 : ℕ) → Option LoadKind
-load_at f = if f == 0b000 then Some Lb else if f == 0b001 then Some Lh else if f == 0b010 then Some Lw else if f == 0b011 then Some Ld else if f == 0b100 then Some Lbu else if f == 0b101 then Some Lhu else if f == 0b110 then Some Lwu else None
+load_at f =
+    if f == 0b000 then Some Lb else if f == 0b001 then Some Lh else if f == 0b010 then Some Lw else if f == 0b011 then Some Ld else if f == 0b100 then Some Lbu
+    else if f == 0b101 then Some Lhu else if f == 0b110 then Some Lwu else None
 
 abbrev pub store_at : (funct3 : ℕ) → Option StoreKind
 store_at f = if f == 0b000 then Some Sb else if f == 0b001 then Some Sh else if f == 0b010 then Some Sw else if f == 0b011 then Some Sd else None
 
 abbrev pub immediate_operation_at : (funct3 : ℕ) → Option ImmediateOperation
-immediate_operation_at f = if f == 0b000 then Some Addi else if f == 0b010 then Some Slti else if f == 0b011 then Some Sltiu else if f == 0b100 then Some Xori else if f == 0b110 then Some Ori else if f == 0b111 then Some Andi else None
+immediate_operation_at f =
+    if f == 0b000 then Some Addi else if f == 0b010 then Some Slti else if f == 0b011 then Some Sltiu else if f == 0b100 then Some Xori else if f == 0b110
+    then Some Ori else if f == 0b111 then Some Andi else None
 
 -- by funct3 and what stands above the count
 abbrev pub shift_at : (funct3 upper : ℕ) → Option ShiftOperation
-shift_at f upper = if f == 0b001 then (if upper == 0 then Some Slli else None) else if f == 0b101 then (if upper == 0 then Some Srli else if upper == 2 ^ 10 then Some Srai else None) else None
+shift_at f upper =
+    if f == 0b001 then (if upper == 0 then Some Slli else None) else if f == 0b101
+    then (if upper == 0 then Some Srli else if upper == 2 ^ 10 then Some Srai else None) else None
 
 abbrev pub base_operation_at : (funct3 : ℕ) → Option Operation
-base_operation_at f = if f == 0b000 then Some Add else if f == 0b001 then Some Sll else if f == 0b010 then Some Slt else if f == 0b011 then Some Sltu else if f == 0b100 then Some Xor else if f == 0b101 then Some Srl else if f == 0b110 then Some Or else if f == 0b111 then Some And else None
+base_operation_at f =
+    if f == 0b000 then Some Add else if f == 0b001 then Some Sll else if f == 0b010 then Some Slt else if f == 0b011 then Some Sltu else if f == 0b100
+    then Some Xor else if f == 0b101 then Some Srl else if f == 0b110 then Some Or else if f == 0b111 then Some And else None
 
 abbrev pub alternate_operation_at : (funct3 : ℕ) → Option Operation
 alternate_operation_at f = if f == 0b000 then Some Sub else if f == 0b101 then Some Sra else None
 
 abbrev pub multiply_operation_at : (funct3 : ℕ) → Option Operation
-multiply_operation_at f = if f == 0b000 then Some Mul else if f == 0b001 then Some Mulh else if f == 0b010 then Some Mulhsu else if f == 0b011 then Some Mulhu else if f == 0b100 then Some Div else if f == 0b101 then Some Divu else if f == 0b110 then Some Rem else if f == 0b111 then Some Remu else None
+multiply_operation_at f =
+    if f == 0b000 then Some Mul else if f == 0b001 then Some Mulh else if f == 0b010 then Some Mulhsu else if f == 0b011 then Some Mulhu else if f == 0b100
+    then Some Div else if f == 0b101 then Some Divu else if f == 0b110 then Some Rem else if f == 0b111 then Some Remu else None
 
 abbrev pub base_word_operation_at : (funct3 : ℕ) → Option Operation
 base_word_operation_at f = if f == 0b000 then Some Addw else if f == 0b001 then Some Sllw else if f == 0b101 then Some Srlw else None
@@ -256,13 +273,19 @@ abbrev pub alternate_word_operation_at : (funct3 : ℕ) → Option Operation
 alternate_word_operation_at f = if f == 0b000 then Some Subw else if f == 0b101 then Some Sraw else None
 
 abbrev pub multiply_word_operation_at : (funct3 : ℕ) → Option Operation
-multiply_word_operation_at f = if f == 0b000 then Some Mulw else if f == 0b100 then Some Divw else if f == 0b101 then Some Divuw else if f == 0b110 then Some Remw else if f == 0b111 then Some Remuw else None
+multiply_word_operation_at f =
+    if f == 0b000 then Some Mulw else if f == 0b100 then Some Divw else if f == 0b101 then Some Divuw else if f == 0b110 then Some Remw else if f == 0b111
+    then Some Remuw else None
 
 abbrev pub operation_at : (funct3 funct7 : ℕ) → Option Operation
-operation_at f upper = if upper == 0b0000000 then base_operation_at f else if upper == 0b0100000 then alternate_operation_at f else if upper == 0b0000001 then multiply_operation_at f else None
+operation_at f upper =
+    if upper == 0b0000000 then base_operation_at f else if upper == 0b0100000 then alternate_operation_at f else if upper == 0b0000001
+    then multiply_operation_at f else None
 
 abbrev pub word_operation_at : (funct3 funct7 : ℕ) → Option Operation
-word_operation_at f upper = if upper == 0b0000000 then base_word_operation_at f else if upper == 0b0100000 then alternate_word_operation_at f else if upper == 0b0000001 then multiply_word_operation_at f else None
+word_operation_at f upper =
+    if upper == 0b0000000 then base_word_operation_at f else if upper == 0b0100000 then alternate_word_operation_at f else if upper == 0b0000001
+    then multiply_word_operation_at f else None
 
 -- the immediate of the format I
 abbrev pub immediate_of : (rs2 funct7 : ℕ) → ℕ
@@ -282,7 +305,8 @@ branch_offset_of rd funct7 = 2 * (rd / 2) + 2 ^ 5 * (funct7 % 2 ^ 6) + 2 ^ 11 * 
 
 -- that of the format J
 abbrev pub jump_offset_of : (funct3 rs1 rs2 funct7 : ℕ) → ℕ
-jump_offset_of funct3 rs1 rs2 funct7 = 2 * (rs2 / 2) + 2 ^ 5 * (funct7 % 2 ^ 6) + 2 ^ 11 * (rs2 % 2) + 2 ^ 12 * funct3 + 2 ^ 15 * rs1 + 2 ^ 20 * (funct7 / 2 ^ 6)
+jump_offset_of funct3 rs1 rs2 funct7 =
+    2 * (rs2 / 2) + 2 ^ 5 * (funct7 % 2 ^ 6) + 2 ^ 11 * (rs2 % 2) + 2 ^ 12 * funct3 + 2 ^ 15 * rs1 + 2 ^ 20 * (funct7 / 2 ^ 6)
 
 -- opcode 0010011: the shifts have six-bit counts
 abbrev pub immediate_at : (rd funct3 rs1 rs2 funct7 : ℕ) → Option Instr
@@ -305,7 +329,8 @@ memory_at rd funct3 rs1 rs2 funct7 = if rd == 0 then (
 
 -- opcode 1110011: ECALL as the one word
 abbrev pub system_at : (rd funct3 rs1 rs2 funct7 : ℕ) → Option Instr
-system_at rd funct3 rs1 rs2 funct7 = if rd == 0 then (if funct3 == 0b000 then (if rs1 == 0 then (if immediate_of rs2 funct7 == 0 then Some Ecall else None) else None) else None) else None
+system_at rd funct3 rs1 rs2 funct7 =
+    if rd == 0 then (if funct3 == 0b000 then (if rs1 == 0 then (if immediate_of rs2 funct7 == 0 then Some Ecall else None) else None) else None) else None
 
 abbrev pub decoded_fields : (opcode rd funct3 rs1 rs2 funct7 : ℕ) → Option Instr
 decoded_fields opcode rd funct3 rs1 rs2 funct7 =

@@ -48,7 +48,9 @@ QueuesStand = (program : List (List Slot)) (w : World) (event : Event) → lengt
 
 -- as it does at the start, and where a run begins after a crash
 abbrev pub StartsStand : Type 0
-StartsStand = (program : List (List Slot)) (locks : ℕ) (initial : List ℕ) → IsSound (start_of program locks initial) × (length (start_of program locks initial).harts ≡ length program)
+StartsStand =
+    (program : List (List Slot)) (locks : ℕ) (initial : List ℕ) →
+    IsSound (start_of program locks initial) × (length (start_of program locks initial).harts ≡ length program)
 
 abbrev pub CrashesStand : Type 0
 CrashesStand = (program : List (List Slot)) (locks : ℕ) (words : List ℕ) → length words ≡ word_count (length program) →

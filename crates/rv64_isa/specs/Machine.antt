@@ -1,5 +1,6 @@
 -- A machine of several harts over one memory: what each event does, and what it is replied.
-use Rattle.std.specs.Prelude.{ℕ, zero, suc, ◌+◌, ◌-◌, ◌*◌, ◌/◌, ◌%◌, ◌<◌, ◌≤◌, List, [], ◌∷◌, ◌++◌, map, length, slice_get, slice_set, Option, Some, None, Bool, true, false, not, nat_lt, ◌==◌, ◌&&◌, if◌then◌else◌, replicate}
+use Rattle.std.specs.Prelude.{ℕ, zero, suc, ◌+◌, ◌-◌, ◌*◌, ◌/◌, ◌%◌, ◌<◌, ◌≤◌, List, [], ◌∷◌, ◌++◌, map, length, slice_get}
+use Rattle.std.specs.Prelude.{slice_set, Option, Some, None, Bool, true, false, not, nat_lt, ◌==◌, ◌&&◌, if◌then◌else◌, replicate}
 use Rattle.ido_base.specs.declared.event.Event.{Event}
 use Rattle.ido_base.specs.declared.event.Event.TheVariants.{Step, Evict, Crash}
 use Rattle.ido_base.specs.declared.event.Reply.{Reply}
@@ -9,7 +10,8 @@ use Rattle.ido_base.specs.declared.event.Cause.TheVariants.{Illegal, Outside, Un
 use Rattle.ido_base.specs.Words.{Word, Entry, word_of, word_at, live_value, durable_value, loaded, stored, entry_of, drained, evicted}
 use Rattle.ido_base.specs.Cores.{IsValid}
 use Rattle.ido_base.specs.Locks.{is_held_by, least_held, holds_none, missing_from}
-use Rattle.ido_base.specs.Layout.{in_range, aligned, byte_number, word_number, point_at, slot_at, bank_bytes, line_bytes, line_count, initial_words, spread_words}
+use Rattle.ido_base.specs.Layout.{in_range, aligned, byte_number, word_number, point_at, slot_at}
+use Rattle.ido_base.specs.Layout.{bank_bytes, line_bytes, line_count, initial_words, spread_words}
 use Rattle.rv64_isa.specs.declared.object.Object.{Object}
 use Rattle.rv64_isa.specs.declared.object.Slot.{Slot}
 use Rattle.rv64_isa.specs.declared.object.Slot.TheVariants.{Row, NoRow}
@@ -59,14 +61,17 @@ drain_one w h hart (e ∷ es) = (with_hart (record w { words = drained w.words e
 
 -- an access of so many bytes, where it may be made
 abbrev pub access : World → (address bytes : ℕ) → Outcome → Outcome
-access w address bytes outcome = if in_range (length w.harts) address bytes then (if aligned address bytes then outcome else stuck w (Unaligned address)) else stuck w (Outside address)
+access w address bytes outcome =
+    if in_range (length w.harts) address bytes then (if aligned address bytes then outcome else stuck w (Unaligned address)) else stuck w (Outside address)
 
 -- entries that a queue holds at most
 abbrev pub queue_limit : ℕ
 queue_limit = 16
 
 abbrev pub cleaned : World → ℕ → Hart → (line : ℕ) → Outcome
-cleaned w h hart line = if nat_lt (length hart.queue) queue_limit then moved w h (record (gone_on hart) { queue = hart.queue ++ entry_of w.words line ∷ [] }) else drain_one w h hart hart.queue
+cleaned w h hart line =
+    if nat_lt (length hart.queue) queue_limit then moved w h (record (gone_on hart) { queue = hart.queue ++ entry_of w.words line ∷ [] })
+    else drain_one w h hart hart.queue
 
 abbrev pub fenced : World → ℕ → Hart → List Entry → Outcome
 fenced w h hart [] = moved w h (gone_on hart)
@@ -100,8 +105,11 @@ called w h hart number lock =
 
 abbrev pub applied : World → ℕ → Hart → Effect → Outcome
 applied w h hart (GoesOn registers pc) = moved w h (record hart { registers = registers; pc = pc })
-applied w h hart (Loads address bytes signed register) = access w address bytes (moved w h (record (gone_on hart) { registers = written hart.registers register (load_result bytes signed (loaded w.words (byte_number address) bytes)) }))
-applied w h hart (Stores address bytes value) = access w address bytes (moved (record w { words = stored w.words (byte_number address) bytes value }) h (gone_on hart))
+applied w h hart (Loads address bytes signed register) =
+    access w address bytes
+    (moved w h (record (gone_on hart) { registers = written hart.registers register (load_result bytes signed (loaded w.words (byte_number address) bytes)) }))
+applied w h hart (Stores address bytes value) =
+    access w address bytes (moved (record w { words = stored w.words (byte_number address) bytes value }) h (gone_on hart))
 applied w h hart (Cleans address) = access w address 1 (cleaned w h hart (byte_number address / line_bytes))
 applied w h hart Fences = fenced w h hart hart.queue
 applied w h hart Calls = called w h hart (read hart.registers 17) (read hart.registers 10)
@@ -285,4 +293,5 @@ machine object events = after_events (program_of object) (machine_start object) 
 
 -- the same, begun after a crash that left these words of its variables and logs
 abbrev pub machine_from : Object → (words : List ℕ) → List Event → World
-machine_from object words events = after_events (program_of object) (after_crash_of (program_of object) object.mutexes (spread_words (length object.initial.items / 8) words)) events
+machine_from object words events =
+    after_events (program_of object) (after_crash_of (program_of object) object.mutexes (spread_words (length object.initial.items / 8) words)) events

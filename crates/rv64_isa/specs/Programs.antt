@@ -1,5 +1,6 @@
 -- Code as a machine runs it: for each thread its instructions, and the words that are none.
-use Rattle.std.specs.Prelude.{ℕ, ◌+◌, ◌-◌, ◌*◌, ◌/◌, ◌%◌, List, map, length, take, slice_get, slice_index_or, [], nat_le, ◌==◌, ◌&&◌, if◌then◌else◌, Option, Some, None, sum_by}
+use Rattle.std.specs.Prelude.{ℕ, ◌+◌, ◌-◌, ◌*◌, ◌/◌, ◌%◌, List, map, length, take, slice_get, slice_index_or}
+use Rattle.std.specs.Prelude.{[], nat_le, ◌==◌, ◌&&◌, if◌then◌else◌, Option, Some, None, sum_by}
 use Rattle.rv64_isa.specs.declared.object.Slot.{Slot}
 use Rattle.rv64_isa.specs.declared.object.Slot.TheVariants.{Row, NoRow}
 use Rattle.rv64_isa.specs.declared.object.Object.{Object}
@@ -33,4 +34,5 @@ code_of program thread = slice_index_or program thread []
 
 -- what stands at a pc in a thread's own code; none where that has no word there
 abbrev pub fetched : List (List Slot) → (thread pc : ℕ) → Option Slot
-fetched program thread pc = if nat_le (code_start program thread) pc && (pc % 4 == 0) then slice_get (code_of program thread) ((pc - code_start program thread) / 4) else None
+fetched program thread pc =
+    if nat_le (code_start program thread) pc && (pc % 4 == 0) then slice_get (code_of program thread) ((pc - code_start program thread) / 4) else None

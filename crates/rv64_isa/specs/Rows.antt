@@ -1,7 +1,8 @@
 -- What an instruction does, apart from memory and locks (RISC-V unprivileged ISA; Zicbom).
 use Rattle.std.specs.Prelude.{ℕ, ◌+◌, ◌*◌, ◌/◌, ◌%◌, ◌^◌, List, slice_index, slice_set, Bool, true, false, ◌==◌, if◌then◌else◌}
 use Rattle.rv64_isa.specs.declared.instr.Instr.{Instr}
-use Rattle.rv64_isa.specs.declared.instr.Instr.TheVariants.{Lui, Auipc, Jal, Jalr, Branch, Load, Store, OpImmediate, ShiftImmediate, ShiftImmediateWord, Op, CboClean, Fence, Ecall}
+use Rattle.rv64_isa.specs.declared.instr.Instr.TheVariants.{Lui, Auipc, Jal, Jalr, Branch, Load, Store, OpImmediate}
+use Rattle.rv64_isa.specs.declared.instr.Instr.TheVariants.{ShiftImmediate, ShiftImmediateWord, Op, CboClean, Fence, Ecall}
 use Rattle.rv64_isa.specs.declared.instr.LoadKind.{LoadKind}
 use Rattle.rv64_isa.specs.declared.instr.LoadKind.TheVariants.{Lb, Lh, Lw, Ld, Lbu, Lhu, Lwu}
 use Rattle.rv64_isa.specs.declared.instr.StoreKind.{StoreKind}
@@ -71,7 +72,8 @@ row (Jalr rd rs1 offset) x pc = GoesOn (written x rd (next pc)) (displaced (read
 row (Branch condition rs1 rs2 offset) x pc = GoesOn x (if is_taken condition (read x rs1) (read x rs2) then displaced pc 13 offset else next pc)
 row (Load kind rd rs1 offset) x pc = Loads (displaced (read x rs1) 12 offset) (load_bytes kind) (load_signed kind) rd
 row (Store kind rs2 rs1 offset) x pc = Stores (displaced (read x rs1) 12 offset) (store_bytes kind) (read x rs2)
-row (OpImmediate operation rd rs1 immediate) x pc = GoesOn (written x rd (result_of (operation_of operation) (read x rs1) (sign_extended 12 64 immediate))) (next pc)
+row (OpImmediate operation rd rs1 immediate) x pc =
+    GoesOn (written x rd (result_of (operation_of operation) (read x rs1) (sign_extended 12 64 immediate))) (next pc)
 row (ShiftImmediate operation rd rs1 count) x pc = GoesOn (written x rd (result_of (shift_of operation) (read x rs1) count)) (next pc)
 row (ShiftImmediateWord operation rd rs1 count) x pc = GoesOn (written x rd (result_of (word_shift_of operation) (read x rs1) count)) (next pc)
 row (Op operation rd rs1 rs2) x pc = GoesOn (written x rd (result_of operation (read x rs1) (read x rs2))) (next pc)

@@ -1,5 +1,6 @@
 -- What a run of the machine means for the source: which steps of it were begun, and which are kept.
-use Rattle.std.specs.Prelude.{ℕ, zero, suc, ◌+◌, List, [], ◌∷◌, ◌++◌, length, slice_get, slice_index_or, slice_set, Option, Some, None, Bool, true, false, not, nat_lt, nat_le, ◌==◌, ◌&&◌, if◌then◌else◌, replicate, filter, sum_by}
+use Rattle.std.specs.Prelude.{ℕ, zero, suc, ◌+◌, List, [], ◌∷◌, ◌++◌, length, slice_get, slice_index_or, slice_set, Option, Some}
+use Rattle.std.specs.Prelude.{None, Bool, true, false, not, nat_lt, nat_le, ◌==◌, ◌&&◌, if◌then◌else◌, replicate, filter, sum_by}
 use Rattle.std.specs.List.{list_any}
 use Rattle.ido_base.specs.declared.event.Event.{Event}
 use Rattle.ido_base.specs.declared.event.Event.TheVariants.{Step, Evict, Crash}
@@ -166,7 +167,8 @@ with_all_kept words (suc h) s = with_kept words h (with_all_kept words h s)
 abbrev pub with_step : List (List ℕ) → List (List Slot) → World → (h : ℕ) → Steps → Steps
 with_step marks program w h s =
     let started = if passes_mark marks program w h then with_begun h s else s in
-    if stores_point program w (Step h) h then with_bound h (last_position (word_at (after_event program w (Step h)).words (word_number (point_at h)))) started else started
+    if stores_point program w (Step h) h
+    then with_bound h (last_position (word_at (after_event program w (Step h)).words (word_number (point_at h)))) started else started
 
 -- the steps after an event
 unfoldable pub steps_after : List (List ℕ) → List (List Slot) → World → Event → Steps → Steps

@@ -1,6 +1,9 @@
 //! The numbers that stand in a word for the kinds of instructions, both ways.
 ghost use Rattle.std.specs.Prelude.{◌≡◌, ◌^◌, ◌<◌};
-ghost use Rattle.rv64_isa.specs.Formats.{condition_funct3, condition_at, load_funct3, load_at, store_funct3, store_at, immediate_opcode, immediate_funct3, immediate_operation_at, shift_funct3, shift_upper, shift_at, op_opcode, op_funct3, op_funct7, base_operation_at, alternate_operation_at, multiply_operation_at, operation_at, base_word_operation_at, alternate_word_operation_at, multiply_word_operation_at, word_operation_at};
+ghost use Rattle.rv64_isa.specs.Formats.{condition_funct3, condition_at, load_funct3, load_at, store_funct3, store_at, immediate_opcode};
+ghost use Rattle.rv64_isa.specs.Formats.{immediate_funct3, immediate_operation_at, shift_funct3, shift_upper, shift_at, op_opcode, op_funct3};
+ghost use Rattle.rv64_isa.specs.Formats.{op_funct7, base_operation_at, alternate_operation_at, multiply_operation_at, operation_at};
+ghost use Rattle.rv64_isa.specs.Formats.{base_word_operation_at, alternate_word_operation_at, multiply_word_operation_at, word_operation_at};
 
 use crate::instr::{Condition, ImmediateOperation, LoadKind, Operation, ShiftOperation, StoreKind};
 

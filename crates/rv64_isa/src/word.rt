@@ -2,7 +2,9 @@
 //! instruction, and the instruction of each word that has one.
 ghost use Rattle.std.specs.Prelude.{◌≡◌, ℕ, ◌+◌, ◌*◌, ◌/◌, ◌%◌, ◌^◌, ◌<◌, IfSome};
 ghost use Rattle.rv64_isa.specs.declared.instr.Instr.{Instr};
-ghost use Rattle.rv64_isa.specs.Formats.{IsInstruction, word_of, decoded, decoded_fields, bits_of, format_r, format_i, format_s, format_b, format_u, format_j, immediate_of, store_immediate_of, upper_immediate_of, branch_offset_of, jump_offset_of, immediate_at, immediate_word_at, memory_at, system_at};
+ghost use Rattle.rv64_isa.specs.Formats.{IsInstruction, word_of, decoded, decoded_fields, bits_of, format_r, format_i, format_s};
+ghost use Rattle.rv64_isa.specs.Formats.{format_b, format_u, format_j, immediate_of, store_immediate_of, upper_immediate_of};
+ghost use Rattle.rv64_isa.specs.Formats.{branch_offset_of, jump_offset_of, immediate_at, immediate_word_at, memory_at, system_at};
 
 use crate::field::{
     BranchOffset, Immediate, JumpOffset, Register, ShiftCount, UpperImmediate, WordShiftCount,

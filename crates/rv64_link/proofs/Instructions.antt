@@ -1,5 +1,6 @@
 -- That all words are instructions, and which of them are FENCEs.
-use Rattle.std.proofs.Common.{◌≡◌, ℕ, zero, suc, ◌+◌, ◌*◌, ◌≤◌, List, [], ◌∷◌, ◌++◌, length, take, drop, Some, Bool, true, false, refl, sym, ap, subst, ◌∙◌, arith}
+use Rattle.std.proofs.Common.{◌≡◌, ℕ, zero, suc, ◌+◌, ◌*◌, ◌≤◌, List, [], ◌∷◌, ◌++◌, length, take}
+use Rattle.std.proofs.Common.{drop, Some, Bool, true, false, refl, sym, ap, subst, ◌∙◌, arith}
 use Rattle.std.specs.Prelude.{slice_get, count_by, cond}
 use Rattle.std.specs.List.{AllByRecursion}
 use Rattle.std.proofs.Math.Seq.{take-add, take-append_seam, drop-append-add}
@@ -45,7 +46,8 @@ no_instructions start code at first e h = record {
   fences_are = refl;
 }
 
-pub more_instructions : (start : ℕ) (code : List Slot) (from between to m n : ℕ) → AreInstructions start code from between m → AreInstructions start code between to n
+pub more_instructions : (start : ℕ) (code : List Slot) (from between to m n : ℕ) → AreInstructions start code from between m →
+    AreInstructions start code between to n
     → AreInstructions start code from to (m + n)
 more_instructions start code from between to m n a b =
     let next : b.first ≡ a.first + a.count = omega (arith, a.from_is, a.to_is, b.from_is) in
@@ -128,12 +130,18 @@ slots_within all ns start p (x ∷ items) (suc k) item e =
     let both = length-append (slots_of all ns p x) (slots all ns (p + 1) items) in
     let inside_there : rest.first + length (slots_of all ns (p + 1 + k) item) ≤ length (slots all ns (p + 1) items) = rest.inside in
     let slots_same : slots_of all ns (p + 1 + k) item ≡ slots_of all ns (p + suc k) item = ap (λ q. slots_of all ns q item) moved in
-    let inside_here : length (slots_of all ns p x) + rest.first + length (slots_of all ns (p + 1 + k) item) ≤ length (slots_of all ns p x ++ slots all ns (p + 1) items) =
+    let inside_here : length (slots_of all ns p x) + rest.first + length (slots_of all ns (p + 1 + k) item)
+    ≤ length (slots_of all ns p x ++ slots all ns (p + 1) items) =
     omega (arith, both, inside_there) in
     record {
       first = length (slots_of all ns p x) + rest.first;
       number = omega (arith, number_there, here);
-      inside = subst (λ (ss : List Slot). length (slots_of all ns p x) + rest.first + length ss ≤ length (slots_of all ns p x ++ slots all ns (p + 1) items)) slots_same inside_here;
-      slots_are = subst (λ (ss : List Slot). take (length ss) (drop (length (slots_of all ns p x) + rest.first) (slots_of all ns p x ++ slots all ns (p + 1) items)) ≡ ss) slots_same
-          (ap (λ (ss : List Slot). take (length (slots_of all ns (p + 1 + k) item)) ss) (drop-append-add (slots_of all ns p x) (slots all ns (p + 1) items) rest.first) ∙ rest.slots_are);
+      inside =
+          subst (λ (ss : List Slot). length (slots_of all ns p x) + rest.first + length ss ≤ length (slots_of all ns p x ++ slots all ns (p + 1) items))
+          slots_same inside_here;
+      slots_are =
+          subst (λ (ss : List Slot). take (length ss) (drop (length (slots_of all ns p x) + rest.first) (slots_of all ns p x ++ slots all ns (p + 1) items))
+          ≡ ss) slots_same
+          (ap (λ (ss : List Slot). take (length (slots_of all ns (p + 1 + k) item)) ss)
+          (drop-append-add (slots_of all ns p x) (slots all ns (p + 1) items) rest.first) ∙ rest.slots_are);
     }

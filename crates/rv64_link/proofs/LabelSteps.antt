@@ -29,11 +29,13 @@ with_label items at end here to old new is set before l =
     by (l == to.0) (set l) (before l) (label_step l at items (Here to) is)
   where
     by : (b : Bool) → get_or new l end ≡ (if b then at else get_or old l end) → get_or old l end ≡ at + 1 + label_position l (drop (at + 1) items)
-        → label_position l (drop at items) ≡ (if b then 0 else 1 + label_position l (drop (at + 1) items)) → get_or new l end ≡ at + label_position l (drop at items)
+        → label_position l (drop at items) ≡ (if b then 0 else 1 + label_position l (drop (at + 1) items)) →
+        get_or new l end ≡ at + label_position l (drop at items)
     by true s b h = omega (arith, s, h)
     by false s b h = omega (arith, s, b, h)
 
-pub without_label : (items : List CodeItem) (at end : ℕ) (item : CodeItem) (old : List ℕ) → slice_get items at ≡ Some item → ((l : ℕ) → stands_here l item ≡ false)
+pub without_label : (items : List CodeItem) (at end : ℕ) (item : CodeItem) (old : List ℕ) → slice_get items at ≡ Some item →
+    ((l : ℕ) → stands_here l item ≡ false)
     → ((l : ℕ) → get_or old l end ≡ at + 1 + label_position l (drop (at + 1) items)) → (l : ℕ) → get_or old l end ≡ at + label_position l (drop at items)
 without_label items at end item old is not before l =
     let step = label_step l at items item is ∙ ap (λ b. if b then 0 else 1 + label_position l (drop (at + 1) items)) (not l) in

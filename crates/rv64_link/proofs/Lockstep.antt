@@ -1,5 +1,6 @@
 -- The words of a thread's items do what the items do.
-use Rattle.std.proofs.Common.{◌≡◌, ℕ, ◌+◌, ◌-◌, ◌*◌, ◌^◌, ◌<◌, ◌≤◌, List, length, map, Some, None, Bool, true, false, refl, sym, ap, ap₂, subst, ◌∙◌, arith, lit≤}
+use Rattle.std.proofs.Common.{◌≡◌, ℕ, ◌+◌, ◌-◌, ◌*◌, ◌^◌, ◌<◌, ◌≤◌, List, length, map, Some, None}
+use Rattle.std.proofs.Common.{Bool, true, false, refl, sym, ap, ap₂, subst, ◌∙◌, arith, lit≤}
 use Rattle.std.specs.Prelude.{slice_get, sum_by, count_by, nat_le, not, ◌&&◌, if◌then◌else◌}
 use Rattle.std.specs.List.{AllByRecursion}
 use Rattle.rv64_isa.specs.Arithmetic.{is_taken}
@@ -75,7 +76,8 @@ row_of_jump : (rd imm : ℕ) (x : List ℕ) (pc : ℕ) → row (Jal rd imm) x pc
 unfolding row
 row_of_jump rd imm x pc = refl
 
-row_of_branch : (c : Condition) (rs1 rs2 imm : ℕ) (x : List ℕ) (pc : ℕ) → row (Branch c rs1 rs2 imm) x pc ≡ GoesOn x (if is_taken c (read x rs1) (read x rs2) then displaced pc 13 imm else next pc)
+row_of_branch : (c : Condition) (rs1 rs2 imm : ℕ) (x : List ℕ) (pc : ℕ) →
+    row (Branch c rs1 rs2 imm) x pc ≡ GoesOn x (if is_taken c (read x rs1) (read x rs2) then displaced pc 13 imm else next pc)
 unfolding row
 row_of_branch c rs1 rs2 imm x pc = refl
 
@@ -97,7 +99,8 @@ module _ (all : List CodeItem) (first : ℕ) (few : sum_by most_words_of all ≤
 
   -- numbers are from the first one on, and few
   low_at : (p : ℕ) → p ≤ length all → first ≤ at p
-  low_at p h = let step = number_steps all first 0 all 0 p (omega (arith, h)) in let zero_at = number_first all first 0 all in subst (λ q. first ≤ at q) (the_same p) (omega (arith, step.0, zero_at))
+  low_at p h = let step = number_steps all first 0 all 0 p (omega (arith, h)) in let zero_at = number_first all first 0 all in
+      subst (λ q. first ≤ at q) (the_same p) (omega (arith, step.0, zero_at))
     where
       the_same : (p : ℕ) → 0 + p ≡ p
       the_same p = omega arith
@@ -108,12 +111,14 @@ module _ (all : List CodeItem) (first : ℕ) (few : sum_by most_words_of all ≤
   small_at : (p : ℕ) → p ≤ length all → at p < 2 ^ 20
   small_at p h = let high = high_at p h in omega (arith, high, low)
 
-  place : (p j : ℕ) (item : CodeItem) (instr : Instr) → slice_get all p ≡ Some item → slice_get (slots_of all ns p item) j ≡ Some (Row instr) → Stands start code (code_base + 4 * (at p + j)) instr
+  place : (p j : ℕ) (item : CodeItem) (instr : Instr) → slice_get all p ≡ Some item → slice_get (slots_of all ns p item) j ≡ Some (Row instr) →
+      Stands start code (code_base + 4 * (at p + j)) instr
   place p j item instr e h =
       let found = stands_at all ns first 0 all p j item (Row instr) e (subst (λ q. slice_get (slots_of all ns q item) j ≡ Some (Row instr)) (omega arith) h) in
       (found.0, omega (arith, found.1), found.2)
 
-  first_place : (p : ℕ) (item : CodeItem) (instr : Instr) → slice_get all p ≡ Some item → slice_get (slots_of all ns p item) 0 ≡ Some (Row instr) → Stands start code (address p) instr
+  first_place : (p : ℕ) (item : CodeItem) (instr : Instr) → slice_get all p ≡ Some item → slice_get (slots_of all ns p item) 0 ≡ Some (Row instr) →
+      Stands start code (address p) instr
   first_place p item instr e h = subst (λ a. Stands start code a instr) (omega arith) (place p 0 item instr e h)
 
   next_at : (p : ℕ) (item : CodeItem) → slice_get all p ≡ Some item → at (p + 1) ≡ at p + size all p item
@@ -126,7 +131,8 @@ module _ (all : List CodeItem) (first : ℕ) (few : sum_by most_words_of all ≤
       let small = small_at p (omega (arith, within all p item e)) in
       next_of (address p) (omega (arith, small)) ∙ omega (arith, more, one)
 
-  jump_goes : (f : ℕ) (label : ℕ) → first ≤ f → f ≤ first + 65537 → displaced (code_base + 4 * f) 21 (offset 21 f (at (label_position label all))) ≡ address (label_position label all)
+  jump_goes : (f : ℕ) (label : ℕ) → first ≤ f → f ≤ first + 65537 →
+      displaced (code_base + 4 * f) 21 (offset 21 f (at (label_position label all))) ≡ address (label_position label all)
   jump_goes f label low_f high_f =
       let q = label_position label all in
       let inside = label_within label all in
@@ -134,15 +140,18 @@ module _ (all : List CodeItem) (first : ℕ) (few : sum_by most_words_of all ≤
       let b = high_at q inside in
       jump_lands f (at q) (omega (arith, high_f, low)) (small_at q inside) (omega (arith, low_f, b)) (omega (arith, high_f, a))
 
-  jump : (p : ℕ) (rd : ℕ) (to : Label) (x : List ℕ) → slice_get all p ≡ Some (JumpTo rd to) → Does start code x (address p) (address (p + 1)) (GoesOn (written x rd (address (p + 1))) (address (label_position to.0 all)))
+  jump : (p : ℕ) (rd : ℕ) (to : Label) (x : List ℕ) → slice_get all p ≡ Some (JumpTo rd to) →
+      Does start code x (address p) (address (p + 1)) (GoesOn (written x rd (address (p + 1))) (address (label_position to.0 all)))
   jump p rd to x e =
       let inside : p ≤ length all = omega (arith, within all p (JumpTo rd to) e) in
       let lands = jump_goes (at p) to.0 (low_at p inside) (omega (arith, high_at p inside)) in
       in_one (Jal rd (offset 21 (at p) (at (label_position to.0 all)))) (first_place p (JumpTo rd to) _ e refl)
       (row_of_jump rd _ x (address p) ∙ ap₂ (λ v pc. GoesOn (written x rd v) pc) (one_word p (JumpTo rd to) e refl) lands)
 
-  near_branch : (p : ℕ) (c : Condition) (rs1 rs2 : ℕ) (to : Label) (x : List ℕ) → slice_get all p ≡ Some (BranchTo c rs1 rs2 to) → is_near p (label_position to.0 all) ≡ true
-      → Does start code x (address p) (address (p + 1)) (GoesOn x (if is_taken c (read x rs1) (read x rs2) then address (label_position to.0 all) else address (p + 1)))
+  near_branch : (p : ℕ) (c : Condition) (rs1 rs2 : ℕ) (to : Label) (x : List ℕ) → slice_get all p ≡ Some (BranchTo c rs1 rs2 to) →
+      is_near p (label_position to.0 all) ≡ true
+      → Does start code x (address p) (address (p + 1))
+      (GoesOn x (if is_taken c (read x rs1) (read x rs2) then address (label_position to.0 all) else address (p + 1)))
   near_branch p c rs1 rs2 to x e near =
       let q = label_position to.0 all in
       let item : CodeItem = BranchTo c rs1 rs2 to in
@@ -152,7 +161,8 @@ module _ (all : List CodeItem) (first : ℕ) (few : sum_by most_words_of all ≤
       let close = distance_small p q inside there bounds.0 bounds.1 in
       let lands = branch_lands (at p) (at q) (small_at p inside) (small_at q there) close.0 close.1 in
       in_one (Branch c rs1 rs2 (offset 13 (at p) (at q))) (first_place p item _ e (rw near refl))
-      (row_of_branch c rs1 rs2 _ x (address p) ∙ ap₂ (λ a b. GoesOn x (if is_taken c (read x rs1) (read x rs2) then a else b)) lands (one_word p item e (rw near refl)))
+      (row_of_branch c rs1 rs2 _ x (address p)
+      ∙ ap₂ (λ a b. GoesOn x (if is_taken c (read x rs1) (read x rs2) then a else b)) lands (one_word p item e (rw near refl)))
     where
       distance_small : (p q : ℕ) → p ≤ length all → q ≤ length all → q ≤ p + 511 → p ≤ q + 511 → (at q ≤ at p + 1022) × (at p ≤ at q + 1022)
       distance_small p q hp hq up down = by (nat_le p q) refl
@@ -166,8 +176,10 @@ module _ (all : List CodeItem) (first : ℕ) (few : sum_by most_words_of all ≤
           by true e = let le : p ≤ q = le_of p q e in let m = upward p q le hq in (omega (arith, m.1, up), omega (arith, m.0))
           by false e = let le : q ≤ p = omega (arith, lt_of p q e) in let m = upward q p le hp in (omega (arith, m.0), omega (arith, m.1, down))
 
-  far_branch : (p : ℕ) (c : Condition) (rs1 rs2 : ℕ) (to : Label) (x : List ℕ) → slice_get all p ≡ Some (BranchTo c rs1 rs2 to) → is_near p (label_position to.0 all) ≡ false
-      → Does start code x (address p) (address (p + 1)) (GoesOn x (if is_taken c (read x rs1) (read x rs2) then address (label_position to.0 all) else address (p + 1)))
+  far_branch : (p : ℕ) (c : Condition) (rs1 rs2 : ℕ) (to : Label) (x : List ℕ) → slice_get all p ≡ Some (BranchTo c rs1 rs2 to) →
+      is_near p (label_position to.0 all) ≡ false
+      → Does start code x (address p) (address (p + 1))
+      (GoesOn x (if is_taken c (read x rs1) (read x rs2) then address (label_position to.0 all) else address (p + 1)))
   far_branch p c rs1 rs2 to x e far = by (is_taken c (read x rs1) (read x rs2)) refl
     where
       q : ℕ
@@ -188,12 +200,16 @@ module _ (all : List CodeItem) (first : ℕ) (few : sum_by most_words_of all ≤
       away : Instr
       away = Jal 0 (offset 21 (at p + 1) (at q))
 
-      by : (b : Bool) → is_taken c (read x rs1) (read x rs2) ≡ b → Does start code x (address p) (address (p + 1)) (GoesOn x (if is_taken c (read x rs1) (read x rs2) then address q else address (p + 1)))
+      by : (b : Bool) → is_taken c (read x rs1) (read x rs2) ≡ b →
+          Does start code x (address p) (address (p + 1)) (GoesOn x (if is_taken c (read x rs1) (read x rs2) then address q else address (p + 1)))
       by true taken =
           let between : ℕ = code_base + 4 * (at p + 1) in
           let untaken : is_taken (inverse c) (read x rs1) (read x rs2) ≡ false = inverse_taken c (read x rs1) (read x rs2) ∙ ap not taken in
-          let goes : row over x (address p) ≡ GoesOn x between = row_of_branch (inverse c) rs1 rs2 8 x (address p) ∙ ap (λ t. GoesOn x (if t then displaced (address p) 13 8 else next (address p))) untaken ∙ ap (GoesOn x) (next_of (address p) (omega (arith, small)) ∙ omega arith) in
-          let lands : displaced between 21 (offset 21 (at p + 1) (at q)) ≡ address q = jump_goes (at p + 1) to.0 (omega (arith, low_at p inside)) (omega (arith, high_at p inside)) in
+          let goes : row over x (address p) ≡ GoesOn x between =
+          row_of_branch (inverse c) rs1 rs2 8 x (address p) ∙ ap (λ t. GoesOn x (if t then displaced (address p) 13 8 else next (address p))) untaken
+          ∙ ap (GoesOn x) (next_of (address p) (omega (arith, small)) ∙ omega arith) in
+          let lands : displaced between 21 (offset 21 (at p + 1) (at q)) ≡ address q =
+          jump_goes (at p + 1) to.0 (omega (arith, low_at p inside)) (omega (arith, high_at p inside)) in
           let jumps : row away x between ≡ GoesOn x (address q) = row_of_jump 0 (offset 21 (at p + 1) (at q)) x between ∙ ap (GoesOn x) lands in
           let apart : address p + 4 ≡ between = omega arith in
           let two : at (p + 1) ≡ at p + 2 = next_at p item e ∙ ap (λ (b : Bool). at p + (if b then 1 else 2)) far in
@@ -206,13 +222,17 @@ module _ (all : List CodeItem) (first : ℕ) (few : sum_by most_words_of all ≤
           let two : at (p + 1) ≡ at p + 2 = next_at p item e ∙ ap (λ (b : Bool). at p + (if b then 1 else 2)) far in
           let lands : displaced (address p) 13 8 ≡ address (p + 1) = over_jump (at p) small ∙ ap (λ n. code_base + 4 * n) (sym two) in
           in_one over (first_place p item over e (rw far refl))
-          (row_of_branch (inverse c) rs1 rs2 8 x (address p) ∙ ap (λ t. GoesOn x (if t then displaced (address p) 13 8 else next (address p))) taken ∙ ap (GoesOn x) lands ∙ sym (ap (λ t. GoesOn x (if t then address q else address (p + 1))) untaken))
+          (row_of_branch (inverse c) rs1 rs2 8 x (address p) ∙ ap (λ t. GoesOn x (if t then displaced (address p) 13 8 else next (address p))) taken
+          ∙ ap (GoesOn x) lands ∙ sym (ap (λ t. GoesOn x (if t then address q else address (p + 1))) untaken))
 
   branch : (p : ℕ) (c : Condition) (rs1 rs2 : ℕ) (to : Label) (x : List ℕ) → slice_get all p ≡ Some (BranchTo c rs1 rs2 to)
-      → Does start code x (address p) (address (p + 1)) (GoesOn x (if is_taken c (read x rs1) (read x rs2) then address (label_position to.0 all) else address (p + 1)))
+      → Does start code x (address p) (address (p + 1))
+      (GoesOn x (if is_taken c (read x rs1) (read x rs2) then address (label_position to.0 all) else address (p + 1)))
   branch p c rs1 rs2 to x e = by (is_near p (label_position to.0 all)) refl
     where
-      by : (b : Bool) → is_near p (label_position to.0 all) ≡ b → Does start code x (address p) (address (p + 1)) (GoesOn x (if is_taken c (read x rs1) (read x rs2) then address (label_position to.0 all) else address (p + 1)))
+      by : (b : Bool) → is_near p (label_position to.0 all) ≡ b →
+          Does start code x (address p) (address (p + 1))
+          (GoesOn x (if is_taken c (read x rs1) (read x rs2) then address (label_position to.0 all) else address (p + 1)))
       by true near = near_branch p c rs1 rs2 to x e near
       by false far = far_branch p c rs1 rs2 to x e far
 
@@ -222,7 +242,8 @@ module _ (all : List CodeItem) (first : ℕ) (few : sum_by most_words_of all ≤
   none_some : (a : Effect) → None ≡ Some a → ⊥
   none_some a e = cc e
 
-  steps : (p : ℕ) (item : CodeItem) (x : List ℕ) (effect : Effect) → slice_get all p ≡ Some item → does all address p x item ≡ Some effect → Does start code x (address p) (address (p + 1)) effect
+  steps : (p : ℕ) (item : CodeItem) (x : List ℕ) (effect : Effect) → slice_get all p ≡ Some item → does all address p x item ≡ Some effect →
+      Does start code x (address p) (address (p + 1)) effect
   steps p (Instruction instr) x effect e h = in_one instr (first_place p (Instruction instr) instr e refl) (effect_is _ effect h)
   steps p (BranchTo c rs1 rs2 to) x effect e h = subst (Does start code x (address p) (address (p + 1))) (effect_is _ effect h) (branch p c rs1 rs2 to x e)
   steps p (JumpTo rd to) x effect e h = subst (Does start code x (address p) (address (p + 1))) (effect_is _ effect h) (jump p rd to x e)
@@ -267,7 +288,8 @@ module _ (all : List CodeItem) (first : ℕ) (few : sum_by most_words_of all ≤
         fences_are = ap (λ (xs : List Slot). count_by is_fence xs) there.slots_are ∙ fences_are_of all ns (0 + p) item;
       }
 
-  pub linked : (nodes resumes : List ℕ) → nodes ≡ map address (positions_from 0 is_mark all) → resumes ≡ map address (positions_from 0 is_resume all) → IsLinked start all code nodes resumes
+  pub linked : (nodes resumes : List ℕ) → nodes ≡ map address (positions_from 0 is_mark all) → resumes ≡ map address (positions_from 0 is_resume all) →
+      IsLinked start all code nodes resumes
   linked nodes resumes n r = record {
     address_of = address;
     begins = ap (λ k. code_base + 4 * k) (number_first all first 0 all);

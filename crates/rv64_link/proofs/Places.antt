@@ -29,10 +29,10 @@ some_at [] k h = absurd (omega (arith, h))
 some_at (x ∷ xs) zero h = (x, refl)
 some_at (x ∷ xs) (suc k) h = some_at xs k (omega (arith, h))
 
-in_front : {A : Type 0} (xs ys : List A) (k : ℕ) (x : A) → slice_get xs k ≡ Some x → slice_get (xs ++ ys) k ≡ Some x
-in_front [] ys k x e = absurd (none_past k x e)
-in_front (y ∷ xs) ys zero x e = e
-in_front (y ∷ xs) ys (suc k) x e = in_front xs ys k x e
+in_prefix : {A : Type 0} (xs ys : List A) (k : ℕ) (x : A) → slice_get xs k ≡ Some x → slice_get (xs ++ ys) k ≡ Some x
+in_prefix [] ys k x e = absurd (none_past k x e)
+in_prefix (y ∷ xs) ys zero x e = e
+in_prefix (y ∷ xs) ys (suc k) x e = in_prefix xs ys k x e
 
 behind : {A : Type 0} (xs ys : List A) (k : ℕ) → slice_get (xs ++ ys) (length xs + k) ≡ slice_get ys k
 behind [] ys k = let same : 0 + k ≡ k = omega arith in ap (λ n. slice_get ys n) same
@@ -63,13 +63,15 @@ most_two (Here here) = omega arith
 most_two MarkNext = omega arith
 most_two ResumeNext = omega arith
 
-branch_length : (condition : Condition) (rs1 rs2 : ℕ) (near : Bool) (from to : ℕ) → length (branch_slots condition rs1 rs2 near from to) ≡ (if near then 1 else 2)
+branch_length : (condition : Condition) (rs1 rs2 : ℕ) (near : Bool) (from to : ℕ) →
+    length (branch_slots condition rs1 rs2 near from to) ≡ (if near then 1 else 2)
 branch_length condition rs1 rs2 true from to = refl
 branch_length condition rs1 rs2 false from to = refl
 
 pub size_is : (all : List CodeItem) (ns : List ℕ) (p : ℕ) (item : CodeItem) → length (slots_of all ns p item) ≡ size all p item
 size_is all ns p (Instruction instr) = refl
-size_is all ns p (BranchTo condition rs1 rs2 to) = branch_length condition rs1 rs2 (is_near p (label_position to.0 all)) (number_at ns p) (number_at ns (label_position to.0 all))
+size_is all ns p (BranchTo condition rs1 rs2 to) =
+    branch_length condition rs1 rs2 (is_near p (label_position to.0 all)) (number_at ns p) (number_at ns (label_position to.0 all))
 size_is all ns p (JumpTo rd to) = refl
 size_is all ns p (Here here) = refl
 size_is all ns p MarkNext = refl
@@ -93,7 +95,8 @@ number_next all first p (x ∷ items) (suc k) item e =
     ap (λ n. number_at (numbers all first p (x ∷ items)) n) moved ∙ number_next all (first + size all p x) (p + 1) items k item e
     ∙ ap (λ q. number_at (numbers all (first + size all p x) (p + 1) items) k + size all q item) there
 
-pub number_last : (all : List CodeItem) (ns : List ℕ) (first p : ℕ) (items : List CodeItem) → number_at (numbers all first p items) (length items) ≡ first + length (slots all ns p items)
+pub number_last : (all : List CodeItem) (ns : List ℕ) (first p : ℕ) (items : List CodeItem) →
+    number_at (numbers all first p items) (length items) ≡ first + length (slots all ns p items)
 number_last all ns first p [] = omega arith
 number_last all ns first p (item ∷ items) =
     let rest = number_last all ns (first + size all p item) (p + 1) items in
@@ -103,9 +106,11 @@ number_last all ns first p (item ∷ items) =
 
 -- a step is at most two words
 pub number_steps : (all : List CodeItem) (first p : ℕ) (items : List CodeItem) (k m : ℕ) → k + m ≤ length items
-    → (number_at (numbers all first p items) k ≤ number_at (numbers all first p items) (k + m)) × (number_at (numbers all first p items) (k + m) ≤ number_at (numbers all first p items) k + 2 * m)
+    → (number_at (numbers all first p items) k ≤ number_at (numbers all first p items) (k + m))
+    × (number_at (numbers all first p items) (k + m) ≤ number_at (numbers all first p items) k + 2 * m)
 number_steps all first p items k zero h =
-    subst (λ q. (number_at (numbers all first p items) k ≤ number_at (numbers all first p items) q) × (number_at (numbers all first p items) q ≤ number_at (numbers all first p items) k + 2 * 0)) (plus_zero k) (omega arith, omega arith)
+    subst (λ q. (number_at (numbers all first p items) k ≤ number_at (numbers all first p items) q)
+    × (number_at (numbers all first p items) q ≤ number_at (numbers all first p items) k + 2 * 0)) (plus_zero k) (omega arith, omega arith)
 number_steps all first p items k (suc m) h =
     let before = number_steps all first p items k m (omega (arith, h)) in
     let item = some_at items (k + m) (omega (arith, h)) in
@@ -113,10 +118,12 @@ number_steps all first p items k (suc m) h =
     let small = size_small all (p + (k + m)) item.0 in
     let two = most_two item.0 in
     let moved : k + m + 1 ≡ k + suc m = omega arith in
-    subst (λ q. (number_at (numbers all first p items) k ≤ number_at (numbers all first p items) q) × (number_at (numbers all first p items) q ≤ number_at (numbers all first p items) k + 2 * suc m)) moved
+    subst (λ q. (number_at (numbers all first p items) k ≤ number_at (numbers all first p items) q)
+    × (number_at (numbers all first p items) q ≤ number_at (numbers all first p items) k + 2 * suc m)) moved
     (omega (arith, before.0, next), omega (arith, before.1, next, small, two))
 
-pub number_bounded : (all : List CodeItem) (first p : ℕ) (items : List CodeItem) (k : ℕ) → k ≤ length items → number_at (numbers all first p items) k ≤ first + sum_by most_words_of items
+pub number_bounded : (all : List CodeItem) (first p : ℕ) (items : List CodeItem) (k : ℕ) → k ≤ length items →
+    number_at (numbers all first p items) k ≤ first + sum_by most_words_of items
 number_bounded all first p [] zero h = omega arith
 number_bounded all first p [] (suc k) h = absurd (omega (arith, h))
 number_bounded all first p (item ∷ items) zero h = omega arith
@@ -124,19 +131,21 @@ number_bounded all first p (item ∷ items) (suc k) h =
     let rest = number_bounded all (first + size all p item) (p + 1) items k (omega (arith, h)) in
     let small = size_small all p item in
     let sum : sum_by most_words_of (item ∷ items) ≡ most_words_of item + sum_by most_words_of items = sum_by-cons most_words_of item items in
-    let here : number_at (numbers all (first + size all p item) (p + 1) items) k ≤ first + sum_by most_words_of (item ∷ items) = omega (arith, rest, small, sum) in
+    let here : number_at (numbers all (first + size all p item) (p + 1) items) k ≤ first + sum_by most_words_of (item ∷ items) =
+    omega (arith, rest, small, sum) in
     here
 
 -- ---- Words
 
-pub stands_at : (all : List CodeItem) (ns : List ℕ) (first p : ℕ) (items : List CodeItem) (k j : ℕ) (item : CodeItem) (s : Slot) → slice_get items k ≡ Some item → slice_get (slots_of all ns (p + k) item) j ≡ Some s
+pub stands_at : (all : List CodeItem) (ns : List ℕ) (first p : ℕ) (items : List CodeItem) (k j : ℕ) (item : CodeItem) (s : Slot) →
+    slice_get items k ≡ Some item → slice_get (slots_of all ns (p + k) item) j ≡ Some s
     → (i : ℕ) × (number_at (numbers all first p items) k + j ≡ first + i) × (slice_get (slots all ns p items) i ≡ Some s)
 stands_at all ns first p [] k j item s e h = absurd (none_past k item e)
 stands_at all ns first p (x ∷ items) zero j item s e h =
     let same : item ≡ x = cc e in
     let moved : p + 0 ≡ p = omega arith in
     let here = subst (λ q. slice_get (slots_of all ns q item) j ≡ Some s) moved h in
-    (j, refl, in_front (slots_of all ns p x) (slots all ns (p + 1) items) j s (subst (λ y. slice_get (slots_of all ns p y) j ≡ Some s) same here))
+    (j, refl, in_prefix (slots_of all ns p x) (slots all ns (p + 1) items) j s (subst (λ y. slice_get (slots_of all ns p y) j ≡ Some s) same here))
 stands_at all ns first p (x ∷ items) (suc k) j item s e h =
     let moved : p + suc k ≡ p + 1 + k = omega arith in
     let rest = stands_at all ns (first + size all p x) (p + 1) items k j item s e (subst (λ q. slice_get (slots_of all ns q item) j ≡ Some s) moved h) in

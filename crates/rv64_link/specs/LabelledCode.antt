@@ -46,7 +46,8 @@ positions_from at test (item ∷ items) = if test item then at ∷ positions_fro
 -- branch or jump leads to where its label stands, all other items to the next.
 abbrev pub does : (items : List CodeItem) → (address_of : ℕ → ℕ) → (position : ℕ) → (registers : List ℕ) → CodeItem → Option Effect
 does items at p x (Instruction instr) = Some (row instr x (at p))
-does items at p x (BranchTo condition rs1 rs2 to) = Some (GoesOn x (if is_taken condition (read x rs1) (read x rs2) then at (label_position to.0 items) else at (p + 1)))
+does items at p x (BranchTo condition rs1 rs2 to) =
+    Some (GoesOn x (if is_taken condition (read x rs1) (read x rs2) then at (label_position to.0 items) else at (p + 1)))
 does items at p x (JumpTo rd to) = Some (GoesOn (written x rd (at (p + 1))) (at (label_position to.0 items)))
 does items at p x (Here here) = None
 does items at p x MarkNext = None

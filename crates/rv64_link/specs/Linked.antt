@@ -62,5 +62,6 @@ pub record IsLinked (start : ℕ) (items : List CodeItem) (code : List Slot) (no
 -- the code of threads, thread after thread from an address on
 abbrev pub AreLinked : (start : ℕ) → List (List CodeItem) → List (List Slot) → List ThreadMarks → Type 0
 AreLinked start [] [] [] = Unit {0}
-AreLinked start (items ∷ threads) (code ∷ program) (m ∷ marks) = IsLinked start items code m.nodes.items m.resumes.items × AreLinked (start + 4 * length code) threads program marks
+AreLinked start (items ∷ threads) (code ∷ program) (m ∷ marks) =
+    IsLinked start items code m.nodes.items m.resumes.items × AreLinked (start + 4 * length code) threads program marks
 AreLinked start _ _ _ = ⊥

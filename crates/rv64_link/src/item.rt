@@ -8,7 +8,7 @@ ghost use Rattle.rv64_link.specs.links.Layout.{branch_slots, inverse, is_near, n
 ghost use Rattle.rv64_link.specs.links.Stands.{LabelsStand};
 
 use crate::labels::Labels;
-use ido_base::memory::Memory;
+use ido_base::memory::OutOfMemory;
 use rv64_isa::field::{BranchOffset, JumpOffset, Register};
 use rv64_isa::instr::{Condition, Instr};
 use rv64_isa::object::CodeItem;
@@ -93,7 +93,7 @@ pub fn size(labels: &Labels, position: usize, item: CodeItem) -> u32
 
 /// Adds the word of an instruction.
 #[tactic(auto, using(crate::proofs::Words::one_more))]
-fn push(words: &mut Vec<u32>, instr: Instr) -> Result<(), Memory>
+fn push(words: &mut Vec<u32>, instr: Instr) -> Result<(), OutOfMemory>
     ensures { OnOk result (map slot_of words.new.items ≡ map slot_of words.old.items ++ Row instr ∷ []) }
 {
     words.push(encode(instr))?;
@@ -111,7 +111,7 @@ struct BranchBetween {
 }
 
 /// Adds a near branch.
-fn push_near(words: &mut Vec<u32>, b: BranchBetween) -> Result<(), Memory>
+fn push_near(words: &mut Vec<u32>, b: BranchBetween) -> Result<(), OutOfMemory>
     ensures { OnOk result (map slot_of words.new.items ≡ map slot_of words.old.items ++ branch_slots b.condition b.rs1 b.rs2 true b.from b.to) }
 {
     let instr = Instr::Branch {
@@ -124,7 +124,7 @@ fn push_near(words: &mut Vec<u32>, b: BranchBetween) -> Result<(), Memory>
 }
 
 /// Adds a far branch: one over a jump, by the inverse condition.
-fn push_far(words: &mut Vec<u32>, b: BranchBetween) -> Result<(), Memory>
+fn push_far(words: &mut Vec<u32>, b: BranchBetween) -> Result<(), OutOfMemory>
     ensures { OnOk result (map slot_of words.new.items ≡ map slot_of words.old.items ++ branch_slots b.condition b.rs1 b.rs2 false b.from b.to) }
 {
     let over = Instr::Branch {
@@ -168,8 +168,9 @@ pub fn push_item(
     numbers: &[u32],
     position: usize,
     item: CodeItem,
-) -> Result<(), Memory>
-    ensures { OnOk result ((all : List Item) → LabelsStand labels.now all → map slot_of words.new.items ≡ map slot_of words.old.items ++ slots_of all numbers.now position item) }
+) -> Result<(), OutOfMemory>
+    ensures { OnOk result ((all : List Item) → LabelsStand labels.now all →
+        map slot_of words.new.items ≡ map slot_of words.old.items ++ slots_of all numbers.now position item) }
 {
     let from = number_at(numbers, position);
     match item {

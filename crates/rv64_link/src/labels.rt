@@ -2,7 +2,7 @@
 ghost use Rattle.std.specs.Prelude.{◌≡◌, ◌+◌, ℕ, ◌<◌, ◌^◌, IfOk, OnOk, get_or, ◌==◌, if◌then◌else◌};
 ghost use Rattle.rv64_link.specs.links.Stands.{LabelsStand};
 
-use ido_base::memory::Memory;
+use ido_base::memory::OutOfMemory;
 use rv64_isa::object::{CodeItem, Label};
 use std::alloc::Global;
 
@@ -15,10 +15,11 @@ pub struct Labels {
 
 impl Labels {
     /// The label stands at a position.
-    fn set(&mut self, label: usize, position: usize) -> Result<(), Memory>
+    fn set(&mut self, label: usize, position: usize) -> Result<(), OutOfMemory>
         requires { label < 2 ^ 32 }
         ensures end { self.new.end ≡ self.old.end }
-        ensures position { OnOk result ((l : ℕ) → get_or self.new.positions.items l self.old.end ≡ (if l == label then position else get_or self.old.positions.items l self.old.end)) }
+        ensures position { OnOk result ((l : ℕ) →
+            get_or self.new.positions.items l self.old.end ≡ (if l == label then position else get_or self.old.positions.items l self.old.end)) }
     {
         if label >= self.positions.len() {
             self.positions.resize(label + 1, self.end)?;
@@ -28,7 +29,7 @@ impl Labels {
     }
 
     /// The positions of the labels of items.
-    pub fn new(alloc: Global, items: &[CodeItem]) -> Result<Self, Memory>
+    pub fn new(alloc: Global, items: &[CodeItem]) -> Result<Self, OutOfMemory>
         ensures { IfOk result (λ labels. LabelsStand labels items.now) }
     {
         let mut labels = Labels {

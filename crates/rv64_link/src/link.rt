@@ -1,12 +1,13 @@
 //! Objects of code with labels.
 ghost use Rattle.std.specs.Prelude.{◌≡◌, ◌≤◌, All, IfOk, length, map, sum_by};
+ghost use Rattle.ido_base.specs.declared.limits.TheConstants.{MOST_THREADS, MOST_CODE_WORDS};
 ghost use Rattle.rv64_isa.specs.Programs.{code_base, program_of};
 ghost use Rattle.rv64_link.specs.LabelledCode.{most_words_of};
 ghost use Rattle.rv64_link.specs.Linked.{AreLinked};
 ghost use Rattle.rv64_link.specs.links.Threads.{items_in, slots_in};
 
 use crate::thread::link_thread;
-use ido_base::memory::Memory;
+use ido_base::memory::OutOfMemory;
 use rv64_isa::object::{Code, CodeItem, Marks, Object, ThreadMarks};
 use std::alloc::Global;
 
@@ -18,9 +19,9 @@ struct Threads {
 }
 
 /// The words and the marks of threads, thread after thread.
-fn link_threads(alloc: Global, threads: &[Vec<CodeItem>]) -> Result<Threads, Memory>
-    requires threads { length threads.now ≤ 8 }
-    requires few { All (λ items. sum_by most_words_of items.items ≤ 65536) threads.now }
+fn link_threads(alloc: Global, threads: &[Vec<CodeItem>]) -> Result<Threads, OutOfMemory>
+    requires threads { length threads.now ≤ MOST_THREADS }
+    requires few { All (λ items. sum_by most_words_of items.items ≤ MOST_CODE_WORDS) threads.now }
     ensures { IfOk result (λ r. AreLinked code_base (map items_in threads.now) (map slots_in r.code.items) r.marks.items) }
 {
     let mut code = Vec::new(alloc);
@@ -40,9 +41,9 @@ fn link_threads(alloc: Global, threads: &[Vec<CodeItem>]) -> Result<Threads, Mem
 /// stands nowhere is the end.
 ///
 /// There are at most 8 threads, each of at most 65,536 words, where each branch counts as two.
-pub fn link(alloc: Global, code: Code) -> Result<(Object, Marks), Memory>
-    requires threads { length code.threads.items ≤ 8 }
-    requires few { All (λ items. sum_by most_words_of items.items ≤ 65536) code.threads.items }
+pub fn link(alloc: Global, code: Code) -> Result<(Object, Marks), OutOfMemory>
+    requires threads { length code.threads.items ≤ MOST_THREADS }
+    requires few { All (λ items. sum_by most_words_of items.items ≤ MOST_CODE_WORDS) code.threads.items }
     // The program does, thread after thread, what the code with labels does, and marks are the
     // addresses of the instructions that they stand before.
     ensures linked { IfOk result (λ r. AreLinked code_base (map items_in code.threads.items) (program_of r.0) r.1.threads.items) }

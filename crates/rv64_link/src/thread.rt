@@ -1,5 +1,6 @@
 //! The code of one thread.
 ghost use Rattle.std.specs.Prelude.{◌≡◌, ◌+◌, ◌*◌, ◌<◌, ◌≤◌, ◌^◌, List, IfOk, length, map, sum_by};
+ghost use Rattle.ido_base.specs.declared.limits.TheConstants.{MOST_CODE_WORDS};
 ghost use Rattle.rv64_isa.specs.Programs.{code_base, slot_of};
 ghost use Rattle.rv64_link.specs.LabelledCode.{is_mark, is_resume, most_words_of, positions_from};
 ghost use Rattle.rv64_link.specs.Linked.{IsLinked};
@@ -8,7 +9,7 @@ ghost use Rattle.rv64_link.specs.links.Stands.{LabelsStand};
 
 use crate::item::{number_at, push_item, size};
 use crate::labels::Labels;
-use ido_base::memory::Memory;
+use ido_base::memory::OutOfMemory;
 use rv64_isa::object::{CodeItem, ThreadMarks};
 use std::alloc::Global;
 
@@ -21,9 +22,9 @@ fn numbers(
     labels: &Labels,
     items: &[CodeItem],
     first: u32,
-) -> Result<Vec<u32>, Memory>
+) -> Result<Vec<u32>, OutOfMemory>
     requires labels { LabelsStand labels.now items.now }
-    requires few { sum_by most_words_of items.now ≤ 65536 }
+    requires few { sum_by most_words_of items.now ≤ MOST_CODE_WORDS }
     requires low { first ≤ 2 ^ 19 }
     ensures { IfOk result (λ v. v.items ≡ numbers items.now first 0 items.now) }
 {
@@ -43,7 +44,7 @@ fn words(
     labels: &Labels,
     numbers: &[u32],
     items: &[CodeItem],
-) -> Result<Vec<u32>, Memory>
+) -> Result<Vec<u32>, OutOfMemory>
     requires labels { LabelsStand labels.now items.now }
     ensures { IfOk result (λ v. map slot_of v.items ≡ slots items.now numbers.now 0 items.now) }
 {
@@ -62,7 +63,7 @@ fn address(numbers: &[u32], position: usize) -> u64
 }
 
 /// The addresses of the marks of nodes.
-fn nodes(alloc: Global, numbers: &[u32], items: &[CodeItem]) -> Result<Vec<u64>, Memory>
+fn nodes(alloc: Global, numbers: &[u32], items: &[CodeItem]) -> Result<Vec<u64>, OutOfMemory>
     ensures { IfOk result (λ v. v.items ≡ map (λ p. code_base + 4 * number_at numbers.now p) (positions_from 0 is_mark items.now)) }
 {
     let mut nodes = Vec::new(alloc);
@@ -75,7 +76,7 @@ fn nodes(alloc: Global, numbers: &[u32], items: &[CodeItem]) -> Result<Vec<u64>,
 }
 
 /// The addresses where recovery may resume.
-fn resumes(alloc: Global, numbers: &[u32], items: &[CodeItem]) -> Result<Vec<u64>, Memory>
+fn resumes(alloc: Global, numbers: &[u32], items: &[CodeItem]) -> Result<Vec<u64>, OutOfMemory>
     ensures { IfOk result (λ v. v.items ≡ map (λ p. code_base + 4 * number_at numbers.now p) (positions_from 0 is_resume items.now)) }
 {
     let mut resumes = Vec::new(alloc);
@@ -93,11 +94,11 @@ pub fn link_thread(
     alloc: Global,
     items: &[CodeItem],
     first: u32,
-) -> Result<(Vec<u32>, ThreadMarks), Memory>
-    requires few { sum_by most_words_of items.now ≤ 65536 }
+) -> Result<(Vec<u32>, ThreadMarks), OutOfMemory>
+    requires few { sum_by most_words_of items.now ≤ MOST_CODE_WORDS }
     requires low { first ≤ 2 ^ 19 }
     ensures linked { IfOk result (λ r. IsLinked (code_base + 4 * first) items.now (map slot_of r.0.items) r.1.nodes.items r.1.resumes.items) }
-    ensures few { IfOk result (λ r. length r.0.items ≤ 65536) }
+    ensures few { IfOk result (λ r. length r.0.items ≤ MOST_CODE_WORDS) }
 {
     let labels = Labels::new(alloc, items)?;
     let numbers = numbers(alloc, &labels, items, first)?;

@@ -1,5 +1,6 @@
 -- Under the discipline a step of a thread does what it does from every state that looks the same, and keeps the discipline.
-use Rattle.std.proofs.Common.{◌≡◌, ◌≢◌, refl, ℕ, List, [], ◌∷◌, ◌++◌, sym, ◌∙◌, ap, ap₂, subst, Bool, true, false, Option, Some, None, slice_set, length, ⊎_elim}
+use Rattle.std.proofs.Common.{◌≡◌, ◌≢◌, refl, ℕ, List, [], ◌∷◌, ◌++◌, sym, ◌∙◌, ap, ap₂, subst}
+use Rattle.std.proofs.Common.{Bool, true, false, Option, Some, None, slice_set, length, ⊎_elim}
 use Rattle.std.specs.Prelude.{slice_get, not, if◌then◌else◌}
 use Rattle.std.proofs.lemmas.Bool.{cases_eq}
 use Rattle.std.proofs.lemmas.Option.{slice_get_within, get_or_from_slice_get}
@@ -19,7 +20,8 @@ use Rattle.source_machine.specs.Discipline.{KeepList, ThreadKeeps, StateKeeps, S
 use Rattle.source_machine.proofs.Emission.{set_same, set_other}
 use Rattle.source_machine.proofs.Starting.{map_found}
 use Rattle.source_machine.proofs.Running.{after_by, step_found, step_missing}
-use Rattle.source_machine.proofs.Guarding.{held_found, held_apart, held_taken, held_given, held_kept, held_none, guarded_first, guarded_rest, guarded_left, guarded_right, value_same}
+use Rattle.source_machine.proofs.Guarding.{held_found, held_apart, held_taken, held_given, held_kept, held_none}
+use Rattle.source_machine.proofs.Guarding.{guarded_first, guarded_rest, guarded_left, guarded_right, value_same}
 use Rattle.source_machine.proofs.Keeping.{keep_append, keep_opened_all, keeps_assign, keeps_if, keeps_arm, keeps_while, keeps_lock, keeps_unlock, keep_tested}
 use Rattle.source_machine.proofs.Changes.{some_is, Passed, Change, with_passed, changed, Passes, takes, gives, Does, Stepped, locks_found}
 

@@ -1,5 +1,6 @@
 -- Code as it grows: each part extends what is left at the positions before it.
-use Rattle.std.proofs.Common.{◌≡◌, ◌≢◌, refl, ℕ, zero, suc, ◌+◌, ◌-◌, ◌<◌, ◌≤◌, List, [], ◌∷◌, ◌++◌, length, sym, ◌∙◌, ap, subst, arith, Some, slice_set, get_or, Bor, drop, ⊎_elim, append_assoc, length-append, replicate}
+use Rattle.std.proofs.Common.{◌≡◌, ◌≢◌, refl, ℕ, zero, suc, ◌+◌, ◌-◌, ◌<◌, ◌≤◌, List, [], ◌∷◌, ◌++◌, length, sym, ◌∙◌, ap}
+use Rattle.std.proofs.Common.{subst, arith, Some, slice_set, get_or, Bor, drop, ⊎_elim, append_assoc, length-append, replicate}
 use Rattle.std.specs.Prelude.{slice_get, Result, IfOk}
 use Rattle.std.proofs.lemmas.Result.{IfOk-weaker}
 use Rattle.c_tree.specs.declared.flat.Arm as arm
@@ -18,10 +19,10 @@ use Rattle.source_machine.specs.links.Codes.{Lefts, At, behind, chooses, repeats
 
 -- ---- Lists
 
-pub get_front : {X : Type 0} (xs ys : List X) (k : ℕ) (x : X) → slice_get xs k ≡ Some x → slice_get (xs ++ ys) k ≡ Some x
-get_front [] ys k x h = cc
-get_front (y ∷ xs) ys zero x h = h
-get_front (y ∷ xs) ys (suc k) x h = get_front xs ys k x h
+pub get_prefix : {X : Type 0} (xs ys : List X) (k : ℕ) (x : X) → slice_get xs k ≡ Some x → slice_get (xs ++ ys) k ≡ Some x
+get_prefix [] ys k x h = cc
+get_prefix (y ∷ xs) ys zero x h = h
+get_prefix (y ∷ xs) ys (suc k) x h = get_prefix xs ys k x h
 
 pub get_same : {X : Type 0} (xs ys : List X) (k : ℕ) → k < length xs → slice_get (xs ++ ys) k ≡ slice_get xs k
 get_same [] ys k h = absurd (omega arith)
@@ -88,7 +89,7 @@ pub node_more : (before after : List Node) (lefts : Lefts) (n : Node) (position 
     ((all : Lefts) → Grows lefts all → Does all n left) → Extends before after lefts position left
 node_more before after lefts n position left size p does =
     let all : Lefts = lefts ++ left ∷ [] in
-    let grown : Grows lefts all = λ k l h. get_front lefts (left ∷ []) k l h in
+    let grown : Grows lefts all = λ k l h. get_prefix lefts (left ∷ []) k l h in
     record {
       all = all;
       grown = grown;
@@ -134,7 +135,7 @@ patched before mid after final lefts held n position entry inner l there left si
     let here : At y.all position l = y.grown position l (subst (λ (k : ℕ). At (lefts ++ l ∷ []) k l) (size ∙ sym p.at) (get_end lefts l)) in
     record {
       all = y.all;
-      grown = λ k m h. y.grown k m (get_front lefts (l ∷ []) k m h);
+      grown = λ k m h. y.grown k m (get_prefix lefts (l ∷ []) k m h);
       count = y.count ∙ sym sized;
       longer = omega (arith, y.longer, long, sized);
       kept = λ k h.
@@ -195,7 +196,7 @@ emits_never before after place otherwise next position p = emits_node before aft
 
 pub emits_test : (before mid after : List Node) (condition : Bor code.Placed) (body : f.Statements) (holds fails next entry : ℕ) →
     Emits before mid (opened_all body) next holds → IsPushed mid after (node.Test condition holds fails) entry →
-    EmitsTest before after (placed_of condition.now) body fails next entry
+    EmitsTest before after (record { condition = placed_of condition.now; body = body }) fails next entry
 emits_test before mid after condition body holds fails next entry e p = record {
   each = λ lefts place arms otherwise rest size at failing.
       let x = e.each lefts rest size at in
@@ -212,7 +213,7 @@ no_arms before last next = record {
 }
 
 pub emits_arm : (before mid after : List Node) (condition : Placed) (body : f.Statements) (arms : f.Arms) (last fails next entry : ℕ) →
-    EmitsArms before mid arms last next fails → EmitsTest mid after condition body fails next entry →
+    EmitsArms before mid arms last next fails → EmitsTest mid after (record { condition = condition; body = body }) fails next entry →
     EmitsArms before after (f.arm_and condition body arms) last next entry
 emits_arm before mid after condition body arms last fails next entry e k = record {
   each = λ lefts place otherwise rest size at there.
@@ -267,14 +268,14 @@ module _ (before mid after final : List Node) (condition : Bor code.Placed) (bod
   from_test =
       let y = body_of in
       patched before mid after final lefts node.Never (node.Test condition begin next) test test begin again (opened_all body ++ again) again size p y is
-      (repeats place body rest y.entered (y.grown next rest (get_front lefts (again ∷ []) next rest at)) refl) (y.grown test again at_test)
+      (repeats place body rest y.entered (y.grown next rest (get_prefix lefts (again ∷ []) next rest at)) refl) (y.grown test again at_test)
 
   pub from_body : Extends before final lefts begin (opened_all body ++ again)
   from_body =
       let y = body_of in
       patched before mid after final lefts node.Never (node.Test condition begin next) test begin begin again (opened_all body ++ again)
       (opened_all body ++ again) size p y is
-      (repeats place body rest y.entered (y.grown next rest (get_front lefts (again ∷ []) next rest at)) refl) y.entered
+      (repeats place body rest y.entered (y.grown next rest (get_prefix lefts (again ∷ []) next rest at)) refl) y.entered
 
 pub emits_loop : (before mid after final : List Node) (condition : Bor code.Placed) (body : f.Statements) (next test begin : ℕ) →
     IsPushed before mid node.Never test → Emits mid after (opened_all body) test begin →
@@ -316,10 +317,10 @@ ok_if r before mid after place arms otherwise last next some e h =
 
 pub ok_test : {Y : Type 0} (r : Result ℕ Y) (before mid after : List Node) (condition : Bor code.Placed) (body : f.Statements) (holds fails next : ℕ) →
     Emits before mid (opened_all body) next holds → IfOk r (λ position. IsPushed mid after (node.Test condition holds fails) position) →
-    IfOk r (λ entry. EmitsTest before after (placed_of condition.now) body fails next entry)
+    IfOk r (λ entry. EmitsTest before after (record { condition = placed_of condition.now; body = body }) fails next entry)
 ok_test r before mid after condition body holds fails next e h =
     IfOk-weaker r (λ position. IsPushed mid after (node.Test condition holds fails) position)
-    (λ entry. EmitsTest before after (placed_of condition.now) body fails next entry)
+    (λ entry. EmitsTest before after (record { condition = placed_of condition.now; body = body }) fails next entry)
     (λ entry p. emits_test before mid after condition body holds fails next entry e p) h
 
 -- ---- From the end of a list
@@ -345,7 +346,7 @@ arms_none before xs last next =
 
 pub arms_more : (before mid after : List Node) (xs : List arm.Arm) (i : ℕ) (x : arm.Arm) (last next one two : ℕ) → 0 < i → i ≤ length xs →
     x ≡ get_or xs (i - 1) x → EmitsArms before mid (f.arms_list_of (drop i xs)) last next one →
-    EmitsTest mid after (placed_of x.condition) (f.statements_of x.body.items) one next two →
+    EmitsTest mid after (record { condition = placed_of x.condition; body = f.statements_of x.body.items }) one next two →
     EmitsArms before after (f.arms_list_of (drop (i - 1) xs)) last next two
 arms_more before mid after xs i x last next one two some within is e k =
     let P : List arm.Arm → Type 0 = λ ys. EmitsArms before after (f.arms_list_of ys) last next two in

@@ -1,11 +1,13 @@
 -- Which sections end where a mutex is taken or freed.
-use Rattle.std.proofs.Common.{◌≡◌, ◌≢◌, refl, ℕ, zero, suc, ◌+◌, ◌<◌, List, [], ◌∷◌, sym, ◌∙◌, ap, subst, arith, Bool, true, false, cond, Option, Some, None, slice_set, get_or, not, ◌&&◌, ◌==◌, ⊎_elim}
+use Rattle.std.proofs.Common.{◌≡◌, ◌≢◌, refl, ℕ, zero, suc, ◌+◌, ◌<◌, List, [], ◌∷◌, sym, ◌∙◌, ap, subst, arith, Bool}
+use Rattle.std.proofs.Common.{true, false, cond, Option, Some, None, slice_set, get_or, not, ◌&&◌, ◌==◌, ⊎_elim}
 use Rattle.std.specs.Prelude.{slice_get, is_none, min, length, ◌^◌, ◌-◌}
 use Rattle.std.proofs.lemmas.Bool.{cases_eq}
 use Rattle.std.proofs.lemmas.Bool.Decides.{nat_tests}
 use Rattle.std.proofs.lemmas.Option.{slice_get-get_or}
 use Rattle.ido_base.specs.Locks.{is_held_by, held_from, holds_none}
-use Rattle.source_machine.specs.Sections.{AreCounted, ends, is_one}
+use Rattle.source_machine.specs.Sections.{AreCounted}
+use Rattle.source_machine.specs.links.Ends.{ends, is_one}
 
 not_equal : (a b : ℕ) → a ≢ b → (a == b) ≡ false
 not_equal a b h = grind (arith, nat_tests)

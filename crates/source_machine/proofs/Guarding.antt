@@ -1,5 +1,6 @@
 -- What a thread holds, and the values that it reads under it.
-use Rattle.std.proofs.Common.{◌≡◌, ◌≢◌, refl, ℕ, zero, suc, List, [], ◌∷◌, ◌++◌, sym, ◌∙◌, ap, ap₂, Bool, true, false, Option, Some, None, slice_set, replicate, arith}
+use Rattle.std.proofs.Common.{◌≡◌, ◌≢◌, refl, ℕ, zero, suc, List, [], ◌∷◌, ◌++◌, sym, ◌∙◌, ap, ap₂}
+use Rattle.std.proofs.Common.{Bool, true, false, Option, Some, None, slice_set, replicate, arith}
 use Rattle.std.specs.Prelude.{slice_get, slice_index_or, ℤ, pos, not, find, if◌then◌else◌}
 use Rattle.std.specs.Option.{option_map, option_or, unwrap_or}
 use Rattle.std.proofs.lemmas.Bool.{eqb-true, eq-eqb}

@@ -1,8 +1,8 @@
 -- Where no mutex changes hands, with a step more and with the first steps less.
-use Rattle.std.proofs.Common.{◌≡◌, ◌⊎◌, inl, inr, refl, ℕ, List, [], ◌∷◌, ◌++◌, sym, ◌∙◌, ap, ap₂, Some}
+use Rattle.std.proofs.Common.{◌≡◌, ◌⊎◌, inl, inr, refl, ℕ, List, [], ◌∷◌, ◌++◌, sym, ◌∙◌, ap, ap₂}
 use Rattle.c_tree.specs.Source as m
 use Rattle.source_machine.specs.Mutexes.{locks, unlocks}
-use Rattle.source_machine.specs.Exchange.{ChangesHands, TakesOver, StepAdded, StepsDropped}
+use Rattle.source_machine.specs.Exchange.{StepAdded, StepsDropped}
 use Rattle.source_machine.proofs.Running.{goes_on}
 
 not_empty : (ys : List ℕ) (t : ℕ) (rest : List ℕ) → [] ≡ ys ++ t ∷ rest → ⊥

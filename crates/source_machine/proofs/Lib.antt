@@ -1,5 +1,5 @@
 pub mod Parts
-pub mod Reducing
+pub mod LowBits
 pub mod Emission
 pub mod Ends
 pub mod Steps

@@ -1,5 +1,6 @@
 -- A step of a thread writes that thread alone, and keeps the sizes of variables.
-use Rattle.std.proofs.Common.{◌≡◌, ◌≢◌, refl, ℕ, zero, suc, List, [], ◌∷◌, length, map, sym, ◌∙◌, ap, Bool, true, false, Option, Some, None, ℤ, slice_set, arith}
+use Rattle.std.proofs.Common.{◌≡◌, ◌≢◌, refl, ℕ, zero, suc, List, [], ◌∷◌, length, map, sym, ◌∙◌}
+use Rattle.std.proofs.Common.{ap, Bool, true, false, Option, Some, None, ℤ, slice_set, arith}
 use Rattle.std.specs.Prelude.{slice_get, slice_index_or, if◌then◌else◌, Contains}
 use Rattle.std.proofs.lemmas.List.{length-set}
 use Rattle.ido_base.specs.declared.place.Place.{Place}

@@ -1,8 +1,10 @@
 -- Lists that stand one after another in one list: reads, writes, and one more list.
-use Rattle.std.proofs.Common.{◌≡◌, refl, ℕ, zero, suc, ◌+◌, ◌-◌, ◌<◌, ◌≤◌, List, [], ◌∷◌, ◌++◌, length, take, drop, sym, ◌∙◌, ap, ap₂, subst, arith, Bool, true, false, cond, Some, None, slice_index_or, slice_set, nat_lt, get_or, set}
+use Rattle.std.proofs.Common.{◌≡◌, refl, ℕ, zero, suc, ◌+◌, ◌-◌, ◌<◌, ◌≤◌, List, [], ◌∷◌, ◌++◌, length, take, drop, sym, ◌∙◌, ap}
+use Rattle.std.proofs.Common.{ap₂, subst, arith, Bool, true, false, cond, Some, None, slice_index_or, slice_set, nat_lt, get_or, set}
 use Rattle.std.specs.Prelude.{ℤ, pos, flat_map, slice_get, map}
 use Rattle.std.proofs.lemmas.Bool.Decides.{nat_tests}
-use Rattle.std.proofs.lemmas.List.{length-take, length-drop, take_all, take-append-drop, take-append-le, drop-append-le, get_or-take, get_or-drop, take-set-le, drop-set-lt, drop-set-add, get_or_past, set_past, set-get_or, take_more, map-append, length-append}
+use Rattle.std.proofs.lemmas.List.{length-take, length-drop, take_all, take-append-drop, take-append-le, drop-append-le, get_or-take, get_or-drop}
+use Rattle.std.proofs.lemmas.List.{take-set-le, drop-set-lt, drop-set-add, get_or_past, set_past, set-get_or, take_more, map-append, length-append}
 use Rattle.c_tree.specs.Values.{element_number}
 use Rattle.source_machine.specs.declared.variables.Span.{Span}
 use Rattle.source_machine.specs.links.Spans.{parts, AreConsecutive, place_in}

@@ -1,5 +1,6 @@
 -- A step of a whole state, and runs of it.
-use Rattle.std.proofs.Common.{◌≡◌, refl, ℕ, zero, suc, ◌+◌, ◌<◌, ◌≤◌, List, [], ◌∷◌, ◌++◌, length, take, drop, get_or, sym, ◌∙◌, ap, subst, Bool, true, false, Option, Some, None, slice_set, min, ◌^◌, ◌-◌, arith, add-zero, ⊎_elim}
+use Rattle.std.proofs.Common.{◌≡◌, refl, ℕ, zero, suc, ◌+◌, ◌<◌, ◌≤◌, List, [], ◌∷◌, ◌++◌, length, take, drop, get_or, sym, ◌∙◌}
+use Rattle.std.proofs.Common.{ap, subst, Bool, true, false, Option, Some, None, slice_set, min, ◌^◌, ◌-◌, arith, add-zero, ⊎_elim}
 use Rattle.std.specs.Prelude.{slice_get, Ok, Err}
 use Rattle.std.proofs.lemmas.Bool.{cases_eq}
 use Rattle.std.proofs.lemmas.Option.{slice_get_within, slice_get_past}
@@ -14,11 +15,13 @@ use Rattle.source_machine.specs.declared.answers.RefusedKind.TheVariants as kind
 use Rattle.source_machine.specs.declared.answers.Refused.{Refused}
 use Rattle.source_machine.specs.declared.thread.ThreadState.{ThreadState}
 use Rattle.source_machine.specs.declared.state.SourceState.{SourceState}
-use Rattle.source_machine.specs.Sections.{AreCounted, ends}
+use Rattle.source_machine.specs.Sections.{AreCounted}
+use Rattle.source_machine.specs.links.Ends.{ends}
 use Rattle.source_machine.specs.Answers.{answer_of}
-use Rattle.source_machine.specs.links.Threads.{IsLeft, model_of, state_in, reached, IsMade}
+use Rattle.source_machine.specs.links.Threads.{IsLeft, model_of, state_in, reached, hand, IsMade}
 use Rattle.source_machine.specs.Mutexes.{lock_ahead}
-use Rattle.source_machine.specs.Runs.{ThreadStands, Stands, stepped_of, IsAfter, refusal_of, Ran}
+use Rattle.source_machine.specs.Runs.{stepped_of, IsAfter, refusal_of, Ran}
+use Rattle.source_machine.specs.links.States.{ThreadStands, Stands}
 use Rattle.source_machine.proofs.Emission.{set_same, set_other}
 use Rattle.source_machine.proofs.Ends.{ends_same, counted_as}
 
@@ -80,7 +83,7 @@ module _ (before after : SourceState) (s : m.State) (ended : ℕ → ℕ) (n : �
     (here : slice_get before.threads.items n ≡ Some it)
     (set : after.threads.items ≡ slice_set before.threads.items n it')
     (makes : (left : List f.Statement) (threads : List m.Thread) → IsLeft it left →
-    IsMade it it' before.variables after.variables before.holders.items after.holders.items answer n threads left)
+    IsMade n (hand it before.variables before.holders.items) (hand it' after.variables after.holders.items) answer threads left)
     (counts : (ended : ℕ → ℕ) → AreCounted before.sections.items ended →
     AreCounted after.sections.items (λ k. ended k + ends before.holders.items after.holders.items k)) where
   within : n < length before.threads.items

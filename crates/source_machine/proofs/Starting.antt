@@ -15,7 +15,7 @@ use Rattle.source_machine.specs.declared.thread.ThreadState.{ThreadState}
 use Rattle.source_machine.specs.declared.state.SourceState.{SourceState}
 use Rattle.source_machine.specs.Sections.{AreCounted}
 use Rattle.source_machine.specs.links.Threads.{IsStarted}
-use Rattle.source_machine.specs.Runs.{Stands}
+use Rattle.source_machine.specs.links.States.{Stands}
 use Rattle.source_machine.proofs.Emission.{get_same, get_only}
 
 map_map : {X Y Z : Type 0} (g : Y → Z) (h : X → Y) (xs : List X) → map g (map h xs) ≡ map (λ x. g (h x)) xs

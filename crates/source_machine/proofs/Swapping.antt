@@ -13,7 +13,8 @@ use Rattle.source_machine.specs.Exchange.{Swap}
 use Rattle.source_machine.proofs.Emission.{set_same, set_other}
 use Rattle.source_machine.proofs.Others.{others}
 use Rattle.source_machine.proofs.Running.{step_found}
-use Rattle.source_machine.proofs.Changes.{some_is, Passed, Change, with_store, with_passed, changed, takes, gives, Stepped, passed_other, locks_found, unlocks_found}
+use Rattle.source_machine.proofs.Changes.{some_is, Passed, Change, with_store, with_passed, changed}
+use Rattle.source_machine.proofs.Changes.{takes, gives, Stepped, passed_other, locks_found, unlocks_found}
 use Rattle.source_machine.proofs.Discipline.{stepped, step_keeps}
 use Rattle.source_machine.proofs.Guarded.{leaves_others}
 

@@ -24,4 +24,5 @@ thread_with a left ended = record { left = left; locals = a.locals; pending = a.
 -- they become those of a thread that has evaluated the value for the target
 abbrev pub Evaluates : Target → Expr → (variables : List (List ℤ)) → (before after : Assigning) → Type 0
 Evaluates target value variables before after = (left : List f.Statement) (ended : Bool) (holders : List (Option ℕ)) (threads : List m.Thread) →
-    thread_with after left ended ≡ m.evaluated (record { variables = variables; holders = holders; threads = threads }) (thread_with before left ended) target value
+    thread_with after left ended ≡ m.evaluated (record { variables = variables; holders = holders; threads = threads })
+    (thread_with before left ended) target value

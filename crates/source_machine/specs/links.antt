@@ -2,3 +2,5 @@
 pub mod Spans
 pub mod Codes
 pub mod Threads
+pub mod States
+pub mod Ends

@@ -8,7 +8,7 @@ ghost use Rattle.source_machine.specs.links.Codes.{Emits, EmitsArm, EmitsArms, E
 
 use c_tree::expr::{Placed, Target};
 use c_tree::flat::{Arm, Statement};
-use ido_base::memory::Memory;
+use ido_base::memory::OutOfMemory;
 use std::alloc::Global;
 
 /// What is done at a position, and the positions behind it.
@@ -55,7 +55,7 @@ struct Loop {
 }
 
 /// The code of a body. It is emitted from its end, so that what is behind a node stands before it.
-pub(crate) fn compile<'a>(alloc: Global, body: &'a [Statement]) -> Result<Code<'a>, Memory>
+pub(crate) fn compile<'a>(alloc: Global, body: &'a [Statement]) -> Result<Code<'a>, OutOfMemory>
     ensures { IfOk result (λ code. IsCodeOf code (statements_of body.now)) }
 {
     let mut nodes = Vec::new(alloc);
@@ -64,8 +64,8 @@ pub(crate) fn compile<'a>(alloc: Global, body: &'a [Statement]) -> Result<Code<'
     Ok(Code { nodes, start })
 }
 
-// Adds a node, and answers its position.
-fn push<'a>(nodes: &mut Vec<Node<'a>>, node: Node<'a>) -> Result<usize, Memory>
+/// Adds a node, and answers its position.
+fn push<'a>(nodes: &mut Vec<Node<'a>>, node: Node<'a>) -> Result<usize, OutOfMemory>
     ensures { IfOk result (λ position. IsPushed nodes.old.items nodes.new.items node.entry position) }
 {
     let position = nodes.len();
@@ -73,13 +73,13 @@ fn push<'a>(nodes: &mut Vec<Node<'a>>, node: Node<'a>) -> Result<usize, Memory>
     Ok(position)
 }
 
-// The code of statements, with what is behind them at `next`. Answers where it begins.
+/// The code of statements, with what is behind them at `next`. Answers where it begins.
 #[cycle(emission)]
 fn emit_all<'a>(
     nodes: &mut Vec<Node<'a>>,
     statements: &'a [Statement],
     next: usize,
-) -> Result<usize, Memory>
+) -> Result<usize, OutOfMemory>
     ensures { IfOk result (λ entry. Emits nodes.old.items nodes.new.items (opened_all (statements_of statements.now)) next entry) }
 {
     let mut entry = next;
@@ -89,13 +89,13 @@ fn emit_all<'a>(
     Ok(entry)
 }
 
-// The code of a statement.
+/// The code of a statement.
 #[cycle(emission)]
 fn emit<'a>(
     nodes: &mut Vec<Node<'a>>,
     statement: &'a Statement,
     next: usize,
-) -> Result<usize, Memory>
+) -> Result<usize, OutOfMemory>
     ensures { IfOk result (λ entry. Emits nodes.old.items nodes.new.items (opened (statement_of statement.now)) next entry) }
 {
     match statement {
@@ -145,14 +145,14 @@ fn emit<'a>(
     }
 }
 
-// The code of the arms of an `if`, where its last part stands at `last`.
+/// The code of the arms of an `if`, where its last part stands at `last`.
 #[cycle(emission)]
 fn emit_arms<'a>(
     nodes: &mut Vec<Node<'a>>,
     arms: &'a [Arm],
     last: usize,
     next: usize,
-) -> Result<usize, Memory>
+) -> Result<usize, OutOfMemory>
     ensures { IfOk result (λ entry. EmitsArms nodes.old.items nodes.new.items (arms_list_of arms.now) last next entry) }
 {
     let mut entry = last;
@@ -162,14 +162,14 @@ fn emit_arms<'a>(
     Ok(entry)
 }
 
-// The code of a condition with its body. Where the condition fails it goes on at `fails`.
+/// The code of a condition with its body. Where the condition fails it goes on at `fails`.
 #[cycle(emission)]
 fn emit_arm<'a>(
     nodes: &mut Vec<Node<'a>>,
     arm: &'a Arm,
     fails: usize,
     next: usize,
-) -> Result<usize, Memory>
+) -> Result<usize, OutOfMemory>
     ensures { IfOk result (λ entry. EmitsArm nodes.old.items nodes.new.items arm.now fails next entry) }
 {
     let holds = emit_all(nodes, &arm.body, next)?;
@@ -183,14 +183,14 @@ fn emit_arm<'a>(
     )
 }
 
-// The code of a loop: its test, behind which the body goes back to it.
+/// The code of a loop: its test, behind which the body goes back to it.
 #[cycle(emission)]
 fn emit_loop<'a>(
     nodes: &mut Vec<Node<'a>>,
     condition: &'a Placed,
     body: &'a [Statement],
     next: usize,
-) -> Result<Loop, Memory>
+) -> Result<Loop, OutOfMemory>
     ensures { IfOk result (λ made. EmitsLoop nodes.old.items nodes.new.items (placed_of condition.now) (statements_of body.now) next made) }
 {
     let test = push(nodes, Node::Never)?;

@@ -1,6 +1,7 @@
 //! Laws of the source's own steps: nothing is computed here.
 ghost use Rattle.source_machine.specs.Appending.{AfterAppended, EndedAppended, RunsAppended};
-ghost use Rattle.source_machine.specs.Discipline.{HeldIsGiven, LeavesHeld, LeavesOthers, ReachedKeeps, ReadsGuarded, RunKeeps, StartKeeps, StepKeeps, WritesGuarded};
+ghost use Rattle.source_machine.specs.Discipline.{HeldIsGiven, LeavesHeld, LeavesOthers, ReachedKeeps};
+ghost use Rattle.source_machine.specs.Discipline.{ReadsGuarded, RunKeeps, StartKeeps, StepKeeps, WritesGuarded};
 ghost use Rattle.source_machine.specs.Exchange.{Exchange, Solo, StepAdded, StepsDropped, Swap};
 ghost use Rattle.source_machine.specs.Laws.{NotWhole, OneStop, OthersStay, RestingStays, SizesStay};
 

@@ -2,27 +2,19 @@
 ghost use Rattle.std.specs.Prelude.{◌≡◌, ℕ, ◌+◌, IsTrue, ◌↔◌, Some, None, slice_get, slice_set, replicate, IfOk};
 ghost use Rattle.std.specs.Bool.{OnTrue, OnFalse};
 ghost use Rattle.ido_base.specs.Locks.{is_held_by, holds_none};
-ghost use Rattle.source_machine.specs.Sections.{AreCounted, ends, is_one};
+ghost use Rattle.source_machine.specs.Sections.{AreCounted};
+ghost use Rattle.source_machine.specs.links.Ends.{ends, is_one};
 
-use ido_base::memory::Memory;
+use ido_base::locks::is_held_by;
+use ido_base::memory::OutOfMemory;
 use std::alloc::Global;
 
 /// So many mutexes, all free.
-pub fn free(alloc: Global, mutexes: usize) -> Result<Vec<Option<u32>>, Memory>
+pub fn free(alloc: Global, mutexes: usize) -> Result<Vec<Option<u32>>, OutOfMemory>
     ensures { IfOk result (λ holders. holders.items ≡ replicate mutexes None) }
 {
     let holders: Vec<Option<u32>> = vec![in alloc; None; mutexes]?;
     Ok(holders)
-}
-
-/// The holder is the thread.
-fn is_held(holder: Option<u32>, thread: u32) -> bool
-    ensures { result ≡ is_held_by thread holder }
-{
-    match holder {
-        None => false,
-        Some(other) => thread == other,
-    }
 }
 
 /// The thread holds no mutex.
@@ -30,7 +22,7 @@ pub fn holds_none(holders: &[Option<u32>], thread: u32) -> bool
     ensures { result ≡ holds_none holders.now thread }
 {
     for holder in holders {
-        if is_held(*holder, thread) {
+        if is_held_by(thread, *holder) {
             return false;
         }
     }
@@ -68,7 +60,7 @@ pub fn release(holders: &mut [Option<u32>], sections: &mut [u64], mutex: u32)
     }
 }
 
-// One more for the thread, where there is such a thread.
+/// One more for the thread, where there is such a thread.
 fn count(sections: &mut [u64], thread: u32)
     ensures { (ended : ℕ → ℕ) → AreCounted sections.old ended → AreCounted sections.new (λ k. ended k + is_one thread k) }
 {

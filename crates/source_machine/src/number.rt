@@ -1,19 +1,17 @@
 //! Numbers with kinds, and the operators on them.
-ghost use Rattle.std.specs.Prelude.{◌≡◌, not, ◌&&◌, ◌||◌};
-ghost use Rattle.ido_ints.specs.declared.kinds.Kind.TheVariants.{Int, Long};
-ghost use Rattle.ido_ints.specs.Kinds.{promoted, common_of};
-ghost use Rattle.ido_ints.specs.Operators.{truth, is_zero, unary_of, binary_of};
+ghost use Rattle.std.specs.Prelude.{◌≡◌};
+ghost use Rattle.ido_ints.specs.Operators.{is_zero, unary_of, binary_of};
 ghost use Rattle.ido_ints.specs.Typed.{typed, converted};
 
-use ido_ints::{Binary, Kind, Unary, Value, common, promote};
+use ido_ints::{Binary, Kind, Unary, Value, binary_of_numbers, unary_of_number};
 use std::marker::Model;
 
 /// A number with the kind that it is computed in. A local or a variable that is read by another kind than it was
 /// written by may lie outside the kind's range.
 #[derive(Clone, Copy)]
 pub struct Number {
-    kind: Kind,
     number: i128,
+    kind: Kind,
 }
 
 impl Model for Number {
@@ -43,14 +41,10 @@ impl Number {
         }
     }
 
-    // `int` 1 or 0.
-    fn of_truth(holds: bool) -> Number
-        ensures { result ≡ typed Int (truth holds) }
+    pub fn kind(self) -> Kind
+        ensures { result ≡ self.kind }
     {
-        Number {
-            kind: Kind::Int,
-            number: if holds { 1 } else { 0 },
-        }
+        self.kind
     }
 
     pub fn number(self) -> i128
@@ -69,13 +63,7 @@ impl Number {
     pub fn convert(self, to: Kind) -> Number
         ensures { result ≡ converted self to }
     {
-        Number::of(self.reduce(to))
-    }
-
-    fn reduce(self, to: Kind) -> Value
-        ensures { result ≡ converted self to }
-    {
-        Value::reduce(to, self.number)
+        Number::of(Value::reduce(to, self.number))
     }
 }
 
@@ -83,57 +71,12 @@ impl Number {
 pub fn unary(operator: Unary, operand: Number) -> Number
     ensures { result ≡ unary_of operator operand }
 {
-    match operator {
-        Unary::Not => Number::of_truth(operand.is_zero()),
-        _ => promoted_unary(operator, operand),
-    }
-}
-
-// What an operator that computes in the promoted kind gives.
-fn promoted_unary(operator: Unary, operand: Number) -> Number
-    ensures { result ≡ unary_of operator (converted operand (promoted operand.kind)) }
-{
-    Number::of(ido_ints::unary(operator, operand.reduce(promote(operand.kind))))
+    Number::of(unary_of_number(operator, operand.kind, operand.number))
 }
 
 /// What the operator gives for its operands.
 pub fn binary(operator: Binary, left: Number, right: Number) -> Number
     ensures { result ≡ binary_of operator left right }
 {
-    match operator {
-        Binary::LogicalAnd => logical_and(left, right),
-        Binary::LogicalOr => logical_or(left, right),
-        Binary::ShiftLeft => shift(Binary::ShiftLeft, left, right),
-        Binary::ShiftRight => shift(Binary::ShiftRight, left, right),
-        _ => common_binary(operator, left, right),
-    }
-}
-
-fn logical_and(left: Number, right: Number) -> Number
-    ensures { result ≡ typed Int (truth (not (is_zero left.number) && not (is_zero right.number))) }
-{
-    Number::of_truth(!left.is_zero() && !right.is_zero())
-}
-
-fn logical_or(left: Number, right: Number) -> Number
-    ensures { result ≡ typed Int (truth (not (is_zero left.number) || not (is_zero right.number))) }
-{
-    Number::of_truth(!left.is_zero() || !right.is_zero())
-}
-
-// A shift computes in the promoted kind of its left operand. Of the right one the low bits count.
-fn shift(operator: Binary, left: Number, right: Number) -> Number
-    ensures { result ≡ binary_of operator (converted left (promoted left.kind)) (converted right Long) }
-{
-    let left = left.reduce(promote(left.kind));
-    let right = right.reduce(Kind::Long);
-    Number::of(ido_ints::binary(operator, left, right))
-}
-
-// What an operator that computes in the common kind gives.
-fn common_binary(operator: Binary, left: Number, right: Number) -> Number
-    ensures { result ≡ binary_of operator (converted left (common_of left.kind right.kind)) (converted right (common_of left.kind right.kind)) }
-{
-    let kind = common(left.kind, right.kind);
-    Number::of(ido_ints::binary(operator, left.reduce(kind), right.reduce(kind)))
+    Number::of(binary_of_numbers(operator, left.kind, left.number, right.kind, right.number))
 }

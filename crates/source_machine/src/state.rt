@@ -6,7 +6,7 @@ use crate::locks;
 use crate::thread::ThreadState;
 use crate::variables::Variables;
 use c_tree::flat::Flat;
-use ido_base::memory::Memory;
+use ido_base::memory::OutOfMemory;
 use std::alloc::Global;
 
 /// The state of a run of a source: its variables, who holds its mutexes, and its threads.
@@ -24,10 +24,11 @@ impl<'a> SourceState<'a> {
     ghost use Rattle.std.specs.Prelude.{◌≡◌, ◌+◌, ◌^◌, ◌-◌, ◌<◌, ℕ, min, flat_map, IfOk};
     ghost use Rattle.c_tree.specs.Flats.{flat_of};
     ghost use Rattle.c_tree.specs.Source.{State, start, is_between};
-    ghost use Rattle.source_machine.specs.Runs.{Stands, IsAfter, Ran, threads_in};
+    ghost use Rattle.source_machine.specs.Runs.{IsAfter, Ran};
+    ghost use Rattle.source_machine.specs.links.States.{Stands, threads_in};
 
     /// The state before any step: initial numbers, mutexes free, whole bodies.
-    pub fn start(alloc: Global, flat: &'a Flat) -> Result<SourceState<'a>, Memory>
+    pub fn start(alloc: Global, flat: &'a Flat) -> Result<SourceState<'a>, OutOfMemory>
         ensures { IfOk result (λ state. Stands state (start (flat_of flat.now)) (λ _. 0)) }
     {
         let variables = Variables::new(alloc, &flat.variables)?;

@@ -1,8 +1,9 @@
 //! A thread of a run.
 ghost use Rattle.std.specs.Prelude.{◌≡◌, ℕ, ◌+◌, IfOk};
 ghost use Rattle.c_tree.specs.Flats.{thread_of};
-ghost use Rattle.source_machine.specs.Sections.{AreCounted, ends};
-ghost use Rattle.source_machine.specs.links.Threads.{IsStarted, StepIsMade};
+ghost use Rattle.source_machine.specs.Sections.{AreCounted};
+ghost use Rattle.source_machine.specs.links.Ends.{ends};
+ghost use Rattle.source_machine.specs.links.Threads.{IsStarted, StepIsMade, hand};
 
 use crate::answers::Stepped;
 use crate::assignment::{Pending, assign};
@@ -11,7 +12,7 @@ use crate::evaluation::evaluate;
 use crate::locks;
 use crate::variables::Variables;
 use c_tree::flat::Thread;
-use ido_base::memory::Memory;
+use ido_base::memory::OutOfMemory;
 use std::alloc::Global;
 
 /// A thread: where it stands in its code, its locals, its pending store, and whether its last step is done.
@@ -26,7 +27,7 @@ pub(crate) struct ThreadState<'a> {
 
 impl<'a> ThreadState<'a> {
     /// A thread at its start.
-    pub(crate) fn start(alloc: Global, thread: &'a Thread) -> Result<ThreadState<'a>, Memory>
+    pub(crate) fn start(alloc: Global, thread: &'a Thread) -> Result<ThreadState<'a>, OutOfMemory>
         ensures { IfOk result (λ started. IsStarted started (thread_of thread.now)) }
     {
         let Code { nodes, start } = code::compile(alloc, &thread.body)?;
@@ -48,7 +49,7 @@ impl<'a> ThreadState<'a> {
         holders: &mut [Option<u32>],
         sections: &mut [u64],
     ) -> Stepped
-        ensures made { StepIsMade self.old self.new variables.old variables.new holders.old holders.new result number }
+        ensures made { StepIsMade number (hand self.old variables.old holders.old) (hand self.new variables.new holders.new) result }
         ensures sections { (ended : ℕ → ℕ) → AreCounted sections.old ended → AreCounted sections.new (λ k. ended k + ends holders.old holders.new k) }
     {
         if let Some(pending) = self.pending {

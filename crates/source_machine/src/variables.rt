@@ -5,7 +5,7 @@ ghost use Rattle.c_tree.specs.Values.{element_number};
 ghost use Rattle.source_machine.specs.links.Spans.{AreConsecutive, place_in};
 
 use c_tree::program::Variable;
-use ido_base::memory::Memory;
+use ido_base::memory::OutOfMemory;
 use std::alloc::Global;
 use std::marker::Model;
 
@@ -51,7 +51,7 @@ fn place_in(spans: &[Span], end: usize, variable: u32, element: u128) -> Option<
 
 impl Variables {
     /// The variables with their initial numbers.
-    pub fn new(alloc: Global, variables: &[Variable]) -> Result<Variables, Memory>
+    pub fn new(alloc: Global, variables: &[Variable]) -> Result<Variables, OutOfMemory>
         ensures { IfOk result (λ v. v ≡ map (λ x. (variable_of x).initial) variables.now) }
     {
         let mut elements = Vec::new(alloc);

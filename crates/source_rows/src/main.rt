@@ -7,7 +7,7 @@
 //! with `` `.` `` has no line feed at its end.
 #![tactic(auto)]
 
-use ido_base::memory::Memory;
+use ido_base::memory::OutOfMemory;
 use ido_cli::alone;
 use ido_outside::{Reading, SureSink, SureSource, Writing, read_all, write_all};
 use std::alloc::Global;
@@ -93,7 +93,7 @@ fn digit(byte: u8) -> Option<u8> {
 }
 
 /// Adds the bytes that pairs of hexadecimal digits spell. What isn't one is passed over.
-fn put_bytes(digits: &[u8], text: &mut Vec<u8>) -> Result<(), Memory> {
+fn put_bytes(digits: &[u8], text: &mut Vec<u8>) -> Result<(), OutOfMemory> {
     let mut first = None;
     for byte in digits {
         let Some(low) = digit(*byte) else {
@@ -111,7 +111,7 @@ fn put_bytes(digits: &[u8], text: &mut Vec<u8>) -> Result<(), Memory> {
 }
 
 /// Adds the rounds of `xN:05 ff`, but for the `x`.
-fn put_byte_rounds(repeated: &[u8], text: &mut Vec<u8>) -> Result<(), Memory> {
+fn put_byte_rounds(repeated: &[u8], text: &mut Vec<u8>) -> Result<(), OutOfMemory> {
     let (count, digits) = split(repeated, b':');
     for _ in 0..number(count) {
         put_bytes(digits, text)?;
@@ -120,7 +120,7 @@ fn put_byte_rounds(repeated: &[u8], text: &mut Vec<u8>) -> Result<(), Memory> {
 }
 
 /// Adds the rounds of `N:TEXT`.
-fn put_rounds(alloc: Global, repeated: &[u8], text: &mut Vec<u8>) -> Result<(), Memory> {
+fn put_rounds(alloc: Global, repeated: &[u8], text: &mut Vec<u8>) -> Result<(), OutOfMemory> {
     let (count, part) = split(repeated, b':');
     for round in 0..number(count) {
         for byte in part {
@@ -135,7 +135,7 @@ fn put_rounds(alloc: Global, repeated: &[u8], text: &mut Vec<u8>) -> Result<(), 
 }
 
 /// A text with all its rounds.
-fn written_out(alloc: Global, short: &[u8]) -> Result<Vec<u8>, Memory> {
+fn written_out(alloc: Global, short: &[u8]) -> Result<Vec<u8>, OutOfMemory> {
     let mut text = Vec::new(alloc);
     let mut rest = short;
     // There are no more marks than bytes.
@@ -156,7 +156,7 @@ fn written_out(alloc: Global, short: &[u8]) -> Result<Vec<u8>, Memory> {
 }
 
 /// The words of the command line.
-fn words_of(alloc: Global, words: &[u8]) -> Result<Vec<String>, Memory> {
+fn words_of(alloc: Global, words: &[u8]) -> Result<Vec<String>, OutOfMemory> {
     let mut all = Vec::new(alloc);
     all.push(String::from_str(alloc, "ido")?)?;
     for word in str::from_utf8(words).unwrap_or("").split(' ') {
@@ -166,7 +166,7 @@ fn words_of(alloc: Global, words: &[u8]) -> Result<Vec<String>, Memory> {
 }
 
 /// The status and the output that a row gets.
-fn answer_to(alloc: Global, row: &Row<'_>) -> Result<Vec<u8>, Memory> {
+fn answer_to(alloc: Global, row: &Row<'_>) -> Result<Vec<u8>, OutOfMemory> {
     let words = words_of(alloc, row.words)?;
     let mut source = SureSource::new(written_out(alloc, row.input)?, 65_536);
     let mut sink = SureSink::new(alloc, MOST_OUTPUT, 4096)?;
@@ -179,7 +179,7 @@ fn answer_to(alloc: Global, row: &Row<'_>) -> Result<Vec<u8>, Memory> {
 }
 
 /// What is said of the rows of a table.
-fn findings(alloc: Global, table: &[u8]) -> Result<Vec<u8>, Memory> {
+fn findings(alloc: Global, table: &[u8]) -> Result<Vec<u8>, OutOfMemory> {
     let mut said = Vec::new(alloc);
     let mut rest = table;
     let mut rows = 0u64;

@@ -1,11 +1,11 @@
 -- That a program is the code of a thread: all that is said of it above, where no instruction is looked at again.
-use Rattle.std.specs.Prelude.{◌≡◌, ◌≢◌, ◌↔◌, ℕ, ◌+◌, ◌-◌, ◌*◌, ◌^◌, ◌<◌, ◌≤◌, List, [], ◌∷◌, length, map, slice_get, slice_index_or, Contains, Some, Bool, true, false, sum_by}
+use Rattle.std.specs.Prelude.{◌≡◌, ◌≢◌, ◌↔◌, ℕ, ◌+◌, ◌-◌, ◌*◌, ◌^◌, ◌<◌, ◌≤◌, List, [], ◌∷◌, length}
+use Rattle.std.specs.Prelude.{map, slice_get, slice_index_or, Contains, Some, Bool, true, false, sum_by}
 use Rattle.std.specs.List.Sorted.{IsStrictlyIncreasing}
 use Rattle.c_tree.specs.Exprs as e
 use Rattle.c_tree.specs.Locking.{numbers_below}
 use Rattle.c_tree.specs.Prices.{node_price, nodes_of}
 use Rattle.c_tree.specs.WellFormed.{shape_of}
-use Rattle.c_tree.specs.Temporaries.{most_price}
 use Rattle.rv64_isa.specs.declared.instr.Instr.TheVariants.{Ecall}
 use Rattle.rv64_isa.specs.declared.object.CodeItem.{CodeItem}
 use Rattle.rv64_isa.specs.declared.object.Slot.{Slot}

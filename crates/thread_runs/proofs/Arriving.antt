@@ -13,7 +13,7 @@ use Rattle.hart_runs.specs.Standing.{Agrees, MayGo, IsAt, StandsOn}
 use Rattle.thread_code.specs.Plans.{Plan, Thread, IsNodeOf}
 use Rattle.thread_code.specs.Performing.{Places, Entrance, keeping, GoesOnBehind}
 use Rattle.thread_code.specs.Programs.{IsNodeCode, IsCalling}
-use Rattle.thread_runs.specs.Ways.{Stage, Arrives, AreApart, end_of, Has, IsInGraph}
+use Rattle.thread_runs.specs.Ways.{Stage, Arrives, AreApart, end_of, Has, IsInGraph, on_machine}
 use Rattle.thread_runs.specs.Laws.{IsOnSomeWay, ArrivalsEnd, GoesOnFrom, LocksGoOn, UnlocksGoOn, TookEnd}
 use Rattle.thread_runs.proofs.Boundaries.{boundary_may, boundary_apart}
 
@@ -34,7 +34,7 @@ module _ (p : Plan) (t : Thread) (c : Places) (program : List (List Slot)) (w : 
   pub on_way : (stage : Stage) (most from : ℕ) (registers : List ℕ) (effects : List Effect) → IsNodeOf t stage.node → IsInGraph p t c stage.aim stage.node →
       AreApart s effects → MayGo (length w.harts) (seen_effects effects) → IsAt w h (moment registers from) →
       Goes s (record { registers = registers; from = from; to = end_of p t c stage.aim stage.node; most = most }) (seen_effects effects)
-      (λ (x : List ℕ). Has p t c stage.aim stage.node stage.seen stage.bank x) → IsOnSomeWay p t c program w h s stage most effects
+      (λ (x : List ℕ). Has p t c stage.aim stage.node stage.seen stage.bank x) → IsOnSomeWay p t c (on_machine program w h s) stage most effects
   on_way stage most from registers effects own graph apart may at goes = record {
     steps = goes.steps;
     short = goes.short;

@@ -25,7 +25,8 @@ use Rattle.thread_code.specs.Plans.{Plan, Thread, IsNodeOf}
 use Rattle.thread_code.specs.Entering.{IsAnswered, source_of}
 use Rattle.thread_code.specs.Performing.{Places, Entrance, Performs, Storing, kind_at, keeping, pending_sights}
 use Rattle.thread_code.specs.Programs.{IsThreadCode}
-use Rattle.thread_runs.specs.Ways.{Stage, AreApart, ReadsVariables, end_of, Has, IsInGraph, IsAtCore, IsAtMark, IsMadeBy, AreSeen, stage_behind, store_of}
+use Rattle.thread_runs.specs.Ways.{Stage, AreApart, ReadsVariables, end_of, Has, IsInGraph, IsAtCore}
+use Rattle.thread_runs.specs.Ways.{IsAtMark, IsMadeBy, AreSeen, stage_behind, store_of, on_machine}
 use Rattle.thread_runs.specs.Ways.{cleans_of, IsPlaced, MayBeMade, MayDo}
 use Rattle.thread_runs.specs.Laws.{IsAtSomeMark, Performing, NodesBegin}
 use Rattle.thread_runs.proofs.Boundaries.{both_true, second_true, boundary_may, boundary_apart}
@@ -94,7 +95,7 @@ module _ (p : Plan) (t : Thread) (program : List (List Slot)) (own : Program) (c
       (λ (x : List ℕ). Has p t c stage.aim stage.node stage.seen stage.bank x) →
       IsNodeOf t stage.node → IsInGraph p t c stage.aim stage.node → AreApart s effects → MayGo (length w.harts) (seen_effects effects) →
       ((effect : Effect) → effect_at program h at.at.hart ≡ Some effect → IsMadeBy p t c e effect) → AreSeen p t c node bank registers e effects →
-      IsAtSomeMark p t c program w h s node seen bank registers e
+      IsAtSomeMark p t c (on_machine program w h s) node seen bank registers e
   at_mark e stage effects behind eq plain goes own_next graph apart may made are_seen =
       let to : Moment = moment goes.registers (end_of p t c stage.aim stage.node) in
       let some : (k : ℕ) × (goes.steps ≡ suc k) = some_steps s goes.steps (moment registers (c.core node)) to (seen_effects effects) goes.walks in
@@ -105,7 +106,7 @@ module _ (p : Plan) (t : Thread) (program : List (List Slot)) (own : Program) (c
         steps = some.0;
         effects = effects;
         short = subst (λ (n : ℕ). n ≤ c.words node) some.1 goes.short;
-        at = subst (λ (x : Stage). IsAtMark p t c program w h s e x some.0 effects) (sym behind) (record {
+        at = subst (λ (x : Stage). IsAtMark p t c (on_machine program w h s) e x some.0 effects) (sym behind) (record {
           meets = meets;
           agrees = agrees;
           apart = apart;
@@ -133,7 +134,7 @@ module _ (p : Plan) (t : Thread) (program : List (List Slot)) (own : Program) (c
 
   makes : (store : Pending) (next : ℕ) → effect_of is.action seen ≡ Some (a.Makes store next) → (k : Kind) →
       kind_at p.flat.variables store.variable ≡ Some k → MayBeMade p t c (length w.harts) s k store →
-      IsAtSomeMark p t c program w h s node seen bank registers (a.Makes store next)
+      IsAtSomeMark p t c (on_machine program w h s) node seen bank registers (a.Makes store next)
   makes store next eq k kind may =
       let address : ℕ = variable_at (map shape_of p.flat.variables) store.variable store.element in
       let clean : Effect = Cleans address in
@@ -164,7 +165,8 @@ module _ (p : Plan) (t : Thread) (program : List (List Slot)) (own : Program) (c
           same_there (effect_at program h at.at.hart) effect (row st.instr at.at.hart.registers at.at.hart.pc) is_next here
           ∙ (ap (λ (x : Moment). row st.instr x.registers x.pc) at.at.is ∙ st.does)
 
-  begins : (e : a.Effect) → effect_of is.action seen ≡ Some e → MayDo p t c (length w.harts) s e → Performing p t c program w h s node seen bank registers e
+  begins : (e : a.Effect) → effect_of is.action seen ≡ Some e → MayDo p t c (length w.harts) s e →
+      Performing p t c (on_machine program w h s) node seen bank registers e
   begins (a.Sets local number next) eq may =
       at_mark (a.Sets local number next) (stage_behind p t c node seen bank (a.Sets local number next)) [] refl eq refl
       (performs (a.Sets local number next) eq) (follows (a.Sets local number next) next eq refl) tt tt tt (λ effect k. tt) refl

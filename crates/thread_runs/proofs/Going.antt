@@ -15,7 +15,7 @@ use Rattle.hart_runs.proofs.Going.{steps_go_on}
 use Rattle.hart_runs.proofs.Memory.{forward_agrees, drains_agree}
 use Rattle.thread_code.specs.Plans.{Plan, Thread}
 use Rattle.thread_code.specs.Performing.{Places}
-use Rattle.thread_runs.specs.Ways.{Stage, AreApart, end_of, IsOnWay}
+use Rattle.thread_runs.specs.Ways.{Stage, AreApart, end_of, IsOnWay, on_machine}
 use Rattle.thread_runs.specs.Laws.{run_of, AreMarksOf, GoesOn, IsHeldUp, WaysGoOn}
 use Rattle.thread_runs.proofs.Left.{forward_less, drains_less}
 use Rattle.thread_runs.proofs.Sights.{Ahead, unmarked_ahead, mark_of_machine, apart_first}
@@ -33,7 +33,7 @@ seen_alike w h s steps seen other to e on = record {
 
 module _ (p : Plan) (t : Thread) (c : Places) (program : List (List Slot)) (w : World) (h : ℕ) (s : Setting) (stage : Stage) (steps : ℕ)
     (effects : List Effect) (sound : IsSound w) (counts : r.ForwardCounts) (drained : r.DrainsCountNone)
-    (way : IsOnWay p t c program w h s stage (suc steps) effects) where
+    (way : IsOnWay p t c (on_machine program w h s) stage (suc steps) effects) where
   abbrev to : Moment
   to = moment way.registers (end_of p t c stage.aim stage.node)
 
@@ -41,7 +41,7 @@ module _ (p : Plan) (t : Thread) (c : Places) (program : List (List Slot)) (w : 
   run = run_of p t c way
 
   abbrev Result : Type 0
-  Result = (GoesOn p t c program w h s stage steps effects way ⊎ IsHeldUp p t c program w h s stage steps effects way) ×
+  Result = (GoesOn p t c (on_machine program w h s) stage steps effects way ⊎ IsHeldUp p t c (on_machine program w h s) stage steps effects way) ×
       ((marks : List (List ℕ)) → AreMarksOf marks h s → passes_mark marks program w h ≡ false)
 
   goes : GoesForward program w h run → Result

@@ -23,7 +23,7 @@ use Rattle.thread_code.specs.Plans.{Plan, Thread, IsNodeOf}
 use Rattle.thread_code.specs.Performing.{Places, keeping}
 use Rattle.thread_code.specs.Programs.{IsThreadCode, IsCalling, mark_of}
 use Rattle.thread_runs.specs.Ways as ways
-use Rattle.thread_runs.specs.Ways.{ReadsVariables, IsLockOf, IsUnlockOf, IsOnWay, IsPlaced}
+use Rattle.thread_runs.specs.Ways.{ReadsVariables, IsLockOf, IsUnlockOf, IsOnWay, IsPlaced, on_machine}
 use Rattle.thread_runs.specs.Laws.{TakesMutex, LocksTake, LocksWait}
 use Rattle.thread_runs.proofs.Boundaries.{boundary_may, boundary_apart}
 use Rattle.thread_runs.proofs.Arriving.{on_way, other_bank, contains_first}
@@ -33,7 +33,7 @@ use Rattle.thread_runs.proofs.Calling.{agrees_on, words_stay, count_stays, has_m
 
 module _ (p : Plan) (t : Thread) (program : List (List Slot)) (own : Program) (code : IsThreadCode p t own) (w : World) (h : ℕ) (s : Setting)
     (node mutex next : ℕ) (seen : Seen) (bank : ℕ) (effects : List Effect) (counts : r.CallsCount)
-    (way : IsOnWay p t code.places program w h s (record { aim = ways.Asks mutex next; node = node; seen = seen; bank = bank }) 0 effects) where
+    (way : IsOnWay p t code.places (on_machine program w h s) (record { aim = ways.Asks mutex next; node = node; seen = seen; bank = bank }) 0 effects) where
   abbrev c : Places
   c = code.places
 
@@ -93,7 +93,8 @@ module _ (p : Plan) (t : Thread) (program : List (List Slot)) (own : Program) (c
         (subst (λ (a : Action). list_any (λ mark. mark == mark_of c a node) s.marks ≡ true) lock.locks
         (mark_there p t own code s way.meets node lock.is lock.own lock.at))
 
-    pub takes_it : TakesMutex p t c program w h s node mutex next seen bank hart way.registers
+    pub takes_it : TakesMutex p t c (on_machine program w h s) mutex next
+        (record { aim = ways.Asks mutex next; node = node; seen = seen; bank = bank }) hart way.registers
     takes_it = record {
       does = does;
       on = on_way p t c program v h s way.meets agrees_behind

@@ -16,7 +16,7 @@ use Rattle.hart_runs.proofs.Going.{steps_go_on}
 use Rattle.hart_runs.proofs.Memory.{forward_agrees, drains_agree}
 use Rattle.thread_code.specs.Plans.{Plan, Thread}
 use Rattle.thread_code.specs.Performing.{Places}
-use Rattle.thread_runs.specs.Ways.{Stage, AreApart, end_of, IsMadeBy, IsAtMark}
+use Rattle.thread_runs.specs.Ways.{Stage, AreApart, end_of, IsMadeBy, IsAtMark, on_machine}
 use Rattle.thread_runs.specs.Laws.{run_at, Passes, Stays, MarksPass}
 use Rattle.thread_runs.proofs.Left.{forward_less, drains_less}
 use Rattle.thread_runs.proofs.Sights.{Ahead, marked_ahead, marked_is, mark_of_machine, apart_first}
@@ -24,7 +24,7 @@ use Rattle.thread_runs.proofs.Going.{seen_alike}
 
 module _ (p : Plan) (t : Thread) (c : Places) (program : List (List Slot)) (w : World) (h : ℕ) (s : Setting) (e : a.Effect) (stage : Stage) (steps : ℕ)
     (effects : List Effect) (sound : IsSound w) (counts : r.ForwardCounts) (drained : r.DrainsCountNone)
-    (at : IsAtMark p t c program w h s e stage steps effects) where
+    (at : IsAtMark p t c (on_machine program w h s) e stage steps effects) where
   abbrev to : Moment
   to = moment at.registers (end_of p t c stage.aim stage.node)
 
@@ -32,7 +32,7 @@ module _ (p : Plan) (t : Thread) (c : Places) (program : List (List Slot)) (w : 
   run = run_at p t c at
 
   abbrev Result : Type 0
-  Result = Passes p t c program w h s e stage steps effects at ⊎ Stays p t c program w h s e stage steps effects at
+  Result = Passes p t c (on_machine program w h s) e stage steps effects at ⊎ Stays p t c (on_machine program w h s) e stage steps effects at
 
   passes : GoesForward program w h run → Result
   passes f =

@@ -14,7 +14,7 @@ use Rattle.thread_code.specs.Entering.{Enters}
 use Rattle.thread_code.specs.Performing.{Places}
 use Rattle.thread_code.specs.Programs.{IsThreadCode, IsResumed, at_chosen, behind_lock, behind_unlock}
 use Rattle.thread_code.proofs.Entering.{enters_again}
-use Rattle.thread_runs.specs.Ways.{IsPlaced}
+use Rattle.thread_runs.specs.Ways.{IsPlaced, on_machine}
 use Rattle.thread_runs.specs.Laws.{node_resumed, AreResumed, IsUnderWay, at_core, arrives, ResumedGoOn}
 use Rattle.thread_runs.proofs.Arriving.{locks_go_on, unlocks_go_on, contains_first}
 
@@ -32,7 +32,7 @@ module _ (p : Plan) (t : Thread) (program : List (List Slot)) (own : Program) (c
 
   pub goes_on : (address : ℕ) (r : IsResumed p t c address) → IsAt w h (moment registers address) →
       AreResumed p t c (node_resumed p t c r) seen bank registers →
-      IsUnderWay p t c program w h s (node_resumed p t c r) seen bank registers
+      IsUnderWay p t c (on_machine program w h s) (node_resumed p t c r) seen bank registers
   goes_on address (at_chosen node of chosen) at r = at_core (record { own = of; at = at; enters = enters node of r })
   goes_on address (behind_lock from mutex next is of found locks) at r =
       let goes : Contains (successors is.action) next = subst (λ (a : Action). Contains (successors a) next) (sym locks) (contains_first next []) in

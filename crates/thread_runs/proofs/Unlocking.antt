@@ -20,14 +20,14 @@ use Rattle.thread_code.specs.Plans.{Plan, Thread}
 use Rattle.thread_code.specs.Performing.{Places}
 use Rattle.thread_code.specs.Programs.{IsThreadCode, IsCalling}
 use Rattle.thread_runs.specs.Ways as ways
-use Rattle.thread_runs.specs.Ways.{ReadsVariables, IsLockOf, IsUnlockOf, IsOnWay, IsPlaced}
+use Rattle.thread_runs.specs.Ways.{ReadsVariables, IsLockOf, IsUnlockOf, IsOnWay, IsPlaced, on_machine}
 use Rattle.thread_runs.specs.Laws.{GivesMutex, UnlocksGive, EndsEnd}
 use Rattle.thread_runs.proofs.Sights.{mark_of_machine, none_marked}
 use Rattle.thread_runs.proofs.Calling.{agrees_on, words_stay, count_stays, and_none, pc_is, registers_are, call_there, behind_is}
 
 module _ (p : Plan) (t : Thread) (program : List (List Slot)) (own : Program) (code : IsThreadCode p t own) (w : World) (h : ℕ) (s : Setting)
     (from mutex next : ℕ) (seen : Seen) (bank : ℕ) (effects : List Effect) (counts : r.CallsCount) (placed : IsPlaced p t code.places (length w.harts))
-    (way : IsOnWay p t code.places program w h s (record { aim = ways.Gives from mutex; node = next; seen = seen; bank = bank }) 0 effects)
+    (way : IsOnWay p t code.places (on_machine program w h s) (record { aim = ways.Gives from mutex; node = next; seen = seen; bank = bank }) 0 effects)
     (held : slice_get w.holders mutex ≡ Some (Some h)) where
   abbrev c : Places
   c = code.places
@@ -68,7 +68,8 @@ module _ (p : Plan) (t : Thread) (program : List (List Slot)) (own : Program) (c
       subst (λ (x : ℕ). list_any (λ mark. mark == x) s.marks ≡ false) (sym pc)
       (subst (λ (ms : List ℕ). list_any (λ mark. mark == c.call from) ms ≡ false) (sym way.meets.marks) (none_marked c.program.nodes (c.call from) calling.3))
 
-  pub gives_it : GivesMutex p t c program w h s from mutex next seen bank hart way.registers
+  pub gives_it : GivesMutex p t c (on_machine program w h s) from mutex
+      (record { aim = ways.Gives from mutex; node = next; seen = seen; bank = bank }) hart way.registers
   gives_it = record {
     does = does;
     agrees = agrees_on program w v h s (words_stay program w (with_holder w mutex None) h after does refl)

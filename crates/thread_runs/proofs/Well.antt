@@ -20,7 +20,8 @@ locks_are_well none p t program own code w h s node mutex next seen bank effects
     (registers_are program code.places w h s way.meets way.agrees node takes calling.0 way.registers way.on.hart way.on.here way.on.runs way.on.walks.0
     way.has.call)
     ∙ way.has.lock in
-    none program w h (at_acquire (call_there program code.places w h s way.meets way.agrees node takes calling.0 way.registers way.on.hart way.on.here way.on.runs
+    none program w h
+    (at_acquire (call_there program code.places w h s way.meets way.agrees node takes calling.0 way.registers way.on.hart way.on.here way.on.runs
     way.on.walks.0 way.has.call) holder (ap (λ (l : ℕ). slice_get w.holders l) is ∙ there)) cause
 
 pub unlocks_are_well : NoneIsStuck → UnlocksAreWell
@@ -33,7 +34,8 @@ unlocks_are_well none p t program own code w h s from mutex next seen bank effec
     (registers_are program code.places w h s way.meets way.agrees from gives calling.0 way.registers way.on.hart way.on.here way.on.runs way.on.walks.0
     way.has.call)
     ∙ way.has.lock in
-    none program w h (at_release (call_there program code.places w h s way.meets way.agrees from gives calling.0 way.registers way.on.hart way.on.here way.on.runs
+    none program w h
+    (at_release (call_there program code.places w h s way.meets way.agrees from gives calling.0 way.registers way.on.hart way.on.here way.on.runs
     way.on.walks.0 way.has.call) (ap (λ (l : ℕ). slice_get w.holders l) is ∙ held)) cause
 
 pub ends_are_well : NoneIsStuck → EndsAreWell

@@ -21,7 +21,7 @@ use Rattle.hart_runs.specs.Standing.{setting_of}
 use Rattle.hart_runs.specs.Laws.{SettingsAgree, SettingsMeet, program_at}
 use Rattle.thread_code.specs.Plans.{Plan, Thread}
 use Rattle.thread_code.specs.Performing.{Places}
-use Rattle.thread_runs.specs.Ways.{IsAtMark, stage_behind}
+use Rattle.thread_runs.specs.Ways.{IsAtMark, stage_behind, on_machine}
 
 abbrev code : List Slot
 code = Row (OpImmediate Addi 17 0 3) ∷ Row Ecall ∷ []
@@ -78,7 +78,7 @@ module _ (place : Place) (agree : SettingsAgree) (meet : SettingsMeet) where
   }
 
   -- before its first step the thread is at the mark of its end
-  at_mark : IsAtMark p t c program w 0 s a.Ends (stage_behind p t c 0 seen 0 a.Ends) 0 []
+  at_mark : IsAtMark p t c (on_machine program w 0 s) a.Ends (stage_behind p t c 0 seen 0 a.Ends) 0 []
   unfolding row result_of
   at_mark = record {
     meets = meet program marks [] no_loads w 0;

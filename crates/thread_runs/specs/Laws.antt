@@ -30,7 +30,7 @@ use Rattle.thread_code.specs.Entering.{Enters, IsAnswered, source_of}
 use Rattle.thread_code.specs.Performing.{Places, keeping}
 use Rattle.thread_code.specs.Programs.{IsThreadCode, IsResumed, at_chosen, behind_lock, behind_unlock}
 use Rattle.thread_runs.specs.Ways.{Arrives, Keeps, Asks, Took, Gives, Ends, Stage, ReadsVariables, effects_of, end_of, IsLockOf, IsUnlockOf, IsOnWay}
-use Rattle.thread_runs.specs.Ways.{IsAtCore, IsAtMark, IsMadeBy, AreSeen, stage_behind, IsPlaced, MayDo}
+use Rattle.thread_runs.specs.Ways.{Running, on_machine, IsAtCore, IsAtMark, IsMadeBy, AreSeen, stage_behind, IsPlaced, MayDo}
 
 -- the machine has the marks of hart h that the setting has
 abbrev pub AreMarksOf : (marks : List (List ℕ)) → (h : ℕ) → Setting → Type 0
@@ -40,118 +40,123 @@ AreMarksOf marks h s = slice_index_or marks h [] ≡ s.marks
 abbrev pub CountsNone : List (List Slot) → World → (h : ℕ) → Type 0
 CountsNone program w h = (stores_point program w (Step h) h ≡ false) × (finishes_fence program w (Step h) h ≡ false)
 
+-- the hart a step later
+abbrev pub stepped : Running → Running
+stepped r = record r { world = after_event r.program r.world (Step r.hart) }
+
 module _ (p : Plan) (t : Thread) (c : Places) where
   -- ---- Delay: the most steps that the hart needs to a way's end
 
-  abbrev pub left_of : {program : List (List Slot)} {w : World} {h : ℕ} {s : Setting} {stage : Stage} {steps : ℕ} {effects : List Effect} →
-      IsOnWay p t c program w h s stage steps effects → ℕ
+  abbrev pub left_of : {r : Running} {stage : Stage} {steps : ℕ} {effects : List Effect} → IsOnWay p t c r stage steps effects → ℕ
   left_of {steps = steps} {effects = effects} way = steps_left steps (seen_effects effects) way.on.hart.queue
 
   -- from a mark on
-  abbrev pub left_at : {program : List (List Slot)} {w : World} {h : ℕ} {s : Setting} {e : a.Effect} {stage : Stage} {steps : ℕ} {effects : List Effect} →
-      IsAtMark p t c program w h s e stage steps effects → ℕ
+  abbrev pub left_at : {r : Running} {e : a.Effect} {stage : Stage} {steps : ℕ} {effects : List Effect} → IsAtMark p t c r e stage steps effects → ℕ
   left_at {steps = steps} {effects = effects} at = steps_left (suc steps) (Mark ∷ seen_effects effects) at.on.hart.queue
 
   -- ---- Steps on a way
 
   -- the run before a way's end
-  abbrev pub run_of : {program : List (List Slot)} {w : World} {h : ℕ} {s : Setting} {stage : Stage} {steps : ℕ} {effects : List Effect} →
-      IsOnWay p t c program w h s stage (suc steps) effects → OnRun w h
-  run_of {s = s} {stage = stage} {steps = steps} {effects = effects} way =
-      record { setting = s; steps = steps; seen = seen_effects effects; to = moment way.registers (end_of p t c stage.aim stage.node); on = way.on }
+  abbrev pub run_of : {r : Running} {stage : Stage} {steps : ℕ} {effects : List Effect} → IsOnWay p t c r stage (suc steps) effects → OnRun r.world r.hart
+  run_of {r = r} {stage = stage} {steps = steps} {effects = effects} way =
+      record { setting = r.setting; steps = steps; seen = seen_effects effects; to = moment way.registers (end_of p t c stage.aim stage.node); on = way.on }
 
   -- and from a mark on
-  abbrev pub run_at : {program : List (List Slot)} {w : World} {h : ℕ} {s : Setting} {e : a.Effect} {stage : Stage} {steps : ℕ} {effects : List Effect} →
-      IsAtMark p t c program w h s e stage steps effects → OnRun w h
-  run_at {s = s} {stage = stage} {steps = steps} {effects = effects} at =
-      record { setting = s; steps = steps; seen = Mark ∷ seen_effects effects; to = moment at.registers (end_of p t c stage.aim stage.node); on = at.on }
+  abbrev pub run_at : {r : Running} {e : a.Effect} {stage : Stage} {steps : ℕ} {effects : List Effect} → IsAtMark p t c r e stage steps effects →
+      OnRun r.world r.hart
+  run_at {r = r} {stage = stage} {steps = steps} {effects = effects} at =
+      record {
+        setting = r.setting;
+        steps = steps;
+        seen = Mark ∷ seen_effects effects;
+        to = moment at.registers (end_of p t c stage.aim stage.node);
+        on = at.on;
+      }
 
   -- the next instruction is completed, and its effect is the first that was ahead, if it is one on memory
-  pub record GoesOn (program : List (List Slot)) (w : World) (h : ℕ) (s : Setting) (stage : Stage) (steps : ℕ) (effects : List Effect)
-      (way : IsOnWay p t c program w h s stage (suc steps) effects) : Type 0 where
-    pub forward : GoesForward program w h (run_of way)
+  pub record GoesOn (r : Running) (stage : Stage) (steps : ℕ) (effects : List Effect) (way : IsOnWay p t c r stage (suc steps) effects) : Type 0 where
+    pub forward : GoesForward r.program r.world r.hart (run_of way)
     pub later : List Effect
     pub effects_are : effects ≡ effects_of forward.effect ++ later
-    pub on : IsOnWay p t c program (after_event program w (Step h)) h s stage steps later
-    pub point : stores_point program w (Step h) h ≡ is_point_store h forward.effect
-    pub fence : finishes_fence program w (Step h) h ≡ is_fence forward.effect
+    pub on : IsOnWay p t c (stepped r) stage steps later
+    pub point : stores_point r.program r.world (Step r.hart) r.hart ≡ is_point_store r.hart forward.effect
+    pub fence : finishes_fence r.program r.world (Step r.hart) r.hart ≡ is_fence forward.effect
     pub less : suc (left_of on) ≡ left_of way
     pub same : on.on.hart ≡ forward.on.hart
 
   -- an entry of the queue is written back
-  pub record IsHeldUp (program : List (List Slot)) (w : World) (h : ℕ) (s : Setting) (stage : Stage) (steps : ℕ) (effects : List Effect)
-      (way : IsOnWay p t c program w h s stage (suc steps) effects) : Type 0 where
-    pub drains : Drains program w h (run_of way)
-    pub on : IsOnWay p t c program (after_event program w (Step h)) h s stage (suc steps) effects
-    pub counts : CountsNone program w h
+  pub record IsHeldUp (r : Running) (stage : Stage) (steps : ℕ) (effects : List Effect) (way : IsOnWay p t c r stage (suc steps) effects) : Type 0 where
+    pub drains : Drains r.program r.world r.hart (run_of way)
+    pub on : IsOnWay p t c (stepped r) stage (suc steps) effects
+    pub counts : CountsNone r.program r.world r.hart
     pub less : suc (left_of on) ≡ left_of way
     pub same : on.on.hart ≡ drains.on.hart
 
 -- a step on a way goes on, or is held up; it passes no mark
 abbrev pub WaysGoOn : Type 0
 WaysGoOn = (p : Plan) (t : Thread) (c : Places) (program : List (List Slot)) (w : World) (h : ℕ) (s : Setting) (stage : Stage) (steps : ℕ)
-    (effects : List Effect) → IsSound w → (way : IsOnWay p t c program w h s stage (suc steps) effects) →
-    (GoesOn p t c program w h s stage steps effects way ⊎ IsHeldUp p t c program w h s stage steps effects way) ×
+    (effects : List Effect) → IsSound w → (way : IsOnWay p t c (on_machine program w h s) stage (suc steps) effects) →
+    (GoesOn p t c (on_machine program w h s) stage steps effects way ⊎ IsHeldUp p t c (on_machine program w h s) stage steps effects way) ×
     ((marks : List (List ℕ)) → AreMarksOf marks h s → passes_mark marks program w h ≡ false)
 
 -- what others do leaves a thread on its way, where memory goes on to agree
 abbrev pub OthersKeepWays : Type 0
 OthersKeepWays = (p : Plan) (t : Thread) (c : Places) (program : List (List Slot)) (w : World) (h : ℕ) (s : Setting) (stage : Stage) (steps : ℕ)
-    (effects : List Effect) (event : Event) → IsSound w → IsOfOthers h event → IsOnWay p t c program w h s stage steps effects →
-    Agrees program (after_event program w event) h s → IsOnWay p t c program (after_event program w event) h s stage steps effects
+    (effects : List Effect) (event : Event) → IsSound w → IsOfOthers h event → IsOnWay p t c (on_machine program w h s) stage steps effects →
+    Agrees program (after_event program w event) h s → IsOnWay p t c (on_machine program (after_event program w event) h s) stage steps effects
 
 -- at its end a way is one in any setting
 abbrev pub WaysResettle : Type 0
 WaysResettle = (p : Plan) (t : Thread) (c : Places) (program : List (List Slot)) (w : World) (h : ℕ) (s z : Setting) (stage : Stage) (effects : List Effect) →
-    Meets c.program z → Agrees program w h z → IsOnWay p t c program w h s stage 0 effects → IsOnWay p t c program w h z stage 0 []
+    Meets c.program z → Agrees program w h z → IsOnWay p t c (on_machine program w h s) stage 0 effects → IsOnWay p t c (on_machine program w h z) stage 0 []
 
 -- ---- Where a way ends
 
 module _ (p : Plan) (t : Thread) (c : Places) where
   -- a way to the end of which so many steps are left at most
-  pub record IsOnSomeWay (program : List (List Slot)) (w : World) (h : ℕ) (s : Setting) (stage : Stage) (most : ℕ) (effects : List Effect) : Type 0 where
+  pub record IsOnSomeWay (r : Running) (stage : Stage) (most : ℕ) (effects : List Effect) : Type 0 where
     pub steps : ℕ
     pub short : steps ≤ most
-    pub on : IsOnWay p t c program w h s stage steps effects
+    pub on : IsOnWay p t c r stage steps effects
 
   -- through the boundary before the node, with registers at the bank
-  abbrev pub Keeping : List (List Slot) → World → (h : ℕ) → Setting → (node : ℕ) → Seen → (bank : ℕ) → (registers : List ℕ) → Type 0
-  Keeping program w h s node seen bank registers =
-      IsOnSomeWay program w h s (record { aim = Keeps; node = node; seen = seen; bank = bank_behind (keeping p t c node) bank }) (c.words node)
+  abbrev pub Keeping : Running → (node : ℕ) → Seen → (bank : ℕ) → (registers : List ℕ) → Type 0
+  Keeping r node seen bank registers =
+      IsOnSomeWay r (record { aim = Keeps; node = node; seen = seen; bank = bank_behind (keeping p t c node) bank }) (c.words node)
       (boundary_effects (keeping p t c node) (1 - bank) (c.core node) registers)
 
   -- at the entry of its node the thread begins with the boundary before it, or is at its code
-  pub record HasArrived (program : List (List Slot)) (w : World) (h : ℕ) (s : Setting) (node : ℕ) (seen : Seen) (bank : ℕ) (registers : List ℕ) : Type 0 where
-    pub chosen : IsChosen p.graph p.boundaries node → Keeping program w h s node seen bank registers
-    pub plain : ¬ (IsChosen p.graph p.boundaries node) → IsAtCore p t c w h node seen bank registers
+  pub record HasArrived (r : Running) (node : ℕ) (seen : Seen) (bank : ℕ) (registers : List ℕ) : Type 0 where
+    pub chosen : IsChosen p.graph p.boundaries node → Keeping r node seen bank registers
+    pub plain : ¬ (IsChosen p.graph p.boundaries node) → IsAtCore p t c r.world r.hart node seen bank registers
 
 abbrev pub ArrivalsEnd : Type 0
 ArrivalsEnd = (p : Plan) (t : Thread) (program : List (List Slot)) (own : Program) (code : IsThreadCode p t own) (w : World) (h : ℕ) (s : Setting)
     (node : ℕ) (seen : Seen) (bank : ℕ) (effects : List Effect) → IsPlaced p t code.places (length w.harts) → ReadsVariables s →
     (is : Node) → NodeAt p.graph node is →
-    (way : IsOnWay p t code.places program w h s (record { aim = Arrives; node = node; seen = seen; bank = bank }) 0 effects) →
-    HasArrived p t code.places program w h s node seen bank way.registers
+    (way : IsOnWay p t code.places (on_machine program w h s) (record { aim = Arrives; node = node; seen = seen; bank = bank }) 0 effects) →
+    HasArrived p t code.places (on_machine program w h s) node seen bank way.registers
 
 -- behind the boundary it is there
 abbrev pub KeepsEnd : Type 0
 KeepsEnd = (p : Plan) (t : Thread) (c : Places) (program : List (List Slot)) (w : World) (h : ℕ) (s : Setting)
     (node : ℕ) (seen : Seen) (bank : ℕ) (effects : List Effect) →
-    (way : IsOnWay p t c program w h s (record { aim = Keeps; node = node; seen = seen; bank = bank }) 0 effects) →
+    (way : IsOnWay p t c (on_machine program w h s) (record { aim = Keeps; node = node; seen = seen; bank = bank }) 0 effects) →
     IsAtCore p t c w h node seen bank way.registers
 
 -- behind the boundary behind a lock the thread goes to its node
 abbrev pub TookEnd : Type 0
 TookEnd = (p : Plan) (t : Thread) (program : List (List Slot)) (own : Program) (code : IsThreadCode p t own) (w : World) (h : ℕ) (s : Setting)
     (from node : ℕ) (seen : Seen) (bank : ℕ) (effects : List Effect) → IsPlaced p t code.places (length w.harts) →
-    IsOnWay p t code.places program w h s (record { aim = Took from; node = node; seen = seen; bank = bank }) 0 effects →
-    IsOnSomeWay p t code.places program w h s (record { aim = Arrives; node = node; seen = seen; bank = bank }) (code.places.words from) []
+    IsOnWay p t code.places (on_machine program w h s) (record { aim = Took from; node = node; seen = seen; bank = bank }) 0 effects →
+    IsOnSomeWay p t code.places (on_machine program w h s) (record { aim = Arrives; node = node; seen = seen; bank = bank }) (code.places.words from) []
 
 -- behind a lock and its boundary, or an unlock, the thread goes to its node: so does one that is resumed there
 abbrev pub GoesOnFrom : (from next : ℕ) → Plan → Thread → Type 0
 GoesOnFrom from next p t = (program : List (List Slot)) (own : Program) (code : IsThreadCode p t own) (w : World) (h : ℕ) (s : Setting)
     (seen : Seen) (bank : ℕ) (registers : List ℕ) → IsPlaced p t code.places (length w.harts) → Meets code.places.program s → Agrees program w h s →
     IsAt w h (moment registers (code.places.behind from)) → Enters p t next seen bank registers →
-    IsOnSomeWay p t code.places program w h s (record { aim = Arrives; node = next; seen = seen; bank = bank }) (code.places.words from) []
+    IsOnSomeWay p t code.places (on_machine program w h s) (record { aim = Arrives; node = next; seen = seen; bank = bank }) (code.places.words from) []
 
 abbrev pub LocksGoOn : Type 0
 LocksGoOn = (p : Plan) (t : Thread) (from mutex next : ℕ) → IsLockOf p t from mutex next → GoesOnFrom from next p t
@@ -163,46 +168,45 @@ UnlocksGoOn = (p : Plan) (t : Thread) (from mutex next : ℕ) → IsUnlockOf p t
 
 module _ (p : Plan) (t : Thread) (c : Places) where
   -- the thread is at the mark of its node
-  pub record IsAtSomeMark (program : List (List Slot)) (w : World) (h : ℕ) (s : Setting) (node : ℕ) (seen : Seen) (bank : ℕ) (registers : List ℕ)
-      (e : a.Effect) : Type 0 where
+  pub record IsAtSomeMark (r : Running) (node : ℕ) (seen : Seen) (bank : ℕ) (registers : List ℕ) (e : a.Effect) : Type 0 where
     pub steps : ℕ
     pub effects : List Effect
     pub short : suc steps ≤ c.words node
-    pub at : IsAtMark p t c program w h s e (stage_behind p t c node seen bank e) steps effects
+    pub at : IsAtMark p t c r e (stage_behind p t c node seen bank e) steps effects
     pub seen_are : AreSeen p t c node bank registers e effects
 
   -- what a thread does at its node's code: it asks for a mutex, or is at its mark
-  abbrev pub Performing : List (List Slot) → World → (h : ℕ) → Setting → (node : ℕ) → Seen → (bank : ℕ) → (registers : List ℕ) → a.Effect → Type 0
-  Performing program w h s node seen bank registers (a.Sets local number next) = IsAtSomeMark program w h s node seen bank registers (a.Sets local number next)
-  Performing program w h s node seen bank registers (a.Owes store next) = IsAtSomeMark program w h s node seen bank registers (a.Owes store next)
-  Performing program w h s node seen bank registers (a.Makes store next) = IsAtSomeMark program w h s node seen bank registers (a.Makes store next)
-  Performing program w h s node seen bank registers (a.Goes next) = IsAtSomeMark program w h s node seen bank registers (a.Goes next)
-  Performing program w h s node seen bank registers (a.Takes mutex next) =
-      IsOnSomeWay p t c program w h s (stage_behind p t c node seen bank (a.Takes mutex next)) (c.words node) []
-  Performing program w h s node seen bank registers (a.Gives mutex next) = IsAtSomeMark program w h s node seen bank registers (a.Gives mutex next)
-  Performing program w h s node seen bank registers a.Ends = IsAtSomeMark program w h s node seen bank registers a.Ends
+  abbrev pub Performing : Running → (node : ℕ) → Seen → (bank : ℕ) → (registers : List ℕ) → a.Effect → Type 0
+  Performing r node seen bank registers (a.Sets local number next) = IsAtSomeMark r node seen bank registers (a.Sets local number next)
+  Performing r node seen bank registers (a.Owes store next) = IsAtSomeMark r node seen bank registers (a.Owes store next)
+  Performing r node seen bank registers (a.Makes store next) = IsAtSomeMark r node seen bank registers (a.Makes store next)
+  Performing r node seen bank registers (a.Goes next) = IsAtSomeMark r node seen bank registers (a.Goes next)
+  Performing r node seen bank registers (a.Takes mutex next) =
+      IsOnSomeWay p t c r (stage_behind p t c node seen bank (a.Takes mutex next)) (c.words node) []
+  Performing r node seen bank registers (a.Gives mutex next) = IsAtSomeMark r node seen bank registers (a.Gives mutex next)
+  Performing r node seen bank registers a.Ends = IsAtSomeMark r node seen bank registers a.Ends
 
   -- it passes its mark, and is on the way behind it
-  pub record Passes (program : List (List Slot)) (w : World) (h : ℕ) (s : Setting) (e : a.Effect) (stage : Stage) (steps : ℕ) (effects : List Effect)
-      (at : IsAtMark p t c program w h s e stage steps effects) : Type 0 where
-    pub forward : GoesForward program w h (run_at p t c at)
+  pub record Passes (r : Running) (e : a.Effect) (stage : Stage) (steps : ℕ) (effects : List Effect)
+      (at : IsAtMark p t c r e stage steps effects) : Type 0 where
+    pub forward : GoesForward r.program r.world r.hart (run_at p t c at)
     pub later : List Effect
     pub effects_are : effects ≡ effects_of forward.effect ++ later
     pub made : IsMadeBy p t c e forward.effect
-    pub on : IsOnWay p t c program (after_event program w (Step h)) h s stage steps later
-    pub mark : (marks : List (List ℕ)) → AreMarksOf marks h s → passes_mark marks program w h ≡ true
-    pub point : stores_point program w (Step h) h ≡ is_point_store h forward.effect
-    pub fence : finishes_fence program w (Step h) h ≡ is_fence forward.effect
+    pub on : IsOnWay p t c (stepped r) stage steps later
+    pub mark : (marks : List (List ℕ)) → AreMarksOf marks r.hart r.setting → passes_mark marks r.program r.world r.hart ≡ true
+    pub point : stores_point r.program r.world (Step r.hart) r.hart ≡ is_point_store r.hart forward.effect
+    pub fence : finishes_fence r.program r.world (Step r.hart) r.hart ≡ is_fence forward.effect
     pub less : suc (left_of p t c on) ≡ left_at p t c at
     pub same : on.on.hart ≡ forward.on.hart
 
   -- an entry of the queue is written back, and it stays at its mark
-  pub record Stays (program : List (List Slot)) (w : World) (h : ℕ) (s : Setting) (e : a.Effect) (stage : Stage) (steps : ℕ) (effects : List Effect)
-      (at : IsAtMark p t c program w h s e stage steps effects) : Type 0 where
-    pub drains : Drains program w h (run_at p t c at)
-    pub still : IsAtMark p t c program (after_event program w (Step h)) h s e stage steps effects
-    pub no_mark : (marks : List (List ℕ)) → passes_mark marks program w h ≡ false
-    pub counts : CountsNone program w h
+  pub record Stays (r : Running) (e : a.Effect) (stage : Stage) (steps : ℕ) (effects : List Effect)
+      (at : IsAtMark p t c r e stage steps effects) : Type 0 where
+    pub drains : Drains r.program r.world r.hart (run_at p t c at)
+    pub still : IsAtMark p t c (stepped r) e stage steps effects
+    pub no_mark : (marks : List (List ℕ)) → passes_mark marks r.program r.world r.hart ≡ false
+    pub counts : CountsNone r.program r.world r.hart
     pub less : suc (left_at p t c still) ≡ left_at p t c at
     pub same : still.on.hart ≡ drains.on.hart
 
@@ -213,70 +217,70 @@ NodesBegin = (p : Plan) (t : Thread) (program : List (List Slot)) (own : Program
     IsPlaced p t code.places (length w.harts) → Meets code.places.program s → Agrees program w h s → ReadsVariables s →
     NodeAt p.graph node is → effect_of is.action seen ≡ Some e → IsAnswered (source_of p t seen) s.around.loads is.action →
     MayDo p t code.places (length w.harts) s e → IsAtCore p t code.places w h node seen bank registers →
-    Performing p t code.places program w h s node seen bank registers e
+    Performing p t code.places (on_machine program w h s) node seen bank registers e
 
 -- a step at a mark passes it, or writes back an entry of the queue
 abbrev pub MarksPass : Type 0
 MarksPass = (p : Plan) (t : Thread) (c : Places) (program : List (List Slot)) (w : World) (h : ℕ) (s : Setting) (e : a.Effect) (stage : Stage) (steps : ℕ)
-    (effects : List Effect) → IsSound w → (at : IsAtMark p t c program w h s e stage steps effects) →
-    Passes p t c program w h s e stage steps effects at ⊎ Stays p t c program w h s e stage steps effects at
+    (effects : List Effect) → IsSound w → (at : IsAtMark p t c (on_machine program w h s) e stage steps effects) →
+    Passes p t c (on_machine program w h s) e stage steps effects at ⊎ Stays p t c (on_machine program w h s) e stage steps effects at
 
 -- what others do leaves a thread at its mark
 abbrev pub OthersKeepMarks : Type 0
 OthersKeepMarks = (p : Plan) (t : Thread) (c : Places) (program : List (List Slot)) (w : World) (h : ℕ) (s : Setting) (e : a.Effect) (stage : Stage) (steps : ℕ)
-    (effects : List Effect) (event : Event) → IsSound w → IsOfOthers h event → IsAtMark p t c program w h s e stage steps effects →
-    Agrees program (after_event program w event) h s → IsAtMark p t c program (after_event program w event) h s e stage steps effects
+    (effects : List Effect) (event : Event) → IsSound w → IsOfOthers h event → IsAtMark p t c (on_machine program w h s) e stage steps effects →
+    Agrees program (after_event program w event) h s → IsAtMark p t c (on_machine program (after_event program w event) h s) e stage steps effects
 
 -- ---- Calls
 
 module _ (p : Plan) (t : Thread) (c : Places) where
-  -- the mutex is taken, and its mark passed: a thread with those registers is on the way through the boundary behind the lock
-  pub record TakesMutex (program : List (List Slot)) (w : World) (h : ℕ) (s : Setting) (node mutex next : ℕ) (seen : Seen) (bank : ℕ) (hart : Hart)
-      (registers : List ℕ) : Type 0 where
-    pub does : happens program w (Step h) ≡ moved (with_holder w mutex (Some h)) h (gone_on hart)
-    pub on : IsOnSomeWay p t c program (after_event program w (Step h)) h s
-        (record { aim = Took node; node = next; seen = seen; bank = bank_behind (keeping p t c next) bank }) (c.words node)
-        (boundary_effects (keeping p t c next) (1 - bank) (c.behind node) registers)
-    pub mark : (marks : List (List ℕ)) → AreMarksOf marks h s → passes_mark marks program w h ≡ true
-    pub counts : CountsNone program w h
+  -- the mutex is taken, and its mark passed: a thread that was at its call with those registers is on the way through the boundary behind the lock
+  pub record TakesMutex (r : Running) (mutex next : ℕ) (stage : Stage) (hart : Hart) (registers : List ℕ) : Type 0 where
+    pub does : happens r.program r.world (Step r.hart) ≡ moved (with_holder r.world mutex (Some r.hart)) r.hart (gone_on hart)
+    pub on : IsOnSomeWay p t c (stepped r)
+        (record { aim = Took stage.node; node = next; seen = stage.seen; bank = bank_behind (keeping p t c next) stage.bank }) (c.words stage.node)
+        (boundary_effects (keeping p t c next) (1 - stage.bank) (c.behind stage.node) registers)
+    pub mark : (marks : List (List ℕ)) → AreMarksOf marks r.hart r.setting → passes_mark marks r.program r.world r.hart ≡ true
+    pub counts : CountsNone r.program r.world r.hart
 
   -- the mutex is given back; unless the thread's recovery is done by that, it is behind the unlock
-  pub record GivesMutex (program : List (List Slot)) (w : World) (h : ℕ) (s : Setting) (from mutex next : ℕ) (seen : Seen) (bank : ℕ) (hart : Hart)
-      (registers : List ℕ) : Type 0 where
-    pub does : happens program w (Step h) ≡
-        moved (with_holder w mutex None) h (record (gone_on hart) { phase = phase_behind w h (slice_set w.holders mutex None) })
-    pub agrees : Agrees program (after_event program w (Step h)) h s
-    pub at : phase_behind w h (slice_set w.holders mutex None) ≡ Run → IsAt (after_event program w (Step h)) h (moment registers (c.behind from))
-    pub enters : Enters p t next seen bank registers
-    pub no_mark : (marks : List (List ℕ)) → AreMarksOf marks h s → passes_mark marks program w h ≡ false
-    pub counts : CountsNone program w h
+  pub record GivesMutex (r : Running) (from mutex : ℕ) (stage : Stage) (hart : Hart) (registers : List ℕ) : Type 0 where
+    pub does : happens r.program r.world (Step r.hart) ≡ moved (with_holder r.world mutex None) r.hart
+        (record (gone_on hart) { phase = phase_behind r.world r.hart (slice_set r.world.holders mutex None) })
+    pub agrees : Agrees r.program (stepped r).world r.hart r.setting
+    pub at : phase_behind r.world r.hart (slice_set r.world.holders mutex None) ≡ Run → IsAt (stepped r).world r.hart (moment registers (c.behind from))
+    pub enters : Enters p t stage.node stage.seen stage.bank registers
+    pub no_mark : (marks : List (List ℕ)) → AreMarksOf marks r.hart r.setting → passes_mark marks r.program r.world r.hart ≡ false
+    pub counts : CountsNone r.program r.world r.hart
 
 -- where the mutex is free
 abbrev pub LocksTake : Type 0
 LocksTake = (p : Plan) (t : Thread) (program : List (List Slot)) (own : Program) (code : IsThreadCode p t own) (w : World) (h : ℕ) (s : Setting)
     (node mutex next : ℕ) (seen : Seen) (bank : ℕ) (effects : List Effect) → IsPlaced p t code.places (length w.harts) → ReadsVariables s →
-    (way : IsOnWay p t code.places program w h s (record { aim = Asks mutex next; node = node; seen = seen; bank = bank }) 0 effects) →
-    slice_get w.holders mutex ≡ Some None → TakesMutex p t code.places program w h s node mutex next seen bank way.on.hart way.registers
+    (way : IsOnWay p t code.places (on_machine program w h s) (record { aim = Asks mutex next; node = node; seen = seen; bank = bank }) 0 effects) →
+    slice_get w.holders mutex ≡ Some None → TakesMutex p t code.places (on_machine program w h s) mutex next
+    (record { aim = Asks mutex next; node = node; seen = seen; bank = bank }) way.on.hart way.registers
 
 -- where a thread holds it
 abbrev pub LocksWait : Type 0
 LocksWait = (p : Plan) (t : Thread) (program : List (List Slot)) (own : Program) (code : IsThreadCode p t own) (w : World) (h : ℕ) (s : Setting)
     (node mutex next : ℕ) (seen : Seen) (bank : ℕ) (effects : List Effect) (holder : ℕ) →
-    IsOnWay p t code.places program w h s (record { aim = Asks mutex next; node = node; seen = seen; bank = bank }) 0 effects →
+    IsOnWay p t code.places (on_machine program w h s) (record { aim = Asks mutex next; node = node; seen = seen; bank = bank }) 0 effects →
     slice_get w.holders mutex ≡ Some (Some holder) → (happens program w (Step h) ≡ (w, Waits mutex holder)) ×
     ((marks : List (List ℕ)) → passes_mark marks program w h ≡ false)
 
 abbrev pub UnlocksGive : Type 0
 UnlocksGive = (p : Plan) (t : Thread) (program : List (List Slot)) (own : Program) (code : IsThreadCode p t own) (w : World) (h : ℕ) (s : Setting)
     (from mutex next : ℕ) (seen : Seen) (bank : ℕ) (effects : List Effect) → IsPlaced p t code.places (length w.harts) →
-    (way : IsOnWay p t code.places program w h s (record { aim = Gives from mutex; node = next; seen = seen; bank = bank }) 0 effects) →
-    slice_get w.holders mutex ≡ Some (Some h) → GivesMutex p t code.places program w h s from mutex next seen bank way.on.hart way.registers
+    (way : IsOnWay p t code.places (on_machine program w h s) (record { aim = Gives from mutex; node = next; seen = seen; bank = bank }) 0 effects) →
+    slice_get w.holders mutex ≡ Some (Some h) → GivesMutex p t code.places (on_machine program w h s) from mutex
+    (record { aim = Gives from mutex; node = next; seen = seen; bank = bank }) way.on.hart way.registers
 
 -- a thread that ends holds nothing
 abbrev pub EndsEnd : Type 0
 EndsEnd = (p : Plan) (t : Thread) (program : List (List Slot)) (own : Program) (code : IsThreadCode p t own) (w : World) (h : ℕ) (s : Setting)
     (node : ℕ) (seen : Seen) (bank : ℕ) (effects : List Effect) →
-    (way : IsOnWay p t code.places program w h s (record { aim = Ends; node = node; seen = seen; bank = bank }) 0 effects) →
+    (way : IsOnWay p t code.places (on_machine program w h s) (record { aim = Ends; node = node; seen = seen; bank = bank }) 0 effects) →
     least_held w.holders h ≡ None →
     (happens program w (Step h) ≡ moved w h (record (gone_on way.on.hart) { phase = Ended })) ×
     ((marks : List (List ℕ)) → AreMarksOf marks h s → passes_mark marks program w h ≡ false)
@@ -285,29 +289,29 @@ EndsEnd = (p : Plan) (t : Thread) (program : List (List Slot)) (own : Program) (
 
 abbrev pub WaysAreWell : Type 0
 WaysAreWell = (p : Plan) (t : Thread) (c : Places) (program : List (List Slot)) (w : World) (h : ℕ) (s : Setting) (stage : Stage) (steps : ℕ)
-    (effects : List Effect) → IsOnWay p t c program w h s stage (suc steps) effects → (cause : Cause) → reply_to program w (Step h) ≢ Stuck cause
+    (effects : List Effect) → IsOnWay p t c (on_machine program w h s) stage (suc steps) effects → (cause : Cause) → reply_to program w (Step h) ≢ Stuck cause
 
 abbrev pub MarksAreWell : Type 0
 MarksAreWell = (p : Plan) (t : Thread) (c : Places) (program : List (List Slot)) (w : World) (h : ℕ) (s : Setting) (e : a.Effect) (stage : Stage) (steps : ℕ)
-    (effects : List Effect) → IsAtMark p t c program w h s e stage steps effects → (cause : Cause) → reply_to program w (Step h) ≢ Stuck cause
+    (effects : List Effect) → IsAtMark p t c (on_machine program w h s) e stage steps effects → (cause : Cause) → reply_to program w (Step h) ≢ Stuck cause
 
 -- nor one at its call: a lock of a mutex that is there, an unlock of one that the thread holds, and an end of a thread that holds nothing
 abbrev pub LocksAreWell : Type 0
 LocksAreWell = (p : Plan) (t : Thread) (program : List (List Slot)) (own : Program) (code : IsThreadCode p t own) (w : World) (h : ℕ) (s : Setting)
     (node mutex next : ℕ) (seen : Seen) (bank : ℕ) (effects : List Effect) (holder : Option ℕ) →
-    IsOnWay p t code.places program w h s (record { aim = Asks mutex next; node = node; seen = seen; bank = bank }) 0 effects →
+    IsOnWay p t code.places (on_machine program w h s) (record { aim = Asks mutex next; node = node; seen = seen; bank = bank }) 0 effects →
     slice_get w.holders mutex ≡ Some holder → (cause : Cause) → reply_to program w (Step h) ≢ Stuck cause
 
 abbrev pub UnlocksAreWell : Type 0
 UnlocksAreWell = (p : Plan) (t : Thread) (program : List (List Slot)) (own : Program) (code : IsThreadCode p t own) (w : World) (h : ℕ) (s : Setting)
     (from mutex next : ℕ) (seen : Seen) (bank : ℕ) (effects : List Effect) →
-    IsOnWay p t code.places program w h s (record { aim = Gives from mutex; node = next; seen = seen; bank = bank }) 0 effects →
+    IsOnWay p t code.places (on_machine program w h s) (record { aim = Gives from mutex; node = next; seen = seen; bank = bank }) 0 effects →
     slice_get w.holders mutex ≡ Some (Some h) → (cause : Cause) → reply_to program w (Step h) ≢ Stuck cause
 
 abbrev pub EndsAreWell : Type 0
 EndsAreWell = (p : Plan) (t : Thread) (program : List (List Slot)) (own : Program) (code : IsThreadCode p t own) (w : World) (h : ℕ) (s : Setting)
     (node : ℕ) (seen : Seen) (bank : ℕ) (effects : List Effect) →
-    IsOnWay p t code.places program w h s (record { aim = Ends; node = node; seen = seen; bank = bank }) 0 effects →
+    IsOnWay p t code.places (on_machine program w h s) (record { aim = Ends; node = node; seen = seen; bank = bank }) 0 effects →
     least_held w.holders h ≡ None → (cause : Cause) → reply_to program w (Step h) ≢ Stuck cause
 
 -- ---- At a node's code
@@ -321,7 +325,8 @@ OthersKeepCores = (p : Plan) (t : Thread) (c : Places) (program : List (List Slo
 -- and so does a step of its own that writes back an entry of the queue
 abbrev pub StaysAreAtCore : Type 0
 StaysAreAtCore = (p : Plan) (t : Thread) (c : Places) (program : List (List Slot)) (w : World) (h : ℕ) (s : Setting) (e : a.Effect) (stage : Stage) (steps : ℕ)
-    (effects : List Effect) (at : IsAtMark p t c program w h s e stage steps effects) → Stays p t c program w h s e stage steps effects at →
+    (effects : List Effect) (at : IsAtMark p t c (on_machine program w h s) e stage steps effects) →
+    Stays p t c (on_machine program w h s) e stage steps effects at →
     (node : ℕ) (seen : Seen) (bank : ℕ) (registers : List ℕ) → IsAtCore p t c w h node seen bank registers →
     IsAtCore p t c (after_event program w (Step h)) h node seen bank registers
 
@@ -330,7 +335,7 @@ abbrev pub ThreadsStart : Type 0
 ThreadsStart = (p : Plan) (t : Thread) (program : List (List Slot)) (own : Program) (code : IsThreadCode p t own) (w : World) (h : ℕ) (s : Setting)
     (seen : Seen) (bank : ℕ) (registers : List ℕ) → Meets code.places.program s → Agrees program w h s → IsNodeOf t t.part.first →
     IsAt w h (moment registers own.start) → Enters p t t.part.first seen bank registers →
-    IsOnWay p t code.places program w h s (record { aim = Arrives; node = t.part.first; seen = seen; bank = bank }) 0 []
+    IsOnWay p t code.places (on_machine program w h s) (record { aim = Arrives; node = t.part.first; seen = seen; bank = bank }) 0 []
 
 -- ---- What a thread sees of variables
 
@@ -343,8 +348,8 @@ stage_sees variables stage = record stage { seen = sees variables stage.seen }
 -- where a thread is depends on no variable
 abbrev pub WaysSeeAll : Type 0
 WaysSeeAll = (p : Plan) (t : Thread) (c : Places) (program : List (List Slot)) (w : World) (h : ℕ) (s : Setting) (stage : Stage) (steps : ℕ)
-    (effects : List Effect) (variables : List (List ℤ)) → IsOnWay p t c program w h s stage steps effects →
-    IsOnWay p t c program w h s (stage_sees variables stage) steps effects
+    (effects : List Effect) (variables : List (List ℤ)) → IsOnWay p t c (on_machine program w h s) stage steps effects →
+    IsOnWay p t c (on_machine program w h s) (stage_sees variables stage) steps effects
 
 abbrev pub CoresSeeAll : Type 0
 CoresSeeAll = (p : Plan) (t : Thread) (c : Places) (w : World) (h node : ℕ) (seen : Seen) (bank : ℕ) (registers : List ℕ) (variables : List (List ℤ)) →
@@ -363,11 +368,11 @@ PlansArePlaced = (p : Plan) (t : Thread) (c : Places) (threads : ℕ) → IsPlan
 -- each step takes one of those that are left; these are no more than two for each instruction, and one for each entry of a full queue
 abbrev pub WaysAreBounded : Type 0
 WaysAreBounded = (p : Plan) (t : Thread) (c : Places) (program : List (List Slot)) (w : World) (h : ℕ) (s : Setting) (stage : Stage) (steps : ℕ)
-    (effects : List Effect) → AreShort w → (way : IsOnWay p t c program w h s stage steps effects) → left_of p t c way ≤ 2 * steps + queue_limit
+    (effects : List Effect) → AreShort w → (way : IsOnWay p t c (on_machine program w h s) stage steps effects) → left_of p t c way ≤ 2 * steps + queue_limit
 
 abbrev pub MarksAreBounded : Type 0
 MarksAreBounded = (p : Plan) (t : Thread) (c : Places) (program : List (List Slot)) (w : World) (h : ℕ) (s : Setting) (e : a.Effect) (stage : Stage)
-    (steps : ℕ) (effects : List Effect) → AreShort w → (at : IsAtMark p t c program w h s e stage steps effects) →
+    (steps : ℕ) (effects : List Effect) → AreShort w → (at : IsAtMark p t c (on_machine program w h s) e stage steps effects) →
     left_at p t c at ≤ 2 * suc steps + queue_limit
 
 -- ---- Recovery
@@ -388,11 +393,11 @@ module _ (p : Plan) (t : Thread) (c : Places) where
     pub same : (register : ℕ) → Contains (c.live node) register → read registers register ≡ read kept register
 
   -- it is at the node's code, or on the way to its entry
-  pub data IsUnderWay (program : List (List Slot)) (w : World) (h : ℕ) (s : Setting) (node : ℕ) (seen : Seen) (bank : ℕ) (registers : List ℕ) : Type 0 where
-    at_core : IsAtCore p t c w h node seen bank registers → IsUnderWay program w h s node seen bank registers
+  pub data IsUnderWay (r : Running) (node : ℕ) (seen : Seen) (bank : ℕ) (registers : List ℕ) : Type 0 where
+    at_core : IsAtCore p t c r.world r.hart node seen bank registers → IsUnderWay r node seen bank registers
     arrives : (from : ℕ) → IsNodeOf t from →
-        IsOnSomeWay p t c program w h s (record { aim = Arrives; node = node; seen = seen; bank = bank }) (c.words from) [] →
-        IsUnderWay program w h s node seen bank registers
+        IsOnSomeWay p t c r (record { aim = Arrives; node = node; seen = seen; bank = bank }) (c.words from) [] →
+        IsUnderWay r node seen bank registers
 
 -- a hart that recovery resumes goes on from where it is
 abbrev pub ResumedGoOn : Type 0
@@ -400,4 +405,4 @@ ResumedGoOn = (p : Plan) (t : Thread) (program : List (List Slot)) (own : Progra
     (address : ℕ) (r : IsResumed p t code.places address) (seen : Seen) (bank : ℕ) (registers : List ℕ) → IsPlaced p t code.places (length w.harts) →
     Meets code.places.program s → Agrees program w h s → IsAt w h (moment registers address) →
     AreResumed p t code.places (node_resumed p t code.places r) seen bank registers →
-    IsUnderWay p t code.places program w h s (node_resumed p t code.places r) seen bank registers
+    IsUnderWay p t code.places (on_machine program w h s) (node_resumed p t code.places r) seen bank registers

@@ -46,6 +46,16 @@ pub record Stage : Type 0 where
   pub seen : a.Seen
   pub bank : ℕ
 
+-- a hart that runs: the machine's program, its world, the hart's number, and the setting of the code that the hart runs
+pub record Running : Type 0 where
+  pub program : List (List Slot)
+  pub world : World
+  pub hart : ℕ
+  pub setting : Setting
+
+abbrev pub on_machine : List (List Slot) → World → (h : ℕ) → Setting → Running
+on_machine program w h s = record { program = program; world = w; hart = h; setting = s }
+
 -- the effects' bytes are none of those that the setting answers
 abbrev pub AreApart : Setting → List Effect → Type 0
 AreApart s [] = Unit {0}
@@ -112,15 +122,15 @@ module _ (p : Plan) (t : Thread) (c : Places) where
   IsInGraph (Gives from mutex) node = IsUnlockOf p t from mutex node
   IsInGraph Ends node = IsEndOf p t node
 
-  -- hart h goes the way: so many instructions are ahead, these effects are seen of them, and no mark
-  pub record IsOnWay (program : List (List Slot)) (w : World) (h : ℕ) (s : Setting) (stage : Stage) (steps : ℕ) (effects : List Effect) : Type 0 where
-    pub meets : Meets c.program s
-    pub agrees : Agrees program w h s
-    pub apart : AreApart s effects
+  -- the hart goes the way: so many instructions are ahead, these effects are seen of them, and no mark
+  pub record IsOnWay (r : Running) (stage : Stage) (steps : ℕ) (effects : List Effect) : Type 0 where
+    pub meets : Meets c.program r.setting
+    pub agrees : Agrees r.program r.world r.hart r.setting
+    pub apart : AreApart r.setting effects
     pub own : IsNodeOf t stage.node
     pub of_graph : IsInGraph stage.aim stage.node
     pub registers : List ℕ
-    pub on : StandsOn w h s steps (seen_effects effects) (moment registers (end_of stage.aim stage.node))
+    pub on : StandsOn r.world r.hart r.setting steps (seen_effects effects) (moment registers (end_of stage.aim stage.node))
     pub has : Has stage.aim stage.node stage.seen stage.bank registers
 
   -- hart h stands where the code of the node begins, behind the boundary before it
@@ -172,19 +182,18 @@ module _ (p : Plan) (t : Thread) (c : Places) where
   IsMadeBy (a.Gives mutex next) effect = Unit {0}
   IsMadeBy a.Ends effect = Unit {0}
 
-  -- hart h stands at the mark of a node that does the effect: it passes it with its next instruction, and is then on the way behind it
-  pub record IsAtMark (program : List (List Slot)) (w : World) (h : ℕ) (s : Setting) (e : a.Effect) (stage : Stage)
-      (steps : ℕ) (effects : List Effect) : Type 0 where
-    pub meets : Meets c.program s
-    pub agrees : Agrees program w h s
-    pub apart : AreApart s effects
+  -- the hart stands at the mark of a node that does the effect: it passes it with its next instruction, and is then on the way behind it
+  pub record IsAtMark (r : Running) (e : a.Effect) (stage : Stage) (steps : ℕ) (effects : List Effect) : Type 0 where
+    pub meets : Meets c.program r.setting
+    pub agrees : Agrees r.program r.world r.hart r.setting
+    pub apart : AreApart r.setting effects
     pub own : IsNodeOf t stage.node
     pub of_graph : IsInGraph stage.aim stage.node
     pub registers : List ℕ
-    pub on : StandsOn w h s (suc steps) (Mark ∷ seen_effects effects) (moment registers (end_of stage.aim stage.node))
+    pub on : StandsOn r.world r.hart r.setting (suc steps) (Mark ∷ seen_effects effects) (moment registers (end_of stage.aim stage.node))
     pub has : Has stage.aim stage.node stage.seen stage.bank registers
-    pub mark : marked s.marks on.hart.pc ≡ Mark ∷ []
-    pub made : (effect : Effect) → effect_at program h on.hart ≡ Some effect → IsMadeBy e effect
+    pub mark : marked r.setting.marks on.hart.pc ≡ Mark ∷ []
+    pub made : (effect : Effect) → effect_at r.program r.hart on.hart ≡ Some effect → IsMadeBy e effect
 
   -- ---- What is known of the thread's place in a machine of so many threads
 

@@ -3,15 +3,15 @@ use Rattle.std.specs.Prelude.{◌≡◌, ◌⊎◌, ℕ, ◌+◌, ◌-◌, ◌<�
 use Rattle.std.specs.List.{AllByRecursion}
 use Rattle.ido_base.specs.Words.{part}
 use Rattle.ido_base.specs.Layout.{variables_base, variable_at, end_from, aligned_up}
+use Rattle.ido_base.specs.declared.limits.TheConstants.{MOST_VARIABLE_BYTES}
 use Rattle.ido_ints.specs.Kinds.{bytes_of}
 use Rattle.ido_ints.specs.Reduction.{residue}
 use Rattle.c_tree.specs.Programs.{Variable}
-use Rattle.c_tree.specs.TypeRules.{most_variable_bytes}
 use Rattle.c_tree.specs.WellFormed.{shape_of, elements_in}
 
 -- there is room for all
 abbrev pub HaveRoom : List Variable → Type 0
-HaveRoom vs = end_from 0 (map shape_of vs) ≤ most_variable_bytes
+HaveRoom vs = end_from 0 (map shape_of vs) ≤ MOST_VARIABLE_BYTES
 
 -- a variable has a number for each element
 abbrev pub IsCounted : Variable → Type 0

@@ -7,11 +7,11 @@ ghost use Rattle.variable_layout.specs.Placing.{ArePlaced, AreInitial};
 ghost use Rattle.variable_layout.specs.links.Bytes.{variable_bytes};
 
 use c_tree::program::Variable;
-use ido_base::memory::Memory;
+use ido_base::memory::OutOfMemory;
 use std::alloc::Global;
 
-// Appends the lowest bytes of a number, so many, the lowest first.
-fn push_number(bytes: &mut Vec<u8>, number: i128, count: usize) -> Result<(), Memory>
+/// Appends the lowest bytes of a number, so many, the lowest first.
+fn push_number(bytes: &mut Vec<u8>, number: i128, count: usize) -> Result<(), OutOfMemory>
     requires { count ≤ 8 }
     ensures { OnOk result (bytes.new.items ≡ bytes.old.items ++ take count (to_le_bytes w64 (residue 64 number))) }
 {
@@ -20,8 +20,8 @@ fn push_number(bytes: &mut Vec<u8>, number: i128, count: usize) -> Result<(), Me
     Ok(())
 }
 
-// Appends a variable's bytes, behind zeros up to the next multiple of its element's size.
-fn push_variable(bytes: &mut Vec<u8>, variable: &Variable) -> Result<(), Memory>
+/// Appends a variable's bytes, behind zeros up to the next multiple of its element's size.
+fn push_variable(bytes: &mut Vec<u8>, variable: &Variable) -> Result<(), OutOfMemory>
     ensures { OnOk result (bytes.new.items ≡ bytes.old.items ++ variable_bytes (length bytes.old.items) (variable_of variable.now)) }
 {
     let size = variable.kind.bytes() as usize;
@@ -35,7 +35,7 @@ fn push_variable(bytes: &mut Vec<u8>, variable: &Variable) -> Result<(), Memory>
 
 /// The bytes that the variables begin with, from the first variable's address on: each element's number at its place, little-endian,
 /// and zeros everywhere else, up to the next multiple of 8.
-pub fn initial_bytes(alloc: Global, variables: &[Variable]) -> Result<Vec<u8>, Memory>
+pub fn initial_bytes(alloc: Global, variables: &[Variable]) -> Result<Vec<u8>, OutOfMemory>
     requires { ArePlaced (map variable_of variables.now) }
     ensures { IfOk result (λ r. AreInitial (map variable_of variables.now) r.items) }
 {

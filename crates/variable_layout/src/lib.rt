@@ -3,8 +3,6 @@
 
 mod contents;
 mod places;
-#[cfg(test)]
-mod tests;
 
 pub use contents::initial_bytes;
 pub use places::addresses;

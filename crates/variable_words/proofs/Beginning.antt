@@ -215,10 +215,10 @@ same_memory vs count a b room enough same = same_variables (shapes vs) a b 0 vs 
 spread_word : (count : ℕ) (image : List ℕ) (j : ℕ) → count ≤ length image → j < count → get_or (spread_words count image) j 0 ≡ get_or image j 0
 unfolding spread_words
 spread_word count image j enough l =
-    let front = length-take-le count image enough in
+    let prefix = length-take-le count image enough in
     let middle = length-append (take count image) (replicate (8192 - count) 0) in
-    get_or_append_left (take count image ++ replicate (8192 - count) 0) (drop count image) 0 j (omega (arith, l, front, middle))
-    ∙ (get_or_append_left (take count image) (replicate (8192 - count) 0) 0 j (omega (arith, l, front)) ∙ get_or-take count image j 0 l)
+    get_or_append_left (take count image ++ replicate (8192 - count) 0) (drop count image) 0 j (omega (arith, l, prefix, middle))
+    ∙ (get_or_append_left (take count image) (replicate (8192 - count) 0) 0 j (omega (arith, l, prefix)) ∙ get_or-take count image j 0 l)
 
 pub images_hold : ImagesHold
 unfolding after_crash_of

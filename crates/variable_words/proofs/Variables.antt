@@ -57,8 +57,10 @@ module _ (value : Word → ℕ) (number_of : History → ℤ) (words : List Word
 
 pub live_are_memory : LiveAreMemory
 unfolding live_variables
-live_are_memory vs words room = variables_are live_value live_number words live_in vs 0 vs room (λ i is h. let same : 0 + i ≡ i = omega arith in ap (slice_get vs) same ∙ h)
+live_are_memory vs words room =
+    variables_are live_value live_number words live_in vs 0 vs room (λ i is h. let same : 0 + i ≡ i = omega arith in ap (slice_get vs) same ∙ h)
 
 pub durable_are_memory : DurableAreMemory
 unfolding durable_variables
-durable_are_memory vs words room = variables_are durable_value durable_number words durable_in vs 0 vs room (λ i is h. let same : 0 + i ≡ i = omega arith in ap (slice_get vs) same ∙ h)
+durable_are_memory vs words room =
+    variables_are durable_value durable_number words durable_in vs 0 vs room (λ i is h. let same : 0 + i ≡ i = omega arith in ap (slice_get vs) same ∙ h)

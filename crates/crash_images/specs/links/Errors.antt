@@ -18,7 +18,7 @@ of_field field.Memory = e.Memory
 
 -- any rule that the source breaks
 abbrev pub of_compile : CompileError → ImageError
-of_compile (compiling.Refused rule place) = e.Source
+of_compile (compiling.Refused refusal) = e.Source
 of_compile compiling.Memory = e.Memory
 
 abbrev pub of_schedule : ScheduleFault → ImageError

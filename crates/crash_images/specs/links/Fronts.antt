@@ -16,9 +16,9 @@ pub record IsCut (runs : List Run) (steps : List ℕ) (fault : ℕ) : Type 0 whe
   pub first : (earlier : ℕ) → earlier < fault → ¬ (IsMalformed runs earlier)
 
 -- all steps, where none has one
-abbrev pub IsFront : List Run → (steps : List ℕ) → (fault : Option ℕ) → Type 0
-IsFront runs steps None = IsFormed runs steps
-IsFront runs steps (Some fault) = IsCut runs steps fault
+abbrev pub IsPrefix : List Run → (steps : List ℕ) → (fault : Option ℕ) → Type 0
+IsPrefix runs steps None = IsFormed runs steps
+IsPrefix runs steps (Some fault) = IsCut runs steps fault
 
 -- the run can follow one of that thread, or stand first
 pub record Follows (last : Option ℕ) (run : Run) : Type 0 where

@@ -1,6 +1,7 @@
 -- What is emitted for a plan, before it is linked.
 use Rattle.std.specs.Prelude.{◌≡◌, ℕ, ◌≤◌, List, length, map, sum_by, All, Vec, Bool}
 use Rattle.std.specs.Global.{Global}
+use Rattle.ido_base.specs.declared.limits.TheConstants.{MOST_THREADS, MOST_CODE_WORDS}
 use Rattle.c_tree.specs.Flats.{flat_of}
 use Rattle.c_tree.specs.declared.flat.Flat as flat
 use Rattle.rv64_isa.specs.declared.object.Code.{Code}
@@ -20,8 +21,8 @@ use Rattle.rv64_codegen.specs.Emitting.{IsCode}
 -- the code of all its threads, and what the variables begin with
 pub record IsCodeFor (p : Plan) (code : Code) : Type 0 where
   pub is : IsCode p (map items_in code.threads.items)
-  pub eight : length code.threads.items ≤ 8
-  pub few : All (λ (items : Vec CodeItem Global). sum_by most_words_of items.items ≤ 65536) code.threads.items
+  pub eight : length code.threads.items ≤ MOST_THREADS
+  pub few : All (λ (items : Vec CodeItem Global). sum_by most_words_of items.items ≤ MOST_CODE_WORDS) code.threads.items
   pub initial : AreInitial p.flat.variables code.initial.items
   pub mutexes : code.mutexes ≡ length p.flat.mutexes
 

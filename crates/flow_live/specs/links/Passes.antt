@@ -1,5 +1,6 @@
 -- Sets of locals, one of each node, on their way to those that are live: what nodes read, and what passes over the nodes add.
-use Rattle.std.specs.Prelude.{◌≡◌, ◌≢◌, ◌⊎◌, ◌↔◌, ◌<◌, ◌≤◌, ℕ, List, [], length, map, Bool, true, false, Contains, slice_get, slice_index_or, sum_by, Option, Some, None}
+use Rattle.std.specs.Prelude.{◌≡◌, ◌≢◌, ◌⊎◌, ◌↔◌, ◌<◌, ◌≤◌, ℕ, List, [], length, map, Bool, true}
+use Rattle.std.specs.Prelude.{false, Contains, slice_get, slice_index_or, sum_by, Option, Some, None}
 use Rattle.flow_graph.specs.declared.graph.Node as code
 use Rattle.flow_graph.specs.Nodes.{Node, Graph, node_of, successors}
 use Rattle.flow_graph.specs.Liveness.{IsLive}

@@ -5,7 +5,7 @@ use Rattle.flow_graph.specs.Nodes.{Action, Graph, graph_of}
 use Rattle.flow_graph.specs.Actions.{Walker, FlowState, effect_of, effect_step, seen_by, walker_step, with_walker}
 use Rattle.source_machine.specs.declared.answers.Stepped.{Stepped}
 use Rattle.flow_machine.specs.Answers.{answer_of}
-use Rattle.flow_machine.specs.Walkers.{walker_of}
+use Rattle.flow_machine.specs.links.Walkers.{walker_of}
 use Rattle.flow_machine.specs.declared.walker.Walker as code
 
 pub record Hand : Type 0 where

@@ -6,5 +6,5 @@ use Rattle.ido_cli.specs.Refusals.{IsRefusedAt, code_of}
 
 -- the rule that it breaks, and the place; want of memory has another status
 abbrev pub TellsRefusal : CompileError → (source : List ℕ) → (status : ℕ) → (output : List ℕ) → Type 0
-TellsRefusal (error.Refused rule place) source status output = IsRefusedAt 1 (code_of rule) source place.0 status output
+TellsRefusal (error.Refused refusal) source status output = IsRefusedAt 1 (code_of refusal.rule) source refusal.place.0 status output
 TellsRefusal error.Memory source status output = ⊥

@@ -36,25 +36,33 @@ pub record IsFirstShared (one other : Option Interval) (node : ℕ) : Type 0 whe
   pub in_other : IsIn other node
   pub first : (later : ℕ) → IsIn one later → IsIn other later → node ≤ later
 
--- two locals of a thread with these intervals and registers clash at the node
-pub record ClashAt (intervals : Intervals) (given : List ℕ) (node a b : ℕ) : Type 0 where
+-- the locals of a thread
+pub record Locals : Type 0 where
+  pub intervals : Intervals
+  pub registers : List ℕ
+
+abbrev pub locals_of : Intervals → (registers : List ℕ) → Locals
+locals_of intervals registers = record { intervals = intervals; registers = registers }
+
+-- two of them clash at the node
+pub record ClashAt (locals : Locals) (node a b : ℕ) : Type 0 where
   pub register : ℕ
-  pub of_first : slice_get given a ≡ Some register
-  pub of_second : slice_get given b ≡ Some register
+  pub of_first : slice_get locals.registers a ≡ Some register
+  pub of_second : slice_get locals.registers b ≡ Some register
   pub different : a < b
-  pub first : Holds intervals node a
-  pub second : Holds intervals node b
+  pub first : Holds locals.intervals node a
+  pub second : Holds locals.intervals node b
 
 -- of which the first one is this
-pub record ClashOf (intervals : Intervals) (given : List ℕ) (local node a b : ℕ) : Type 0 where
+pub record ClashOf (locals : Locals) (local node a b : ℕ) : Type 0 where
   pub own : a ≡ local
-  pub clash : ClashAt intervals given node a b
+  pub clash : ClashAt locals node a b
 
 -- which are these
-pub record ClashBoth (intervals : Intervals) (given : List ℕ) (one other node a b : ℕ) : Type 0 where
+pub record ClashBoth (locals : Locals) (one other node a b : ℕ) : Type 0 where
   pub first : a ≡ one
   pub second : b ≡ other
-  pub clash : ClashAt intervals given node a b
+  pub clash : ClashAt locals node a b
 
 -- ---- The first threads
 

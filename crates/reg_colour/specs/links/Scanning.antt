@@ -1,6 +1,6 @@
 -- The scan: what is known when the intervals that begin before a node have registers.
 use Rattle.std.specs.Prelude.{◌≡◌, ◌⊎◌, ◌<◌, ◌≤◌, ℕ, List, length, slice_index}
-use Rattle.flow_graph.specs.Liveness.{registers}
+use Rattle.ido_base.specs.declared.limits.TheConstants.{LOCAL_REGISTERS}
 use Rattle.reg_colour.specs.declared.intervals.Interval.{Interval}
 use Rattle.reg_colour.specs.declared.scan.Crowd.{Crowd}
 use Rattle.reg_colour.specs.declared.scan.Outcome.{Outcome}
@@ -12,19 +12,19 @@ use Rattle.reg_colour.specs.links.Intervals.{Intervals, IntervalAt, Holds, AreHo
 -- registers for the locals: two whose intervals share a node have different ones
 pub record AreApart (intervals : Intervals) (given : List ℕ) : Type 0 where
   pub count : length given ≡ length intervals
-  pub exist : (local : ℕ) → local < length given → slice_index given local < registers
+  pub exist : (local : ℕ) → local < length given → slice_index given local < LOCAL_REGISTERS
   pub apart : (node a b : ℕ) → a < b → Holds intervals node a → Holds intervals node b → ¬ (slice_index given a ≡ slice_index given b)
 
 abbrev pub IsFull : Intervals → (node : ℕ) → Type 0
-IsFull intervals node = (wanted : ℕ) → AreHolding intervals node wanted → registers < wanted
+IsFull intervals node = (wanted : ℕ) → AreHolding intervals node wanted → LOCAL_REGISTERS < wanted
 
 abbrev pub HaveRoom : Intervals → (node : ℕ) → Type 0
-HaveRoom intervals node = (wanted : ℕ) → AreHolding intervals node wanted → wanted ≤ registers
+HaveRoom intervals node = (wanted : ℕ) → AreHolding intervals node wanted → wanted ≤ LOCAL_REGISTERS
 
 -- the first node that more intervals hold than there are registers
 pub record IsCrowd (intervals : Intervals) (crowd : Crowd) : Type 0 where
   pub holding : AreHolding intervals crowd.node crowd.wanted
-  pub crowded : registers < crowd.wanted
+  pub crowded : LOCAL_REGISTERS < crowd.wanted
   pub first : (earlier : ℕ) → earlier < crowd.node → HaveRoom intervals earlier
 
 abbrev pub IsScanned : Intervals → Outcome → Type 0
@@ -57,8 +57,8 @@ pub record IsFree (free : List ℕ) (node register : ℕ) : Type 0 where
 -- what was passed has registers, each of which is free from a node on
 pub record ScannedTo (intervals : Intervals) (node up_to : ℕ) (given free : List ℕ) : Type 0 where
   pub count : length given ≡ length intervals
-  pub every : length free ≡ registers
-  pub exist : (local : ℕ) → local < length given → slice_index given local < registers
+  pub every : length free ≡ LOCAL_REGISTERS
+  pub exist : (local : ℕ) → local < length given → slice_index given local < LOCAL_REGISTERS
   pub free_later : (local : ℕ) (interval : Interval) → IntervalAt intervals local interval → IsPassed node up_to local interval →
       interval.end ≤ slice_index free (slice_index given local)
   pub held : (register : ℕ) → 0 < slice_index free register → IsHeldUp intervals node up_to given register (slice_index free register)

@@ -1,5 +1,6 @@
 -- Conflicts, by where one arrives in a region.
-use Rattle.std.specs.Prelude.{◌≡◌, ◌⊎◌, ◌↔◌, ◌<◌, ◌≤◌, ℕ, List, length, min, map, Bool, true, false, Option, Some, None, MatchOption, Contains, IsTrue, slice_get}
+use Rattle.std.specs.Prelude.{◌≡◌, ◌⊎◌, ◌↔◌, ◌<◌, ◌≤◌, ℕ, List, length, min, map, Bool, true}
+use Rattle.std.specs.Prelude.{false, Option, Some, None, MatchOption, Contains, IsTrue, slice_get}
 use Rattle.ido_base.specs.declared.location.Location.{Location}
 use Rattle.ido_base.specs.Locations.{overlap, same}
 use Rattle.flow_graph.specs.declared.graph.Node as code

@@ -58,5 +58,6 @@ pub record Passes (ways : List Way) (stops : List Bool) (until : ℕ) (before af
   pub sound : (start : List Bool) → ((node : ℕ) → IsMarked before node → Arrives (Leads ways) (IsMarked start) (IsMarked stops) node) →
       (node : ℕ) → IsMarked after node → Arrives (Leads ways) (IsMarked start) (IsMarked stops) node
   pub same : grows ≡ false → after ≡ before
-  pub closed : grows ≡ false → (from to : ℕ) → from < until → IsMarked after from → ¬ (IsMarked stops from) → Leads ways from to → to < length after → IsMarked after to
+  pub closed : grows ≡ false → (from to : ℕ) → from < until → IsMarked after from → ¬ (IsMarked stops from) → Leads ways from to → to < length after →
+      IsMarked after to
   pub fewer : grows ≡ true → unmarked after < unmarked before

@@ -4,13 +4,14 @@ use Rattle.std.specs.Global.{Global}
 use Rattle.std.specs.Vec.{vec_capacity, vec_len}
 use Rattle.ido_base.specs.Cores.{point_stores, finished_fences}
 use Rattle.ido_base.specs.Layout.{spread_words}
+use Rattle.ido_base.specs.declared.limits.TheConstants.{MOST_VARIABLE_BYTES}
 use Rattle.rv64_isa.specs.declared.object.Slot.{Slot}
 use Rattle.rv64_isa.specs.Machine.{World, start_of, after_crash_of}
 use Rattle.rv64_isa.specs.Frames.{IsSound}
 use Rattle.ido_machine.specs.Machines.{MachineStands, program_in, events_of}
 use Rattle.run_tracker.specs.declared.life.Life.TheInside.{Inside}
 use Rattle.run_tracker.specs.links.Accounts.{AccountStands, AreOpen, AreOrdered, weight}
-use Rattle.run_tracker.specs.links.MarkTables.{AreTables}
+use Rattle.run_tracker.specs.links.SignTables.{AreTables}
 use Rattle.run_tracker.specs.Lives.{Course, world_of, steps_in, living, opening_of}
 
 -- the world before the first event: that of the start, or that after a crash that left these words
@@ -44,11 +45,11 @@ pub record LifeStands (life : Inside) : Type 0 where
   pub ordered : AreOrdered (world_of (course_of life)).words (steps_in (course_of life))
   pub are_open : AreOpen (world_of (course_of life)).words (steps_in (course_of life))
   pub light : weight (steps_in (course_of life)) ≤ length life.before.items + length life.journal.items
-  pub points : AreCounts life.points.items (length (program_in life.machine)) (point_stores living (opening_of (course_of life)) life.journal.items)
-  pub fences : AreCounts life.fences.items (length (program_in life.machine)) (finished_fences living (opening_of (course_of life)) life.journal.items)
+  pub points : AreCounts life.counts.points.items (length (program_in life.machine)) (point_stores living (opening_of (course_of life)) life.journal.items)
+  pub fences : AreCounts life.counts.fences.items (length (program_in life.machine)) (finished_fences living (opening_of (course_of life)) life.journal.items)
   pub within : length life.journal.items ≤ life.cap
   pub few : length life.before.items + life.cap < 2 ^ 63
-  pub bytes : length life.initial.items ≤ 65536
+  pub bytes : length life.initial.items ≤ MOST_VARIABLE_BYTES
   pub journal_room : life.cap ≤ vec_capacity life.journal
   pub kept_room : length life.before.items + life.cap ≤ vec_capacity life.account.kept
   pub stores_room : life.cap ≤ vec_capacity life.account.stores

@@ -2,6 +2,7 @@
 use Rattle.std.specs.Prelude.{◌≡◌, ℕ, ◌<◌, ◌≤◌, List, length, map, slice_get, slice_index, sum_by, Some, Vec}
 use Rattle.std.specs.Global.{Global}
 use Rattle.ido_base.specs.declared.place.Place.{Place}
+use Rattle.ido_base.specs.declared.limits.TheConstants.{MOST_CODE_WORDS}
 use Rattle.rv64_isa.specs.declared.object.CodeItem.{CodeItem}
 use Rattle.rv64_link.specs.LabelledCode.{most_words_of}
 use Rattle.log_layout.specs.declared.roles.TheConstants.{LOCALS}
@@ -40,7 +41,7 @@ IsRefusedFrom g first end Memory = Unit {0}
 
 pub record IsEmittedThread (x : opened.ThreadPlan) (items : List CodeItem) : Type 0 where
   pub emitted : IsEmitted (plan_in x) (thread_of x) items
-  pub words : sum_by most_words_of items ≤ 65536
+  pub words : sum_by most_words_of items ≤ MOST_CODE_WORDS
   pub need : NeedFewFrom (plan_in x).graph x.part.first x.part.end
 
 abbrev pub IsRefusedThread : opened.ThreadPlan → EmitError → Type 0
@@ -49,7 +50,7 @@ IsRefusedThread x error = IsRefusedFrom (plan_in x).graph x.part.first x.part.en
 -- the thread of that number
 pub record IsEmittedOf (p : Plan) (number : ℕ) (items : List CodeItem) : Type 0 where
   pub each : (t : Thread) → IsThread p t → t.number ≡ number → IsEmitted p t items
-  pub words : sum_by most_words_of items ≤ 65536
+  pub words : sum_by most_words_of items ≤ MOST_CODE_WORDS
   pub need : (part : Part) → slice_get p.graph.threads number ≡ Some part → NeedFewFrom p.graph part.first part.end
 
 abbrev pub IsRefusedOf : Plan → (number : ℕ) → EmitError → Type 0

@@ -1,7 +1,7 @@
 -- Errors of expressions, as those of graphs.
 use Rattle.std.specs.Prelude.{◌≡◌, Ok, Err}
 use Rattle.std.specs.declared.result.Result.{Result}
-use Rattle.ido_base.specs.declared.memory.Memory as want
+use Rattle.ido_base.specs.declared.memory.OutOfMemory as want
 use Rattle.expr_code.specs.declared.selection.SelectError as select
 use Rattle.expr_code.specs.declared.selection.SelectError.TheVariants as selects
 use Rattle.rv64_codegen.specs.declared.error.EmitError.{EmitError}
@@ -13,6 +13,6 @@ IsSameError (selects.Temporaries place) Memory = ⊥
 IsSameError selects.Memory (Temporaries other) = ⊥
 IsSameError selects.Memory Memory = Unit {0}
 
-abbrev pub emit_result : {X : Type 0} → Result X want.Memory → Result X EmitError
+abbrev pub emit_result : {X : Type 0} → Result X want.OutOfMemory → Result X EmitError
 emit_result (Ok x) = Ok x
 emit_result (Err want) = Err Memory

@@ -3,6 +3,7 @@ use Rattle.std.specs.Prelude.{◌≡◌, ◌⊎◌, ◌↔◌, ℕ, ◌+◌, ◌
 use Rattle.std.specs.Prelude.{IsTrue, Vec, if◌then◌else◌}
 use Rattle.std.specs.Global.{Global}
 use Rattle.std.specs.List.{list_all}
+use Rattle.ido_base.specs.declared.limits.TheConstants.{LOCAL_REGISTERS}
 use Rattle.log_layout.specs.declared.roles.TheConstants.{LOCALS}
 use Rattle.log_layout.specs.Roles.{is_kept, pending_address, pending_value}
 use Rattle.flow_graph.specs.Nodes.{Action, Eval, Store, Test, Lock, Unlock, End, Graph}
@@ -43,7 +44,7 @@ AreWithPending found is_store all = all ≡ (if is_store then found ++ (pending_
 -- a live local's register, or one of what is stored
 abbrev pub IsLiveRegister : Graph → (registers : List ℕ) → (sets : List (List ℕ)) → (node register : ℕ) → Type 0
 IsLiveRegister g registers sets node register =
-    IsLiveAmong registers sets node 18 register ⊎ (IsStore g node × ((register ≡ pending_address) ⊎ (register ≡ pending_value)))
+    IsLiveAmong registers sets node LOCAL_REGISTERS register ⊎ (IsStore g node × ((register ≡ pending_address) ⊎ (register ≡ pending_value)))
 
 pub record AreLiveRegisters (g : Graph) (registers : List ℕ) (sets : List (List ℕ)) (node : ℕ) (found : List ℕ) : Type 0 where
   pub few : length found ≤ 20

@@ -48,7 +48,8 @@ branch_slots condition rs1 rs2 near from to = if near then Row (Branch condition
 -- the words of the item at a position
 abbrev pub slots_of : (all : List CodeItem) → (ns : List ℕ) → (p : ℕ) → CodeItem → List Slot
 slots_of all ns p (Instruction instr) = Row instr ∷ []
-slots_of all ns p (BranchTo condition rs1 rs2 to) = branch_slots condition rs1 rs2 (is_near p (label_position to.0 all)) (number_at ns p) (number_at ns (label_position to.0 all))
+slots_of all ns p (BranchTo condition rs1 rs2 to) =
+    branch_slots condition rs1 rs2 (is_near p (label_position to.0 all)) (number_at ns p) (number_at ns (label_position to.0 all))
 slots_of all ns p (JumpTo rd to) = Row (Jal rd (offset 21 (number_at ns p) (number_at ns (label_position to.0 all)))) ∷ []
 slots_of all ns p (Here here) = []
 slots_of all ns p MarkNext = []

@@ -105,15 +105,20 @@ pub record EmitsArms (before after : List Node) (arms : f.Arms) (last next entry
       At lefts last (opened_all otherwise ++ rest) →
       Extends before after lefts entry (behind place arms otherwise ++ rest)
 
+pub record Arm : Type 0 where
+  pub condition : Placed
+  pub body : f.Statements
+
 -- an arm, where other arms or the last part stand at the position for a condition that fails
-pub record EmitsTest (before after : List Node) (condition : Placed) (body : f.Statements) (fails next entry : ℕ) : Type 0 where
+pub record EmitsTest (before after : List Node) (arm : Arm) (fails next entry : ℕ) : Type 0 where
   pub each : (lefts : Lefts) (place : Place) (arms : f.Arms) (otherwise : f.Statements) (rest : List f.Statement) → length lefts ≡ length before →
       At lefts next rest → At lefts fails (behind place arms otherwise ++ rest) →
-      Extends before after lefts entry (f.If place (f.arm_and condition body arms) otherwise ∷ rest)
+      Extends before after lefts entry (f.If place (f.arm_and arm.condition arm.body arms) otherwise ∷ rest)
 
 -- the same of an arm as the code has it
 abbrev pub EmitsArm : (before after : List Node) → code_arm.Arm → (fails next entry : ℕ) → Type 0
-EmitsArm before after arm fails next entry = EmitsTest before after (placed_of arm.condition) (statements_of arm.body.items) fails next entry
+EmitsArm before after arm fails next entry =
+    EmitsTest before after (record { condition = placed_of arm.condition; body = statements_of arm.body.items }) fails next entry
 
 -- a loop that begins with its test, and one that begins with its body
 pub record EmitsLoop (before after : List Node) (condition : Placed) (body : f.Statements) (next : ℕ) (made : Loop) : Type 0 where

@@ -37,18 +37,28 @@ abbrev pub reached : (step : Option m.State) → (before : m.State) → m.State
 reached (Some next) before = next
 reached None before = before
 
-pub record IsMade (before after : ThreadState) (variables variables' : List (List ℤ)) (holders holders' : List (Option ℕ)) (answer : Stepped) (number : ℕ)
-    (threads : List m.Thread) (left : List f.Statement) : Type 0 where
+-- what a step of one thread changes
+pub record Hand : Type 0 where
+  pub thread : ThreadState
+  pub variables : List (List ℤ)
+  pub holders : List (Option ℕ)
+
+abbrev pub hand : ThreadState → (variables : List (List ℤ)) → (holders : List (Option ℕ)) → Hand
+hand thread variables holders = record { thread = thread; variables = variables; holders = holders }
+
+-- the state with these threads
+abbrev pub state_with : Hand → List m.Thread → m.State
+state_with h threads = state_in h.variables h.holders threads
+
+pub record IsMade (number : ℕ) (before after : Hand) (answer : Stepped) (threads : List m.Thread) (left : List f.Statement) : Type 0 where
   pub left_after : List f.Statement
-  pub code : IsLeft after left_after
-  pub state : reached (m.thread_step (state_in variables holders threads) number (model_of before left))
-      (m.with_thread (state_in variables holders threads) number (model_of before left)) ≡ state_in variables' holders'
-      (slice_set threads number (model_of after left_after))
-  pub answered : answer ≡ answer_of (model_of before left) (m.thread_step (state_in variables holders threads) number (model_of before left))
+  pub code : IsLeft after.thread left_after
+  pub state : reached (m.thread_step (state_with before threads) number (model_of before.thread left))
+      (m.with_thread (state_with before threads) number (model_of before.thread left)) ≡ state_with after
+      (slice_set threads number (model_of after.thread left_after))
+  pub answered : answer ≡ answer_of (model_of before.thread left) (m.thread_step (state_with before threads) number (model_of before.thread left))
 
 -- the step is made so, whatever is left to do by the thread's code
-abbrev pub StepIsMade : (before after : ThreadState) → (variables variables' : List (List ℤ)) → (holders holders' : List (Option ℕ)) → Stepped →
-    (number : ℕ) → Type 0
-StepIsMade before after variables variables' holders holders' answer number =
-    (left : List f.Statement) (threads : List m.Thread) → IsLeft before left →
-    IsMade before after variables variables' holders holders' answer number threads left
+abbrev pub StepIsMade : (number : ℕ) → (before after : Hand) → Stepped → Type 0
+StepIsMade number before after answer =
+    (left : List f.Statement) (threads : List m.Thread) → IsLeft before.thread left → IsMade number before after answer threads left

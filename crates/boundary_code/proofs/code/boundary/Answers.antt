@@ -128,7 +128,9 @@ returns-then-mask-eq0-clause-short c =
 pub returns-clause-short : goal.returns-clause-short
 returns-clause-short c =
     IfOk-weaker c.emit_boundary.result _ _
-    (λ code k. short_as code.items (boundary_list c.deref-2.result.now c.deref-3.result.now c.args.live.now (twos_complement 32 (cast_signed w32 (cast_unsigned w32 c.args.resume)))) (length c.args.live.now + 35) k
+    (λ code k. short_as code.items
+    (boundary_list c.deref-2.result.now c.deref-3.result.now c.args.live.now (twos_complement 32 (cast_signed w32 (cast_unsigned w32 c.args.resume))))
+    (length c.args.live.now + 35) k
     (boundary_short c.deref-2.result.now c.deref-3.result.now c.args.live.now (twos_complement 32 (cast_signed w32 (cast_unsigned w32 c.args.resume)))
     (subst (λ (is : List Instr). length is ≤ 8) (sym c.deref-2.ensures.value) c.in_ok-log.ensures.short)
     (subst (λ (is : List Instr). length is ≤ 8) (sym c.deref-3.ensures.value) c.in_ok-record.ensures.short)))

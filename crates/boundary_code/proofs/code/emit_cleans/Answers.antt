@@ -1,4 +1,5 @@
-use Rattle.std.proofs.Common.{◌≡◌, ◌<◌, ◌+◌, ◌/◌, ◌++◌, ◌==◌, ℕ, zero, suc, List, [], ◌∷◌, Bool, true, false, get_or, drop, drop-cons, filter, length, lit<, ap, sym, ◌∙◌, append_assoc, if◌then◌else◌, arith}
+use Rattle.std.proofs.Common.{◌≡◌, ◌<◌, ◌+◌, ◌/◌, ◌++◌, ◌==◌, ℕ, zero, suc, List, [], ◌∷◌, Bool, true, false, get_or}
+use Rattle.std.proofs.Common.{drop, drop-cons, filter, length, lit<, ap, sym, ◌∙◌, append_assoc, if◌then◌else◌, arith}
 use Rattle.std.specs.List.{list_any}
 use Rattle.std.proofs.lemmas.List.{append-nil}
 use Rattle.rv64_isa.specs.declared.instr.Instr.{Instr}

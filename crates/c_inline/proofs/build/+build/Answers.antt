@@ -9,9 +9,10 @@ use Rattle.c_tree.specs.declared.program.Arm.{Arm}
 use Rattle.c_tree.specs.declared.flat.Statement as flat
 use Rattle.c_tree.proofs.ProgramRows.{of_while, of_do, of_if}
 use Rattle.c_inline.specs.declared.build.Begun.{Begun}
-use Rattle.c_inline.specs.Weights as v
-use Rattle.c_inline.specs.Making.{whole, after, behind_of, begun_if_any, all_made, and_any, begun_work, all_work, function_work, statements_work}
-use Rattle.c_inline.proofs.Making.{and_none, made_alone, one_made, while_made, do_made, if_made, assign_made, statement_step, statement_left, statements_all, arm_made, arm_left, arms_all, step_made, step_work, done_made, done_work, all_work_more}
+use Rattle.c_inline.specs.links.Weights as v
+use Rattle.c_inline.specs.links.Making.{whole, after, behind_of, begun_if_any, all_made, and_any, begun_work, all_work, function_work, statements_work}
+use Rattle.c_inline.proofs.Making.{and_none, made_alone, one_made, while_made, do_made, if_made, assign_made, statement_step, statement_left}
+use Rattle.c_inline.proofs.Making.{statements_all, arm_made, arm_left, arms_all, step_made, step_work, done_made, done_work, all_work_more}
 use Rattle.c_inline.proofs.build.+build.Goals as goal
 
 pub make_arms-loop-arm-preserved : goal.make_arms-loop-arm-preserved
@@ -20,8 +21,10 @@ make_arms-loop-arm-preserved t c =
     let xs = c.args.arms.now in
     let j = c.loop-arm.arm-index in
     let x = c.arm-item.result in
-    let inner = ap (λ (ys : List Statement). i.statements fs (whole fs) c.args.by c.loop-arm.kinds.items (p.statements_of ys)) (sym c.deref.ensures.value) ∙ c.in_ok-body.ensures in (
-      sym (arm_made fs (whole fs) c.args.by xs j x c.loop-arm-test.true c.arm-item.is c.loop-arm.kinds.items c.make_statements.new.kinds.items c.loop-arm.made.items c.push.new.self.items _ c.in_ok-push.ensures.items c.in_ok-condition.ensures inner)
+    let inner = ap (λ (ys : List Statement). i.statements fs (whole fs) c.args.by c.loop-arm.kinds.items (p.statements_of ys)) (sym c.deref.ensures.value)
+    ∙ c.in_ok-body.ensures in (
+      sym (arm_made fs (whole fs) c.args.by xs j x c.loop-arm-test.true c.arm-item.is c.loop-arm.kinds.items c.make_statements.new.kinds.items
+          c.loop-arm.made.items c.push.new.self.items _ c.in_ok-push.ensures.items c.in_ok-condition.ensures inner)
           ∙ c.loop-arm.invariant.0,
       omega (arith, c.loop-arm.invariant.1, arm_left fs (whole fs) c.args.by xs j x c.loop-arm-test.true c.arm-item.is),
     )
@@ -29,14 +32,16 @@ make_arms-loop-arm-preserved t c =
 pub make_arms-returns : goal.make_arms-returns
 make_arms-returns t c =
     let fs = map function_of c.args.bodies.functions.now in
-    sym c.loop-arm.invariant.0 ∙ arms_all fs (whole fs) c.args.by c.args.arms.now c.loop-arm.arm-index c.loop-arm.kinds.items (f.arms_list_of c.loop-arm.made.items) c.loop-arm-test.false
+    sym c.loop-arm.invariant.0 ∙ arms_all fs (whole fs) c.args.by c.args.arms.now c.loop-arm.arm-index c.loop-arm.kinds.items
+    (f.arms_list_of c.loop-arm.made.items) c.loop-arm-test.false
 
 pub make_body-make_step-requires : goal.make_body-make_step-requires
 make_body-make_step-requires t c =
     let functions = c.args.bodies.functions.now in
     let d : 3 * begun_work functions c.args.begun + 1 ≡ t = c.decreases in
     let e = ap (all_work functions) c.in-Some.ensures.items in
-    let less : 3 * begun_work functions c.in-Some.begun < t = omega (arith, d, e, c.loop-begun.invariant.1, all_work_more functions c.pop.new.self.items c.in-Some.begun) in
+    let less : 3 * begun_work functions c.in-Some.begun < t =
+    omega (arith, d, e, c.loop-begun.invariant.1, all_work_more functions c.pop.new.self.items c.in-Some.begun) in
     (less, c.requires)
 
 pub make_body-returns : goal.make_body-returns
@@ -98,16 +103,20 @@ make_or_begin-returns-in_ok-push-in-Assign-clause-made t c =
     let n = c.in-Assign in
     let fs = map function_of c.args.bodies.functions.now in
     let ks = c.args.kinds.now.items in
-    assign_made fs (whole fs) c.args.by ks ks c.args.made.now.items c.push.new.self.items n.place (p.statement_of c.args.statement.now) c.in_ok-target-in-Assign.target n.target c.in_ok-value-in-Assign.value n.value
+    assign_made fs (whole fs) c.args.by ks ks c.args.made.now.items c.push.new.self.items n.place (p.statement_of c.args.statement.now)
+    c.in_ok-target-in-Assign.target n.target c.in_ok-value-in-Assign.value n.value
     (ap p.statement_of n.is) c.in_ok-push-in-Assign.ensures.items refl c.in_ok-target-in-Assign.ensures c.in_ok-value-in-Assign.ensures
 
 pub make_or_begin-returns-in_ok-push-in-If-clause-made : goal.make_or_begin-returns-in_ok-push-in-If-clause-made
 make_or_begin-returns-in_ok-push-in-If-clause-made t c =
     let n = c.in-If in
     let fs = map function_of c.args.bodies.functions.now in
-    let arms = ap (λ (ys : List Arm). i.arms_of fs (whole fs) c.args.by c.args.kinds.now.items (p.arms_list_of ys)) (sym c.deref-in-If.ensures.value) ∙ c.in_ok-arms-in-If.ensures in
-    let otherwise = ap (λ (ys : List Statement). i.statements fs (whole fs) c.args.by c.make_arms.new.kinds.items (p.statements_of ys)) (sym c.deref-in-If-2.ensures.value) ∙ c.in_ok-otherwise-in-If.ensures in
-    if_made fs (whole fs) c.args.by c.args.kinds.now.items c.make_statements.new.kinds.items c.args.made.now.items c.push-in-If.new.self.items n.place (p.statement_of c.args.statement.now) c.in_ok-arms-in-If.arms c.in_ok-otherwise-in-If.otherwise
+    let arms = ap (λ (ys : List Arm). i.arms_of fs (whole fs) c.args.by c.args.kinds.now.items (p.arms_list_of ys)) (sym c.deref-in-If.ensures.value)
+    ∙ c.in_ok-arms-in-If.ensures in
+    let otherwise = ap (λ (ys : List Statement). i.statements fs (whole fs) c.args.by c.make_arms.new.kinds.items (p.statements_of ys))
+    (sym c.deref-in-If-2.ensures.value) ∙ c.in_ok-otherwise-in-If.ensures in
+    if_made fs (whole fs) c.args.by c.args.kinds.now.items c.make_statements.new.kinds.items c.args.made.now.items c.push-in-If.new.self.items n.place
+    (p.statement_of c.args.statement.now) c.in_ok-arms-in-If.arms c.in_ok-otherwise-in-If.otherwise
     (p.arms_list_of n.arms.items) (p.statements_of n.otherwise.items) c.make_arms.new.kinds.items
     (ap p.statement_of n.is ∙ of_if n.place n.arms n.otherwise) c.in_ok-push-in-If.ensures.items arms otherwise
 
@@ -115,8 +124,10 @@ pub make_or_begin-returns-in_ok-push-in-While-clause-made : goal.make_or_begin-r
 make_or_begin-returns-in_ok-push-in-While-clause-made t c =
     let n = c.in-While in
     let fs = map function_of c.args.bodies.functions.now in
-    let inner = ap (λ (ys : List Statement). i.statements fs (whole fs) c.args.by c.args.kinds.now.items (p.statements_of ys)) (sym c.deref-in-While.ensures.value) ∙ c.in_ok-body-in-While.ensures in
-    while_made fs (whole fs) c.args.by c.args.kinds.now.items c.make_statements-in-While.new.kinds.items c.args.made.now.items c.push-in-While.new.self.items n.place c.in_ok-condition-in-While.condition n.condition c.in_ok-body-in-While.body
+    let inner = ap (λ (ys : List Statement). i.statements fs (whole fs) c.args.by c.args.kinds.now.items (p.statements_of ys))
+    (sym c.deref-in-While.ensures.value) ∙ c.in_ok-body-in-While.ensures in
+    while_made fs (whole fs) c.args.by c.args.kinds.now.items c.make_statements-in-While.new.kinds.items c.args.made.now.items c.push-in-While.new.self.items
+    n.place c.in_ok-condition-in-While.condition n.condition c.in_ok-body-in-While.body
     (p.statements_of n.body.items) c.in_ok-condition-in-While.ensures inner (p.statement_of c.args.statement.now)
     (ap p.statement_of n.is ∙ of_while n.place n.condition n.body) c.in_ok-push-in-While.ensures.items
 
@@ -124,8 +135,10 @@ pub make_or_begin-returns-in_ok-push-in-Do-clause-made : goal.make_or_begin-retu
 make_or_begin-returns-in_ok-push-in-Do-clause-made t c =
     let n = c.in-Do in
     let fs = map function_of c.args.bodies.functions.now in
-    let inner = ap (λ (ys : List Statement). i.statements fs (whole fs) c.args.by c.args.kinds.now.items (p.statements_of ys)) (sym c.deref-in-Do.ensures.value) ∙ c.in_ok-body-in-Do.ensures in
-    do_made fs (whole fs) c.args.by c.args.kinds.now.items c.make_statements-in-Do.new.kinds.items c.args.made.now.items c.push-in-Do.new.self.items n.place c.in_ok-condition-in-Do.condition n.condition c.in_ok-body-in-Do.body
+    let inner = ap (λ (ys : List Statement). i.statements fs (whole fs) c.args.by c.args.kinds.now.items (p.statements_of ys)) (sym c.deref-in-Do.ensures.value)
+    ∙ c.in_ok-body-in-Do.ensures in
+    do_made fs (whole fs) c.args.by c.args.kinds.now.items c.make_statements-in-Do.new.kinds.items c.args.made.now.items c.push-in-Do.new.self.items n.place
+    c.in_ok-condition-in-Do.condition n.condition c.in_ok-body-in-Do.body
     (p.statements_of n.body.items) c.in_ok-condition-in-Do.ensures inner (p.statement_of c.args.statement.now)
     (ap p.statement_of n.is ∙ of_do n.place n.body n.condition) c.in_ok-push-in-Do.ensures.items
 
@@ -134,7 +147,8 @@ make_or_begin-returns-in_ok-push-in-Lock-clause-made t c =
     let n = c.in-Lock in
     let fs = map function_of c.args.bodies.functions.now in
     let ks = c.args.kinds.now.items in
-    one_made fs (whole fs) c.args.by ks ks c.args.made.now.items c.push-in-Lock.new.self.items n.place (flat.Lock n.place n.mutex) (f.Lock n.place n.mutex) (i.statement fs (whole fs) c.args.by ks (p.statement_of c.args.statement.now))
+    one_made fs (whole fs) c.args.by ks ks c.args.made.now.items c.push-in-Lock.new.self.items n.place (flat.Lock n.place n.mutex) (f.Lock n.place n.mutex)
+    (i.statement fs (whole fs) c.args.by ks (p.statement_of c.args.statement.now))
     c.in_ok-push-in-Lock.ensures.items refl (ap (λ (x : Statement). i.statement fs (whole fs) c.args.by ks (p.statement_of x)) n.is)
 
 pub make_or_begin-returns-in_ok-push-in-Unlock-clause-made : goal.make_or_begin-returns-in_ok-push-in-Unlock-clause-made
@@ -142,7 +156,8 @@ make_or_begin-returns-in_ok-push-in-Unlock-clause-made t c =
     let n = c.in-Unlock in
     let fs = map function_of c.args.bodies.functions.now in
     let ks = c.args.kinds.now.items in
-    one_made fs (whole fs) c.args.by ks ks c.args.made.now.items c.push-in-Unlock.new.self.items n.place (flat.Unlock n.place n.mutex) (f.Unlock n.place n.mutex) (i.statement fs (whole fs) c.args.by ks (p.statement_of c.args.statement.now))
+    one_made fs (whole fs) c.args.by ks ks c.args.made.now.items c.push-in-Unlock.new.self.items n.place (flat.Unlock n.place n.mutex)
+    (f.Unlock n.place n.mutex) (i.statement fs (whole fs) c.args.by ks (p.statement_of c.args.statement.now))
     c.in_ok-push-in-Unlock.ensures.items refl (ap (λ (x : Statement). i.statement fs (whole fs) c.args.by ks (p.statement_of x)) n.is)
 
 pub make_statements-loop-statement-preserved : goal.make_statements-loop-statement-preserved
@@ -151,7 +166,8 @@ make_statements-loop-statement-preserved t c =
     let xs = c.args.statements.now in
     let j = c.loop-statement.statement-index in
     let x = c.statement-item.result in (
-      sym (statement_step fs (whole fs) c.args.by xs j x c.loop-statement-test.true c.statement-item.is c.loop-statement.kinds.items c.make_statement.new.kinds.items
+      sym (statement_step fs (whole fs) c.args.by xs j x c.loop-statement-test.true c.statement-item.is c.loop-statement.kinds.items
+          c.make_statement.new.kinds.items
           (f.statements_of c.loop-statement.made.items) (f.statements_of c.make_statement.new.made.items) c.in_ok-make_statement.ensures)
           ∙ c.loop-statement.invariant.0,
       omega (arith, c.loop-statement.invariant.1, statement_left fs (whole fs) c.args.by xs j x c.loop-statement-test.true c.statement-item.is),
@@ -171,15 +187,18 @@ make_statements-make_statement-requires t c =
 pub make_statements-returns : goal.make_statements-returns
 make_statements-returns t c =
     let fs = map function_of c.args.bodies.functions.now in
-    sym c.loop-statement.invariant.0 ∙ statements_all fs (whole fs) c.args.by c.args.statements.now c.loop-statement.statement-index c.loop-statement.kinds.items (f.statements_of c.loop-statement.made.items) c.loop-statement-test.false
+    sym c.loop-statement.invariant.0 ∙ statements_all fs (whole fs) c.args.by c.args.statements.now c.loop-statement.statement-index
+    c.loop-statement.kinds.items (f.statements_of c.loop-statement.made.items) c.loop-statement-test.false
 
 pub make_step-returns-in_ok-push-in-Some-clause-made : goal.make_step-returns-in_ok-push-in-Some-clause-made
 make_step-returns-in_ok-push-in-Some-clause-made t c =
     let inner = c.in_ok-inner-in-Some.inner in
     on_ok_weaker c.push_begun.result
     (λ (rest : c.push_begun.new.waiting.items ≡ and_any c.push.new.self.items inner).
-    step_made c.args.bodies.functions.now c.args.waiting.now.items c.push_begun.new.waiting.items c.args.begun c.next.new.begun inner c.in-Some.statement.now c.args.kinds.now.items c.make_or_begin.new.kinds.items
-    (f.statements_of c.args.made.now.items) (f.statements_of c.make_or_begin.new.made.items) c.in-Some.ensures c.push.new.self.items c.in_ok-push-in-Some.ensures.items rest c.in_ok-inner-in-Some.ensures.made)
+    step_made c.args.bodies.functions.now c.args.waiting.now.items c.push_begun.new.waiting.items c.args.begun c.next.new.begun inner c.in-Some.statement.now
+    c.args.kinds.now.items c.make_or_begin.new.kinds.items
+    (f.statements_of c.args.made.now.items) (f.statements_of c.make_or_begin.new.made.items) c.in-Some.ensures c.push.new.self.items
+    c.in_ok-push-in-Some.ensures.items rest c.in_ok-inner-in-Some.ensures.made)
     c.push_begun.ensures
 
 pub make_step-returns-in_ok-push-in-Some-clause-work : goal.make_step-returns-in_ok-push-in-Some-clause-work
@@ -187,8 +206,10 @@ make_step-returns-in_ok-push-in-Some-clause-work t c =
     let inner = c.in_ok-inner-in-Some.inner in
     on_ok_weaker c.push_begun.result
     (λ (rest : c.push_begun.new.waiting.items ≡ and_any c.push.new.self.items inner).
-    step_work c.args.bodies.functions.now c.args.waiting.now.items c.push_begun.new.waiting.items c.args.begun c.next.new.begun inner c.in-Some.statement.now c.args.kinds.now.items c.make_or_begin.new.kinds.items
-    (f.statements_of c.args.made.now.items) (f.statements_of c.make_or_begin.new.made.items) c.in-Some.ensures c.push.new.self.items c.in_ok-push-in-Some.ensures.items rest c.in_ok-inner-in-Some.ensures.work)
+    step_work c.args.bodies.functions.now c.args.waiting.now.items c.push_begun.new.waiting.items c.args.begun c.next.new.begun inner c.in-Some.statement.now
+    c.args.kinds.now.items c.make_or_begin.new.kinds.items
+    (f.statements_of c.args.made.now.items) (f.statements_of c.make_or_begin.new.made.items) c.in-Some.ensures c.push.new.self.items
+    c.in_ok-push-in-Some.ensures.items rest c.in_ok-inner-in-Some.ensures.work)
     c.push_begun.ensures
 
 pub make_step-returns-in-None-clause-made : goal.make_step-returns-in-None-clause-made
@@ -196,7 +217,8 @@ make_step-returns-in-None-clause-made t c =
     let old = f.statements_of c.args.made.now.items in
     on_ok_weaker c.push_behind.result
     (λ (behind : f.statements_of c.push_behind.new.made.items ≡ i.statements_and old (behind_of c.next.new.begun.behind)).
-    done_made c.args.bodies.functions.now c.args.waiting.now.items c.args.begun c.args.kinds.now.items old (f.statements_of c.push_behind.new.made.items) c.in-None.ensures.0
+    done_made c.args.bodies.functions.now c.args.waiting.now.items c.args.begun c.args.kinds.now.items old (f.statements_of c.push_behind.new.made.items)
+    c.in-None.ensures.0
     (behind ∙ ap (λ (b : Begun). i.statements_and old (behind_of b.behind)) c.in-None.ensures.1))
     c.push_behind.ensures
 
@@ -205,7 +227,8 @@ make_step-returns-in-None-clause-work t c =
     let old = f.statements_of c.args.made.now.items in
     on_ok_weaker c.push_behind.result
     (λ (behind : f.statements_of c.push_behind.new.made.items ≡ i.statements_and old (behind_of c.next.new.begun.behind)).
-    done_work c.args.bodies.functions.now c.args.waiting.now.items c.args.begun c.args.kinds.now.items old (f.statements_of c.push_behind.new.made.items) c.in-None.ensures.0)
+    done_work c.args.bodies.functions.now c.args.waiting.now.items c.args.begun c.args.kinds.now.items old (f.statements_of c.push_behind.new.made.items)
+    c.in-None.ensures.0)
     c.push_behind.ensures
 
 pub make_statement-returns-in-None : goal.make_statement-returns-in-None

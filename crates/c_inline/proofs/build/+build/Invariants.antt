@@ -2,8 +2,8 @@ use Rattle.std.proofs.Common.{◌≡◌, ◌+◌, ◌*◌, ◌≤◌, map, drop}
 use Rattle.c_tree.specs.Programs.{function_of, statement_of, statements_of, arms_list_of}
 use Rattle.c_tree.specs.Flats as f
 use Rattle.c_tree.specs.Inlining as i
-use Rattle.c_inline.specs.Weights as v
-use Rattle.c_inline.specs.Making.{whole, after, begun_made, all_made, begun_work, all_work, function_work, statements_work}
+use Rattle.c_inline.specs.links.Weights as v
+use Rattle.c_inline.specs.links.Making.{whole, after, begun_made, all_made, begun_work, all_work, function_work, statements_work}
 use Rattle.c_inline.proofs.Making.{after_arms}
 use Rattle.c_inline.proofs.build.+build.Given as goal
 
@@ -17,10 +17,12 @@ abbrev pub decreases-make_step : goal.decreases-make_step
 decreases-make_step l = 3 * begun_work l.bodies.functions.now l.begun
 
 abbrev pub decreases-make_or_begin : goal.decreases-make_or_begin
-decreases-make_or_begin l = let fs = map function_of l.bodies.functions.now in 3 * v.statement_weight v.size 2 fs (function_work fs) (statement_of l.statement.now)
+decreases-make_or_begin l = let fs = map function_of l.bodies.functions.now in
+    3 * v.statement_weight v.size 2 fs (function_work fs) (statement_of l.statement.now)
 
 abbrev pub decreases-make_statement : goal.decreases-make_statement
-decreases-make_statement l = let fs = map function_of l.bodies.functions.now in 3 * v.statement_weight v.size 2 fs (function_work fs) (statement_of l.statement.now) + 1
+decreases-make_statement l = let fs = map function_of l.bodies.functions.now in
+    3 * v.statement_weight v.size 2 fs (function_work fs) (statement_of l.statement.now) + 1
 
 abbrev pub decreases-make_statements : goal.decreases-make_statements
 decreases-make_statements l = let fs = map function_of l.bodies.functions.now in 3 * statements_work fs (statements_of l.statements.now) + 2
@@ -30,7 +32,8 @@ invariant-make_arms-loop-arm l =
     let fs = map function_of l.bodies.functions.now in
     (after_arms (f.arms_list_of l.made.items) (i.arms_of fs (whole fs) l.by l.kinds.items (arms_list_of (drop l.arm-index l.arms)))
     ≡ i.arms_of fs (whole fs) l.by l.fn.kinds.items (arms_list_of l.arms))
-    × (v.arms_weight v.size 2 fs (function_work fs) (arms_list_of (drop l.arm-index l.arms)) ≤ v.arms_weight v.size 2 fs (function_work fs) (arms_list_of l.arms))
+    × (v.arms_weight v.size 2 fs (function_work fs) (arms_list_of (drop l.arm-index l.arms))
+    ≤ v.arms_weight v.size 2 fs (function_work fs) (arms_list_of l.arms))
 
 abbrev pub invariant-make_statements-loop-statement : goal.invariant-make_statements-loop-statement
 invariant-make_statements-loop-statement l =

@@ -7,5 +7,6 @@ use Rattle.c_inline.proofs.build.pass.Given as goal
 abbrev pub invariant-loop-index : goal.invariant-loop-index
 invariant-loop-index l =
     (l.local ≡ l.first + l.index)
-    × (i.statements_and (f.statements_of l.made.items) (i.passed l.place l.local (drop l.index l.locals) (map (i.shifted_placed l.by) (map placed_of (drop l.index l.arguments))))
+    × (i.statements_and (f.statements_of l.made.items)
+    (i.passed l.place l.local (drop l.index l.locals) (map (i.shifted_placed l.by) (map placed_of (drop l.index l.arguments))))
     ≡ i.statements_and (f.statements_of l.fn.made.items) (i.passed l.place l.first l.locals (map (i.shifted_placed l.by) (map placed_of l.arguments))))

@@ -2,7 +2,7 @@ use Rattle.std.proofs.Common.{◌∙◌, Option, sym, ap}
 use Rattle.c_tree.specs.Flats as f
 use Rattle.c_tree.specs.Inlining as i
 use Rattle.c_tree.specs.declared.flat.Statement as flat
-use Rattle.c_inline.specs.Making.{behind_of}
+use Rattle.c_inline.specs.links.Making.{behind_of}
 use Rattle.c_inline.proofs.Making.{and_none, behind_pushed}
 use Rattle.c_inline.proofs.build.push_behind.Goals as goal
 

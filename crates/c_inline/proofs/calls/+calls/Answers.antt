@@ -7,7 +7,7 @@ use Rattle.c_tree.specs.Programs.{statement_of, statements_of, arms_list_of}
 use Rattle.c_tree.specs.declared.program.Statement.{Statement}
 use Rattle.c_tree.specs.declared.program.Arm.{Arm}
 use Rattle.c_tree.proofs.ProgramRows.{of_while, of_do, of_if}
-use Rattle.c_inline.specs.Calls.{calls_of}
+use Rattle.c_inline.specs.links.Calls.{calls_of}
 use Rattle.c_inline.proofs.calls.+calls.Goals as goal
 
 abbrev calls_in_statements : List Statement → List Call
@@ -27,14 +27,16 @@ add_statement-returns-in-While t c =
     let w = c.in-While in
     let view = ap statement_of w.is ∙ of_while w.place w.condition w.body in
     let e = ap calls_in_statements c.deref-in-While.ensures.value ∙ sym (ap statement_calls view) in
-    subst (λ (x : List Call). OnOk c.add_statements-in-While.result (calls_of c.add_statements-in-While.new.calls.items ≡ calls_of c.args.calls.now.items ++ x)) e c.add_statements-in-While.ensures
+    subst (λ (x : List Call). OnOk c.add_statements-in-While.result (calls_of c.add_statements-in-While.new.calls.items ≡ calls_of c.args.calls.now.items ++ x))
+    e c.add_statements-in-While.ensures
 
 pub add_statement-returns-in-Do : goal.add_statement-returns-in-Do
 add_statement-returns-in-Do t c =
     let w = c.in-Do in
     let view = ap statement_of w.is ∙ of_do w.place w.body w.condition in
     let e = ap calls_in_statements c.deref-in-Do.ensures.value ∙ sym (ap statement_calls view) in
-    subst (λ (x : List Call). OnOk c.add_statements-in-Do.result (calls_of c.add_statements-in-Do.new.calls.items ≡ calls_of c.args.calls.now.items ++ x)) e c.add_statements-in-Do.ensures
+    subst (λ (x : List Call). OnOk c.add_statements-in-Do.result (calls_of c.add_statements-in-Do.new.calls.items ≡ calls_of c.args.calls.now.items ++ x)) e
+    c.add_statements-in-Do.ensures
 
 pub add_statement-returns-in_ok-add_arms-in-If : goal.add_statement-returns-in_ok-add_arms-in-If
 add_statement-returns-in_ok-add_arms-in-If t c =
@@ -43,6 +45,7 @@ add_statement-returns-in_ok-add_arms-in-If t c =
     let old : List Call = calls_of c.args.calls.now.items in
     let arms = calls_in_arms w.arms.items in
     let rest = calls_in_statements w.otherwise.items in
-    let e = ap₂ (λ (a b : List Call). a ++ b) (c.in_ok-add_arms-in-If.ensures ∙ ap (λ (xs : List Arm). old ++ calls_in_arms xs) c.deref.ensures.value) (ap calls_in_statements c.deref-in-If.ensures.value)
+    let e = ap₂ (λ (a b : List Call). a ++ b) (c.in_ok-add_arms-in-If.ensures ∙ ap (λ (xs : List Arm). old ++ calls_in_arms xs) c.deref.ensures.value)
+    (ap calls_in_statements c.deref-in-If.ensures.value)
     ∙ append_assoc old arms rest ∙ sym (ap (λ (x : p.Statement). old ++ statement_calls x) view) in
     subst (λ (x : List Call). OnOk c.add_statements.result (calls_of c.add_statements.new.calls.items ≡ x)) e c.add_statements.ensures

@@ -1,6 +1,6 @@
 use Rattle.std.proofs.Common.{◌≡◌, map, take}
 use Rattle.c_tree.specs.Programs.{function_of}
-use Rattle.c_inline.specs.Calls.{function_calls, lists_of}
+use Rattle.c_inline.specs.links.Calls.{function_calls, lists_of}
 use Rattle.c_inline.proofs.calls.function_calls.Given as goal
 
 abbrev pub invariant-loop-function : goal.invariant-loop-function

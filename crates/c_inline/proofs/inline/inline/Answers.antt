@@ -10,10 +10,10 @@ use Rattle.c_tree.specs.declared.tree.Name as name
 use Rattle.c_tree.specs.declared.program.Variable as variable
 use Rattle.c_tree.specs.declared.program.Function.{Function}
 use Rattle.c_tree.specs.declared.program.Thread.{Thread}
-use Rattle.c_inline.specs.Calls.{lists_of, function_calls, LeadsBack, IsFirstBack}
-use Rattle.c_inline.specs.Weighing.{IsClosed}
-use Rattle.c_inline.specs.Making.{AreSized}
-use Rattle.c_inline.specs.Inline.{fault_among}
+use Rattle.c_inline.specs.links.Calls.{lists_of, function_calls, LeadsBack, IsFirstBack}
+use Rattle.c_inline.specs.links.Weighing.{IsClosed}
+use Rattle.c_inline.specs.links.Making.{AreSized}
+use Rattle.c_inline.specs.links.Faults.{fault_among}
 use Rattle.c_inline.proofs.Ends.{none_back, first_back_is, none_unknown, are_sized, fault_is, flat_is}
 use Rattle.c_inline.proofs.inline.inline.Goals as goal
 
@@ -23,8 +23,10 @@ returns-in-Some c =
     let fs = map function_of F in
     let cs = c.deref-2.result.now in
     let lists : lists_of cs ≡ map function_calls fs = ap lists_of c.deref-2.ensures.value ∙ c.in_ok-calls.ensures in
-    let first = MatchOption-at_some ((x : i.Call) → LeadsBack (lists_of cs) x → ⊥) (IsFirstBack (lists_of cs)) c.in-Some.place c.in-Some.is c.in_ok-place.ensures in
-    subst (λ (xs : List Function). i.IsFirstBack (map function_of xs) c.in-Some.place) c.as_slice-functions.ensures.value (first_back_is cs fs lists c.in-Some.place first)
+    let first = MatchOption-at_some ((x : i.Call) → LeadsBack (lists_of cs) x → ⊥) (IsFirstBack (lists_of cs)) c.in-Some.place c.in-Some.is
+    c.in_ok-place.ensures in
+    subst (λ (xs : List Function). i.IsFirstBack (map function_of xs) c.in-Some.place) c.as_slice-functions.ensures.value
+    (first_back_is cs fs lists c.in-Some.place first)
 
 pub price_fault-requires-clause-known : goal.price_fault-requires-clause-known
 price_fault-requires-clause-known c =
@@ -32,7 +34,9 @@ price_fault-requires-clause-known c =
     let fs = map function_of F in
     let cs = c.deref-2.result.now in
     let lists : lists_of cs ≡ map function_calls fs = ap lists_of c.deref-2.ensures.value ∙ c.in_ok-calls.ensures in
-    let ends : (x : i.Call) → i.LeadsBack fs x → ⊥ = none_back cs fs lists (MatchOption-at_none ((x : i.Call) → LeadsBack (lists_of cs) x → ⊥) (IsFirstBack (lists_of cs)) c.in_default.is c.in_ok-place.ensures) in
+    let ends : (x : i.Call) → i.LeadsBack fs x → ⊥ =
+    none_back cs fs lists (MatchOption-at_none ((x : i.Call) → LeadsBack (lists_of cs) x → ⊥) (IsFirstBack (lists_of cs)) c.in_default.is
+    c.in_ok-place.ensures) in
     none_unknown fs c.deref-6.result.now (subst (IsClosed fs) (sym c.deref-6.ensures.value) c.in_ok-prices.ensures.closed) ends
 
 pub returns-in-Some-price_fault : goal.returns-in-Some-price_fault
@@ -41,10 +45,13 @@ returns-in-Some-price_fault c =
     let fs = map function_of F in
     let cs = c.deref-2.result.now in
     let lists : lists_of cs ≡ map function_calls fs = ap lists_of c.deref-2.ensures.value ∙ c.in_ok-calls.ensures in
-    let ends : (x : i.Call) → i.LeadsBack fs x → ⊥ = none_back cs fs lists (MatchOption-at_none ((x : i.Call) → LeadsBack (lists_of cs) x → ⊥) (IsFirstBack (lists_of cs)) c.in_default.is c.in_ok-place.ensures) in
+    let ends : (x : i.Call) → i.LeadsBack fs x → ⊥ =
+    none_back cs fs lists (MatchOption-at_none ((x : i.Call) → LeadsBack (lists_of cs) x → ⊥) (IsFirstBack (lists_of cs)) c.in_default.is
+    c.in_ok-place.ensures) in
     let P = program_of c.args.program.now in (
       subst (λ (xs : List Function). (x : i.Call) → i.LeadsBack (map function_of xs) x → ⊥) c.as_slice-functions.ensures.value ends,
-      fault_is P ∙ ap₂ (λ (xs : List Function) (ys : List Thread). fault_among (map function_of xs) (map thread_of ys)) (sym c.as_slice-functions.ensures.value) (sym c.deref-7.ensures.value)
+      fault_is P ∙ ap₂ (λ (xs : List Function) (ys : List Thread). fault_among (map function_of xs) (map thread_of ys)) (sym c.as_slice-functions.ensures.value)
+          (sym c.deref-7.ensures.value)
           ∙ sym c.price_fault.ensures ∙ c.in-Some-price_fault.is,
     )
 
@@ -54,7 +61,9 @@ make_threads-requires c =
     let fs = map function_of F in
     let cs = c.deref-2.result.now in
     let lists : lists_of cs ≡ map function_calls fs = ap lists_of c.deref-2.ensures.value ∙ c.in_ok-calls.ensures in
-    let ends : (x : i.Call) → i.LeadsBack fs x → ⊥ = none_back cs fs lists (MatchOption-at_none ((x : i.Call) → LeadsBack (lists_of cs) x → ⊥) (IsFirstBack (lists_of cs)) c.in_default.is c.in_ok-place.ensures) in
+    let ends : (x : i.Call) → i.LeadsBack fs x → ⊥ =
+    none_back cs fs lists (MatchOption-at_none ((x : i.Call) → LeadsBack (lists_of cs) x → ⊥) (IsFirstBack (lists_of cs)) c.in_default.is
+    c.in_ok-place.ensures) in
     subst (AreSized fs) (sym c.deref-10.ensures.value) (are_sized fs c.in_ok-sizes.sizes.items c.in_ok-sizes.ensures.closed ends c.in_ok-sizes.ensures.right)
 
 pub returns : goal.returns
@@ -63,16 +72,23 @@ returns c =
     let fs = map function_of F in
     let cs = c.deref-2.result.now in
     let lists : lists_of cs ≡ map function_calls fs = ap lists_of c.deref-2.ensures.value ∙ c.in_ok-calls.ensures in
-    let ends : (x : i.Call) → i.LeadsBack fs x → ⊥ = none_back cs fs lists (MatchOption-at_none ((x : i.Call) → LeadsBack (lists_of cs) x → ⊥) (IsFirstBack (lists_of cs)) c.in_default.is c.in_ok-place.ensures) in
+    let ends : (x : i.Call) → i.LeadsBack fs x → ⊥ =
+    none_back cs fs lists (MatchOption-at_none ((x : i.Call) → LeadsBack (lists_of cs) x → ⊥) (IsFirstBack (lists_of cs)) c.in_default.is
+    c.in_ok-place.ensures) in
     let P = program_of c.args.program.now in
-    let mutexes : map name_of c.in_ok-mutexes.mutexes.items ≡ P.mutexes = c.in_ok-mutexes.ensures ∙ ap (λ (xs : List name.Name). map name_of xs) c.deref-11.ensures.value in
-    let variables : map variable_of c.in_ok-variables.variables.items ≡ P.variables = c.in_ok-variables.ensures ∙ ap (λ (xs : List variable.Variable). map variable_of xs) c.deref-12.ensures.value in
+    let mutexes : map name_of c.in_ok-mutexes.mutexes.items ≡ P.mutexes =
+    c.in_ok-mutexes.ensures ∙ ap (λ (xs : List name.Name). map name_of xs) c.deref-11.ensures.value in
+    let variables : map variable_of c.in_ok-variables.variables.items ≡ P.variables =
+    c.in_ok-variables.ensures ∙ ap (λ (xs : List variable.Variable). map variable_of xs) c.deref-12.ensures.value in
     let threads : map f.thread_of c.in_ok-threads.threads.items ≡ map (i.flat_thread P.functions) P.threads =
-    c.in_ok-threads.ensures ∙ ap₂ (λ (xs : List Function) (ys : List Thread). map (i.flat_thread (map function_of xs)) (map thread_of ys)) c.as_slice-functions.ensures.value c.deref-13.ensures.value in (
+    c.in_ok-threads.ensures ∙ ap₂ (λ (xs : List Function) (ys : List Thread). map (i.flat_thread (map function_of xs)) (map thread_of ys))
+    c.as_slice-functions.ensures.value c.deref-13.ensures.value in (
       subst (λ (xs : List Function). (x : i.Call) → i.LeadsBack (map function_of xs) x → ⊥) c.as_slice-functions.ensures.value ends,
-      fault_is P ∙ ap₂ (λ (xs : List Function) (ys : List Thread). fault_among (map function_of xs) (map thread_of ys)) (sym c.as_slice-functions.ensures.value) (sym c.deref-7.ensures.value)
+      fault_is P ∙ ap₂ (λ (xs : List Function) (ys : List Thread). fault_among (map function_of xs) (map thread_of ys)) (sym c.as_slice-functions.ensures.value)
+          (sym c.deref-7.ensures.value)
           ∙ sym c.price_fault.ensures ∙ c.in_default-price_fault.is,
-      ap₂ (λ (ms : List Name) (vs : List p.Variable). let r : f.Flat = record { mutexes = ms; variables = vs; threads = map f.thread_of c.in_ok-threads.threads.items } in r) mutexes variables
+      ap₂ (λ (ms : List Name) (vs : List p.Variable). let r : f.Flat =
+          record { mutexes = ms; variables = vs; threads = map f.thread_of c.in_ok-threads.threads.items } in r) mutexes variables
           ∙ ap (λ (ts : List f.Thread). let r : f.Flat = record { mutexes = P.mutexes; variables = P.variables; threads = ts } in r) threads
           ∙ sym (flat_is P),
     )

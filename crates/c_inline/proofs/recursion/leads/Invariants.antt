@@ -1,7 +1,7 @@
 use Rattle.std.proofs.Common.{◌≡◌, ℕ, ◌+◌, ◌*◌, ◌<◌, ◌≤◌, length, get_or, false, Some}
 use Rattle.std.specs.Prelude.{slice_get}
 use Rattle.c_inline.specs.declared.calls.Call.{Call}
-use Rattle.c_inline.specs.Calls.{lists_of, Leads}
+use Rattle.c_inline.specs.links.Calls.{lists_of, Leads}
 use Rattle.c_inline.proofs.Reach.{Searched, unreached}
 use Rattle.c_inline.proofs.recursion.leads.Given as goal
 

@@ -5,7 +5,7 @@ use Rattle.c_tree.specs.Programs.{function_of, statement_of, statements_of, arms
 use Rattle.c_tree.specs.declared.program.Statement.{Statement}
 use Rattle.c_tree.specs.declared.program.Arm.{Arm}
 use Rattle.c_tree.proofs.ProgramRows.{of_while, of_do, of_if}
-use Rattle.c_inline.specs.Weights.{known_weight, statement_weight, statements_weight, arms_weight}
+use Rattle.c_inline.specs.links.Weights.{known_weight, statement_weight, statements_weight, arms_weight}
 use Rattle.c_inline.proofs.weight.+weights.Goals as goal
 
 pub statement_weight-returns-in-While : goal.statement_weight-returns-in-While

@@ -8,7 +8,7 @@ use Rattle.c_tree.specs.declared.expr.Placed.{Placed}
 use Rattle.c_tree.specs.declared.program.Arm.{Arm}
 use Rattle.c_tree.specs.declared.program.Statement.{Statement}
 use Rattle.c_tree.proofs.ProgramRows.{of_if, of_while, of_do}
-use Rattle.c_ranges.specs.Faults.{variables_of, first_fault}
+use Rattle.c_ranges.specs.links.Firsts.{variables_of, first_fault}
 use Rattle.c_ranges.proofs.Faults.{joined, one_more, two_more}
 use Rattle.c_ranges.proofs.indexes.+statements.Goals as goal
 
@@ -37,7 +37,8 @@ of_statement-returns-in-Call t c =
     let vs = variables_of c.args.variables.now in
     let w = c.in-Call in
     joined vs _ _ _ _ _ c.earlier-in-Call.ensures c.of_arguments.ensures c.of_assigned.ensures
-    ∙ ap (λ (xs : List Placed). first_fault vs (flat_map placed_indexes (map placed_of xs) ++ result_indexes (option_map target_of w.assigned))) c.deref.ensures.value
+    ∙ ap (λ (xs : List Placed). first_fault vs (flat_map placed_indexes (map placed_of xs) ++ result_indexes (option_map target_of w.assigned)))
+    c.deref.ensures.value
     ∙ ap (λ (x : Statement). first_fault vs (statement_indexes (p.statement_of x))) (sym w.is)
 
 pub of_statement-returns-in-If : goal.of_statement-returns-in-If
@@ -71,7 +72,8 @@ of_statements-loop-statement-init t c = refl
 pub of_statements-loop-statement-preserved : goal.of_statements-loop-statement-preserved
 of_statements-loop-statement-preserved t c =
     one_more (variables_of c.args.variables.now) (λ (x : Statement). statement_indexes (p.statement_of x)) indexes_in refl (λ x rest. refl)
-    c.args.statements.now c.loop-statement.statement-index c.statement-item.result _ _ _ (omega arith) c.statement-item.is c.earlier-first.ensures c.loop-statement.invariant c.of_statement.ensures
+    c.args.statements.now c.loop-statement.statement-index c.statement-item.result _ _ _ (omega arith) c.statement-item.is c.earlier-first.ensures
+    c.loop-statement.invariant c.of_statement.ensures
 
 pub of_arms-loop-arm-init : goal.of_arms-loop-arm-init
 unfolding first_fault
@@ -82,4 +84,5 @@ of_arms-loop-arm-preserved t c =
     let vs = variables_of c.args.variables.now in
     let body = c.of_statements.ensures ∙ ap (λ xs. first_fault vs (indexes_in xs)) c.deref.ensures.value in
     two_more vs (λ (x : Arm). placed_indexes (placed_of x.condition)) (λ (x : Arm). indexes_in x.body.items) indexes_in_arms refl (λ x rest. refl)
-    c.args.arms.now c.loop-arm.arm-index c.arm-item.result _ _ _ _ _ (omega arith) c.arm-item.is c.earlier-first-in-loop-arm.ensures c.earlier-first.ensures c.loop-arm.invariant c.of_placed.ensures body
+    c.args.arms.now c.loop-arm.arm-index c.arm-item.result _ _ _ _ _ (omega arith) c.arm-item.is c.earlier-first-in-loop-arm.ensures c.earlier-first.ensures
+    c.loop-arm.invariant c.of_placed.ensures body

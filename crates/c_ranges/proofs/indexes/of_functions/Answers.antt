@@ -5,7 +5,7 @@ use Rattle.std.proofs.lemmas.List.Concat.{flat_map-cons}
 use Rattle.c_tree.specs.Programs as p
 use Rattle.c_tree.specs.Ranges.{statements_indexes, returned_indexes}
 use Rattle.c_tree.specs.declared.program.Function.{Function}
-use Rattle.c_ranges.specs.Faults.{variables_of, functions_indexes, first_fault}
+use Rattle.c_ranges.specs.links.Firsts.{variables_of, functions_indexes, first_fault}
 use Rattle.c_ranges.proofs.Faults.{two_more}
 use Rattle.c_ranges.proofs.indexes.of_functions.Goals as goal
 
@@ -17,6 +17,8 @@ pub loop-function-preserved : goal.loop-function-preserved
 loop-function-preserved c =
     let vs = variables_of c.args.variables.now in
     let body = c.of_statements.ensures ∙ ap (λ xs. first_fault vs (statements_indexes (p.statements_of xs))) c.deref.ensures.value in
-    two_more vs (λ (x : Function). statements_indexes (p.statements_of x.body.items)) (λ (x : Function). returned_indexes (option_map p.returned_of x.result)) functions_indexes refl
+    two_more vs (λ (x : Function). statements_indexes (p.statements_of x.body.items)) (λ (x : Function). returned_indexes (option_map p.returned_of x.result))
+    functions_indexes refl
     (λ x rest. flat_map-cons (λ (f : p.Function). statements_indexes f.body ++ returned_indexes f.result) (p.function_of x) (map p.function_of rest))
-    c.args.functions.now c.loop-function.function-index c.function-item.result _ _ _ _ _ (omega arith) c.function-item.is c.earlier-first-in-loop-function.ensures c.earlier-first.ensures c.loop-function.invariant body c.of_returned.ensures
+    c.args.functions.now c.loop-function.function-index c.function-item.result _ _ _ _ _ (omega arith) c.function-item.is
+    c.earlier-first-in-loop-function.ensures c.earlier-first.ensures c.loop-function.invariant body c.of_returned.ensures

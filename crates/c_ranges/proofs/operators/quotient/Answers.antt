@@ -7,7 +7,8 @@ use Rattle.c_ranges.proofs.Exact.{quotient_exact}
 use Rattle.c_ranges.proofs.Fitting.{from_zero_up-true, is_positive_value-true}
 use Rattle.c_ranges.proofs.HeldRanges.{HeldBy-Ends, HeldBy_same, int_div_range}
 use Rattle.c_ranges.proofs.operators.quotient.Goals as goal
-use Rattle.c_ranges.proofs.operators.quotient.Goals.{else-is_positive_value-via-then-is_positive_value+else-is_from_zero_up, else-is_positive_value-via-else-is_positive_value}
+use Rattle.c_ranges.proofs.operators.quotient.Goals.{else-is_positive_value-via-then-is_positive_value+else-is_from_zero_up}
+use Rattle.c_ranges.proofs.operators.quotient.Goals.{else-is_positive_value-via-else-is_positive_value}
 
 pub returns-then-is_from_zero_up-clause-value : goal.returns-then-is_from_zero_up-clause-value
 returns-then-is_from_zero_up-clause-value c =

@@ -45,7 +45,9 @@ returns-then-is_from_zero_up-clause-held c =
     let low = from_zero_up-true (interval_of c.args.x) q in
     let fits : FitsSigned w128 c.lesser.result = search rules in
     let hi = to_z-of_z w128 c.lesser.result fits ∙ c.lesser.ensures ∙ (λ i. lesser (bounded_exact _ x.hi i) (less_one_exact _ y.lo i)) in
-    HeldBy_same _ _ _ _ _ refl hi (lesser_range c.args.kind c.args.x.hi (c.args.y.lo -ℤ pos 1) (omega (arith, ints, low, x.ordered)) (omega (arith, ints, one.positive)) c.requires.x.to_greatest)
+    HeldBy_same _ _ _ _ _ refl hi
+    (lesser_range c.args.kind c.args.x.hi (c.args.y.lo -ℤ pos 1) (omega (arith, ints, low, x.ordered)) (omega (arith, ints, one.positive))
+    c.requires.x.to_greatest)
 
 pub returns-else-is_from_zero_up-clause-value : goal.returns-else-is_from_zero_up-clause-value
 returns-else-is_from_zero_up-clause-value c =
@@ -53,7 +55,8 @@ returns-else-is_from_zero_up-clause-value c =
     let p : true ≡ is_positive_value (interval_of c.args.y) = sym c.if-not-is_positive_value.false ∙ c.is_positive_value.ensures in
     let q : false ≡ from_zero_up (interval_of c.args.x) = sym c.if-is_from_zero_up.false ∙ c.is_from_zero_up.ensures in
     let most = c.args.y.lo -ℤ pos 1 in
-    (λ i. cond (p i) (cond (q i) (interval (pos 0) (lesser c.args.x.hi most)) (interval (negative_less_one_exact _ y.lo i) (less_one_exact _ y.lo i))) (full c.args.kind))
+    (λ i. cond (p i) (cond (q i) (interval (pos 0) (lesser c.args.x.hi most)) (interval (negative_less_one_exact _ y.lo i) (less_one_exact _ y.lo i)))
+    (full c.args.kind))
 
 pub returns-else-is_from_zero_up-clause-held : goal.returns-else-is_from_zero_up-clause-held
 returns-else-is_from_zero_up-clause-held c =
@@ -63,4 +66,5 @@ returns-else-is_from_zero_up-clause-held c =
     let one = is_positive_value-true (interval_of c.args.y) p in
     let low = from_zero_up-false (interval_of c.args.x) q in
     let least : least_of c.args.kind <ℤ pos 0 = omega (arith, ints, low, c.requires.x.from_least) in
-    HeldBy_same _ _ _ _ _ (negative_less_one_exact _ y.lo) (less_one_exact _ y.lo) (symmetric_range c.args.kind c.args.y.lo least one.positive (omega (arith, ints, c.requires.y.ordered, c.requires.y.to_greatest)))
+    HeldBy_same _ _ _ _ _ (negative_less_one_exact _ y.lo) (less_one_exact _ y.lo)
+    (symmetric_range c.args.kind c.args.y.lo least one.positive (omega (arith, ints, c.requires.y.ordered, c.requires.y.to_greatest)))

@@ -1,15 +1,20 @@
 use Rattle.std.proofs.Common.{◌≡◌, ◌-◌, ◌∙◌, arith}
 use Rattle.std.proofs.lemmas.Grind.{common_steps}
-use Rattle.c_tree.specs.Views.{statements_of}
-use Rattle.c_reader.specs.Rows.{arms_in}
-use Rattle.c_reader.specs.Steps.{parse_while, parse_do, parse_for}
-use Rattle.c_reader.proofs.Blocks.{statement_none, statement_some, statements_start, statements_some, statements_end, push_statement, if_start, arms_some, arms_end, push_arm}
-use Rattle.c_reader.proofs.Rows.{of_block, of_while, of_do, of_for, of_if, of_if_else}
+use Rattle.c_tree.specs.Views.{arms_list_of, statements_of}
+use Rattle.c_reader.specs.links.Steps.{parse_while, parse_do, parse_for}
+use Rattle.c_tree.proofs.TreeRows.{of_block}
+use Rattle.c_reader.proofs.Blocks.{statement_none, statement_some, statements_start, statements_some, statements_end}
+use Rattle.c_reader.proofs.Blocks.{push_statement, if_start, arms_some, arms_end, push_arm}
 use Rattle.c_reader.proofs.block.+statement.Goals as goal
 
 pub do_statement-returns-in_err-place : goal.do_statement-returns-in_err-place
 unfolding parse_do
 do_statement-returns-in_err-place t c =
+    grind (arith, common_steps)
+
+pub do_statement-returns : goal.do_statement-returns
+unfolding parse_do
+do_statement-returns t c =
     grind (arith, common_steps)
 
 pub do_statement-returns-in_err-block : goal.do_statement-returns-in_err-block
@@ -30,12 +35,6 @@ do_statement-returns-in_err-condition t c =
 pub do_statement-returns-in_err-mark : goal.do_statement-returns-in_err-mark
 unfolding parse_do
 do_statement-returns-in_err-mark t c =
-    grind (arith, common_steps)
-
-pub do_statement-returns : goal.do_statement-returns
-unfolding parse_do
-do_statement-returns t c =
-    let e = of_do c.in_ok-place.place c.in_ok-block.block c.in_ok-condition.condition in
     grind (arith, common_steps)
 
 pub for_statement-returns-in_err-place : goal.for_statement-returns-in_err-place
@@ -78,15 +77,14 @@ unfolding parse_for
 for_statement-returns-in_err-mark-4 t c =
     grind (arith, common_steps)
 
-pub for_statement-returns-in_err-block : goal.for_statement-returns-in_err-block
-unfolding parse_for
-for_statement-returns-in_err-block t c =
-    grind (arith, common_steps)
-
 pub for_statement-returns : goal.for_statement-returns
 unfolding parse_for
 for_statement-returns t c =
-    let e = of_for c.in_ok-place.place c.in_ok-first.first c.in_ok-condition.condition c.in_ok-last.last c.in_ok-block.block in
+    grind (arith, common_steps)
+
+pub for_statement-returns-in_err-block : goal.for_statement-returns-in_err-block
+unfolding parse_for
+for_statement-returns-in_err-block t c =
     grind (arith, common_steps)
 
 pub while_statement-returns-in_err-place : goal.while_statement-returns-in_err-place
@@ -99,15 +97,14 @@ unfolding parse_while
 while_statement-returns-in_err-condition t c =
     grind (arith, common_steps)
 
-pub while_statement-returns-in_err-block : goal.while_statement-returns-in_err-block
-unfolding parse_while
-while_statement-returns-in_err-block t c =
-    grind (arith, common_steps)
-
 pub while_statement-returns : goal.while_statement-returns
 unfolding parse_while
 while_statement-returns t c =
-    let e = of_while c.in_ok-place.place c.in_ok-condition.condition c.in_ok-block.block in
+    grind (arith, common_steps)
+
+pub while_statement-returns-in_err-block : goal.while_statement-returns-in_err-block
+unfolding parse_while
+while_statement-returns-in_err-block t c =
     grind (arith, common_steps)
 
 pub if_statement-returns-in_err-place : goal.if_statement-returns-in_err-place
@@ -127,29 +124,32 @@ if_statement-loop-turn-init t c =
 
 pub if_statement-returns-then-not-sees_word : goal.if_statement-returns-then-not-sees_word
 if_statement-returns-then-not-sees_word t c =
-    let e = arms_some (c.args.fuel - 1) c.args.fuel c.loop-turn.turn c.in_ok-place.place (arms_in c.loop-turn.arms.items) c.loop-turn.tokens c.loop-turn-test.true in
-    let s = of_if c.in_ok-place.place c.loop-turn.arms in
+    let e = arms_some (c.args.fuel - 1) c.args.fuel c.loop-turn.turn c.in_ok-place.place
+    (arms_list_of c.loop-turn.arms.items) c.loop-turn.tokens c.loop-turn-test.true in
     grind (arith, common_steps)
 
 pub if_statement-returns-in_err-inside : goal.if_statement-returns-in_err-inside
 if_statement-returns-in_err-inside t c =
-    let e = arms_some (c.args.fuel - 1) c.args.fuel c.loop-turn.turn c.in_ok-place.place (arms_in c.loop-turn.arms.items) c.loop-turn.tokens c.loop-turn-test.true in
+    let e = arms_some (c.args.fuel - 1) c.args.fuel c.loop-turn.turn c.in_ok-place.place
+    (arms_list_of c.loop-turn.arms.items) c.loop-turn.tokens c.loop-turn-test.true in
     grind (arith, common_steps)
 
 pub if_statement-returns-then-not-sees_word-2 : goal.if_statement-returns-then-not-sees_word-2
 if_statement-returns-then-not-sees_word-2 t c =
-    let e = arms_some (c.args.fuel - 1) c.args.fuel c.loop-turn.turn c.in_ok-place.place (arms_in c.loop-turn.arms.items) c.loop-turn.tokens c.loop-turn-test.true in
-    let s = of_if_else c.in_ok-place.place c.loop-turn.arms c.in_ok-inside.inside in
+    let e = arms_some (c.args.fuel - 1) c.args.fuel c.loop-turn.turn c.in_ok-place.place
+    (arms_list_of c.loop-turn.arms.items) c.loop-turn.tokens c.loop-turn-test.true in
     grind (arith, common_steps)
 
 pub if_statement-returns-in_err-next : goal.if_statement-returns-in_err-next
 if_statement-returns-in_err-next t c =
-    let e = arms_some (c.args.fuel - 1) c.args.fuel c.loop-turn.turn c.in_ok-place.place (arms_in c.loop-turn.arms.items) c.loop-turn.tokens c.loop-turn-test.true in
+    let e = arms_some (c.args.fuel - 1) c.args.fuel c.loop-turn.turn c.in_ok-place.place
+    (arms_list_of c.loop-turn.arms.items) c.loop-turn.tokens c.loop-turn-test.true in
     grind (arith, common_steps)
 
 pub if_statement-loop-turn-preserved : goal.if_statement-loop-turn-preserved
 if_statement-loop-turn-preserved t c =
-    let e = arms_some (c.args.fuel - 1) c.args.fuel c.loop-turn.turn c.in_ok-place.place (arms_in c.loop-turn.arms.items) c.loop-turn.tokens c.loop-turn-test.true in
+    let e = arms_some (c.args.fuel - 1) c.args.fuel c.loop-turn.turn c.in_ok-place.place
+    (arms_list_of c.loop-turn.arms.items) c.loop-turn.tokens c.loop-turn-test.true in
     let s = push_arm c.loop-turn.arms.items c.in_ok-next.next in
     grind (arith, common_steps)
 

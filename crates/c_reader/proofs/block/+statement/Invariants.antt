@@ -1,8 +1,7 @@
 use Rattle.std.proofs.Common.{◌≡◌, ◌+◌, ◌-◌, ◌*◌}
-use Rattle.c_tree.specs.Views.{statements_of}
-use Rattle.c_reader.specs.Parsing.{parse_statements}
-use Rattle.c_reader.specs.Rows.{arms_in}
-use Rattle.c_reader.specs.Steps.{parse_if, more_arms, more_statements}
+use Rattle.c_tree.specs.Views.{arms_list_of, statements_of}
+use Rattle.c_reader.specs.links.Parsing.{parse_statements}
+use Rattle.c_reader.specs.links.Steps.{parse_if, more_arms, more_statements}
 use Rattle.c_reader.proofs.block.+statement.Given as goal
 
 abbrev pub decreases-if_statement : goal.decreases-if_statement
@@ -41,4 +40,4 @@ invariant-statements-loop-turn l =
 
 abbrev pub invariant-if_statement-loop-turn : goal.invariant-if_statement-loop-turn
 invariant-if_statement-loop-turn l =
-    parse_if l.fuel l.fn.tokens ≡ more_arms (l.fuel - 1) (l.fuel - l.turn) l.place (arms_in l.arms.items) l.tokens
+    parse_if l.fuel l.fn.tokens ≡ more_arms (l.fuel - 1) (l.fuel - l.turn) l.place (arms_list_of l.arms.items) l.tokens

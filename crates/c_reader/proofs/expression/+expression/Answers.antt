@@ -32,7 +32,8 @@ pub operand-returns-in_ok-name-in-Some-Name : goal.operand-returns-in_ok-name-in
 operand-returns-in_ok-name-in-Some-Name t c = let e = operand_at c.args.fuel c.args.tokens.now (omega arith) in grind (arith, common_steps)
 
 pub operand-returns-in_ok-opening-in-Some-Punctuator-OpenParenthesis : goal.operand-returns-in_ok-opening-in-Some-Punctuator-OpenParenthesis
-operand-returns-in_ok-opening-in-Some-Punctuator-OpenParenthesis t c = let e = operand_at c.args.fuel c.args.tokens.now (omega arith) in grind (arith, common_steps)
+operand-returns-in_ok-opening-in-Some-Punctuator-OpenParenthesis t c =
+    let e = operand_at c.args.fuel c.args.tokens.now (omega arith) in grind (arith, common_steps)
 
 pub operand-returns-in_ok-unary_of-in_default : goal.operand-returns-in_ok-unary_of-in_default
 operand-returns-in_ok-unary_of-in_default t c = let e = operand_at c.args.fuel c.args.tokens.now (omega arith) in grind (arith, common_steps)
@@ -41,10 +42,12 @@ pub operators-returns-then-strengths-eq0 : goal.operators-returns-then-strengths
 operators-returns-then-strengths-eq0 t c = let none : c.args.strengths ≡ 0 = omega arith in behind_none _ _ _ _ none
 
 pub operators-returns-in_err-left : goal.operators-returns-in_err-left
-operators-returns-in_err-left t c = let e = behind_some c.args.fuel c.args.strengths (expression_of c.args.first) c.args.tokens.now (omega arith) in grind (arith, common_steps)
+operators-returns-in_err-left t c =
+    let e = behind_some c.args.fuel c.args.strengths (expression_of c.args.first) c.args.tokens.now (omega arith) in grind (arith, common_steps)
 
 pub operators-loop-turn-init : goal.operators-loop-turn-init
-operators-loop-turn-init t c = let e = behind_some c.args.fuel c.args.strengths (expression_of c.args.first) c.args.tokens.now (omega arith) in grind (arith, common_steps)
+operators-loop-turn-init t c =
+    let e = behind_some c.args.fuel c.args.strengths (expression_of c.args.first) c.args.tokens.now (omega arith) in grind (arith, common_steps)
 
 pub operators-returns-then-not-sees_operator : goal.operators-returns-then-not-sees_operator
 operators-returns-then-not-sees_operator t c =

@@ -7,7 +7,8 @@ use Rattle.c_reader.proofs.number.digits_value.Goals as goal
 pub returns-in_err-number-clause-none : goal.returns-in_err-number-clause-none
 returns-in_err-number-clause-none c =
     rw c.from_residual.ensures
-    (limit-le-digits_value c.args.radix c.args.digits.now _ c.loop-digit.number c.loop-digit.digit-index c.requires c.loop-digit-test.true c.loop-digit.invariant c.in_err-number.ensures.none)
+    (limit-le-digits_value c.args.radix c.args.digits.now _ c.loop-digit.number c.loop-digit.digit-index c.requires c.loop-digit-test.true
+    c.loop-digit.invariant c.in_err-number.ensures.none)
 
 pub loop-digit-preserved : goal.loop-digit-preserved
 loop-digit-preserved c =

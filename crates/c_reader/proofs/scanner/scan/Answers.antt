@@ -3,7 +3,7 @@ use Rattle.std.proofs.lemmas.List.{map-append}
 use Rattle.c_tree.specs.Tokens as t
 use Rattle.c_tree.specs.Scanning.{Blank, Lexed}
 use Rattle.c_reader.specs.declared.token.Token.{Token}
-use Rattle.c_reader.specs.Tokens.{lexeme_of, token_of, tokens_of}
+use Rattle.c_reader.specs.links.Tokens.{lexeme_of, token_of, tokens_of}
 use Rattle.c_reader.proofs.Scans.{IsLeft, IsLeft-start, IsLeft-Blank, IsLeft-Lexed, some_of}
 use Rattle.c_reader.proofs.scanner.scan.Goals as goal
 
@@ -24,14 +24,16 @@ pub loop-bytes-smaller-in-Blank : goal.loop-bytes-smaller-in-Blank
 loop-bytes-smaller-in-Blank c =
     let rest = c.loop-bytes.rest.now in
     let some = some_of rest (Blank c.in-Blank.bytes) c.in-Blank.ensures in
-    let less : length c.behind-rest.result.now < length rest = omega (arith, some.0, some.1, ap length c.behind-rest.ensures, length-drop c.in-Blank.bytes rest) in
+    let less : length c.behind-rest.result.now < length rest = omega (arith, some.0, some.1, ap length c.behind-rest.ensures, length-drop c.in-Blank.bytes rest)
+    in
     less
 
 pub loop-bytes-smaller : goal.loop-bytes-smaller
 loop-bytes-smaller c =
     let rest = c.loop-bytes.rest.now in
     let some = some_of rest (Lexed (lexeme_of c.in-Lexed.lexeme) c.in-Lexed.bytes) c.in-Lexed.ensures in
-    let less : length c.behind-rest-in-Lexed.result.now < length rest = omega (arith, some.0, some.1, ap length c.behind-rest-in-Lexed.ensures, length-drop c.in-Lexed.bytes rest) in
+    let less : length c.behind-rest-in-Lexed.result.now < length rest =
+    omega (arith, some.0, some.1, ap length c.behind-rest-in-Lexed.ensures, length-drop c.in-Lexed.bytes rest) in
     less
 
 pub loop-bytes-preserved-in-Blank : goal.loop-bytes-preserved-in-Blank
@@ -49,7 +51,8 @@ loop-bytes-preserved c =
     let place : ℕ = length text - length rest in
     let token : Token = record { place = record { 0 = place }; lexeme = c.in-Lexed.lexeme } in
     let at : place + length rest ≡ length text = omega (arith, c.loop-bytes.invariant.at) in
-    let more : found ++ token_of token ∷ [] ≡ tokens_of c.push.new.self.items = sym (map-append token_of c.loop-bytes.tokens.items (token ∷ [])) ∙ ap tokens_of (sym c.in_ok-push-in-Lexed.ensures.items) in
+    let more : found ++ token_of token ∷ [] ≡ tokens_of c.push.new.self.items = sym (map-append token_of c.loop-bytes.tokens.items (token ∷ []))
+    ∙ ap tokens_of (sym c.in_ok-push-in-Lexed.ensures.items) in
     let P : List ℕ → Type 0 = λ behind. IsLeft text behind (tokens_of c.push.new.self.items) in
     let Q : List t.Token → Type 0 = IsLeft text (drop c.in-Lexed.bytes rest) in
     subst P (sym c.behind-rest-in-Lexed.ensures)

@@ -1,5 +1,5 @@
 use Rattle.std.proofs.Common.{length}
-use Rattle.c_reader.specs.Tokens.{tokens_of}
+use Rattle.c_reader.specs.links.Tokens.{tokens_of}
 use Rattle.c_reader.proofs.Scans.{IsLeft}
 use Rattle.c_reader.proofs.scanner.scan.Given as goal
 

@@ -6,7 +6,7 @@ use Rattle.c_tree.specs.Temporaries.{statement_exprs, statements_exprs, arms_exp
 use Rattle.c_tree.specs.declared.flat.Arm.{Arm}
 use Rattle.c_tree.specs.declared.flat.Statement.{Statement}
 use Rattle.c_tree.proofs.FlatRows.{of_if, of_while, of_do}
-use Rattle.c_temporaries.specs.Firsts.{first_deep}
+use Rattle.c_temporaries.specs.links.Firsts.{first_deep}
 use Rattle.c_temporaries.proofs.Firsts.{joined, one_more}
 use Rattle.c_temporaries.proofs.temporaries.+statements.Goals as goal
 
@@ -55,7 +55,8 @@ of_statements-loop-statement-init t c = refl
 pub of_statements-loop-statement-preserved : goal.of_statements-loop-statement-preserved
 of_statements-loop-statement-preserved t c =
     one_more (λ (x : Statement). statement_exprs (f.statement_of x)) exprs_in refl (λ x rest. refl)
-    c.args.statements.now c.loop-statement.statement-index c.statement-item.result _ _ _ (omega arith) c.statement-item.is c.or-first.ensures c.loop-statement.invariant c.of_statement.ensures
+    c.args.statements.now c.loop-statement.statement-index c.statement-item.result _ _ _ (omega arith) c.statement-item.is c.or-first.ensures
+    c.loop-statement.invariant c.of_statement.ensures
 
 pub of_arms-loop-arm-init : goal.of_arms-loop-arm-init
 unfolding first_deep

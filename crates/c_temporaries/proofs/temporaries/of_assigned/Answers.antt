@@ -2,7 +2,7 @@ use Rattle.std.proofs.Common.{◌∙◌, ap, sym}
 use Rattle.c_tree.specs.Exprs.{placed_of, target_of}
 use Rattle.c_tree.specs.Temporaries.{assign_exprs}
 use Rattle.c_tree.specs.declared.expr.Target.{Target}
-use Rattle.c_temporaries.specs.Firsts.{first_deep}
+use Rattle.c_temporaries.specs.links.Firsts.{first_deep}
 use Rattle.c_temporaries.proofs.Firsts.{joined}
 use Rattle.c_temporaries.proofs.temporaries.of_assigned.Goals as goal
 

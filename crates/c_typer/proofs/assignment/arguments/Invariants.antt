@@ -3,8 +3,8 @@ use Rattle.c_tree.specs.Exprs.{placed_of}
 use Rattle.c_tree.specs.TypeRules.{expression_faults}
 use Rattle.c_tree.specs.Typing.{placed}
 use Rattle.c_tree.specs.Views.{expression_of}
-use Rattle.c_typer.specs.Noted.{first_of, noted}
-use Rattle.c_typer.specs.Scopes.{globals_of, scope_of}
+use Rattle.c_typer.specs.links.Noted.{first_of, noted}
+use Rattle.c_typer.specs.links.Scopes.{globals_of, scope_of}
 use Rattle.c_typer.proofs.assignment.arguments.Given as goal
 
 abbrev pub invariant-loop-argument : goal.invariant-loop-argument

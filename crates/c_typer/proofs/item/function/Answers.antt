@@ -6,8 +6,8 @@ use Rattle.c_tree.specs.Typing as typing
 use Rattle.c_tree.specs.Views as v
 use Rattle.c_tree.specs.declared.tree.Parameter.{Parameter}
 use Rattle.c_tree.specs.declared.tree.Statement.{Statement}
-use Rattle.c_typer.specs.Noted.{first_of, noted}
-use Rattle.c_typer.specs.Scopes.{globals_of, scope_of}
+use Rattle.c_typer.specs.links.Noted.{first_of, noted}
+use Rattle.c_typer.specs.links.Scopes.{globals_of, scope_of}
 use Rattle.c_typer.proofs.Steps.{noted_both}
 use Rattle.c_typer.proofs.item.function.Goals as goal
 
@@ -24,7 +24,8 @@ returns-clause-noted c =
     let g = first_of c.statements.new.faults in
     let h = first_of c.returned.new.faults in
     let scope = c.in_ok-scope.ensures.made ∙ ap (λ (xs : List Parameter). typing.with_parameters n.no_locals (map v.parameter_of xs)) c.deref.ensures.value in
-    let first = c.in_ok-scope.ensures.noted gs ∙ ap (λ (xs : List Parameter). noted faults (rules.parameters_faults gs n.no_locals (map v.parameter_of xs))) c.deref.ensures.value in
+    let first = c.in_ok-scope.ensures.noted gs ∙ ap (λ (xs : List Parameter). noted faults (rules.parameters_faults gs n.no_locals (map v.parameter_of xs)))
+    c.deref.ensures.value in
     let second = c.in_ok-statements.ensures.noted
     ∙ ap (λ (xs : List Statement). noted f (rules.statements_faults gs (scope_of c.in_ok-scope.scope) (v.statements_of xs))) c.deref-2.ensures.value
     ∙ ap (λ (z : n.Scope). noted f (rules.statements_faults gs z body)) scope in

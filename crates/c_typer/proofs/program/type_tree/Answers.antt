@@ -2,8 +2,9 @@ use Rattle.std.proofs.Common.{◌≡◌, None, sym, ap, ◌∙◌}
 use Rattle.std.specs.Option.{option_map}
 use Rattle.c_tree.specs.TypeRules.{type_faults}
 use Rattle.c_tree.specs.Views.{items_of}
-use Rattle.c_typer.specs.Noted.{fault_of, first_of}
-use Rattle.c_typer.specs.Scopes.{globals_of}
+use Rattle.c_tree.specs.Refusals.{fault_of}
+use Rattle.c_typer.specs.links.Noted.{first_of}
+use Rattle.c_typer.specs.links.Scopes.{globals_of}
 use Rattle.c_typer.proofs.Noted.{first_is_first, noted_none}
 use Rattle.c_typer.proofs.Steps.{all_noted, program_is}
 use Rattle.c_typer.proofs.program.type_tree.Goals as goal
@@ -13,7 +14,8 @@ returns-in-None c =
     let xs = items_of c.args.tree.now in
     let gs = globals_of c.in_ok-globals.globals in
     let known = c.in_ok-globals.ensures in
-    let all = all_noted xs gs _ _ _ _ _ _ known c.new-faults.ensures c.note_second_declarations.ensures c.note_threads.ensures c.note_mutexes.ensures c.note_bytes.ensures c.in_ok-program.ensures.noted in
+    let all = all_noted xs gs _ _ _ _ _ _ known c.new-faults.ensures c.note_second_declarations.ensures c.note_threads.ensures c.note_mutexes.ensures
+    c.note_bytes.ensures c.in_ok-program.ensures.noted in
     let none : first_of c.items.new.faults ≡ None = ap (option_map fault_of) c.in-None.is in
     ((noted_none None (type_faults xs) (sym all ∙ none)).1, c.in_ok-program.ensures.made none ∙ program_is xs gs known)
 
@@ -21,5 +23,6 @@ pub returns : goal.returns
 returns c =
     let xs = items_of c.args.tree.now in
     let gs = globals_of c.in_ok-globals.globals in
-    let all = all_noted xs gs _ _ _ _ _ _ c.in_ok-globals.ensures c.new-faults.ensures c.note_second_declarations.ensures c.note_threads.ensures c.note_mutexes.ensures c.note_bytes.ensures c.in_ok-program.ensures.noted in
-    first_is_first (type_faults xs) (fault_of c.in-Some.fault) (sym all ∙ ap (option_map fault_of) c.in-Some.is)
+    let all = all_noted xs gs _ _ _ _ _ _ c.in_ok-globals.ensures c.new-faults.ensures c.note_second_declarations.ensures c.note_threads.ensures
+    c.note_mutexes.ensures c.note_bytes.ensures c.in_ok-program.ensures.noted in
+    first_is_first (type_faults xs) (fault_of c.in-Some.refusal) (sym all ∙ ap (option_map fault_of) c.in-Some.is)

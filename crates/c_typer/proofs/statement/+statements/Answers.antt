@@ -1,4 +1,4 @@
-use Rattle.std.proofs.Common.{◌≡◌, List, true, take, sym, ap, ◌∙◌, arith}
+use Rattle.std.proofs.Common.{◌≡◌, List, true, take, sym, ap, ap₂, ◌∙◌, arith}
 use Rattle.std.proofs.lemmas.List.{at_drop_all}
 use Rattle.std.proofs.lemmas.Result.{IfOk-equal}
 use Rattle.std.specs.Option.{option_map}
@@ -10,11 +10,15 @@ use Rattle.c_tree.specs.Typing as typing
 use Rattle.c_tree.specs.Typing.{one, statements_and}
 use Rattle.c_tree.specs.Views as v
 use Rattle.c_tree.specs.declared.tree.Arm as tree_arm
+use Rattle.c_tree.specs.declared.tree.Call.{Call}
+use Rattle.c_tree.specs.declared.tree.Expression.{Expression}
+use Rattle.c_tree.specs.declared.tree.Head.{Head}
 use Rattle.c_tree.specs.declared.tree.Statement.{Statement}
+use Rattle.c_tree.specs.declared.tree.Target.{Target}
 use Rattle.c_tree.proofs.TreeRows.{of_block, of_if, of_while, of_do, of_for}
-use Rattle.c_typer.specs.Noted.{first_of, noted}
-use Rattle.c_typer.specs.Rows.{loop_as, loop_faults}
-use Rattle.c_typer.specs.Scopes.{globals_of, scope_of}
+use Rattle.c_typer.specs.links.Noted.{first_of, noted}
+use Rattle.c_typer.specs.links.Rows.{loop_as, loop_faults}
+use Rattle.c_typer.specs.links.Scopes.{globals_of, scope_of}
 use Rattle.c_typer.specs.declared.scope.Mark.{Mark}
 use Rattle.c_typer.proofs.Rows.{always, and_nothing, and_no_arm, arms_and, one_more, two_more}
 use Rattle.c_typer.proofs.Stays.{grows_both, grows_none, left_again, stays_both}
@@ -43,7 +47,8 @@ statements-returns-clause-made t c =
     let s = scope_of c.loop-next.scope in
     let made = p.statements_of c.loop-next.made.items in
     sym (and_nothing made)
-    ∙ sym (at_drop_all (λ (xs : List Statement). statements_and made (typing.statements gs s (v.statements_of xs)).made) c.args.read.now c.loop-next.next-index (omega arith))
+    ∙ sym (at_drop_all (λ (xs : List Statement). statements_and made (typing.statements gs s (v.statements_of xs)).made) c.args.read.now c.loop-next.next-index
+    (omega arith))
     ∙ c.loop-next.invariant.made
 
 pub arms_of-loop-arm-preserved : goal.arms_of-loop-arm-preserved
@@ -57,7 +62,8 @@ arms_of-loop-arm-preserved t c =
     let condition = c.in_ok-condition.ensures in
     let inside = c.in_ok-body.ensures in
     let before = c.loop-arm.invariant in record {
-      made = arms_made_step gs c.loop-arm.made.items c.push.new.self.items _ s (scope_of c.body_of.new.scope) x body _ _ _ split c.in_ok-push.ensures.items condition.made inside.made inside.scope before.made;
+      made = arms_made_step gs c.loop-arm.made.items c.push.new.self.items _ s
+          (scope_of c.body_of.new.scope) x body _ _ _ split c.in_ok-push.ensures.items condition.made inside.made inside.scope before.made;
       noted = arms_noted_step gs _ _ _ s (scope_of c.body_of.new.scope) x body _ _ _ split condition.noted inside.noted inside.scope before.noted;
       scope = arms_scope_step gs s (scope_of c.body_of.new.scope) x body _ _ _ split inside.scope before.scope;
       stays = stays_both _ _ _ before.stays inside.stays;
@@ -68,8 +74,9 @@ arms_of-returns-clause-made t c =
     let gs = globals_of c.args.globals.now in
     let s = scope_of c.loop-arm.scope in
     let made = p.arms_list_of c.loop-arm.made.items in
-    sym (and_no_arm made)
-    ∙ sym (at_drop_all (λ (xs : List tree_arm.Arm). arms_and made (typing.arms_of gs s (v.arms_list_of xs)).made) c.args.read.now c.loop-arm.arm-index (omega arith))
+    ap p.arms_list_of c.shrink_to_fit.ensures.items ∙ sym (and_no_arm made)
+    ∙ sym (at_drop_all (λ (xs : List tree_arm.Arm). arms_and made (typing.arms_of gs s (v.arms_list_of xs)).made) c.args.read.now c.loop-arm.arm-index
+    (omega arith))
     ∙ c.loop-arm.invariant.made
 
 -- ---- Statements
@@ -85,7 +92,8 @@ pub statement-returns-in-Block-clause-noted : goal.statement-returns-in-Block-cl
 statement-returns-in-Block-clause-noted t c =
     let view = ap v.statement_of c.in-Block.is ∙ of_block c.in-Block.read in
     IfOk-equal c.block.result _ _ _ c.block.ensures.noted
-    (ap (λ (x : tree.Statement). noted (first_of c.args.faults.now) (rules.statement_faults (globals_of c.args.globals.now) (scope_of c.args.scope.now) x)) (sym view))
+    (ap (λ (x : tree.Statement). noted (first_of c.args.faults.now) (rules.statement_faults (globals_of c.args.globals.now) (scope_of c.args.scope.now) x))
+    (sym view))
 
 pub statement-returns-in-Block-clause-scope : goal.statement-returns-in-Block-clause-scope
 statement-returns-in-Block-clause-scope t c =
@@ -97,27 +105,34 @@ pub statement-returns-in-Empty-clause-made : goal.statement-returns-in-Empty-cla
 statement-returns-in-Empty-clause-made t c =
     let made = p.statements_of c.args.made.now.items in
     sym (and_nothing made)
-    ∙ ap (λ (x : Statement). statements_and made (typing.statement (globals_of c.args.globals.now) (scope_of c.args.scope.now) (v.statement_of x)).made) (sym c.in-Empty.is)
+    ∙ ap (λ (x : Statement). statements_and made (typing.statement (globals_of c.args.globals.now) (scope_of c.args.scope.now) (v.statement_of x)).made)
+    (sym c.in-Empty.is)
 
 pub statement-returns-in_ok-next-in-CallAssignment-clause-noted : goal.statement-returns-in_ok-next-in-CallAssignment-clause-noted
 statement-returns-in_ok-next-in-CallAssignment-clause-noted t c =
     let gs = globals_of c.args.globals.now in
     let s = scope_of c.args.scope.now in
     let w = c.in-CallAssignment in
+    let assigned = v.target_of c.deref-in-CallAssignment-2.result.now in
+    let read = v.call_of c.deref-in-CallAssignment-3.result.now in
+    let view = ap v.statement_of w.is
+    ∙ ap₂ (λ (x : Target) (y : Call). tree.AssignResult (v.target_of x) (v.call_of y)) (sym c.deref-in-CallAssignment-2.ensures)
+    (sym c.deref-in-CallAssignment-3.ensures) in
     always c.add-in-CallAssignment.result
-    (noted_both (first_of c.args.faults.now) (first_of c.target.new.faults) (first_of c.call.new.faults) (rules.target_faults gs s (v.target_of w.assigned)) (rules.call_faults gs s (v.call_of w.read) true)
+    (noted_both (first_of c.args.faults.now) (first_of c.target.new.faults) (first_of c.call.new.faults) (rules.target_faults gs s assigned)
+    (rules.call_faults gs s read true)
     c.in_ok-assigned-in-CallAssignment.ensures.noted c.in_ok-next-in-CallAssignment.ensures.noted
-    ∙ ap (λ (x : Statement). noted (first_of c.args.faults.now) (rules.statement_faults gs s (v.statement_of x))) (sym w.is))
+    ∙ ap (λ (x : tree.Statement). noted (first_of c.args.faults.now) (rules.statement_faults gs s x)) (sym view))
 
 pub statement-returns-in_ok-last-in-If-clause-made : goal.statement-returns-in_ok-last-in-If-clause-made
 statement-returns-in_ok-last-in-If-clause-made t c =
     let gs = globals_of c.args.globals.now in
     let s = scope_of c.args.scope.now in
     let w = c.in-If in
-    let arms = v.arms_list_of c.deref.result.now in
+    let arms = v.arms_list_of c.deref-in-If.result.now in
     let otherwise = v.otherwise_of w.otherwise in
     let view : v.statement_of c.args.read.now ≡ tree.If w.place arms otherwise
-    = ap v.statement_of w.is ∙ of_if w.place w.arms w.otherwise ∙ ap (λ xs. tree.If w.place (v.arms_list_of xs) otherwise) (sym c.deref.ensures.value) in
+    = ap v.statement_of w.is ∙ of_if w.place w.arms w.otherwise ∙ ap (λ xs. tree.If w.place (v.arms_list_of xs) otherwise) (sym c.deref-in-If.ensures.value) in
     let first = c.in_ok-arms-in-If.ensures in
     let last = c.in_ok-last-in-If.ensures.made ∙ ap (λ (z : n.Scope). (typing.otherwise_of gs z otherwise).made) first.scope in
     one_more c.add-in-If.result _ _ _ _ c.add-in-If.ensures
@@ -128,12 +143,13 @@ statement-returns-in_ok-last-in-If-clause-noted t c =
     let gs = globals_of c.args.globals.now in
     let s = scope_of c.args.scope.now in
     let w = c.in-If in
-    let arms = v.arms_list_of c.deref.result.now in
+    let arms = v.arms_list_of c.deref-in-If.result.now in
     let otherwise = v.otherwise_of w.otherwise in
     let view : v.statement_of c.args.read.now ≡ tree.If w.place arms otherwise
-    = ap v.statement_of w.is ∙ of_if w.place w.arms w.otherwise ∙ ap (λ xs. tree.If w.place (v.arms_list_of xs) otherwise) (sym c.deref.ensures.value) in
+    = ap v.statement_of w.is ∙ of_if w.place w.arms w.otherwise ∙ ap (λ xs. tree.If w.place (v.arms_list_of xs) otherwise) (sym c.deref-in-If.ensures.value) in
     let first = c.in_ok-arms-in-If.ensures in
-    let last = c.in_ok-last-in-If.ensures.noted ∙ ap (λ (z : n.Scope). noted (first_of c.arms_of.new.faults) (rules.otherwise_faults gs z otherwise)) first.scope in
+    let last = c.in_ok-last-in-If.ensures.noted ∙ ap (λ (z : n.Scope). noted (first_of c.arms_of.new.faults) (rules.otherwise_faults gs z otherwise))
+    first.scope in
     always c.add-in-If.result
     (noted_both (first_of c.args.faults.now) (first_of c.arms_of.new.faults) (first_of c.last_block.new.faults) (rules.arms_faults gs s arms)
     (rules.otherwise_faults gs (typing.arms_of gs s arms).scope otherwise) first.noted last
@@ -144,10 +160,10 @@ statement-returns-in_ok-last-in-If-clause-scope t c =
     let gs = globals_of c.args.globals.now in
     let s = scope_of c.args.scope.now in
     let w = c.in-If in
-    let arms = v.arms_list_of c.deref.result.now in
+    let arms = v.arms_list_of c.deref-in-If.result.now in
     let otherwise = v.otherwise_of w.otherwise in
     let view : v.statement_of c.args.read.now ≡ tree.If w.place arms otherwise
-    = ap v.statement_of w.is ∙ of_if w.place w.arms w.otherwise ∙ ap (λ xs. tree.If w.place (v.arms_list_of xs) otherwise) (sym c.deref.ensures.value) in
+    = ap v.statement_of w.is ∙ of_if w.place w.arms w.otherwise ∙ ap (λ xs. tree.If w.place (v.arms_list_of xs) otherwise) (sym c.deref-in-If.ensures.value) in
     always c.add-in-If.result
     (c.in_ok-last-in-If.ensures.scope ∙ ap (λ (z : n.Scope). (typing.otherwise_of gs z otherwise).scope) c.in_ok-arms-in-If.ensures.scope
     ∙ ap (λ (x : tree.Statement). (typing.statement gs s x).scope) (sym view))
@@ -155,57 +171,72 @@ statement-returns-in_ok-last-in-If-clause-scope t c =
 pub statement-returns-in_ok-next-in-While-clause-made : goal.statement-returns-in_ok-next-in-While-clause-made
 statement-returns-in_ok-next-in-While-clause-made t c =
     let w = c.in-While in
-    let view = ap v.statement_of w.is ∙ of_while w.place w.condition w.block in
+    let view = ap v.statement_of w.is ∙ of_while w.place w.condition w.block
+    ∙ ap (λ (x : Expression). tree.While w.place (v.expression_of x) (v.block_of w.block)) (sym c.deref-in-While.ensures) in
     one_more c.add-in-While.result _ _ _ _ c.add-in-While.ensures
-    (c.in_ok-next-in-While.ensures.made ∙ ap (λ (x : tree.Statement). (typing.statement (globals_of c.args.globals.now) (scope_of c.args.scope.now) x).made) (sym view))
+    (c.in_ok-next-in-While.ensures.made ∙ ap (λ (x : tree.Statement). (typing.statement (globals_of c.args.globals.now) (scope_of c.args.scope.now) x).made)
+    (sym view))
 
 pub statement-returns-in_ok-next-in-While-clause-noted : goal.statement-returns-in_ok-next-in-While-clause-noted
 statement-returns-in_ok-next-in-While-clause-noted t c =
     let w = c.in-While in
-    let view = ap v.statement_of w.is ∙ of_while w.place w.condition w.block in
+    let view = ap v.statement_of w.is ∙ of_while w.place w.condition w.block
+    ∙ ap (λ (x : Expression). tree.While w.place (v.expression_of x) (v.block_of w.block)) (sym c.deref-in-While.ensures) in
     always c.add-in-While.result
     (c.in_ok-next-in-While.ensures.noted
-    ∙ ap (λ (x : tree.Statement). noted (first_of c.args.faults.now) (rules.statement_faults (globals_of c.args.globals.now) (scope_of c.args.scope.now) x)) (sym view))
+    ∙ ap (λ (x : tree.Statement). noted (first_of c.args.faults.now) (rules.statement_faults (globals_of c.args.globals.now) (scope_of c.args.scope.now) x))
+    (sym view))
 
 pub statement-returns-in_ok-next-in-While-clause-scope : goal.statement-returns-in_ok-next-in-While-clause-scope
 statement-returns-in_ok-next-in-While-clause-scope t c =
     let w = c.in-While in
-    let view = ap v.statement_of w.is ∙ of_while w.place w.condition w.block in
+    let view = ap v.statement_of w.is ∙ of_while w.place w.condition w.block
+    ∙ ap (λ (x : Expression). tree.While w.place (v.expression_of x) (v.block_of w.block)) (sym c.deref-in-While.ensures) in
     always c.add-in-While.result
-    (c.in_ok-next-in-While.ensures.scope ∙ ap (λ (x : tree.Statement). (typing.statement (globals_of c.args.globals.now) (scope_of c.args.scope.now) x).scope) (sym view))
+    (c.in_ok-next-in-While.ensures.scope ∙ ap (λ (x : tree.Statement). (typing.statement (globals_of c.args.globals.now) (scope_of c.args.scope.now) x).scope)
+    (sym view))
 
 pub statement-returns-in_ok-next-in-Do-clause-made : goal.statement-returns-in_ok-next-in-Do-clause-made
 statement-returns-in_ok-next-in-Do-clause-made t c =
     let w = c.in-Do in
-    let view = ap v.statement_of w.is ∙ of_do w.place w.block w.condition in
+    let view = ap v.statement_of w.is ∙ of_do w.place w.block w.condition
+    ∙ ap (λ (x : Expression). tree.Do w.place (v.block_of w.block) (v.expression_of x)) (sym c.deref-in-Do.ensures) in
     one_more c.add-in-Do.result _ _ _ _ c.add-in-Do.ensures
-    (c.in_ok-next-in-Do.ensures.made ∙ ap (λ (x : tree.Statement). (typing.statement (globals_of c.args.globals.now) (scope_of c.args.scope.now) x).made) (sym view))
+    (c.in_ok-next-in-Do.ensures.made ∙ ap (λ (x : tree.Statement). (typing.statement (globals_of c.args.globals.now) (scope_of c.args.scope.now) x).made)
+    (sym view))
 
 pub statement-returns-in_ok-next-in-Do-clause-noted : goal.statement-returns-in_ok-next-in-Do-clause-noted
 statement-returns-in_ok-next-in-Do-clause-noted t c =
     let w = c.in-Do in
-    let view = ap v.statement_of w.is ∙ of_do w.place w.block w.condition in
+    let view = ap v.statement_of w.is ∙ of_do w.place w.block w.condition
+    ∙ ap (λ (x : Expression). tree.Do w.place (v.block_of w.block) (v.expression_of x)) (sym c.deref-in-Do.ensures) in
     always c.add-in-Do.result
     (c.in_ok-next-in-Do.ensures.noted
-    ∙ ap (λ (x : tree.Statement). noted (first_of c.args.faults.now) (rules.statement_faults (globals_of c.args.globals.now) (scope_of c.args.scope.now) x)) (sym view))
+    ∙ ap (λ (x : tree.Statement). noted (first_of c.args.faults.now) (rules.statement_faults (globals_of c.args.globals.now) (scope_of c.args.scope.now) x))
+    (sym view))
 
 pub statement-returns-in_ok-next-in-Do-clause-scope : goal.statement-returns-in_ok-next-in-Do-clause-scope
 statement-returns-in_ok-next-in-Do-clause-scope t c =
     let w = c.in-Do in
-    let view = ap v.statement_of w.is ∙ of_do w.place w.block w.condition in
+    let view = ap v.statement_of w.is ∙ of_do w.place w.block w.condition
+    ∙ ap (λ (x : Expression). tree.Do w.place (v.block_of w.block) (v.expression_of x)) (sym c.deref-in-Do.ensures) in
     always c.add-in-Do.result
-    (c.in_ok-next-in-Do.ensures.scope ∙ ap (λ (x : tree.Statement). (typing.statement (globals_of c.args.globals.now) (scope_of c.args.scope.now) x).scope) (sym view))
+    (c.in_ok-next-in-Do.ensures.scope ∙ ap (λ (x : tree.Statement). (typing.statement (globals_of c.args.globals.now) (scope_of c.args.scope.now) x).scope)
+    (sym view))
 
 pub statement-returns-in_ok-next-in-For-clause-made : goal.statement-returns-in_ok-next-in-For-clause-made
 statement-returns-in_ok-next-in-For-clause-made t c =
     let gs = globals_of c.args.globals.now in
     let s = scope_of c.args.scope.now in
     let w = c.in-For in
-    let start = v.first_of w.start in
-    let condition = option_map v.expression_of w.condition in
-    let end = option_map v.assignment_of w.end in
+    let start = v.first_of c.deref-in-For.result.now.first in
+    let condition = option_map v.expression_of c.deref-in-For-2.result.now.condition in
+    let end = option_map v.assignment_of c.deref-in-For-2.result.now.last in
     let block = v.block_of w.block in
-    let view = ap v.statement_of w.is ∙ of_for w.place w.start w.condition w.end w.block in
+    let view = ap v.statement_of w.is ∙ of_for w.place w.head w.block
+    ∙ ap₂ (λ (x y : Head). tree.For w.place (v.first_of x.first) (option_map v.expression_of y.condition) (option_map v.assignment_of y.last)
+    (v.block_of w.block))
+    (sym c.deref-in-For.ensures) (sym c.deref-in-For-2.ensures) in
     let entered = c.enter-outer.ensures.entered in
     let begins = c.in_ok-start_of_for-in-For.ensures in
     let old = p.statements_of c.args.made.now.items in
@@ -221,11 +252,14 @@ statement-returns-in_ok-next-in-For-clause-noted t c =
     let gs = globals_of c.args.globals.now in
     let s = scope_of c.args.scope.now in
     let w = c.in-For in
-    let start = v.first_of w.start in
-    let condition = option_map v.expression_of w.condition in
-    let end = option_map v.assignment_of w.end in
+    let start = v.first_of c.deref-in-For.result.now.first in
+    let condition = option_map v.expression_of c.deref-in-For-2.result.now.condition in
+    let end = option_map v.assignment_of c.deref-in-For-2.result.now.last in
     let block = v.block_of w.block in
-    let view = ap v.statement_of w.is ∙ of_for w.place w.start w.condition w.end w.block in
+    let view = ap v.statement_of w.is ∙ of_for w.place w.head w.block
+    ∙ ap₂ (λ (x y : Head). tree.For w.place (v.first_of x.first) (option_map v.expression_of y.condition) (option_map v.assignment_of y.last)
+    (v.block_of w.block))
+    (sym c.deref-in-For.ensures) (sym c.deref-in-For-2.ensures) in
     let entered = c.enter-outer.ensures.entered in
     let begins = c.in_ok-start_of_for-in-For.ensures in
     let scope = begins.scope ∙ ap (λ (z : n.Scope). (typing.first_at gs w.place z start).scope) entered in
@@ -243,9 +277,12 @@ statement-returns-in_ok-next-in-For-clause-scope t c =
     let gs = globals_of c.args.globals.now in
     let s = scope_of c.args.scope.now in
     let w = c.in-For in
-    let start = v.first_of w.start in
+    let start = v.first_of c.deref-in-For.result.now.first in
     let block = v.block_of w.block in
-    let view = ap v.statement_of w.is ∙ of_for w.place w.start w.condition w.end w.block in
+    let view = ap v.statement_of w.is ∙ of_for w.place w.head w.block
+    ∙ ap₂ (λ (x y : Head). tree.For w.place (v.first_of x.first) (option_map v.expression_of y.condition) (option_map v.assignment_of y.last)
+    (v.block_of w.block))
+    (sym c.deref-in-For.ensures) (sym c.deref-in-For-2.ensures) in
     let enter = c.enter-outer.ensures in
     let begins = c.in_ok-start_of_for-in-For.ensures in
     let goes = c.in_ok-next-in-For.ensures in

@@ -4,16 +4,18 @@ use Rattle.c_tree.specs.TypeRules as rules
 use Rattle.c_tree.specs.Typing as typing
 use Rattle.c_tree.specs.Typing.{statements_and}
 use Rattle.c_tree.specs.Views as v
-use Rattle.c_typer.specs.Noted.{first_of, noted}
-use Rattle.c_typer.specs.Scopes.{globals_of, scope_of, Grows, Stays}
+use Rattle.c_typer.specs.links.Noted.{first_of, noted}
+use Rattle.c_typer.specs.links.Scopes.{globals_of, scope_of, Grows, Stays}
 use Rattle.c_typer.proofs.Rows.{arms_and}
 use Rattle.c_typer.proofs.statement.+statements.Given as goal
 
 abbrev pub invariant-statements-loop-next : goal.invariant-statements-loop-next
 invariant-statements-loop-next l = record {
   made :
-      statements_and (p.statements_of l.made.items) (typing.statements (globals_of l.globals) (scope_of l.scope) (v.statements_of (drop l.next-index l.read))).made
-      ≡ statements_and (p.statements_of l.initial.made.items) (typing.statements (globals_of l.globals) (scope_of l.initial.scope) (v.statements_of l.read)).made;
+      statements_and (p.statements_of l.made.items) (typing.statements (globals_of l.globals) (scope_of l.scope)
+      (v.statements_of (drop l.next-index l.read))).made
+      ≡ statements_and (p.statements_of l.initial.made.items)
+      (typing.statements (globals_of l.globals) (scope_of l.initial.scope) (v.statements_of l.read)).made;
   noted :
       noted (first_of l.faults) (rules.statements_faults (globals_of l.globals) (scope_of l.scope) (v.statements_of (drop l.next-index l.read)))
       ≡ noted (first_of l.initial.faults) (rules.statements_faults (globals_of l.globals) (scope_of l.initial.scope) (v.statements_of l.read));

@@ -3,7 +3,7 @@ use Rattle.std.specs.Option.{option_map}
 use Rattle.c_tree.specs.Programs as p
 use Rattle.c_tree.specs.Typing.{statements_and}
 use Rattle.c_tree.specs.declared.program.Statement.{Statement}
-use Rattle.c_typer.specs.Rows.{maybe_one}
+use Rattle.c_typer.specs.links.Rows.{maybe_one}
 use Rattle.c_typer.proofs.Rows.{and_nothing}
 use Rattle.c_typer.proofs.statement.add_some.Goals as goal
 

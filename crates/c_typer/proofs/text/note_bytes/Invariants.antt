@@ -1,7 +1,7 @@
 use Rattle.std.proofs.Common.{◌≡◌, ◌≤◌, map, drop}
 use Rattle.c_tree.specs.TypeRules.{too_many_bytes}
 use Rattle.c_tree.specs.Views.{item_of}
-use Rattle.c_typer.specs.Noted.{first_of}
+use Rattle.c_typer.specs.links.Noted.{first_of}
 use Rattle.c_typer.proofs.text.note_bytes.Given as goal
 
 abbrev pub invariant-loop-item : goal.invariant-loop-item

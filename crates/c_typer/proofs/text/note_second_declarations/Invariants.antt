@@ -1,7 +1,7 @@
 use Rattle.std.proofs.Common.{◌≡◌, [], map, take, drop}
 use Rattle.c_tree.specs.TypeRules.{twice_from}
-use Rattle.c_typer.specs.Noted.{first_of, noted}
-use Rattle.c_typer.specs.Scopes.{global_of, names_before}
+use Rattle.c_typer.specs.links.Noted.{first_of, noted}
+use Rattle.c_typer.specs.links.Scopes.{global_of, names_before}
 use Rattle.c_typer.proofs.text.note_second_declarations.Given as goal
 
 abbrev pub invariant-loop-i : goal.invariant-loop-i

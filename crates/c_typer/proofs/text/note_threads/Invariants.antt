@@ -1,12 +1,14 @@
 use Rattle.std.proofs.Common.{◌≡◌, map, drop}
-use Rattle.c_tree.specs.TypeRules.{past, most_threads, thread_names}
+use Rattle.ido_base.specs.declared.limits.TheConstants.{MOST_THREADS}
+use Rattle.c_tree.specs.TypeRules.{past, thread_names}
 use Rattle.c_tree.specs.Views.{item_of}
 use Rattle.c_tree.specs.declared.rule.Rule.TheVariants as rule
-use Rattle.c_typer.specs.Noted.{first_of}
+use Rattle.c_typer.specs.links.Noted.{first_of}
 use Rattle.c_typer.proofs.text.note_threads.Given as goal
 
 abbrev pub invariant-loop-item : goal.invariant-loop-item
 invariant-loop-item l = record {
   same : first_of l.faults ≡ first_of l.initial.faults;
-  left : past rule.Threads l.left (thread_names (map item_of (drop l.item-index l.tree.items.items))) ≡ past rule.Threads most_threads (thread_names (map item_of l.tree.items.items));
+  left : past rule.Threads l.left (thread_names (map item_of (drop l.item-index l.tree.items.items)))
+      ≡ past rule.Threads MOST_THREADS (thread_names (map item_of l.tree.items.items));
 }

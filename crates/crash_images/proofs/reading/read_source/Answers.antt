@@ -9,4 +9,6 @@ returns-clause-found c = source_is_found _ c.args.bytes.now c.source_at.result (
 
 pub returns-clause-only : goal.returns-clause-only
 returns-clause-only c = λ source rest few e.
-    read_as (λ x. x.0.now) (λ x. x.1.now) c.source_at.result source rest (subst (λ f. Tells {Y = List ℕ × List ℕ} (λ x. (x.0.now, x.1.now)) c.source_at.result f) (ap source_at e ∙ source_again source rest few) c.source_at.ensures)
+    read_as (λ x. x.0.now) (λ x. x.1.now) c.source_at.result source rest
+    (subst (λ f. Tells {Y = List ℕ × List ℕ} (λ x. (x.0.now, x.1.now)) c.source_at.result f) (ap source_at e ∙ source_again source rest few)
+    c.source_at.ensures)

@@ -6,11 +6,15 @@ use Rattle.crash_images.proofs.reading.words_at.Goals as goal
 pub returns-in_err-word : goal.returns-in_err-word
 returns-in_err-word c =
     let p = err_from_is_err_and c.from_residual.result c.from_residual.ensures.1 in
-    rw (p.1, p.2) (ends (word_at c.args.total) c.in_err-word.field-0.0 c.loop.words.items c.args.count c.loop.counter c.loop.rest.now (repeated (word_at c.args.total) c.args.count c.args.bytes.now) c.loop-test.true c.in_err-word.ensures c.loop.invariant)
+    rw (p.1, p.2) (ends (word_at c.args.total) c.in_err-word.field-0.0 c.loop.words.items c.args.count c.loop.counter c.loop.rest.now
+    (repeated (word_at c.args.total) c.args.count c.args.bytes.now) c.loop-test.true c.in_err-word.ensures c.loop.invariant)
 
 pub loop-preserved : goal.loop-preserved
 loop-preserved c =
-    rw c.in_ok-push.ensures (goes_on (word_at c.args.total) c.loop.words.items c.args.count c.loop.counter c.loop.rest.now c.in_ok-word.word c.in_ok-word.behind.now (repeated (word_at c.args.total) c.args.count c.args.bytes.now) c.loop-test.true c.in_ok-word.ensures c.loop.invariant)
+    rw c.in_ok-push.ensures (goes_on (word_at c.args.total) c.loop.words.items c.args.count c.loop.counter c.loop.rest.now c.in_ok-word.word
+    c.in_ok-word.behind.now (repeated (word_at c.args.total) c.args.count c.args.bytes.now) c.loop-test.true c.in_ok-word.ensures c.loop.invariant)
 
 pub returns : goal.returns
-returns c = is_done (word_at c.args.total) c.loop.words.items c.args.count c.loop.counter c.loop.rest.now (repeated (word_at c.args.total) c.args.count c.args.bytes.now) c.loop-test.false c.loop.invariant
+returns c =
+    is_done (word_at c.args.total) c.loop.words.items c.args.count c.loop.counter c.loop.rest.now
+    (repeated (word_at c.args.total) c.args.count c.args.bytes.now) c.loop-test.false c.loop.invariant

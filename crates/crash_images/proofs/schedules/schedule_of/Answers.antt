@@ -3,7 +3,7 @@ use Rattle.c_tree.specs.Flats.{flat_of}
 use Rattle.c_tree.specs.Source.{start, runs_from}
 use Rattle.source_machine.specs.Runs.{IsRefused}
 use Rattle.crash_images.specs.Schedules.{IsSchedule}
-use Rattle.crash_images.specs.links.Fronts.{IsFront}
+use Rattle.crash_images.specs.links.Fronts.{IsPrefix}
 use Rattle.crash_images.specs.links.Views.{run_of}
 use Rattle.crash_images.proofs.ScheduleLaws.{source_fault, form_fault, schedule_faultless, one_fault}
 use Rattle.crash_images.proofs.schedules.schedule_of.Goals as goal
@@ -12,37 +12,37 @@ pub returns-in-Err-clause-fault : goal.returns-in-Err-clause-fault
 returns-in-Err-clause-fault c =
     let begin = start (flat_of c.args.flat.now) in
     let ran = c.in-Err.ensures.ran begin (λ thread. 0) c.in_ok-state.ensures in
-    let steps = c.in_ok-front.front.steps.items in
-    source_fault (flat_of c.args.flat.now) (map run_of c.args.runs.now) steps c.in_ok-front.front.fault c.in-Err.refused c.in_ok-front.ensures
+    let steps = c.in_ok-prefix.prefix.steps.items in
+    source_fault (flat_of c.args.flat.now) (map run_of c.args.runs.now) steps c.in_ok-prefix.prefix.fault c.in-Err.refused c.in_ok-prefix.ensures
     (subst (λ (ts : List ℕ). IsRefused c.in-Err.refused begin ts) c.deref.ensures.value ran.refused)
 
 pub returns-in-Some-clause-fault : goal.returns-in-Some-clause-fault
 returns-in-Some-clause-fault c =
     let begin = start (flat_of c.args.flat.now) in
     let runs = map run_of c.args.runs.now in
-    let steps = c.in_ok-front.front.steps.items in
+    let steps = c.in_ok-prefix.prefix.steps.items in
     let ran = c.in_default.ensures.ran begin (λ thread. 0) c.in_ok-state.ensures in
     let made : runs_from begin steps ≡ true = sym (ran.ok ∙ ap (runs_from begin) c.deref.ensures.value) in
-    form_fault (flat_of c.args.flat.now) runs steps c.in-Some.step (subst (IsFront runs steps) c.in-Some.is c.in_ok-front.ensures) made
+    form_fault (flat_of c.args.flat.now) runs steps c.in-Some.step (subst (IsPrefix runs steps) c.in-Some.is c.in_ok-prefix.ensures) made
 
 -- the schedule where the front is whole
-schedule : (c : goal.After-drop-state-in-None-5) → IsSchedule (flat_of c.args.flat.now) (map run_of c.args.runs.now) c.in_ok-front.front.steps.items
+schedule : (c : goal.After-drop-state-in-None-5) → IsSchedule (flat_of c.args.flat.now) (map run_of c.args.runs.now) c.in_ok-prefix.prefix.steps.items
 schedule c =
     let begin = start (flat_of c.args.flat.now) in
     let runs = map run_of c.args.runs.now in
-    let steps = c.in_ok-front.front.steps.items in
+    let steps = c.in_ok-prefix.prefix.steps.items in
     let ran = c.in_default.ensures.ran begin (λ thread. 0) c.in_ok-state.ensures in
     let made : runs_from begin steps ≡ true = sym (ran.ok ∙ ap (runs_from begin) c.deref.ensures.value) in
-    record { formed = subst (IsFront runs steps) c.in-None.is c.in_ok-front.ensures; made = made }
+    record { formed = subst (IsPrefix runs steps) c.in-None.is c.in_ok-prefix.ensures; made = made }
 
 pub returns-in-None-clause-schedule : goal.returns-in-None-clause-schedule
 returns-in-None-clause-schedule c = schedule c
 
 pub returns-in-None-clause-faultless : goal.returns-in-None-clause-faultless
-returns-in-None-clause-faultless c = schedule_faultless (flat_of c.args.flat.now) (map run_of c.args.runs.now) c.in_ok-front.front.steps.items (schedule c)
+returns-in-None-clause-faultless c = schedule_faultless (flat_of c.args.flat.now) (map run_of c.args.runs.now) c.in_ok-prefix.prefix.steps.items (schedule c)
 
-pub returns-in_err-front-clause-one : goal.returns-in_err-front-clause-one
-returns-in_err-front-clause-one c = one_fault (flat_of c.args.flat.now) (map run_of c.args.runs.now)
+pub returns-in_err-prefix-clause-one : goal.returns-in_err-prefix-clause-one
+returns-in_err-prefix-clause-one c = one_fault (flat_of c.args.flat.now) (map run_of c.args.runs.now)
 
 pub returns-in_err-state-clause-one : goal.returns-in_err-state-clause-one
 returns-in_err-state-clause-one c = one_fault (flat_of c.args.flat.now) (map run_of c.args.runs.now)

@@ -6,12 +6,14 @@ use Rattle.crash_images.proofs.writing.write_image.Goals as goal
 
 pub returns-clause-again : goal.returns-clause-again
 returns-clause-again c =
-    written_again c.args.source.now c.args.variables.now c.args.logs.now c.args.schedule.now c.spelled.result c.requires.source c.requires.variables c.requires.schedule
+    written_again c.args.source.now c.args.variables.now c.args.logs.now c.args.schedule.now c.spelled.result c.requires.source c.requires.variables
+    c.requires.schedule
     (λ i. omega (arith, c.type_inv.variables i)) (λ i. omega (arith, c.type_inv.logs i)) (λ i. omega (arith, c.type_inv.schedule i)) c.spelled.ensures
 
 pub returns-clause-short : goal.returns-clause-short
 returns-clause-short c =
-    written_short c.args.source.now c.args.variables.now c.args.logs.now c.args.schedule.now c.spelled.result c.requires.source c.requires.variables c.requires.logs c.requires.schedule c.spelled.ensures
+    written_short c.args.source.now c.args.variables.now c.args.logs.now c.args.schedule.now c.spelled.result c.requires.source c.requires.variables
+    c.requires.logs c.requires.schedule c.spelled.ensures
 
 pub returns-clause-steps : goal.returns-clause-steps
 returns-clause-steps c = each_step c.args.schedule.now

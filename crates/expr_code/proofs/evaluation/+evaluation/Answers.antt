@@ -104,8 +104,8 @@ evaluate_converted-returns-in_ok-code-in-Converted-clause-code t c =
 
 pub evaluate_converted-returns-in_ok-code-in_default-clause-code : goal.evaluate_converted-returns-in_ok-code-in_default-clause-code
 evaluate_converted-returns-in_ok-code-in_default-clause-code t c =
-    kept_value c.kind_of-from.result c.args.kind c.args.rd c.in_ok-code-in_default.code.items (c.keeps_form.ensures.0 c.if-keeps_form.true)
-    (homes_of c.args.frame.now) (expr_of c.args.expr.now) c.args.held (sym c.kind_of-from.ensures) c.in_ok-code-in_default.ensures.code
+    kept_value c.kind-from.result c.args.kind c.args.rd c.in_ok-code-in_default.code.items (c.keeps_form.ensures.0 c.if-keeps_form.true)
+    (homes_of c.args.frame.now) (expr_of c.args.expr.now) c.args.held (sym c.kind-from.ensures) c.in_ok-code-in_default.ensures.code
 
 pub evaluate_converted-returns-in_ok-with_conversion-in_default-clause-short : goal.evaluate_converted-returns-in_ok-with_conversion-in_default-clause-short
 evaluate_converted-returns-in_ok-with_conversion-in_default-clause-short t c =
@@ -131,10 +131,10 @@ evaluate-returns-in_ok-with_immediate-in_default-clause-code t c =
     let code : List Instr = c.in_ok-with_immediate-in_default.field-0.items in
     let x = expr_of w.left.value in
     let y = expr_of w.right.value in
-    let o : BinaryOperation = record { operator = w.operator; left = c.kind_of.result; right = c.kind_of-in_default.result } in
+    let o : BinaryOperation = record { operator = w.operator; left = c.kind.result; right = c.kind-in_default.result } in
     let seen : expr_of c.args.expr.now ≡ e.Binary w.operator x y = ap expr_of w.is in
-    let kx : kind_of x ≡ o.left = sym (c.kind_of.ensures ∙ ap (λ (z : Expr). kind_of (expr_of z)) c.deref-in_default.ensures) in
-    let ky : kind_of y ≡ o.right = sym (c.kind_of-in_default.ensures ∙ ap (λ (z : Expr). kind_of (expr_of z)) c.deref-in_default-2.ensures) in
+    let kx : kind_of x ≡ o.left = sym (c.kind.ensures ∙ ap (λ (z : Expr). kind_of (expr_of z)) c.deref-in_default.ensures) in
+    let ky : kind_of y ≡ o.right = sym (c.kind-in_default.ensures ∙ ap (λ (z : Expr). kind_of (expr_of z)) c.deref-in_default-2.ensures) in
     let form : IsConstantForm o y c.in-Some.form =
     subst (λ (z : Expr). IsConstantForm o (expr_of z) c.in-Some.form) c.deref-in_default-3.ensures c.in-Some.ensures in
     let left = c.in_ok-left-in_default.left in

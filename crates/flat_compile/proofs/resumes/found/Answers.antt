@@ -21,7 +21,8 @@ live_locals-requires-clause-kinds c =
     let p = plan_of c.args.plan.now in
     let t = thread_in p c.args.number c.args.part in
     let is = c.requires.is in
-    ap (λ (ks : List Kind). length ks) (kinds c ∙ is.thread.kinds) ∙ sym (colours_long p is.plan t is.thread) ∙ ap (λ (cs : List ℕ). length cs) (sym (colours c))
+    ap (λ (ks : List Kind). length ks) (kinds c ∙ is.thread.kinds) ∙ sym (colours_long p is.plan t is.thread)
+    ∙ ap (λ (cs : List ℕ). length cs) (sym (colours c))
 
 pub live_locals-requires-clause-apart : goal.live_locals-requires-clause-apart
 live_locals-requires-clause-apart c =

@@ -26,7 +26,8 @@ returns c =
     let passes : Passes nodes 0 before after grows =
     subst (λ (ns : List code.Node). Passes ns 0 before after grows) c.deref-in-loop.ensures.value
     (subst (λ (ss : List (List ℕ)). Passes c.deref-in-loop.result.now 0 ss after grows) c.deref_mut.ensures.value c.add_both_ways.ensures.passes) in
-    let count : length after ≡ c.loop.sets.len = omega (arith, c.add_both_ways.auto.sets, c.deref_mut.ensures.len, ap length c.deref_mut.ensures.value, c.loop.sets.ok.0) in
+    let count : length after ≡ c.loop.sets.len =
+    omega (arith, c.add_both_ways.auto.sets, c.deref_mut.ensures.len, ap length c.deref_mut.ensures.value, c.loop.sets.ok.0) in
     let each : (node local : ℕ) → HasAt after node local ↔ IsLive g local node =
     reached_all g nodes before after (length c.loop.coming) grows refl c.loop-test.false c.loop.invariant passes in
     subst (λ (ss : List (List ℕ)). AreLive g ss) (sym (c.new.ensures ∙ written c.loop.sets.len after before count)) (record { each = each })

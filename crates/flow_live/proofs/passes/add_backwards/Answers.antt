@@ -14,7 +14,8 @@ loop-number-preserved-then-add_coming c =
     let back : c.loop-number.number ≡ n + 1 = omega (arith, c.loop-number-test.true) in
     let at : slice_get nodes n ≡ Some x = slice_get_read nodes (length nodes) n x refl lt c.index-nodes-number.is in (
       pass_grown nodes n x c.args.sets.now c.loop-number.sets c.add_coming.new.sets c.loop-number.grows c.add_coming.result at
-          (subst (λ (k : ℕ). Passes nodes k c.args.sets.now c.loop-number.sets c.loop-number.grows) back c.loop-number.invariant.0) c.add_coming.ensures.adds c.if-add_coming.true,
+          (subst (λ (k : ℕ). Passes nodes k c.args.sets.now c.loop-number.sets c.loop-number.grows) back c.loop-number.invariant.0) c.add_coming.ensures.adds
+          c.if-add_coming.true,
       c.add_coming.ensures.long ∙ c.loop-number.invariant.1,
     )
 
@@ -27,6 +28,7 @@ loop-number-preserved c =
     let back : c.loop-number.number ≡ n + 1 = omega (arith, c.loop-number-test.true) in
     let at : slice_get nodes n ≡ Some x = slice_get_read nodes (length nodes) n x refl lt c.index-nodes-number.is in (
       pass_kept nodes n x c.args.sets.now c.loop-number.sets c.add_coming.new.sets c.loop-number.grows c.add_coming.result at
-          (subst (λ (k : ℕ). Passes nodes k c.args.sets.now c.loop-number.sets c.loop-number.grows) back c.loop-number.invariant.0) c.add_coming.ensures.adds c.if-add_coming.false,
+          (subst (λ (k : ℕ). Passes nodes k c.args.sets.now c.loop-number.sets c.loop-number.grows) back c.loop-number.invariant.0) c.add_coming.ensures.adds
+          c.if-add_coming.false,
       c.add_coming.ensures.long ∙ c.loop-number.invariant.1,
     )

@@ -8,6 +8,8 @@ returns-in-None-get-clause-has c local = (
   λ h. inl h,
   λ d. elim d [
     | inl h ↦ h
-    | inr there ↦ absurd (none_at c.args.sets.now c.in-Some.number local c.in-None-get.ensures.lookup.3 (subst (λ (o : Option ℕ). HasBehind c.args.sets.now o local) c.in-Some.is there))
+    | inr there ↦
+        absurd (none_at c.args.sets.now c.in-Some.number local c.in-None-get.ensures.lookup.3
+        (subst (λ (o : Option ℕ). HasBehind c.args.sets.now o local) c.in-Some.is there))
   ],
 )

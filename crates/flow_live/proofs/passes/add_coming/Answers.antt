@@ -14,4 +14,5 @@ returns-clause-adds c =
     let to = c.add_all.new.self in
     let e : old ≡ get_or sets number [] = get_or_default sets number c.index-sets-number.result [] c.requires.number in
     adds x number sets to c.add_all.result
-    (grown x number sets old c.collect.new.locals to c.add_all.result c.requires.number e c.add_all.ensures.long c.add_all.ensures.has c.collect.ensures.has c.add_all.ensures.new)
+    (grown x number sets old c.collect.new.locals to c.add_all.result c.requires.number e c.add_all.ensures.long c.add_all.ensures.has c.collect.ensures.has
+    c.add_all.ensures.new)

@@ -17,8 +17,14 @@ loop-number-preserved c =
     let at : slice_get nodes n ≡ Some x = slice_get_read nodes (length nodes) n x refl lt c.index-nodes-number.is in
     let long = c.add_coming.ensures.long ∙ c.loop-number.invariant.1 in
     elim c.if-add_coming.branch [
-      | then-add_coming w ↦ rw w.grows-is
-          (again_grown nodes (length nodes) n x before now after c.loop-number.grows c.add_coming.result at c.loop-number.invariant.0 c.add_coming.ensures.adds w.if-add_coming.true, long)
-      | else-add_coming w ↦ rw w.grows-is
-          (again_kept nodes (length nodes) n x before now after c.loop-number.grows c.add_coming.result at c.loop-number.invariant.0 c.add_coming.ensures.adds w.if-add_coming.false, long)
+      | then-add_coming w ↦ rw w.grows-is (
+        again_grown nodes (length nodes) n x before now after c.loop-number.grows c.add_coming.result at c.loop-number.invariant.0 c.add_coming.ensures.adds
+            w.if-add_coming.true,
+        long,
+      )
+      | else-add_coming w ↦ rw w.grows-is (
+        again_kept nodes (length nodes) n x before now after c.loop-number.grows c.add_coming.result at c.loop-number.invariant.0 c.add_coming.ensures.adds
+            w.if-add_coming.false,
+        long,
+      )
     ]

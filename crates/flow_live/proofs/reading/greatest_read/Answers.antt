@@ -11,7 +11,8 @@ loop-node-preserved c =
     let y = c.node-item.result in
     let lt : i < length nodes = omega (arith, c.loop-node-test.true) in
     let here : slice_get nodes i ≡ Some y = slice_get_read nodes (length nodes) i y refl lt c.node-item.is in
-    up_to_more nodes i y c.deref.result.now c.loop-node.most c.greatest-most.result here c.deref.ensures.value c.greatest-most.ensures.from c.greatest-most.ensures.to c.loop-node.invariant
+    up_to_more nodes i y c.deref.result.now c.loop-node.most c.greatest-most.result here c.deref.ensures.value c.greatest-most.ensures.from
+    c.greatest-most.ensures.to c.loop-node.invariant
 
 pub returns : goal.returns
 returns c = record {

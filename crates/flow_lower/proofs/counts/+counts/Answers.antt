@@ -25,13 +25,15 @@ pub count-returns-in-While : goal.count-returns-in-While
 count-returns-in-While t c =
     let w = c.in-While in
     let view = ap statement_of w.is ∙ of_while w.place w.condition w.body in
-    IfOk-weaker c.count_loop.result (λ (n : ℕ). n ≡ suc (counted c.deref-in-While.result.now)) _ (λ n k. k ∙ ap (λ (ys : List Statement). suc (counted ys)) c.deref-in-While.ensures.value ∙ sym (ap count view)) c.count_loop.ensures
+    IfOk-weaker c.count_loop.result (λ (n : ℕ). n ≡ suc (counted c.deref-in-While.result.now)) _
+    (λ n k. k ∙ ap (λ (ys : List Statement). suc (counted ys)) c.deref-in-While.ensures.value ∙ sym (ap count view)) c.count_loop.ensures
 
 pub count-returns-in-Do : goal.count-returns-in-Do
 count-returns-in-Do t c =
     let w = c.in-Do in
     let view = ap statement_of w.is ∙ of_do w.place w.body w.condition in
-    IfOk-weaker c.count_loop-in-Do.result (λ (n : ℕ). n ≡ suc (counted c.deref-in-Do.result.now)) _ (λ n k. k ∙ ap (λ (ys : List Statement). suc (counted ys)) c.deref-in-Do.ensures.value ∙ sym (ap count view)) c.count_loop-in-Do.ensures
+    IfOk-weaker c.count_loop-in-Do.result (λ (n : ℕ). n ≡ suc (counted c.deref-in-Do.result.now)) _
+    (λ n k. k ∙ ap (λ (ys : List Statement). suc (counted ys)) c.deref-in-Do.ensures.value ∙ sym (ap count view)) c.count_loop-in-Do.ensures
 
 pub count-returns-in_ok-otherwise-in-If : goal.count-returns-in_ok-otherwise-in-If
 count-returns-in_ok-otherwise-in-If t c =
@@ -39,4 +41,5 @@ count-returns-in_ok-otherwise-in-If t c =
     let view = ap statement_of w.is ∙ of_if w.place w.arms w.otherwise in
     let chosen = c.in_ok-chosen-in-If.ensures ∙ ap counted_arms c.deref.ensures.value in
     let otherwise = c.in_ok-otherwise-in-If.ensures ∙ ap counted c.deref-in-If.ensures.value in
-    IfOk-weaker c.sum.result (λ (n : ℕ). n ≡ c.in_ok-chosen-in-If.chosen + c.in_ok-otherwise-in-If.otherwise) _ (λ n k. k ∙ ap₂ (λ (a b : ℕ). a + b) chosen otherwise ∙ sym (ap count view)) c.sum.ensures
+    IfOk-weaker c.sum.result (λ (n : ℕ). n ≡ c.in_ok-chosen-in-If.chosen + c.in_ok-otherwise-in-If.otherwise) _
+    (λ n k. k ∙ ap₂ (λ (a b : ℕ). a + b) chosen otherwise ∙ sym (ap count view)) c.sum.ensures

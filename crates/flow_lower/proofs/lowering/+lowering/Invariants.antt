@@ -4,8 +4,10 @@ use Rattle.flow_lower.proofs.Growing.{StatementsLeft, ArmsLeft}
 use Rattle.flow_lower.proofs.lowering.+lowering.Given as goal
 
 abbrev pub invariant-lower_all-loop-statement : goal.invariant-lower_all-loop-statement
-invariant-lower_all-loop-statement l = StatementsLeft l.fn.nodes.items l.nodes.items l.next l.end (statements_of l.statements) (statements_of (drop l.statement-index l.statements))
+invariant-lower_all-loop-statement l =
+    StatementsLeft l.fn.nodes.items l.nodes.items l.next l.end (statements_of l.statements) (statements_of (drop l.statement-index l.statements))
 
 abbrev pub invariant-lower_arms-loop-arm : goal.invariant-lower_arms-loop-arm
 invariant-lower_arms-loop-arm l =
-    ArmsLeft l.fn.nodes.items l.nodes.items (record { place = l.place; last = l.last; next = l.next }) l.end (arms_list_of l.arms) (arms_list_of (drop l.arm-index l.arms))
+    ArmsLeft l.fn.nodes.items l.nodes.items (record { place = l.place; last = l.last; next = l.next }) l.end (arms_list_of l.arms)
+    (arms_list_of (drop l.arm-index l.arms))

@@ -11,8 +11,10 @@ loop-thread-preserved c =
     let x = c.thread-item.result in
     let same : c.deref-thread-items.result.now ≡ xs = c.deref-thread-items.ensures.value in
     let lt : i < length xs = omega (arith, c.loop-thread-test.true, ap length same) in
-    g.next_thread c.loop-thread.nodes.items c.lower_thread.new.nodes.items c.loop-thread.threads.items c.push.new.self.items xs i x c.in_ok-lower_thread.field-0 lt
-    (c.thread-item.is ∙ ap (λ (ys : List Thread). get_or ys i x) same) c.loop-thread.invariant c.in_ok-lower_thread.ensures.nodes c.in_ok-lower_thread.ensures.part c.in_ok-push.ensures.items
+    g.next_thread c.loop-thread.nodes.items c.lower_thread.new.nodes.items c.loop-thread.threads.items c.push.new.self.items xs i x
+    c.in_ok-lower_thread.field-0 lt
+    (c.thread-item.is ∙ ap (λ (ys : List Thread). get_or ys i x) same) c.loop-thread.invariant c.in_ok-lower_thread.ensures.nodes
+    c.in_ok-lower_thread.ensures.part c.in_ok-push.ensures.items
 
 pub returns : goal.returns
 unfolding lowered

@@ -4,4 +4,5 @@ use Rattle.flow_lower.proofs.Growing.{ThreadsLeft}
 use Rattle.flow_lower.proofs.lowering.lower.Given as goal
 
 abbrev pub invariant-loop-thread : goal.invariant-loop-thread
-invariant-loop-thread l = ThreadsLeft l.nodes.items l.threads.items (map thread_of l.flat.threads.items) (map thread_of (drop l.thread-index l.flat.threads.items))
+invariant-loop-thread l =
+    ThreadsLeft l.nodes.items l.threads.items (map thread_of l.flat.threads.items) (map thread_of (drop l.thread-index l.flat.threads.items))

@@ -14,5 +14,6 @@ returns-clause-part c =
     let counted = length-statements_nodes (f.statements_of c.deref-2.result.now) (length old) c.in_ok-last.last in
     let same = ap (λ (ys : List Statement). statements_count (f.statements_of ys)) c.deref-2.ensures.value in
     let one = g.length_pushed mid c.push.new.self.items c.plain.result c.in_ok-push.ensures.items in
-    g.part_is (f.thread_of c.args.thread.now) (length old) c.len-first.result c.len.result c.len-2.result (omega (arith, c.len-first.ensures, c.args.nodes.now.ok.0))
+    g.part_is (f.thread_of c.args.thread.now) (length old) c.len-first.result c.len.result c.len-2.result
+    (omega (arith, c.len-first.ensures, c.args.nodes.now.ok.0))
     (omega (arith, inner, counted, same, one, c.len.ensures, c.push.new.self.ok.0)) (omega (arith, c.len-2.ensures, c.args.thread.now.locals.ok.0))

@@ -8,9 +8,11 @@ use Rattle.ido_cli.proofs.command.command_of.Goals as goal
 pub returns-in-Some : goal.returns-in-Some
 returns-in-Some c =
     let found = c.in-Some.ensures in
-    taken (app_of c.in_ok-table.field-0) (map string_bytes c.args.words.now) c.in-Ok.matches c.in-Some.name.now (rows_of (found_of c.in-Some.own.now)) c.command_by_name.result
+    taken (app_of c.in_ok-table.field-0) (map string_bytes c.args.words.now) c.in-Ok.matches c.in-Some.name.now (rows_of (found_of c.in-Some.own.now))
+    c.command_by_name.result
     c.in_ok-table.ensures c.in-Ok.ensures.matches c.in-Ok.ensures.kinds found.name found.rows c.command_by_name.ensures
 
 pub returns : goal.returns
 returns c =
-    refused (app_of c.in_ok-table.field-0) (map string_bytes c.args.words.now) c.in-Err.error c.in_ok-table.ensures (λ h. c.in_default.not-OutOfMemory (c.kind.ensures ∙ h)) c.in-Err.ensures.kinds
+    refused (app_of c.in_ok-table.field-0) (map string_bytes c.args.words.now) c.in-Err.error c.in_ok-table.ensures
+    (λ h. c.in_default.not-OutOfMemory (c.kind.ensures ∙ h)) c.in-Err.ensures.kinds

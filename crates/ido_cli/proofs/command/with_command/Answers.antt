@@ -7,4 +7,5 @@ use Rattle.ido_cli.proofs.command.with_command.Goals as goal
 pub returns : goal.returns
 returns c =
     IfOk-weaker c.subcommand.result _ _
-    (λ made adds. adds.shape c.new.ensures.local ∙ ap (λ (s : Shape). with_subcommand (app_of c.args.table) s) (ap (λ (a : App). a.top) c.new.ensures.app)) c.subcommand.ensures
+    (λ made adds. adds.shape c.new.ensures.local ∙ ap (λ (s : Shape). with_subcommand (app_of c.args.table) s) (ap (λ (a : App). a.top) c.new.ensures.app))
+    c.subcommand.ensures

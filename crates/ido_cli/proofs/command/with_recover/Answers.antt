@@ -27,4 +27,5 @@ returns c =
     let no_globals : (out-Command command).has_globals ≡ false = c.in_ok-arg.ensures.globals ∙ ap₂ (λ (a b : Bool). a || b) c.new-2.ensures.local local in
     let shape_is : (app_of command).top ≡ recover_shape =
     ap (λ (a : App). a.top) (c.in_ok-arg.ensures.shape local ∙ ap₂ with_rule c.new-2.ensures.app rule_is) in
-    IfOk-weaker c.subcommand.result _ _ (λ new adds. adds.shape no_globals ∙ ap (λ (s : Shape). with_subcommand (app_of c.args.table) s) shape_is) c.subcommand.ensures
+    IfOk-weaker c.subcommand.result _ _ (λ new adds. adds.shape no_globals ∙ ap (λ (s : Shape). with_subcommand (app_of c.args.table) s) shape_is)
+    c.subcommand.ensures

@@ -5,7 +5,7 @@ use Rattle.std.proofs.lemmas.Slice.Zip.{zip_end, zip_turn}
 use Rattle.variable_layout.proofs.Laying.{length-variables}
 use Rattle.run_tracker.specs.Lives.{world_of}
 use Rattle.run_scripts.specs.declared.report.Variable as found
-use Rattle.run_scripts.specs.ReportViews as views
+use Rattle.run_scripts.specs.links.ReportViews as views
 use Rattle.ido_cli.proofs.DurableNumbers.{IsSoFar, named_from, named_start, variable_fits, variables_more, variables_whole}
 use Rattle.ido_cli.proofs.durable.durable.Goals as goal
 

@@ -3,7 +3,9 @@ use Rattle.ido_base.specs.declared.event.Event.TheVariants.{Step}
 use Rattle.rv64_isa.specs.Machine.{World, after_events}
 use Rattle.run_tracker.specs.Lives.{Course, is_stopped, opening_of, with_event}
 use Rattle.ido_cli.proofs.Turns.{AreMade, above, all_made, beside, made_until, none_more, one_more, one_round_more, same_made, same_world, sound_behind}
-use Rattle.ido_cli.proofs.leg.leg.Goals.{then-events-lt-MOST_LEG_EVENTS+then-not-stopped, else-events-lt-MOST_LEG_EVENTS, else-events-lt-MOST_LEG_EVENTS-via-then-events-lt-MOST_LEG_EVENTS+else-not-stopped, else-events-lt-MOST_LEG_EVENTS-via-else-events-lt-MOST_LEG_EVENTS}
+use Rattle.ido_cli.proofs.leg.leg.Goals.{then-events-lt-MOST_LEG_EVENTS+then-not-stopped, else-events-lt-MOST_LEG_EVENTS}
+use Rattle.ido_cli.proofs.leg.leg.Goals.{else-events-lt-MOST_LEG_EVENTS-via-then-events-lt-MOST_LEG_EVENTS+else-not-stopped}
+use Rattle.ido_cli.proofs.leg.leg.Goals.{else-events-lt-MOST_LEG_EVENTS-via-else-events-lt-MOST_LEG_EVENTS}
 use Rattle.ido_cli.proofs.leg.leg.Goals as goal
 
 pub loop-hart-preserved : goal.loop-hart-preserved
@@ -33,7 +35,8 @@ loop-hart-preserved c =
             end = inv.end;
             left = inv.left;
             made = subst (λ (x : Course). AreMade opening harts c.args.turns (made_until n (k + 1)) x.journal) (sym is)
-                (one_more opening harts c.args.turns (made_until n k) (made_until n (k + 1)) life.journal k (beside n k) inv.made sound within few goes left (one_round_more n k));
+                (one_more opening harts c.args.turns (made_until n k) (made_until n (k + 1)) life.journal k (beside n k) inv.made sound within few goes left
+                (one_round_more n k));
           }
       | else-events-lt-MOST_LEG_EVENTS w ↦
           let stop : (3999000 ≤ length life.journal) ⊎ (is_stopped (after_events old.program old.opening life.journal) k ≡ true) =

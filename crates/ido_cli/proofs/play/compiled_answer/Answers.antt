@@ -29,9 +29,22 @@ returns-in-Ok c =
     let many : c.len.result ≡ length x.object.code.items = omega (arith, c.len.ensures, c.args.compiled.now.object.code.ok) in
     IfOk-weaker c.script_answer.result _ _
     (λ said is.
-    script_run_answer c.args.input.now c.args.rest.now (flat_of x.flat) _ c.requires.rest (many ∙ threads) c.requires.compiled.accepted (Says c.args.asked (source_of c.args.input.now)) (map scripts.line_of c.in-Ok.script.lines.items) (translation_in x) said.status said.output.items
-    c.in-Ok.ensures.lines (record { object = x.object; marks = x.marks; cuts = x.cuts; translated = c.requires.compiled.translated; compilation = c.requires.compiled.compilation; is = refl })
-    (subst (λ (text : List ℕ). ScriptAnswer (translation_in x) (Says c.args.asked text (translation_in x)) (map scripts.line_of c.in-Ok.script.lines.items) c.args.input.now (length c.args.input.now - length c.args.rest.now) said.status said.output.items) c.requires.compiled.text_is is)) c.script_answer.ensures
+    script_run_answer c.args.input.now c.args.rest.now (flat_of x.flat) _ c.requires.rest (many ∙ threads) c.requires.compiled.accepted
+    (Says c.args.asked (source_of c.args.input.now)) (map scripts.line_of c.in-Ok.script.lines.items) (translation_in x) said.status said.output.items
+    c.in-Ok.ensures.lines
+    (record {
+      object = x.object;
+      marks = x.marks;
+      cuts = x.cuts;
+      translated = c.requires.compiled.translated;
+      compilation = c.requires.compiled.compilation;
+      is = refl;
+    })
+    (subst (λ (text : List ℕ). ScriptAnswer (translation_in x) (Says c.args.asked text (translation_in x)) (record {
+      lines = map scripts.line_of c.in-Ok.script.lines.items;
+      input = c.args.input.now;
+      begins = length c.args.input.now - length c.args.rest.now;
+    }) said.status said.output.items) c.requires.compiled.text_is is)) c.script_answer.ensures
 
 pub returns-in-Err : goal.returns-in-Err
 returns-in-Err c =
@@ -40,6 +53,7 @@ returns-in-Err c =
     let many : c.len.result ≡ length x.object.code.items = omega (arith, c.len.ensures, c.args.compiled.now.object.code.ok) in
     IfOk-weaker c.script_refused.result _ _
     (λ said both.
-    script_fault_answer c.args.input.now c.args.rest.now (flat_of x.flat) _ c.requires.rest (many ∙ threads) c.requires.compiled.accepted (Says c.args.asked (source_of c.args.input.now)) (scripts.refused_fault c.in-Err.error) said.status said.output.items both.0
+    script_fault_answer c.args.input.now c.args.rest.now (flat_of x.flat) _ c.requires.rest (many ∙ threads) c.requires.compiled.accepted
+    (Says c.args.asked (source_of c.args.input.now)) (scripts.refused_fault c.in-Err.error) said.status said.output.items both.0
     c.in-Err.ensures.refused both.1)
     (both_ok c.script_refused.result _ _ c.script_refused.ensures.fault c.script_refused.ensures.said)

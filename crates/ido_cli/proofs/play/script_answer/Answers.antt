@@ -22,7 +22,8 @@ pub play-requires-clause-lines : goal.play-requires-clause-lines
 play-requires-clause-lines c =
     let object = c.args.compiled.now.object in
     all_doable (length object.code.items) (length c.in_ok-life.life.program) c.args.script.now.lines.items
-    (sym (length-map object.code.items (λ code. map slot_of code.items)) ∙ ap (λ (life : Course). length life.program) (sym c.in_ok-life.ensures)) c.requires.doable
+    (sym (length-map object.code.items (λ code. map slot_of code.items)) ∙ ap (λ (life : Course). length life.program) (sym c.in_ok-life.ensures))
+    c.requires.doable
 
 pub play-requires-clause-room : goal.play-requires-clause-room
 play-requires-clause-room c =
@@ -44,7 +45,8 @@ pub say-requires-clause-harts : goal.say-requires-clause-harts
 say-requires-clause-harts c =
     let x = c.args.compiled.now in
     let lines = map scripts.line_of c.args.script.now.lines.items in
-    let played = has_played (flat_of x.flat) x.object x.marks x.cuts lines 4000000 4000000 c.in_ok-life.life c.in_ok-life.ensures c.play.new.core c.play.ensures.opening c.play.ensures.events c.in-Ok.ensures.whole in
+    let played = has_played (flat_of x.flat) x.object x.marks x.cuts lines 4000000 4000000 c.in_ok-life.life c.in_ok-life.ensures c.play.new.core
+    c.play.ensures.opening c.play.ensures.events c.in-Ok.ensures.whole in
     harts_of_life (flat_of x.flat) x.object x.marks x.cuts c.play.new.core _ played
 
 pub image-requires-clause-variables : goal.image-requires-clause-variables
@@ -52,7 +54,8 @@ image-requires-clause-variables c =
     let x = c.args.compiled.now in
     let flat = flat_of x.flat in
     let lines = map scripts.line_of c.args.script.now.lines.items in
-    let played = has_played flat x.object x.marks x.cuts lines 4000000 4000000 c.in_ok-life.life c.in_ok-life.ensures c.play.new.core c.play.ensures.opening c.play.ensures.events c.in-Ok.ensures.whole in
+    let played = has_played flat x.object x.marks x.cuts lines 4000000 4000000 c.in_ok-life.life c.in_ok-life.ensures c.play.new.core c.play.ensures.opening
+    c.play.ensures.events c.in-Ok.ensures.whole in
     variables_few flat x.object x.marks x.cuts c.play.new.core _ played c.requires.translated c.requires.compilation
 
 pub image-requires-clause-object : goal.image-requires-clause-object
@@ -60,7 +63,8 @@ image-requires-clause-object c =
     let x = c.args.compiled.now in
     let flat = flat_of x.flat in
     let lines = map scripts.line_of c.args.script.now.lines.items in
-    let played = has_played flat x.object x.marks x.cuts lines 4000000 4000000 c.in_ok-life.life c.in_ok-life.ensures c.play.new.core c.play.ensures.opening c.play.ensures.events c.in-Ok.ensures.whole in
+    let played = has_played flat x.object x.marks x.cuts lines 4000000 4000000 c.in_ok-life.life c.in_ok-life.ensures c.play.new.core c.play.ensures.opening
+    c.play.ensures.events c.in-Ok.ensures.whole in
     same_variables flat x.object x.marks x.cuts c.play.new.core _ played
 
 pub image-requires-clause-within : goal.image-requires-clause-within
@@ -68,7 +72,8 @@ image-requires-clause-within c =
     let x = c.args.compiled.now in
     let flat = flat_of x.flat in
     let lines = map scripts.line_of c.args.script.now.lines.items in
-    let played = has_played flat x.object x.marks x.cuts lines 4000000 4000000 c.in_ok-life.life c.in_ok-life.ensures c.play.new.core c.play.ensures.opening c.play.ensures.events c.in-Ok.ensures.whole in
+    let played = has_played flat x.object x.marks x.cuts lines 4000000 4000000 c.in_ok-life.life c.in_ok-life.ensures c.play.new.core c.play.ensures.opening
+    c.play.ensures.events c.in-Ok.ensures.whole in
     variables_within flat x.object x.marks x.cuts c.play.new.core _ played c.requires.translated c.requires.compilation
 
 pub image-requires-clause-logs : goal.image-requires-clause-logs
@@ -76,7 +81,8 @@ image-requires-clause-logs c =
     let x = c.args.compiled.now in
     let flat = flat_of x.flat in
     let lines = map scripts.line_of c.args.script.now.lines.items in
-    let played = has_played flat x.object x.marks x.cuts lines 4000000 4000000 c.in_ok-life.life c.in_ok-life.ensures c.play.new.core c.play.ensures.opening c.play.ensures.events c.in-Ok.ensures.whole in
+    let played = has_played flat x.object x.marks x.cuts lines 4000000 4000000 c.in_ok-life.life c.in_ok-life.ensures c.play.new.core c.play.ensures.opening
+    c.play.ensures.events c.in-Ok.ensures.whole in
     logs_few flat x.object x.marks x.cuts c.play.new.core _ played c.requires.translated c.requires.compilation
 
 pub image-requires-clause-schedule : goal.image-requires-clause-schedule
@@ -84,7 +90,8 @@ image-requires-clause-schedule c =
     let x = c.args.compiled.now in
     let flat = flat_of x.flat in
     let lines = map scripts.line_of c.args.script.now.lines.items in
-    let played = has_played flat x.object x.marks x.cuts lines 4000000 4000000 c.in_ok-life.life c.in_ok-life.ensures c.play.new.core c.play.ensures.opening c.play.ensures.events c.in-Ok.ensures.whole in
+    let played = has_played flat x.object x.marks x.cuts lines 4000000 4000000 c.in_ok-life.life c.in_ok-life.ensures c.play.new.core c.play.ensures.opening
+    c.play.ensures.events c.in-Ok.ensures.whole in
     let fit = fits flat x.object x.marks x.cuts lines 4000000 4000000 c.in_ok-life.life c.in_ok-life.ensures c.in-Ok.ensures.whole in
     omega (arith, fit, steps_few flat x.object x.marks x.cuts c.play.new.core _ played)
 
@@ -94,11 +101,13 @@ returns-in-Report c =
     let flat = flat_of x.flat in
     let lines = map scripts.line_of c.args.script.now.lines.items in
     let life = c.play.new.core in
-    let played = has_played flat x.object x.marks x.cuts lines 4000000 4000000 c.in_ok-life.life c.in_ok-life.ensures life c.play.ensures.opening c.play.ensures.events c.in-Ok.ensures.whole in
+    let played = has_played flat x.object x.marks x.cuts lines 4000000 4000000 c.in_ok-life.life c.in_ok-life.ensures life c.play.ensures.opening
+    c.play.ensures.events c.in-Ok.ensures.whole in
     let fit = fits flat x.object x.marks x.cuts lines 4000000 4000000 c.in_ok-life.life c.in_ok-life.ensures c.in-Ok.ensures.whole in
     IfOk-weaker c.say.result _ _
     (λ said is.
-    ran fit (subst (λ (asked : Asked). Says asked x.text.items (translation_in x) (events_by (translation_in x) lines) said.status said.output.items) (sym c.in-Report.is)
+    ran fit (subst (λ (asked : Asked). Says asked x.text.items (translation_in x) (events_by (translation_in x) lines) said.status said.output.items)
+    (sym c.in-Report.is)
     (run_by flat x.object x.marks x.cuts life _ played c.requires.compilation said.status said.output.items is))) c.say.ensures
 
 pub returns-in-Ok : goal.returns-in-Ok
@@ -107,11 +116,13 @@ returns-in-Ok c =
     let flat = flat_of x.flat in
     let lines = map scripts.line_of c.args.script.now.lines.items in
     let life = c.play.new.core in
-    let played = has_played flat x.object x.marks x.cuts lines 4000000 4000000 c.in_ok-life.life c.in_ok-life.ensures life c.play.ensures.opening c.play.ensures.events c.in-Ok.ensures.whole in
+    let played = has_played flat x.object x.marks x.cuts lines 4000000 4000000 c.in_ok-life.life c.in_ok-life.ensures life c.play.ensures.opening
+    c.play.ensures.events c.in-Ok.ensures.whole in
     let fit = fits flat x.object x.marks x.cuts lines 4000000 4000000 c.in_ok-life.life c.in_ok-life.ensures c.in-Ok.ensures.whole in
     IfOk-weaker c.image.result _ _
     (λ said both.
-    ran fit (subst (λ (asked : Asked). Says asked x.text.items (translation_in x) (events_by (translation_in x) lines) said.status said.output.items) (sym c.in-Image.is)
+    ran fit (subst (λ (asked : Asked). Says asked x.text.items (translation_in x) (events_by (translation_in x) lines) said.status said.output.items)
+    (sym c.in-Image.is)
     (subst (λ (text : List ℕ). IsImageBehind text (translation_in x) (events_by (translation_in x) lines) said.status said.output.items) c.deref.ensures.value
     (image_behind flat x.object x.marks x.cuts life _ played c.deref.result.now said.status said.output.items both.0 both.1))))
     (both_ok c.image.result _ _ c.image.ensures.status c.image.ensures.output)
@@ -123,9 +134,11 @@ returns c =
     let lines = map scripts.line_of c.args.script.now.lines.items in
     let input = c.args.input.now in
     let begins = c.args.begins in
-    let some = passed_at flat x.object x.marks x.cuts lines 4000000 4000000 c.in_ok-life.life c.in_ok-life.ensures c.in-Err.many.line.0 c.in-Err.ensures.excess in
+    let some = passed_at flat x.object x.marks x.cuts lines 4000000 4000000 c.in_ok-life.life c.in_ok-life.ensures c.in-Err.many.line.0
+    c.in-Err.ensures.excess in
     IfOk-weaker c.refused_at.result _ _
     (λ said both.
-    refused flat x.object x.marks x.cuts lines (Says c.args.asked x.text.items (translation_in x)) input begins c.in-Err.many.line.0 said.status said.output.items some
+    refused flat x.object x.marks x.cuts lines (Says c.args.asked x.text.items (translation_in x)) input begins c.in-Err.many.line.0 said.status
+    said.output.items some
     (both.0, both.1 ∙ ap (λ (place : ℕ). line_at (codes "E1") input (begins + place)) c.from.ensures))
     (both_ok c.refused_at.result _ _ c.refused_at.ensures.status c.refused_at.ensures.output)

@@ -52,7 +52,8 @@ say-requires-clause-harts c =
     let x = c.args.image.now.compiled in
     let begun : c.in_ok-life.life ≡ life_from x.object x.marks c.args.image.now.words.items c.args.image.now.schedule.items 3999000 =
     c.in_ok-life.ensures ∙ ap₂ (λ (ws ks : List ℕ). life_from x.object x.marks ws ks 3999000) c.deref.ensures.value c.deref-2.ensures.value in
-    harts_after (flat_of x.flat) x.object x.marks x.cuts c.requires.translated (file_in c.args.image.now) 3999000 c.in_ok-life.life begun c.leg.new.life c.leg.ensures.opening c.requires.words
+    harts_after (flat_of x.flat) x.object x.marks x.cuts c.requires.translated (file_in c.args.image.now) 3999000 c.in_ok-life.life begun c.leg.new.life
+    c.leg.ensures.opening c.requires.words
 
 pub returns : goal.returns
 returns c =
@@ -61,6 +62,7 @@ returns c =
     c.in_ok-life.ensures ∙ ap₂ (λ (ws ks : List ℕ). life_from x.object x.marks ws ks 3999000) c.deref.ensures.value c.deref-2.ensures.value in
     IfOk-weaker c.say.result _ _
     (λ said told.
-    recovery (flat_of x.flat) x.object x.marks x.cuts c.requires.translated (file_in c.args.image.now) 3999000 c.in_ok-life.life begun c.leg.new.life c.leg.ensures.opening
+    recovery (flat_of x.flat) x.object x.marks x.cuts c.requires.translated (file_in c.args.image.now) 3999000 c.in_ok-life.life begun c.leg.new.life
+    c.leg.ensures.opening
     c.files_begin.ensures c.images_are_crashes.ensures c.requires.compilation c.args.turns said.status said.output.items c.leg.ensures.leg told)
     c.say.ensures

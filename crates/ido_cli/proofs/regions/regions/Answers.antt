@@ -18,9 +18,11 @@ put_nodes-requires-clause-nodes c =
     let first : iter_rest (zip_first c.into_iter-thread-iterator.result) ≡ threads = search rules in
     let second : iter_rest (zip_second c.into_iter-thread-iterator.result) ≡ ps = search rules in
     let is : c.next.result ≡ Some (c.in-Some.thread, c.in-Some.part) = c.in-Some.is in
-    let turn = zip_turn threads ps c.loop-thread.yielded c.into_iter-thread-iterator.result c.loop-thread.thread-iterator c.next.new.self c.next.result first second c.loop-thread.yielded_by
+    let turn = zip_turn threads ps c.loop-thread.yielded c.into_iter-thread-iterator.result c.loop-thread.thread-iterator c.next.new.self c.next.result first
+    second c.loop-thread.yielded_by
     (c.in-Some.thread, c.in-Some.part) is c.next.ensures.steps in
-    part_inside (flat_of c.args.flat.now) c.in_ok-graph.graph (length c.loop-thread.yielded) c.in-Some.part.now c.in_ok-graph.ensures turn.1 (turn.3 c.in-Some.part.now)
+    part_inside (flat_of c.args.flat.now) c.in_ok-graph.graph (length c.loop-thread.yielded) c.in-Some.part.now c.in_ok-graph.ensures turn.1
+    (turn.3 c.in-Some.part.now)
 
 pub loop-thread-preserved : goal.loop-thread-preserved
 loop-thread-preserved c =
@@ -29,20 +31,28 @@ loop-thread-preserved c =
     let first : iter_rest (zip_first c.into_iter-thread-iterator.result) ≡ threads = search rules in
     let second : iter_rest (zip_second c.into_iter-thread-iterator.result) ≡ ps = search rules in
     let is : c.next.result ≡ Some (c.in-Some.thread, c.in-Some.part) = c.in-Some.is in
-    let turn = zip_turn threads ps c.loop-thread.yielded c.into_iter-thread-iterator.result c.loop-thread.thread-iterator c.next.new.self c.next.result first second c.loop-thread.yielded_by
+    let turn = zip_turn threads ps c.loop-thread.yielded c.into_iter-thread-iterator.result c.loop-thread.thread-iterator c.next.new.self c.next.result first
+    second c.loop-thread.yielded_by
     (c.in-Some.thread, c.in-Some.part) is c.next.ensures.steps in
     let g = lowered (flat_of c.args.flat.now) in
     let own : ps ≡ g.threads = ap (λ (y : Graph). y.threads) c.in_ok-graph.ensures in
     let k = length c.loop-thread.yielded in
-    let more : length (c.loop-thread.yielded ++ (c.in-Some.thread, c.in-Some.part) ∷ []) ≡ k + 1 = length-append c.loop-thread.yielded ((c.in-Some.thread, c.in-Some.part) ∷ []) in
+    let more : length (c.loop-thread.yielded ++ (c.in-Some.thread, c.in-Some.part) ∷ []) ≡ k + 1 =
+    length-append c.loop-thread.yielded ((c.in-Some.thread, c.in-Some.part) ∷ []) in
     let b = boundaries_of c.args.cuts.now in
     let text = c.args.text.now in
-    subst (λ (qs : List Part). c.put_nodes.new.out.items ++ regions_of text g b (map thread_of (drop (length (c.loop-thread.yielded ++ (c.in-Some.thread, c.in-Some.part) ∷ [])) threads)) (drop (length (c.loop-thread.yielded ++ (c.in-Some.thread, c.in-Some.part) ∷ [])) qs)
+    subst (λ (qs : List Part). c.put_nodes.new.out.items
+    ++ regions_of text g b (map thread_of (drop (length (c.loop-thread.yielded ++ (c.in-Some.thread, c.in-Some.part) ∷ [])) threads))
+    (drop (length (c.loop-thread.yielded ++ (c.in-Some.thread, c.in-Some.part) ∷ [])) qs)
     ≡ regions_of text g b (map thread_of threads) qs) own
-    (subst (λ (n : ℕ). c.put_nodes.new.out.items ++ regions_of text g b (map thread_of (drop n threads)) (drop n ps) ≡ regions_of text g b (map thread_of threads) ps) (sym more)
-    (thread_added text g b threads ps k c.in-Some.thread.now c.in-Some.part.now c.loop-thread.out.items c.put_thread.new.out.items c.put_nodes.new.out.items _ turn.0 turn.1 (turn.2 c.in-Some.thread.now) (turn.3 c.in-Some.part.now)
-    c.in_ok-put_thread.ensures (c.in_ok-put_nodes.ensures ∙ ap (λ (y : Graph). c.put_thread.new.out.items ++ node_lines text y b c.in-Some.part.now) c.in_ok-graph.ensures)
-    (subst (λ (qs : List Part). c.loop-thread.out.items ++ regions_of text g b (map thread_of (drop k threads)) (drop k qs) ≡ regions_of text g b (map thread_of threads) qs) (sym own) c.loop-thread.invariant)))
+    (subst (λ (n : ℕ). c.put_nodes.new.out.items ++ regions_of text g b (map thread_of (drop n threads)) (drop n ps)
+    ≡ regions_of text g b (map thread_of threads) ps) (sym more)
+    (thread_added text g b threads ps k c.in-Some.thread.now c.in-Some.part.now c.loop-thread.out.items c.put_thread.new.out.items c.put_nodes.new.out.items _
+    turn.0 turn.1 (turn.2 c.in-Some.thread.now) (turn.3 c.in-Some.part.now)
+    c.in_ok-put_thread.ensures (c.in_ok-put_nodes.ensures
+    ∙ ap (λ (y : Graph). c.put_thread.new.out.items ++ node_lines text y b c.in-Some.part.now) c.in_ok-graph.ensures)
+    (subst (λ (qs : List Part). c.loop-thread.out.items ++ regions_of text g b (map thread_of (drop k threads)) (drop k qs)
+    ≡ regions_of text g b (map thread_of threads) qs) (sym own) c.loop-thread.invariant)))
 
 pub returns : goal.returns
 unfolding regions
@@ -51,7 +61,9 @@ returns c =
     let ps = c.in_ok-graph.graph.threads.items in
     let first : iter_rest (zip_first c.into_iter-thread-iterator.result) ≡ threads = search rules in
     let second : iter_rest (zip_second c.into_iter-thread-iterator.result) ≡ ps = search rules in
-    let end = zip_end threads ps c.loop-thread.yielded c.into_iter-thread-iterator.result c.loop-thread.thread-iterator c.next.new.self c.next.result first second c.loop-thread.yielded_by c.in-None.is c.next.ensures.steps in
+    let end = zip_end threads ps c.loop-thread.yielded c.into_iter-thread-iterator.result c.loop-thread.thread-iterator c.next.new.self c.next.result first
+    second c.loop-thread.yielded_by c.in-None.is c.next.ensures.steps in
     let g = lowered (flat_of c.args.flat.now) in
     let own : ps ≡ g.threads = ap (λ (y : Graph). y.threads) c.in_ok-graph.ensures in
-    left_whole c.args.text.now g (boundaries_of c.args.cuts.now) threads g.threads (length c.loop-thread.yielded) c.loop-thread.out.items _ (subst (λ (qs : List Part). length c.loop-thread.yielded ≡ min (length threads) (length qs)) own end) c.loop-thread.invariant
+    left_whole c.args.text.now g (boundaries_of c.args.cuts.now) threads g.threads (length c.loop-thread.yielded) c.loop-thread.out.items _
+    (subst (λ (qs : List Part). length c.loop-thread.yielded ≡ min (length threads) (length qs)) own end) c.loop-thread.invariant

@@ -7,5 +7,6 @@ use Rattle.ido_cli.proofs.regions.regions.Given as goal
 
 abbrev pub invariant-loop-thread : goal.invariant-loop-thread
 invariant-loop-thread l =
-    l.out.items ++ regions_of l.text (lowered (flat_of l.flat)) (boundaries_of l.cuts) (map thread_of (drop (length l.yielded) l.flat.threads.items)) (drop (length l.yielded) (lowered (flat_of l.flat)).threads)
+    l.out.items ++ regions_of l.text (lowered (flat_of l.flat)) (boundaries_of l.cuts) (map thread_of (drop (length l.yielded) l.flat.threads.items))
+    (drop (length l.yielded) (lowered (flat_of l.flat)).threads)
     ≡ regions_of l.text (lowered (flat_of l.flat)) (boundaries_of l.cuts) (map thread_of l.flat.threads.items) (lowered (flat_of l.flat)).threads

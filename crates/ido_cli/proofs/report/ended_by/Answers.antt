@@ -9,7 +9,14 @@ use Rattle.ido_cli.proofs.report.ended_by.Goals as goal
 
 pub ended-requires : goal.ended-requires
 ended-requires c =
-    omega (arith, c.requires.few, c.run-whole.ensures.threads, c.in_ok-state.ensures.count, length-map (flat_of c.args.flat.now).threads m.thread_start, length-map c.args.flat.now.threads.items thread_of)
+    omega (
+      arith,
+      c.requires.few,
+      c.run-whole.ensures.threads,
+      c.in_ok-state.ensures.count,
+      length-map (flat_of c.args.flat.now).threads m.thread_start,
+      length-map c.args.flat.now.threads.items thread_of,
+    )
 
 pub returns : goal.returns
 returns c =
@@ -18,5 +25,6 @@ returns c =
     let was = c.run-whole.ensures.ran start (λ thread. 0) c.in_ok-state.ensures in
     IfOk-weaker c.ended.result _ _
     (λ sections is.
-    is (m.after_from start schedule) (λ thread. 0 + m.ended_from start schedule thread) was.stands ∙ ended_is c.sizes_stay.ensures (flat_of c.args.flat.now) schedule (omega arith)
+    is (m.after_from start schedule) (λ thread. 0 + m.ended_from start schedule thread) was.stands
+    ∙ ended_is c.sizes_stay.ensures (flat_of c.args.flat.now) schedule (omega arith)
     ∙ ap (λ (n : ℕ). map (m.ended_from start schedule) (numbers_from 0 n)) (length-map c.args.flat.now.threads.items thread_of)) c.ended.ensures

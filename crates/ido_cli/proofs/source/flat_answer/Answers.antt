@@ -2,7 +2,7 @@ use Rattle.std.proofs.Common.{arith, ap, length, sym, ◌∙◌}
 use Rattle.std.proofs.lemmas.Result.{IfOk-weaker}
 use Rattle.c_tree.specs.Flats.{flat_of}
 use Rattle.run_scripts.specs.Schedules.{read}
-use Rattle.run_scripts.specs.WordLengths.{fault_of}
+use Rattle.run_scripts.specs.links.WordLengths.{fault_of}
 use Rattle.ido_cli.specs.Answers.{of_schedule}
 use Rattle.ido_cli.proofs.Rests.{rest_short}
 use Rattle.ido_cli.proofs.Stops.{both_ok, fault_answer}
@@ -17,10 +17,12 @@ overflow_sub-input c = omega (arith, ap length c.requires.rest, rest_short c.arg
 pub returns-in-Ok : goal.returns-in-Ok
 returns-in-Ok c =
     IfOk-weaker c.run_answer.result _ _
-    (λ said is accepted. of_schedule (flat_of c.args.flat.now) accepted c.in-Ok.schedule.items (sym (ap read c.requires.rest) ∙ c.in-Ok.ensures.steps) is) c.run_answer.ensures
+    (λ said is accepted. of_schedule (flat_of c.args.flat.now) accepted c.in-Ok.schedule.items (sym (ap read c.requires.rest) ∙ c.in-Ok.ensures.steps) is)
+    c.run_answer.ensures
 
 pub returns-in-Err : goal.returns-in-Err
 returns-in-Err c =
     IfOk-weaker c.schedule_refused.result _ _
-    (λ said both accepted. fault_answer c.args.input.now c.args.rest.now (flat_of c.args.flat.now) (fault_of c.in-Err.error) said.status said.output.items c.requires.rest both.0 c.in-Err.ensures.refused both.1 accepted)
+    (λ said both accepted. fault_answer c.args.input.now c.args.rest.now (flat_of c.args.flat.now) (fault_of c.in-Err.error) said.status said.output.items
+    c.requires.rest both.0 c.in-Err.ensures.refused both.1 accepted)
     (both_ok c.schedule_refused.result _ _ c.schedule_refused.ensures.fault c.schedule_refused.ensures.said)

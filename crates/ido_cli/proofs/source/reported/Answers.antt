@@ -2,23 +2,38 @@ use Rattle.std.proofs.Common.{◌+◌, ℕ, rules, map, arith}
 use Rattle.std.proofs.lemmas.List.{length-map}
 use Rattle.c_tree.specs.Flats.{flat_of, thread_of}
 use Rattle.c_tree.specs.Source as m
-use Rattle.run_scripts.specs.ReportViews as views
+use Rattle.run_scripts.specs.links.ReportViews as views
 use Rattle.ido_cli.proofs.Gathered.{reported_is}
 use Rattle.ido_cli.proofs.source.reported.Goals as goal
 
 pub unsettled-requires : goal.unsettled-requires
 unsettled-requires c =
-    omega (arith, c.requires.few, c.requires.stands.count, (c.sizes_stay.ensures (m.start (flat_of c.args.flat.now)) c.args.schedule.items).0, length-map (flat_of c.args.flat.now).threads m.thread_start, length-map c.args.flat.now.threads.items thread_of)
+    omega (
+      arith,
+      c.requires.few,
+      c.requires.stands.count,
+      (c.sizes_stay.ensures (m.start (flat_of c.args.flat.now)) c.args.schedule.items).0,
+      length-map (flat_of c.args.flat.now).threads m.thread_start,
+      length-map c.args.flat.now.threads.items thread_of,
+    )
 
 pub ended-requires : goal.ended-requires
 ended-requires c =
-    omega (arith, c.requires.few, c.requires.stands.count, (c.sizes_stay.ensures (m.start (flat_of c.args.flat.now)) c.args.schedule.items).0, length-map (flat_of c.args.flat.now).threads m.thread_start, length-map c.args.flat.now.threads.items thread_of)
+    omega (
+      arith,
+      c.requires.few,
+      c.requires.stands.count,
+      (c.sizes_stay.ensures (m.start (flat_of c.args.flat.now)) c.args.schedule.items).0,
+      length-map (flat_of c.args.flat.now).threads m.thread_start,
+      length-map c.args.flat.now.threads.items thread_of,
+    )
 
 pub returns : goal.returns
 returns c =
     let s = m.after_from (m.start (flat_of c.args.flat.now)) c.args.schedule.items in
     let ended : ℕ → ℕ = λ thread. 0 + m.ended_from (m.start (flat_of c.args.flat.now)) c.args.schedule.items thread in
-    reported_is c.sizes_stay.ensures (flat_of c.args.flat.now) c.args.schedule.items c.in_ok-unsettled.unsettled.items c.in_ok-ended.ended.items (map views.variable_of c.in_ok-variables.variables.items)
+    reported_is c.sizes_stay.ensures (flat_of c.args.flat.now) c.args.schedule.items c.in_ok-unsettled.unsettled.items c.in_ok-ended.ended.items
+    (map views.variable_of c.in_ok-variables.variables.items)
     (c.in_ok-unsettled.ensures s ended c.requires.stands)
     (search (rules, c.in_ok-variables.ensures, c.variables.ensures s ended c.requires.stands))
     (c.in_ok-ended.ensures s ended c.requires.stands)

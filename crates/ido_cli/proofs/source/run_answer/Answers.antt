@@ -2,7 +2,8 @@ use Rattle.std.proofs.Common.{◌+◌, List, ℕ, sym, ap, ◌∙◌, subst}
 use Rattle.std.proofs.lemmas.Result.{IfOk-weaker}
 use Rattle.c_tree.specs.Flats.{flat_of}
 use Rattle.c_tree.specs.Source as m
-use Rattle.source_machine.specs.Runs.{IsRefused, Stands}
+use Rattle.source_machine.specs.Runs.{IsRefused}
+use Rattle.source_machine.specs.links.States.{Stands}
 use Rattle.ido_cli.specs.Refusals.{line_at_step}
 use Rattle.ido_cli.specs.Runs.{ran, stopped}
 use Rattle.ido_cli.proofs.Stops.{both_ok}
@@ -25,5 +26,6 @@ returns-in-Err c =
     let start = m.start (flat_of c.args.flat.now) in
     let was = c.in-Err.ensures.ran start (λ thread. 0) c.in_ok-state.ensures in
     IfOk-weaker c.refused_at_step.result _ _
-    (λ said is. stopped c.in-Err.stop (subst (λ (ts : List ℕ). IsRefused c.in-Err.stop start ts) c.deref.ensures.value was.refused) is.0 (is.1 ∙ ap (λ (code : List ℕ). line_at_step code c.in-Err.stop.step) c.stop_code.ensures))
+    (λ said is. stopped c.in-Err.stop (subst (λ (ts : List ℕ). IsRefused c.in-Err.stop start ts) c.deref.ensures.value was.refused) is.0
+    (is.1 ∙ ap (λ (code : List ℕ). line_at_step code c.in-Err.stop.step) c.stop_code.ensures))
     (both_ok c.refused_at_step.result _ _ c.refused_at_step.ensures.status c.refused_at_step.ensures.output)

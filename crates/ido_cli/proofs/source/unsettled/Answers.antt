@@ -14,11 +14,13 @@ loop-thread-preserved c = record {
       let is = c.between.ensures s ended stands in
       elim c.if-not-between.branch [
         | then-not-between+in_ok-push w ↦
-            filter_pushed (λ t. not (is_between s t)) c.loop-thread.threads.items (unsettled_threads s) c.if-not-between.threads.items (length s.threads) k within
+            filter_pushed (λ t. not (is_between s t)) c.loop-thread.threads.items (unsettled_threads s) c.if-not-between.threads.items
+            (length s.threads) k within
             (let e : not (is_between s k) ≡ true = search (rules, is, w.if-not-between) in e)
             (search (rules, w.threads-is, w.push.ensures.items)) (c.loop-thread.invariant.so_far s ended stands)
         | else-not-between w ↦
-            filter_passed (λ t. not (is_between s t)) c.loop-thread.threads.items (unsettled_threads s) c.if-not-between.threads.items (length s.threads) k within
+            filter_passed (λ t. not (is_between s t)) c.loop-thread.threads.items (unsettled_threads s) c.if-not-between.threads.items
+            (length s.threads) k within
             (let e : not (is_between s k) ≡ false = search (rules, is, w.if-not-between) in e)
             (search (rules, w.threads-is)) (c.loop-thread.invariant.so_far s ended stands)
       ];

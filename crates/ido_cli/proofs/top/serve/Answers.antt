@@ -16,4 +16,6 @@ returns-in-Ok-clause-answered g c =
 
 pub returns-in-Ok-clause-unwritten : goal.returns-in-Ok-clause-unwritten
 returns-in-Ok-clause-unwritten g c = λ h.
-    absurd (delivered_something (map string_bytes c.args.words.now) (g.S.Source.left c.args.input.now) c.in-Ok.said (g.K.Sink.written c.args.output.now) (g.K.Sink.written c.deliver.new.output) (g.K.Sink.faults c.args.output.now) (g.K.Sink.faults c.deliver.new.output) c.deliver.result c.in-Ok.ensures.said c.deliver.ensures h)
+    absurd (delivered_something (map string_bytes c.args.words.now) (g.S.Source.left c.args.input.now) c.in-Ok.said (g.K.Sink.written c.args.output.now)
+    (g.K.Sink.written c.deliver.new.output) (g.K.Sink.faults c.args.output.now) (g.K.Sink.faults c.deliver.new.output) c.deliver.result c.in-Ok.ensures.said
+    c.deliver.ensures h)

@@ -2,19 +2,19 @@ use Rattle.c_tree.specs.Checking.{IsTyped, IsRanged, IsFlattened, IsChecked}
 use Rattle.c_tree.specs.Flats.{flat_of}
 use Rattle.c_tree.specs.Programs.{program_of}
 use Rattle.c_tree.specs.Views.{items_of}
-use Rattle.ido_compile.specs.Fronts.{of_colours, of_index, of_inline, of_lock, of_read, of_temporaries, of_type}
+use Rattle.ido_compile.specs.links.Fronts.{of_colours, of_index, of_inline, of_lock, of_source, of_temporaries}
 use Rattle.ido_compile.proofs.Checks.{few_mutexes}
 use Rattle.ido_compile.proofs.Fronts.{by_calls, by_colours, by_error, by_index, by_locks, by_reading, by_temporaries, by_typing}
 use Rattle.ido_compile.proofs.checking.front.Goals as goal
 
 pub returns-in_err-tree : goal.returns-in_err-tree
 returns-in_err-tree c =
-    by_error c.args.text.now (of_read c.in_err-tree.field-0.0) c.from_residual.result c.from_residual.ensures.1
+    by_error c.args.text.now (of_source c.in_err-tree.field-0.0) c.from_residual.result c.from_residual.ensures.1
     (by_reading c.args.text.now c.in_err-tree.field-0.0 c.in_err-tree.ensures.refused)
 
 pub returns-in_err-program : goal.returns-in_err-program
 returns-in_err-program c =
-    by_error c.args.text.now (of_type c.in_err-program.field-0.0) c.from_residual-in_err-program.result c.from_residual-in_err-program.ensures.1
+    by_error c.args.text.now (of_source c.in_err-program.field-0.0) c.from_residual-in_err-program.result c.from_residual-in_err-program.ensures.1
     (by_typing c.args.text.now (items_of c.in_ok-tree.tree) c.in_err-program.field-0.0 c.in_ok-tree.ensures.read c.in_err-program.ensures)
 
 pub returns-in_err-check : goal.returns-in_err-check

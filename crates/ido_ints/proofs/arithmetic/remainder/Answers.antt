@@ -1,16 +1,41 @@
--- The remainder of two numbers of a kind is exact.
-use Rattle.std.proofs.Common.{◌∙◌}
-use Rattle.ido_ints.specs.Operators.{remainder}
-use Rattle.ido_ints.proofs.Exact.{by_reduce, remainder_exact}
-use Rattle.ido_ints.proofs.Reduced.{Bounded}
+-- The remainder of the amounts, with the sign of the dividend.
+use Rattle.std.proofs.Common.{◌≡◌, ◌∙◌, ap}
+use Rattle.std.specs.Prelude.{FitsSigned}
+use Rattle.std.specs.Int.{w128}
+use Rattle.std.proofs.lemmas.Int.{to_z-of_z}
+use Rattle.ido_ints.specs.Operators.{is_zero, remainder}
+use Rattle.ido_ints.specs.Reduction.{reduced}
+use Rattle.ido_ints.specs.Typed.{Typed, typed, typed_reduced}
+use Rattle.ido_ints.proofs.LowBits.{reduced-remainder_zero, reduced-remainder}
 use Rattle.ido_ints.proofs.arithmetic.remainder.Goals as goal
 
-pub returns-else-is_zero : goal.returns-else-is_zero
-returns-else-is_zero c =
-    let x = c.number-else-is_zero.ensures in
-    let y = c.number-else-is_zero-2.ensures in
-    let below : Bounded c.number-else-is_zero.result = record { at_least = x.at_least; below = x.below } in
-    let above : Bounded c.number-else-is_zero-2.result = record { at_least = y.at_least; below = y.below } in
-    let zero = c.is_zero.ensures in
-    let exact = remainder_exact _ _ c.is_zero.result below above (rw (← y.value) at zero) c.if-is_zero.false in
-    by_reduce _ _ _ _ _ c.reduce-else-is_zero.ensures c.kind-else-is_zero.ensures (exact ∙ (λ i. remainder (x.value i) (y.value i)))
+pub returns : goal.returns
+returns c =
+    let f = c.ranges.x in
+    let g = c.ranges.y in
+    let k = c.args.range.kind in
+    let v = simp to_z-of_z at c.converted-x.ensures in
+    let w = simp to_z-of_z at c.converted-y.ensures in
+    let x : c.converted-x.result.number ≡ reduced k c.args.x = ap (λ (t : Typed). t.number) v in
+    let y : c.converted-y.result.number ≡ reduced k c.args.y = ap (λ (t : Typed). t.number) w in
+    let h : FitsSigned w128 c.number.result = record { sfits = c.number.type_inv } in
+    let n = simp to_z-of_z at c.is_zero.ensures in
+    let zero : c.is_zero.result ≡ is_zero c.converted-y.result.number = n ∙ ap is_zero c.number.ensures.value in
+    c.value.ensures ∙ ap (typed k) (reduced-remainder k c.converted-x.result.number c.converted-y.result.number c.amount.result c.amount-2.result
+    c.with_sign.result c.is_negative.result c.is_zero.result c.amount.type_inv c.amount.ensures c.amount-2.ensures c.is_negative.ensures zero c.if-is_zero.false
+    c.with_sign.ensures)
+    ∙ (λ i. typed_reduced k (remainder (x i) (y i)))
+
+pub returns-then-is_zero : goal.returns-then-is_zero
+returns-then-is_zero c =
+    let f = c.ranges.x in
+    let g = c.ranges.y in
+    let k = c.args.range.kind in
+    let v = simp to_z-of_z at c.converted-x.ensures in
+    let w = simp to_z-of_z at c.converted-y.ensures in
+    let y : c.converted-y.result.number ≡ reduced k c.args.y = ap (λ (t : Typed). t.number) w in
+    let h : FitsSigned w128 c.number.result = record { sfits = c.number.type_inv } in
+    let n = simp to_z-of_z at c.is_zero.ensures in
+    let zero : c.is_zero.result ≡ is_zero c.converted-y.result.number = n ∙ ap is_zero c.number.ensures.value in
+    v ∙ ap (typed k) (reduced-remainder_zero k c.args.x c.converted-y.result.number c.is_zero.result zero c.if-is_zero.true)
+    ∙ ap (λ t. typed_reduced k (remainder (reduced k c.args.x) t)) y

@@ -1,13 +1,21 @@
 -- A number of a kind, shifted right, is exact.
-use Rattle.std.proofs.Common.{◌∙◌, ◌≡◌}
+use Rattle.std.proofs.Common.{◌≡◌, ◌∙◌, ap}
 use Rattle.std.specs.Int.{int_shr}
+use Rattle.std.proofs.lemmas.Int.{to_z-of_z}
 use Rattle.ido_ints.specs.Operators.{places}
-use Rattle.ido_ints.proofs.Exact.{by_reduce, right_exact}
+use Rattle.ido_ints.specs.Reduction.{reduced}
+use Rattle.ido_ints.specs.Typed.{Typed, typed_reduced}
+use Rattle.ido_ints.proofs.Exact.{right_exact}
 use Rattle.ido_ints.proofs.arithmetic.shift_right.Goals as goal
 
 pub returns : goal.returns
 returns c =
-    let x = c.number.ensures in
-    let exact = right_exact c.number.result c.places.result (record { at_least = x.at_least; below = x.below }) in
-    let p : c.places.result ≡ places c.args.x.kind c.args.count.number = c.places.ensures.value ∙ (λ i. places (c.kind-2.ensures i) c.args.count.number) in
-    by_reduce _ _ _ _ _ c.reduce.ensures c.kind.ensures (exact ∙ (λ i. int_shr (x.value i) (p i)))
+    let f = c.ranges.x in
+    let g = c.ranges.count in
+    let k = c.args.range.kind in
+    let v = simp to_z-of_z at c.converted.ensures in
+    let x : c.number.result ≡ reduced k c.args.x = c.number.ensures.value ∙ ap (λ (t : Typed). t.number) v in
+    let n = simp to_z-of_z at c.places.ensures.value in
+    let p : c.places.result ≡ places k c.args.count = n ∙ ap (λ j. places j c.args.count) c.kind.ensures in
+    let exact = right_exact c.number.result c.places.result (record { at_least = c.number.ensures.at_least; below = c.number.ensures.below }) in
+    c.converted-2.ensures ∙ ap (typed_reduced k) (exact ∙ (λ i. int_shr (x i) (p i)))

@@ -1,25 +1,15 @@
--- The rest is the answer, or the rest less the modulus.
-use Rattle.std.proofs.Common.{arith}
-use Rattle.std.proofs.lemmas.Int.{ints, to_z-of_z}
-use Rattle.ido_ints.proofs.Reduced.{rest_low, rest_high}
+-- A number reduces to what its low bits do.
+use Rattle.std.proofs.Common.{◌∙◌}
+use Rattle.std.specs.Prelude.{pos, FitsSigned}
+use Rattle.std.specs.Int.{w128}
+use Rattle.std.proofs.lemmas.Int.{to_z-of_z}
+use Rattle.ido_ints.specs.Reduction.{reduced}
+use Rattle.ido_ints.proofs.LowBits.{reduced-residue}
 use Rattle.ido_ints.proofs.values.reduce.Goals as goal
 
-pub returns-then-rest-greatest-clause-value : goal.returns-then-rest-greatest-clause-value
-returns-then-rest-greatest-clause-value c =
-    let fits = c.ranges.number in
-    (rest_low c.args.kind c.args.number _ c.modulus.result c.modulo-rest.result c.modulus.ensures.value (simp to_z-of_z at c.modulo-rest.ensures.value) (omega (arith, ints)) (omega (arith, ints))).value
-
-pub returns-then-rest-greatest-clause-held : goal.returns-then-rest-greatest-clause-held
-returns-then-rest-greatest-clause-held c =
-    let fits = c.ranges.number in
-    (rest_low c.args.kind c.args.number _ c.modulus.result c.modulo-rest.result c.modulus.ensures.value (simp to_z-of_z at c.modulo-rest.ensures.value) (omega (arith, ints)) (omega (arith, ints))).held
-
-pub returns-else-rest-greatest-clause-value : goal.returns-else-rest-greatest-clause-value
-returns-else-rest-greatest-clause-value c =
-    let fits = c.ranges.number in
-    (rest_high c.args.kind c.args.number _ c.modulus.result c.modulo-rest.result c.modulus.ensures.value (simp to_z-of_z at c.modulo-rest.ensures.value) c.modulo-rest.ensures.below (omega (arith, ints)) (omega (arith, ints))).value
-
-pub returns-else-rest-greatest-clause-held : goal.returns-else-rest-greatest-clause-held
-returns-else-rest-greatest-clause-held c =
-    let fits = c.ranges.number in
-    (rest_high c.args.kind c.args.number _ c.modulus.result c.modulo-rest.result c.modulus.ensures.value (simp to_z-of_z at c.modulo-rest.ensures.value) c.modulo-rest.ensures.below (omega (arith, ints)) (omega (arith, ints))).held
+pub returns-clause-value : goal.returns-clause-value
+returns-clause-value c =
+    let f = c.ranges.number in
+    let g : FitsSigned w128 c.narrow.result = record { sfits = c.narrow.type_inv } in
+    let n = simp to_z-of_z at c.residue.ensures in
+    to_z-of_z w128 c.narrow.result g ∙ c.narrow.ensures.value ∙ (λ i. reduced (c.of.ensures i) (pos (n i))) ∙ reduced-residue c.args.kind c.args.number

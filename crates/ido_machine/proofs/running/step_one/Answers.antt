@@ -1,4 +1,4 @@
-use Rattle.std.proofs.Common.{◌≡◌, ◌<◌, List, length, slice_set, get_or, refl, sym, subst, ◌∙◌, arith}
+use Rattle.std.proofs.Common.{◌<◌, List, length, slice_set, get_or, refl, sym, subst, ◌∙◌, arith}
 use Rattle.rv64_isa.specs.declared.phase.Phase.{Phase}
 use Rattle.rv64_isa.specs.declared.phase.Phase.TheVariants.{Take}
 use Rattle.hart_core.specs.declared.hart.Hart.{Hart}
@@ -14,24 +14,37 @@ use Rattle.ido_machine.proofs.running.step_one.Goals as goal
 
 pub returns-in-Run-clause-step : goal.returns-in-Run-clause-step
 returns-in-Run-clause-step c = λ w s.
-    let state : State = record { phases = c.args.phases.now; harts = c.args.harts.now; memory = c.args.memory.now; locks = c.args.locks.now; recovering = c.args.recovering } in
+    let state : State =
+    record { phases = c.args.phases.now; harts = c.args.harts.now; memory = c.args.memory.now; locks = c.args.locks.now; recovering = c.args.recovering } in
     let after : Parts = record { phase = c.run.new.phase; hart = c.run.new.hart; memory = c.run.new.memory; locks = c.run.new.locks } in
     let phase : Phase = get_or c.args.phases.now c.args.number Take in
     let it : Hart = get_or c.args.harts.now c.args.number c.index-harts-at.result in
     let within : c.args.number < length c.args.harts.now = omega (arith, c.requires.sized, c.requires.exists) in
     let in_phases : c.args.number < length c.args.phases.now = omega (arith, c.requires.phased, c.requires.exists) in
-    run_end c.args.program.now c.args.number state phase it after c.run.result w within (c.requires.threads ∙ sym c.requires.sized) (get_is c.args.harts.now c.args.number c.index-harts-at.result within) (phase_read c.args.phases.now c.args.number Take phase in_phases refl) c.in-Run.is c.run.ensures.step s
+    run_end c.args.program.now c.args.number state phase it after c.run.result w within (c.requires.threads ∙ sym c.requires.sized)
+    (get_is c.args.harts.now c.args.number c.index-harts-at.result within) (phase_read c.args.phases.now c.args.number Take phase in_phases refl) c.in-Run.is
+    c.run.ensures.step s
 
 pub returns-in_default : goal.returns-in_default
 returns-in_default c = record {
   step = λ w s.
-      let state : State = record { phases = c.args.phases.now; harts = c.args.harts.now; memory = c.args.memory.now; locks = c.args.locks.now; recovering = c.args.recovering } in
-      let after : Parts = record { phase = phase_at c.phase_step.new.phases c.args.number; hart = c.phase_step.new.hart; memory = c.args.memory.now; locks = c.phase_step.new.locks } in
+      let state : State =
+      record { phases = c.args.phases.now; harts = c.args.harts.now; memory = c.args.memory.now; locks = c.args.locks.now; recovering = c.args.recovering } in
+      let after : Parts =
+      record {
+        phase = phase_at c.phase_step.new.phases c.args.number;
+        hart = c.phase_step.new.hart;
+        memory = c.args.memory.now;
+        locks = c.phase_step.new.locks;
+      } in
       let it : Hart = get_or c.args.harts.now c.args.number c.index-harts-at-in_default.result in
       let within : c.args.number < length c.args.harts.now = omega (arith, c.requires.sized, c.requires.exists) in
       let harts : List Hart = slice_set c.args.harts.now c.args.number c.phase_step.new.hart in
-      subst (λ (phases : List Phase). StateEnds (record { phases = phases; harts = harts; memory = c.args.memory.now; locks = c.phase_step.new.locks; recovering = c.args.recovering }) c.phase_step.result (happens c.args.program.now w (Step c.args.number))) (sym c.phase_step.ensures.phases)
-      (recovery_end c.args.program.now c.args.number state it after c.phase_step.result w within (c.requires.threads ∙ sym c.requires.sized) (get_is c.args.harts.now c.args.number c.index-harts-at-in_default.result within) c.phase_step.ensures.step s);
+      subst (λ (phases : List Phase).
+      StateEnds (record { phases = phases; harts = harts; memory = c.args.memory.now; locks = c.phase_step.new.locks; recovering = c.args.recovering })
+      c.phase_step.result (happens c.args.program.now w (Step c.args.number))) (sym c.phase_step.ensures.phases)
+      (recovery_end c.args.program.now c.args.number state it after c.phase_step.result w within (c.requires.threads ∙ sym c.requires.sized)
+      (get_is c.args.harts.now c.args.number c.index-harts-at-in_default.result within) c.phase_step.ensures.step s);
   threads = refl;
   stores = omega arith;
 }

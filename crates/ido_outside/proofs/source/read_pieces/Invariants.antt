@@ -1,5 +1,5 @@
 use Rattle.std.proofs.Common.{◌≤◌, ◌-◌, vec_len}
-use Rattle.ido_outside.specs.Source.{Gathers}
+use Rattle.ido_outside.specs.links.Gathering.{Gathers}
 use Rattle.ido_outside.proofs.source.read_pieces.Given as goal
 
 -- what was taken so far stands behind the bytes, within the limit, and the count of faults has not fallen

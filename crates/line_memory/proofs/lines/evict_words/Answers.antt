@@ -1,14 +1,17 @@
 use Rattle.std.proofs.Common.{◌≡◌, arith, subst}
 use Rattle.ido_base.specs.Words.{evicted_from}
-use Rattle.line_memory.specs.Cells.{CellsStand}
+use Rattle.line_memory.specs.links.Cells.{CellsStand}
 use Rattle.line_memory.proofs.Steps.{evict_step, skip_step}
 use Rattle.line_memory.proofs.lines.evict_words.Goals as goal
 use Rattle.line_memory.proofs.lines.evict_words.Goals.{then-mask-k-eq1, else-mask-k-eq1}
 
 pub loop-k-preserved : goal.loop-k-preserved
 loop-k-preserved c = λ words stores s. elim c.if-mask-k-eq1.branch [
-  | then-mask-k-eq1 w ↦ rw w.cells-is (evict_step c.loop-k.cells words stores c.args.base c.args.mask c.loop-k.k w.evict.new.self (omega arith) w.if-mask-k-eq1.true (c.loop-k.invariant words stores s) w.evict.ensures)
-  | else-mask-k-eq1 w ↦ rw w.cells-is (skip_step c.loop-k.cells words stores c.args.base c.args.mask c.loop-k.k w.if-mask-k-eq1.false (c.loop-k.invariant words stores s))
+  | then-mask-k-eq1 w ↦ rw w.cells-is
+      (evict_step c.loop-k.cells words stores c.args.base c.args.mask c.loop-k.k w.evict.new.self (omega arith) w.if-mask-k-eq1.true
+      (c.loop-k.invariant words stores s) w.evict.ensures)
+  | else-mask-k-eq1 w ↦ rw w.cells-is
+      (skip_step c.loop-k.cells words stores c.args.base c.args.mask c.loop-k.k w.if-mask-k-eq1.false (c.loop-k.invariant words stores s))
 ]
 
 pub returns : goal.returns

@@ -1,5 +1,5 @@
 use Rattle.std.proofs.Common.{◌≡◌, ℕ, ◌+◌, ◌<◌, length}
-use Rattle.line_memory.specs.Cells.{cell_at, newest_of, saved_at}
+use Rattle.line_memory.specs.links.Cells.{cell_at, newest_of, saved_at}
 use Rattle.line_memory.proofs.lines.snapshot_of.Given as goal
 
 abbrev pub invariant-loop-k : goal.invariant-loop-k

@@ -1,6 +1,6 @@
 use Rattle.std.proofs.Common.{◌≡◌, ◌+◌, ◌++◌, map, vec_len}
 use Rattle.ido_base.specs.Layout.{words_of_bytes}
-use Rattle.line_memory.specs.Cells.{cell_of}
+use Rattle.line_memory.specs.links.Cells.{cell_of}
 use Rattle.line_memory.proofs.making.push_bytes.Given as goal
 
 abbrev pub invariant-loop-i : goal.invariant-loop-i

@@ -1,5 +1,5 @@
 use Rattle.std.proofs.Common.{◌≡◌, ◌+◌, ◌++◌, map, take, vec_len}
-use Rattle.line_memory.specs.Cells.{cell_of}
+use Rattle.line_memory.specs.links.Cells.{cell_of}
 use Rattle.line_memory.proofs.making.push_words.Given as goal
 
 abbrev pub invariant-loop-word : goal.invariant-loop-word

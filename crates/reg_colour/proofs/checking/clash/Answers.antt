@@ -1,7 +1,7 @@
 use Rattle.std.proofs.Common.{◌≡◌, ◌<◌, Option, None, length, get_or, sym, subst, arith}
 use Rattle.std.proofs.lemmas.Option.{slice_get-get_or}
 use Rattle.reg_colour.specs.declared.checking.Found.{Found}
-use Rattle.reg_colour.specs.links.Clashing.{IsLeastOf, ClashBoth}
+use Rattle.reg_colour.specs.links.Clashing.{IsLeastOf, ClashBoth, locals_of}
 use Rattle.reg_colour.proofs.Clashes.{disjoint, shared_first}
 use Rattle.reg_colour.proofs.checking.clash.Goals as goal
 
@@ -13,7 +13,7 @@ returns-in_err-node c =
     let b = c.args.b in
     let la : a < length xs = omega (arith, c.requires.order, c.requires.exists, c.requires.long) in
     let lb : b < length xs = omega (arith, c.requires.exists, c.requires.long) in
-    subst (λ (o : Option Found). IsLeastOf (ClashBoth xs rs a b) o) (sym c.from_residual.ensures)
+    subst (λ (o : Option Found). IsLeastOf (ClashBoth (locals_of xs rs) a b) o) (sym c.from_residual.ensures)
     (disjoint xs rs a b (get_or xs a None) (get_or xs b None) (slice_get-get_or xs a None la) (slice_get-get_or xs b None lb) c.in_err-node.ensures)
 
 pub returns : goal.returns

@@ -12,7 +12,8 @@ returns-then-is_lock c =
     let x = c.in-Some.node.now in
     let found = c.in-Some.ensures.lookup in
     let at : NodeAt g n (node_of x) = found_at c.args.graph.now.nodes.items c.deref.result.now n x c.deref.ensures.value found.3.0 found.1 in
-    let flags : slice_get c.deref-then-is_lock.result.now n ≡ slice_get c.args.cuts.now.after_lock.items n = ap (λ (xs : List Bool). slice_get xs n) c.deref-then-is_lock.ensures.value in (
+    let flags : slice_get c.deref-then-is_lock.result.now n ≡ slice_get c.args.cuts.now.after_lock.items n =
+    ap (λ (xs : List Bool). slice_get xs n) c.deref-then-is_lock.ensures.value in (
       λ t. record { locks = lock_at g n (node_of x) at (sym c.is_lock.ensures ∙ c.if-is_lock.true); stands = sym flags ∙ c.stands.ensures.0 t },
       λ h. c.stands.ensures.1 (flags ∙ h.stands),
     )

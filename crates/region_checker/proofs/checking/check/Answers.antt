@@ -18,4 +18,5 @@ pub is_idempotent-requires : goal.is_idempotent-requires
 is_idempotent-requires c = locks_behind (graph_of c.args.graph.now) (boundaries_of c.args.cuts.now) c.in_default.ensures
 
 pub returns-then-branch-clause-accepted : goal.returns-then-branch-clause-accepted
-returns-then-branch-clause-accepted c = cuts_by (graph_of c.args.graph.now) (boundaries_of c.args.cuts.now) c.in_default.ensures (c.in_ok-is_idempotent.ensures.0 c.if-branch.true)
+returns-then-branch-clause-accepted c =
+    cuts_by (graph_of c.args.graph.now) (boundaries_of c.args.cuts.now) c.in_default.ensures (c.in_ok-is_idempotent.ensures.0 c.if-branch.true)

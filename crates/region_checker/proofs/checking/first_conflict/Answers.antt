@@ -16,6 +16,7 @@ pub returns-in-Some : goal.returns-in-Some
 returns-in-Some c =
     let g = graph_of c.args.graph.now in
     let b = boundaries_of c.args.cuts.now in
-    let least : IsLeastOf (IsHitSome g b) (Some c.in-Some.store) = subst (λ (o : Option ℕ). IsLeastOf (IsHitSome g b) o) c.in-Some.is (c.in_ok-store.ensures b c.in_ok-regions.ensures.are) in
+    let least : IsLeastOf (IsHitSome g b) (Some c.in-Some.store) =
+    subst (λ (o : Option ℕ). IsLeastOf (IsHitSome g b) o) c.in-Some.is (c.in_ok-store.ensures b c.in_ok-regions.ensures.are) in
     subst (λ (o : Option found.Conflict). IsFirstFound g b o) (sym c.with_read.ensures)
     (first_found g b c.in-Some.store c.in_ok-read-in-Some.read least (c.in_ok-read-in-Some.ensures b c.in_ok-regions.ensures.are))

@@ -20,8 +20,12 @@ returns-then-branch c b r =
     let at : slice_get nodes read ≡ Some x = slice_get_read nodes (length nodes) read x refl c.requires.exists c.index.ensures in
     let items = c.deref-location-items.result.now in
     let k = c.loop-location.location-index in
-    let lt : k < length items = omega (arith, c.loop-location-test.true) in
-    (λ _. exposes_from g b read c.args.store k x _ at (ap (λ (xs : List Location). slice_get xs k) (sym c.deref-location-items.ensures.value) ∙ slice_get-get_or items k _ lt) ((c.in_ok-exposes_at.ensures b r).0 c.if-branch.true), λ _. refl)
+    let lt : k < length items = omega (arith, c.loop-location-test.true) in (
+      λ _. exposes_from g b read c.args.store k x
+          _ at (ap (λ (xs : List Location). slice_get xs k) (sym c.deref-location-items.ensures.value) ∙ slice_get-get_or items k _ lt)
+          ((c.in_ok-exposes_at.ensures b r).0 c.if-branch.true),
+      λ _. refl,
+    )
 
 pub loop-location-preserved : goal.loop-location-preserved
 loop-location-preserved c b r n z lt at e =
@@ -31,7 +35,8 @@ loop-location-preserved c b r n z lt at e =
     elim (same_or_other n k) [
       | inl is ↦ (
           let t : c.in_ok-exposes_at.field-0 ≡ true = (c.in_ok-exposes_at.ensures b r).1
-          (subst (λ (w : Location). IsExposedAt (graph_of c.args.graph.now) b c.args.read c.args.store w) (some_same z _ (sym at ∙ ap (λ i. slice_get items i) is ∙ slice_get-get_or items k _ within)) e) in
+          (subst (λ (w : Location). IsExposedAt (graph_of c.args.graph.now) b c.args.read c.args.store w)
+          (some_same z _ (sym at ∙ ap (λ i. slice_get items i) is ∙ slice_get-get_or items k _ within)) e) in
           let off : true ≡ false = sym t ∙ c.if-branch.false in
           absurd (cc))
       | inr other ↦ c.loop-location.invariant b r n z (omega (arith, lt)) at e

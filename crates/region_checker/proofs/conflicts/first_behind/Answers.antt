@@ -21,6 +21,7 @@ returns c =
     let g = graph_of c.args.graph.now in
     let ways = c.args.ways.now in
     let marks = c.args.marks.now in
-    least_same (IsOver g c.args.location (IsBehindBelow ways marks c.loop-number.number)) (IsOver g c.args.location (IsBehind ways marks)) c.loop-number.first c.loop-number.invariant
+    least_same (IsOver g c.args.location (IsBehindBelow ways marks c.loop-number.number)) (IsOver g c.args.location (IsBehind ways marks)) c.loop-number.first
+    c.loop-number.invariant
     (λ n h. record { is = behind_is ways marks c.loop-number.number n h.is; writes = h.writes })
     (λ n h. record { is = behind_all ways marks c.loop-number.number n (omega (arith, c.loop-number-test.false)) h.is; writes = h.writes })

@@ -18,4 +18,6 @@ loop-read-preserved c b r =
     absurd (cc))
 
 pub returns : goal.returns
-returns c b r n h = c.loop-read.invariant b r n (omega (arith, reads_within c.args.graph.now b n c.args.store h, c.loop-read-test.false, c.len-read-end.ensures, c.args.graph.now.nodes.ok.0)) h
+returns c b r n h =
+    c.loop-read.invariant b r n
+    (omega (arith, reads_within c.args.graph.now b n c.args.store h, c.loop-read-test.false, c.len-read-end.ensures, c.args.graph.now.nodes.ok.0)) h

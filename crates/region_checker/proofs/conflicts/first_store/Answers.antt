@@ -16,7 +16,8 @@ loop-location-preserved c b r =
     let k = c.loop-location.location-index in
     let lt : k < length items = omega (arith, c.loop-location-test.true) in
     subst (λ (o : Option ℕ). IsLeastOf (IsHitBelow g b items (k + 1)) o) (sym c.earlier-first.ensures)
-    (hit_more g b items k _ c.loop-location.first c.in_ok-first_hit.field-0 (slice_get-get_or items k _ lt) (c.loop-location.invariant b r) (c.in_ok-first_hit.ensures b r))
+    (hit_more g b items k _ c.loop-location.first c.in_ok-first_hit.field-0 (slice_get-get_or items k _ lt) (c.loop-location.invariant b r)
+    (c.in_ok-first_hit.ensures b r))
 
 pub returns : goal.returns
 returns c b r =

@@ -20,15 +20,18 @@ returns c b r =
     let store = c.args.store in
     let marks = c.mark.new.marks in
     let after = c.spread-followed.result.items in
-    let m : Marks (λ n. Some read ≡ Some n) none marks c.mark.result = subst (λ (ms : List Bool). Marks (λ n. Some read ≡ Some n) ms marks c.mark.result) (c.deref_mut.ensures.value ∙ c.in_ok-marks.ensures) c.mark.ensures in
+    let m : Marks (λ n. Some read ≡ Some n) none marks c.mark.result =
+    subst (λ (ms : List Bool). Marks (λ n. Some read ≡ Some n) ms marks c.mark.result) (c.deref_mut.ensures.value ∙ c.in_ok-marks.ensures) c.mark.ensures in
     let count : length marks ≡ k = m.long ∙ length-replicate {A = Bool} k false in
     let held = c.in_ok-marks.marks in
     let size : length marks ≡ held.len = omega (arith, c.mark.auto.marks, c.deref_mut.ensures.len, ap length c.deref_mut.ensures.value, held.ok.0) in
     let start = written held.len marks held.items size in
     let s : AreSpread ways none marks after =
-    spread_along ways c.deref.result.now none c.deref-2.result.now marks (take held.len (marks ++ drop (length marks) held.items)) after c.deref.ensures.value (c.deref-2.ensures.value ∙ c.in_ok-stops.ensures) start c.spread-followed.ensures.spread in
+    spread_along ways c.deref.result.now none c.deref-2.result.now marks (take held.len (marks ++ drop (length marks) held.items)) after c.deref.ensures.value
+    (c.deref-2.ensures.value ∙ c.in_ok-stops.ensures) start c.spread-followed.ensures.spread in
     let long : length after ≡ length marks = c.spread-followed.ensures.long ∙ ap length start in
-    let both : IsBehind ways after store ↔ Follows (graph_of g) b (λ n. n ≡ read) store = follows_is g b read store ways begins marks after r count (one_marked k read marks c.mark.result c.requires.exists m) long s in
+    let both : IsBehind ways after store ↔ Follows (graph_of g) b (λ n. n ≡ read) store =
+    follows_is g b read store ways begins marks after r count (one_marked k read marks c.mark.result c.requires.exists m) long s in
     let found : IsTrue c.is_behind.result ↔ IsBehind ways after store =
     subst (λ (ws : List Way). IsTrue c.is_behind.result ↔ IsBehind ws after store) c.deref-3.ensures.value
     (subst (λ (ms : List Bool). IsTrue c.is_behind.result ↔ IsBehind c.deref-3.result.now ms store) c.deref-4.ensures.value c.is_behind.ensures) in

@@ -19,5 +19,6 @@ returns-clause-exposed c b r =
     subst (λ (xs : List code.Node). AreReadAt xs unwritten location read) c.deref.ensures.value
     (subst (λ (ms : List Bool). AreReadAt c.deref.result.now ms location read) c.deref-2.ensures.value c.in_ok-read.ensures) in
     let s : AreSpread ways none read after =
-    spread_along ways c.deref-3.result.now none c.deref-4.result.now read read after c.deref-3.ensures.value (c.deref-4.ensures.value ∙ c.in_ok-stops.ensures) refl c.spread.ensures.spread in
+    spread_along ways c.deref-3.result.now none c.deref-4.result.now read read after c.deref-3.ensures.value (c.deref-4.ensures.value ∙ c.in_ok-stops.ensures)
+    refl c.spread.ensures.spread in
     exposed_is g b location ways begins unwritten read after r (c.in_ok-unwritten.ensures.unwritten b r) at c.spread.ensures.long s

@@ -13,10 +13,12 @@ loop-node-preserved c =
     let i = c.loop-node.node-index in
     let y = c.node-item.result in
     let lt : i < length items = omega (arith, c.loop-node-test.true) in
-    let here : slice_get nodes i ≡ Some y = ap (λ (xs : List code.Node). slice_get xs i) (sym c.deref-node-items.ensures.value) ∙ slice_get_read items (length items) i y refl lt c.node-item.is in
+    let here : slice_get nodes i ≡ Some y =
+    ap (λ (xs : List code.Node). slice_get xs i) (sym c.deref-node-items.ensures.value) ∙ slice_get_read items (length items) i y refl lt c.node-item.is in
     read_more nodes c.loop-node.locations.items c.add_read.new.locations.items i y here c.in_ok-add_read.ensures.keeps
     (λ x k. c.in_ok-add_read.ensures.adds x (subst (λ (xs : List Location). Contains xs x) (sym c.deref.ensures.value) k)) c.loop-node.invariant
 
 pub returns : goal.returns
 returns c =
-    read_all c.args.graph.now c.loop-node.locations.items c.loop-node.node-index (omega (arith, c.loop-node-test.false, ap length c.deref-node-items.ensures.value)) c.loop-node.invariant
+    read_all c.args.graph.now c.loop-node.locations.items c.loop-node.node-index
+    (omega (arith, c.loop-node-test.false, ap length c.deref-node-items.ensures.value)) c.loop-node.invariant

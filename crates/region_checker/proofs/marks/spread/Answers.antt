@@ -14,8 +14,11 @@ returns-clause-spread c n =
     let before = c.loop.marks.items in
     let after = c.spread_once.new.marks in
     let grows = c.spread_once.result in
-    let passes : Passes ways stops (length ways) before after grows = subst (λ (ms : List Bool). Passes ways stops (length ways) ms after grows) c.deref_mut.ensures.value c.spread_once.ensures in
+    let passes : Passes ways stops (length ways) before after grows =
+    subst (λ (ms : List Bool). Passes ways stops (length ways) ms after grows) c.deref_mut.ensures.value c.spread_once.ensures in
     let h : IsMarked after n ↔ ((n < length start) × Arrives (Leads ways) (IsMarked start) (IsMarked stops) n) =
     reached_all ways stops start before after grows c.requires.ways c.loop-test.false c.loop.invariant passes n in
-    let count : length after ≡ c.loop.marks.len = omega (arith, c.spread_once.auto.marks, c.deref_mut.ensures.len, ap length c.deref_mut.ensures.value, c.loop.marks.ok.0) in
-    subst (λ (ms : List Bool). IsMarked ms n ↔ ((n < length start) × Arrives (Leads ways) (IsMarked start) (IsMarked stops) n)) (sym (written c.loop.marks.len after before count)) h
+    let count : length after ≡ c.loop.marks.len =
+    omega (arith, c.spread_once.auto.marks, c.deref_mut.ensures.len, ap length c.deref_mut.ensures.value, c.loop.marks.ok.0) in
+    subst (λ (ms : List Bool). IsMarked ms n ↔ ((n < length start) × Arrives (Leads ways) (IsMarked start) (IsMarked stops) n))
+    (sym (written c.loop.marks.len after before count)) h

@@ -12,6 +12,10 @@ loop-number-preserved c =
     let n = c.loop-number.number in
     let l = c.loop-number in
     elim c.if-mark_from.branch [
-      | then-mark_from w ↦ rw w.grows-is (pass_grown ways stops n c.args.marks.now l.marks c.mark_from.new.marks l.grows c.mark_from.result l.invariant c.mark_from.ensures w.if-mark_from.true)
-      | else-mark_from w ↦ rw w.grows-is (pass_kept ways stops n c.args.marks.now l.marks c.mark_from.new.marks l.grows c.mark_from.result l.invariant c.mark_from.ensures w.if-mark_from.false)
+      | then-mark_from w ↦ rw w.grows-is
+          (pass_grown ways stops n c.args.marks.now l.marks c.mark_from.new.marks l.grows c.mark_from.result l.invariant c.mark_from.ensures
+          w.if-mark_from.true)
+      | else-mark_from w ↦ rw w.grows-is
+          (pass_kept ways stops n c.args.marks.now l.marks c.mark_from.new.marks l.grows c.mark_from.result l.invariant c.mark_from.ensures
+          w.if-mark_from.false)
     ]

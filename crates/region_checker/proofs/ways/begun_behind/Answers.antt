@@ -12,8 +12,12 @@ returns-then-has_behind c n =
     let b = boundaries_of c.args.cuts.now in
     let nodes = c.args.graph.now.nodes.items in
     let x = c.index.result.now in
-    let at : NodeAt g c.args.number (node_of x) = node_at nodes c.args.number x (slice_get_read nodes (length nodes) c.args.number x refl c.requires c.index.ensures) in (
-      λ e. (c.has_behind.ensures.0 c.if-has_behind.true, record { is = node_of x; at = at; goes = from_ways (node_of x).action n (inl (sym c.next.ensures ∙ e)) }),
+    let at : NodeAt g c.args.number (node_of x) =
+    node_at nodes c.args.number x (slice_get_read nodes (length nodes) c.args.number x refl c.requires c.index.ensures) in (
+      λ e. (
+        c.has_behind.ensures.0 c.if-has_behind.true,
+        record { is = node_of x; at = at; goes = from_ways (node_of x).action n (inl (sym c.next.ensures ∙ e)) },
+      ),
       λ d. c.next.ensures ∙ lock_next g b c.args.number n (node_of x) at d.0 d.1,
     )
 

@@ -9,8 +9,10 @@ loop-number-init c = began_none c.args.graph.now (boundaries_of c.args.cuts.now)
 
 pub loop-number-preserved : goal.loop-number-preserved
 loop-number-preserved c =
-    began_more (graph_of c.args.graph.now) (boundaries_of c.args.cuts.now) c.loop-number.number c.begun_before.result c.begun_behind.result c.loop-number.begins c.mark.new.marks c.mark-in-loop-number.new.marks
-    c.mark.result c.mark-in-loop-number.result (record { is_before = c.begun_before.ensures; is_behind = c.begun_behind.ensures }) c.mark.ensures c.mark-in-loop-number.ensures c.loop-number.invariant
+    began_more (graph_of c.args.graph.now) (boundaries_of c.args.cuts.now) c.loop-number.number c.begun_before.result c.begun_behind.result c.loop-number.begins
+    c.mark.new.marks c.mark-in-loop-number.new.marks
+    c.mark.result c.mark-in-loop-number.result (record { is_before = c.begun_before.ensures; is_behind = c.begun_behind.ensures }) c.mark.ensures
+    c.mark-in-loop-number.ensures c.loop-number.invariant
 
 pub returns : goal.returns
 returns c =

@@ -7,7 +7,9 @@ use Rattle.region_checker.proofs.Nodes.{Inside, node_at, ways_go, ways_closed}
 use Rattle.region_checker.proofs.ways.ways_of.Goals as goal
 
 pub returns-then-has_behind : goal.returns-then-has_behind
-returns-then-has_behind c = ways_closed (graph_of c.args.graph.now) (boundaries_of c.args.cuts.now) c.args.number (record { next = None; other = None }) (c.has_behind.ensures.0 c.if-has_behind.true) refl refl
+returns-then-has_behind c =
+    ways_closed (graph_of c.args.graph.now) (boundaries_of c.args.cuts.now) c.args.number (record { next = None; other = None })
+    (c.has_behind.ensures.0 c.if-has_behind.true) refl refl
 
 pub returns-else-has_behind : goal.returns-else-has_behind
 returns-else-has_behind c =
@@ -17,7 +19,10 @@ returns-else-has_behind c =
     let n = c.args.number in
     let x = c.index-node.result.now in
     let at : NodeAt g n (node_of x) = node_at nodes n x (slice_get_read nodes (length nodes) n x refl c.requires c.index-node.ensures) in
-    let open_ : ¬ (HasBehind g b n) = λ h. (let t : c.has_behind.result ≡ true = c.has_behind.ensures.1 h in let both : true ≡ false = sym t ∙ c.if-has_behind.false in absurd (cc)) in
-    let next : Inside b (next_of (node_of x).action) c.inside.result = subst (λ (o : Option ℕ). Inside b o c.inside.result) c.next.ensures (record { each = c.inside.ensures }) in
-    let other : Inside b (other_of (node_of x).action) c.inside-else-has_behind.result = subst (λ (o : Option ℕ). Inside b o c.inside-else-has_behind.result) c.other.ensures (record { each = c.inside-else-has_behind.ensures }) in
+    let open_ : ¬ (HasBehind g b n) = λ h.
+    (let t : c.has_behind.result ≡ true = c.has_behind.ensures.1 h in let both : true ≡ false = sym t ∙ c.if-has_behind.false in absurd (cc)) in
+    let next : Inside b (next_of (node_of x).action) c.inside.result =
+    subst (λ (o : Option ℕ). Inside b o c.inside.result) c.next.ensures (record { each = c.inside.ensures }) in
+    let other : Inside b (other_of (node_of x).action) c.inside-else-has_behind.result =
+    subst (λ (o : Option ℕ). Inside b o c.inside-else-has_behind.result) c.other.ensures (record { each = c.inside-else-has_behind.ensures }) in
     ways_go g b n (node_of x) (record { next = c.inside.result; other = c.inside-else-has_behind.result }) at open_ next other

@@ -17,4 +17,5 @@ returns c =
     (past_both c.args.lines.now c.args.line
     (node_of c.args.node.now) c.next.result c.other.result one two c.next.ensures c.other.ensures c.unless_cleaned.ensures c.unless_cleaned-2.ensures)
     (follows_both (λ to. one ≡ Some to)
-    (λ to. two ≡ Some to) s.seen.items s.waiting.items s'.seen.items s'.waiting.items s''.seen.items s''.waiting.items c.in_ok-come_to_any.ensures c.in_ok-come_to_any-2.ensures)
+    (λ to. two ≡ Some to) s.seen.items s.waiting.items s'.seen.items s'.waiting.items s''.seen.items s''.waiting.items c.in_ok-come_to_any.ensures
+    c.in_ok-come_to_any-2.ensures)

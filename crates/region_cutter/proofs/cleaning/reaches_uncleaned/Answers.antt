@@ -79,7 +79,8 @@ loop-number-preserved c =
     (past_is g b lines line n x at stays) f in (
       searched_step (GoesOnPast g b lines line) (Leaves g b) (λ m. c.args.from ≡ m)
           (Comes (GoesOnPast g b lines line)
-          (Leaves g b) c.args.from) s.seen.items s.waiting.items rest s'.seen.items s'.waiting.items n c.in-Some.ensures.items c.loop-number.invariant.0 stays f',
+          (Leaves g b) c.args.from) s.seen.items s.waiting.items rest s'.seen.items s'.waiting.items n c.in-Some.ensures.items
+          c.loop-number.invariant.0 stays f',
       f.long ∙ c.loop-number.invariant.1,
     )
 

@@ -54,7 +54,8 @@ loop-number-preserved c =
     let s' = c.go_on.new.search in
     let f : Follows (λ to. Inside g b n to) s.seen.items rest s'.seen.items s'.waiting.items = c.in_ok-go_on.ensures in (
       searched_step (Inside g b) Never
-          (λ m. c.args.from ≡ m) ⊥ s.seen.items s.waiting.items rest s'.seen.items s'.waiting.items n c.in-Some.ensures.items c.loop-number.invariant.0 (λ h. h) f,
+          (λ m. c.args.from ≡ m) ⊥ s.seen.items s.waiting.items rest s'.seen.items s'.waiting.items n c.in-Some.ensures.items
+          c.loop-number.invariant.0 (λ h. h) f,
       f.long ∙ c.loop-number.invariant.1,
     )
 

@@ -47,7 +47,8 @@ loop-number-preserved c =
           (IsBehindExposedBelow g b w e (n + 1)) seen0 [] s'.seen.items s'.waiting.items
           (λ m. exposed_next g b w e n m (record { from_first = c.loop-number.invariant.1; below_end = c.loop-number-test.true }))
           (follows_both (IsBehindExposedBelow g b w e n)
-          (IsBehindExposed g b w e n) seen0 [] s.seen.items s.waiting.items s'.seen.items s'.waiting.items c.loop-number.invariant.0 c.in_ok-come_behind_exposed.ensures),
+          (IsBehindExposed g b w e n) seen0 [] s.seen.items s.waiting.items s'.seen.items s'.waiting.items c.loop-number.invariant.0
+          c.in_ok-come_behind_exposed.ensures),
       (let le = c.loop-number.invariant.1 in omega (arith, le)),
     )
 

@@ -23,4 +23,5 @@ returns c =
     (slice_get-map node_of c.args.graph.now.nodes.items n ∙ ap (option_map node_of) c.requires)
     c.has_behind-behind.ensures c.next.ensures c.other.ensures c.inside.ensures c.inside-2.ensures)
     (follows_both (λ to. one ≡ Some to)
-    (λ to. two ≡ Some to) s.seen.items s.waiting.items s'.seen.items s'.waiting.items s''.seen.items s''.waiting.items c.in_ok-come_to_any.ensures c.in_ok-come_to_any-2.ensures)
+    (λ to. two ≡ Some to) s.seen.items s.waiting.items s'.seen.items s'.waiting.items s''.seen.items s''.waiting.items c.in_ok-come_to_any.ensures
+    c.in_ok-come_to_any-2.ensures)

@@ -81,7 +81,8 @@ loop-number-preserved c =
     let stays : ¬ (End n) = λ h. let yes' : c.writes_over.result ≡ true = c.writes_over.ensures.1 h in let no' : c.writes_over.result ≡ false =
     c.if-writes_over.false in cc in
     let f : Follows (λ to. Step n to) s.seen.items rest s'.seen.items s'.waiting.items = c.in_ok-go_on.ensures in (
-      searched_step Step End Start (IsExposed g b w e) s.seen.items s.waiting.items rest s'.seen.items s'.waiting.items n c.in-Some.ensures.items c.loop-number.invariant.0 stays f,
+      searched_step Step End Start (IsExposed g b w e) s.seen.items s.waiting.items rest s'.seen.items s'.waiting.items n c.in-Some.ensures.items
+          c.loop-number.invariant.0 stays f,
       f.long ∙ c.loop-number.invariant.1,
     )
 

@@ -26,7 +26,8 @@ loop-number-init c =
 
 pub come_behind_lock-requires : goal.come_behind_lock-requires
 come_behind_lock-requires c =
-    at_hand c.args.graph.now.nodes.items c.deref-node-items.result.now c.loop-number.number c.node-item.result c.deref-node-items.ensures.value c.loop-number-test.true c.node-item.is
+    at_hand c.args.graph.now.nodes.items c.deref-node-items.result.now c.loop-number.number c.node-item.result c.deref-node-items.ensures.value
+    c.loop-number-test.true c.node-item.is
 
 pub loop-number-preserved : goal.loop-number-preserved
 loop-number-preserved c =

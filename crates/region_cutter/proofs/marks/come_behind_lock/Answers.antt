@@ -21,4 +21,5 @@ returns c =
     (slice_get-map node_of c.args.graph.now.nodes.items n ∙ ap (option_map node_of) c.requires)
     c.locks-takes.ensures c.next.ensures c.other.ensures c.if_taken.ensures c.if_taken-2.ensures)
     (follows_both (λ to. one ≡ Some to)
-    (λ to. two ≡ Some to) s.seen.items s.waiting.items s'.seen.items s'.waiting.items s''.seen.items s''.waiting.items c.in_ok-come_to_any.ensures c.in_ok-come_to_any-2.ensures)
+    (λ to. two ≡ Some to) s.seen.items s.waiting.items s'.seen.items s'.waiting.items s''.seen.items s''.waiting.items c.in_ok-come_to_any.ensures
+    c.in_ok-come_to_any-2.ensures)

@@ -27,4 +27,5 @@ loop-number-preserved c =
     ]
 
 pub returns : goal.returns
-returns c = range_all c.args.first c.args.end c.loop-number.number c.args.marks.now.items c.loop-number.marks.items c.loop-number-test.false c.loop-number.invariant
+returns c =
+    range_all c.args.first c.args.end c.loop-number.number c.args.marks.now.items c.loop-number.marks.items c.loop-number-test.false c.loop-number.invariant

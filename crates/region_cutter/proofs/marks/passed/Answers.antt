@@ -13,7 +13,8 @@ loop-number-preserved c =
     let lt : n < length nodes = omega (arith, c.loop-number-test.true, c.len-number-end.ensures, c.args.graph.now.nodes.ok.0) in
     let at = slice_get_read nodes (length nodes) n c.index-node.result.now refl lt c.index-node.ensures in
     passed_more (graph_of c.args.graph.now) n
-    (node_of c.index-node.result.now) c.next.result c.other.result c.loop-number.passed.items c.mark_edge.new.marks.items c.mark_edge-in-loop-number.new.marks.items
+    (node_of c.index-node.result.now) c.next.result c.other.result c.loop-number.passed.items c.mark_edge.new.marks.items
+    c.mark_edge-in-loop-number.new.marks.items
     (slice_get-map node_of nodes n ∙
     ap (option_map node_of) at) c.next.ensures c.other.ensures c.loop-number.invariant c.mark_edge.ensures c.mark_edge-in-loop-number.ensures
 

@@ -25,7 +25,8 @@ loop-first-preserved c =
     let writes = c.in_ok-writes.writes.items in
     let within : w.end ≤ length g.nodes = omega (arith, c.end_near-end.ensures.within, length-map nodes node_of) in
     let window = window_is g b first w (omega arith) c.end_near-end.ensures.near within c.loop-first.invariant.0 c.end_near-end.ensures.border in
-    let told = subst (λ (ws : List Location). IsExposedAny g b w ws c.in_ok-exposes_any.field-0) c.deref-in-loop-first.ensures.value c.in_ok-exposes_any.ensures in
+    let told = subst (λ (ws : List Location). IsExposedAny g b w ws c.in_ok-exposes_any.field-0) c.deref-in-loop-first.ensures.value
+    c.in_ok-exposes_any.ensures in
     let none : IsExposedAny g b w writes false = subst (λ (t : Bool). IsExposedAny g b w writes t) c.if-branch.false told in
     let all : c.deref.result.now ≡ replicate c.len.result true = c.deref.ensures.value ∙ c.in_ok-all.ensures.items_if_clones_equal (λ y e. e) in
     let among = λ (m : ℕ) (near : IsIn w m). subst (λ (xs : List Bool). IsSeen xs m) (sym all)

@@ -9,4 +9,5 @@ pub returns : goal.returns
 returns c =
     window_is (graph_of c.args.graph.now) (boundaries_of c.args.cuts.now) c.args.node
     (record { first = c.first_near-first.result; end = c.end_near-end.result }) c.first_near-first.ensures.near c.end_near-end.ensures.near
-    (omega (arith, c.end_near-end.ensures.within, length-map c.args.graph.now.nodes.items node_of)) c.first_near-first.ensures.border c.end_near-end.ensures.border
+    (omega (arith, c.end_near-end.ensures.within, length-map c.args.graph.now.nodes.items node_of)) c.first_near-first.ensures.border
+    c.end_near-end.ensures.border

@@ -9,4 +9,6 @@ pub returns-in-Idle : goal.returns-in-Idle
 returns-in-Idle c = λ words s. idle_record words c.args.hart (idle_is _ (sym c.in-Idle.is ∙ c.point_of.ensures.point words s))
 
 pub returns-in-At : goal.returns-in-At
-returns-in-At c = λ words s. kept_record words c.args.hart _ c.in-At.bank c.durable_slot.result (at_is _ _ c.in-At.bank (sym c.in-At.is ∙ c.point_of.ensures.point words s)) (c.durable_slot.ensures words s)
+returns-in-At c =
+    λ words s. kept_record words c.args.hart _ c.in-At.bank c.durable_slot.result (at_is _ _ c.in-At.bank (sym c.in-At.is ∙ c.point_of.ensures.point words s))
+    (c.durable_slot.ensures words s)

@@ -6,8 +6,12 @@ use Rattle.resume_recovery.proofs.record.resumed_registers.Goals as goal
 pub loop-register-preserved : goal.loop-register-preserved
 loop-register-preserved c = record {
   size = length-set c.loop-register.registers c.loop-register.register c.resumed_register.result ∙ c.loop-register.invariant.size;
-  set = λ words s. set_next (resumed_register words c.args.hart) c.loop-register.registers c.loop-register.register c.resumed_register.result (omega (arith, c.loop-register.invariant.size, c.loop-register-test.true)) (c.resumed_register.ensures words s) (c.loop-register.invariant.set words s);
+  set =
+      λ words s. set_next (resumed_register words c.args.hart) c.loop-register.registers c.loop-register.register c.resumed_register.result
+      (omega (arith, c.loop-register.invariant.size, c.loop-register-test.true)) (c.resumed_register.ensures words s) (c.loop-register.invariant.set words s);
 }
 
 pub returns : goal.returns
-returns c = λ words s. all_set (resumed_register words c.args.hart) c.loop-register.registers 32 c.loop-register.invariant.size (λ i below. c.loop-register.invariant.set words s i (omega (arith, below, c.loop-register-test.false)))
+returns c =
+    λ words s. all_set (resumed_register words c.args.hart) c.loop-register.registers 32 c.loop-register.invariant.size
+    (λ i below. c.loop-register.invariant.set words s i (omega (arith, below, c.loop-register-test.false)))

@@ -1,6 +1,6 @@
 use Rattle.std.proofs.Common.{◌≡◌, ℕ, ◌<◌, List, get_or, length}
 use Rattle.ido_base.specs.Words.{Word}
-use Rattle.line_memory.specs.Stands.{Stands}
+use Rattle.line_memory.specs.links.Stands.{Stands}
 use Rattle.rv64_isa.specs.Machine.{resumed_register}
 use Rattle.resume_recovery.proofs.record.resumed_registers.Given as goal
 

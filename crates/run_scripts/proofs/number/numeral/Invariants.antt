@@ -6,4 +6,5 @@ use Rattle.run_scripts.proofs.number.numeral.Given as goal
 
 abbrev pub invariant-loop-digit : goal.invariant-loop-digit
 invariant-loop-digit l =
-    (l.number ≤ 4294967296) × (list_all is_digit (take l.digit-index l.text) ≡ true) × (l.number ≡ min (digits_value 10 (take l.digit-index l.text)) 4294967296) × (0 < length l.text)
+    (l.number ≤ 4294967296) × (list_all is_digit (take l.digit-index l.text) ≡ true) × (l.number ≡ min (digits_value 10 (take l.digit-index l.text)) 4294967296)
+    × (0 < length l.text)

@@ -25,24 +25,30 @@ loop-line-preserved g c =
     let none : Line = record { place = record { 0 = 0 }; command = Steps 0 0 } in
     let line = line_of (get_or shown i none) in
     let rest = map line_of (drop (i + 1) items) in
-    let front : map line_of (drop i items) ≡ line ∷ rest =
+    let prefix : map line_of (drop i items) ≡ line ∷ rest =
     ap (λ xs. map line_of (drop i xs)) (sym c.deref-line-items.ensures.value) ∙ at_drop_more (map line_of) shown i none c.loop-line-test.true
     ∙ ap (λ xs. line ∷ map line_of (drop (i + 1) xs)) c.deref-line-items.ensures.value in
-    let so_far : before ++ whole ≡ now ++ script_events b (played b opening now) (line ∷ rest) = inv.1 ∙ ap (λ ls. now ++ script_events b (played b opening now) ls) front in
+    let so_far : before ++ whole ≡ now ++ script_events b (played b opening now) (line ∷ rest) =
+    inv.1 ∙ ap (λ ls. now ++ script_events b (played b opening now) ls) prefix in
     let es = line_events b (played b opening now) line.command in
     let more : new ≡ now ++ take left es = c.play_line.ensures.history ∙ ap (λ o. now ++ take left (line_events b (played b o now) line.command)) inv.0 in
-    let fits : c.play_line.result ≡ nat_le (length es) left = c.play_line.ensures.all ∙ ap (λ o. nat_le (length (line_events b (played b o now) line.command)) left) inv.0 in
+    let fits : c.play_line.result ≡ nat_le (length es) left =
+    c.play_line.ensures.all ∙ ap (λ o. nat_le (length (line_events b (played b o now) line.command)) left) inv.0 in
     let all = sym fits ∙ c.if-not-play_line.false in
     let longer = ap length (all_made b opening before now new whole line rest left so_far more all) ∙ length-append now es in (
       c.play_line.ensures.opening ∙ inv.0,
       line_made b opening before now new whole line rest left so_far more all,
-      inv.2 ∙ ap (excess_at b (played b opening now) left) front
-          ∙ no_excess b opening before now new whole line rest left so_far more all (g.C.Core.space c.play_line.new.core - (c.room-floor.result - 4000000)) (omega (arith, longer, c.play_line.ensures.room, c.play_line.ensures.floor, inv.4)),
+      inv.2 ∙ ap (excess_at b (played b opening now) left) prefix
+          ∙ no_excess b opening before now new whole line rest left so_far more all (g.C.Core.space c.play_line.new.core - (c.room-floor.result - 4000000))
+          (omega (arith, longer, c.play_line.ensures.room, c.play_line.ensures.floor, inv.4)),
       c.play_line.ensures.room ∙ inv.3,
       c.play_line.ensures.floor,
       inv.5,
       c.play_line.ensures.harts ∙ inv.6,
-      λ line mask. ((λ h. (inv.7 line mask).0 ((c.play_line.ensures.evictable line mask).0 h)), (λ h. (c.play_line.ensures.evictable line mask).1 ((inv.7 line mask).1 h))),
+      λ line mask. (
+        (λ h. (inv.7 line mask).0 ((c.play_line.ensures.evictable line mask).0 h)),
+        (λ h. (c.play_line.ensures.evictable line mask).1 ((inv.7 line mask).1 h)),
+      ),
     )
 
 pub returns-then-not-play_line-clause-events : goal.returns-then-not-play_line-clause-events
@@ -61,13 +67,15 @@ returns-then-not-play_line-clause-events g c =
     let none : Line = record { place = record { 0 = 0 }; command = Steps 0 0 } in
     let line = line_of (get_or shown i none) in
     let rest = map line_of (drop (i + 1) items) in
-    let front : map line_of (drop i items) ≡ line ∷ rest =
+    let prefix : map line_of (drop i items) ≡ line ∷ rest =
     ap (λ xs. map line_of (drop i xs)) (sym c.deref-line-items.ensures.value) ∙ at_drop_more (map line_of) shown i none c.loop-line-test.true
     ∙ ap (λ xs. line ∷ map line_of (drop (i + 1) xs)) c.deref-line-items.ensures.value in
-    let so_far : before ++ whole ≡ now ++ script_events b (played b opening now) (line ∷ rest) = inv.1 ∙ ap (λ ls. now ++ script_events b (played b opening now) ls) front in
+    let so_far : before ++ whole ≡ now ++ script_events b (played b opening now) (line ∷ rest) =
+    inv.1 ∙ ap (λ ls. now ++ script_events b (played b opening now) ls) prefix in
     let es = line_events b (played b opening now) line.command in
     let more : new ≡ now ++ take left es = c.play_line.ensures.history ∙ ap (λ o. now ++ take left (line_events b (played b o now) line.command)) inv.0 in
-    let fits : c.play_line.result ≡ nat_le (length es) left = c.play_line.ensures.all ∙ ap (λ o. nat_le (length (line_events b (played b o now) line.command)) left) inv.0 in
+    let fits : c.play_line.result ≡ nat_le (length es) left =
+    c.play_line.ensures.all ∙ ap (λ o. nat_le (length (line_events b (played b o now) line.command)) left) inv.0 in
     excess_left b opening before now new whole line rest left so_far more (sym fits ∙ c.if-not-play_line.true) 4000000 (omega (arith, inv.3, inv.4, inv.5))
 
 pub returns-clause-events : goal.returns-clause-events
@@ -80,4 +88,5 @@ returns-clause-events g c =
     let inv = c.loop-line.invariant in
     let whole = script_events b (played b opening before) (map line_of items) in
     let none = nothing_left c.deref-line-items.result.now items c.loop-line.line-index c.deref-line-items.ensures.value c.loop-line-test.false in
-    cuts.whole before now whole 4000000 (inv.1 ∙ ap (λ ls. now ++ script_events b (played b opening now) ls) none ∙ append-nil now) (omega (arith, inv.3, inv.4, inv.5))
+    cuts.whole before now whole 4000000 (inv.1 ∙ ap (λ ls. now ++ script_events b (played b opening now) ls) none ∙ append-nil now)
+    (omega (arith, inv.3, inv.4, inv.5))

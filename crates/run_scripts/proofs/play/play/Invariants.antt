@@ -13,8 +13,10 @@ invariant-loop-line g l =
     let now = g.C.Core.history l.core in
     let lines = l.script.lines.items in
     (g.C.Core.opening l.core ≡ opening)
-    × (before ++ script_events b (played b opening before) (map line_of lines) ≡ now ++ script_events b (played b opening now) (map line_of (drop l.line-index lines)))
-    × (excess_at b (played b opening before) 4000000 (map line_of lines) ≡ excess_at b (played b opening now) (g.C.Core.space l.core - l.floor) (map line_of (drop l.line-index lines)))
+    × (before ++ script_events b (played b opening before) (map line_of lines)
+    ≡ now ++ script_events b (played b opening now) (map line_of (drop l.line-index lines)))
+    × (excess_at b (played b opening before) 4000000 (map line_of lines)
+    ≡ excess_at b (played b opening now) (g.C.Core.space l.core - l.floor) (map line_of (drop l.line-index lines)))
     × (g.C.Core.space l.core + length now ≡ g.C.Core.space l.initial.core + length before)
     × (l.floor ≤ g.C.Core.space l.core)
     × (l.floor + 4000000 ≡ g.C.Core.space l.initial.core)

@@ -15,7 +15,8 @@ returns-then-stopped-clause-history g c =
     let now = g.C.Core.history c.loop.core in
     let left = g.C.Core.space c.args.core.now - c.args.floor in
     let inv = c.loop.invariant in
-    let stopped : b.is_stopped (played b opening now) c.args.hart ≡ true = sym (c.stopped.ensures ∙ ap (λ o. b.is_stopped (played b o now) c.args.hart) inv.0) ∙ c.if-stopped.true in
+    let stopped : b.is_stopped (played b opening now) c.args.hart ≡ true =
+    sym (c.stopped.ensures ∙ ap (λ o. b.is_stopped (played b o now) c.args.hart) inv.0) ∙ c.if-stopped.true in
     let made = s.stops b t c.args.hart opening before 65536 left now c.loop.counter inv.1 c.loop-test.true stopped in
     whole before now _ left made (omega (arith, inv.3, inv.4, c.requires.floor))
 
@@ -40,12 +41,14 @@ returns-then-times_reached-before-clause-history g c =
     let now = g.C.Core.history c.loop.core in
     let left = g.C.Core.space c.args.core.now - c.args.floor in
     let inv = c.loop.invariant in
-    let going : b.is_stopped (played b opening now) c.args.hart ≡ false = sym (c.stopped.ensures ∙ ap (λ o. b.is_stopped (played b o now) c.args.hart) inv.0) ∙ c.if-stopped.false in
+    let going : b.is_stopped (played b opening now) c.args.hart ≡ false =
+    sym (c.stopped.ensures ∙ ap (λ o. b.is_stopped (played b o now) c.args.hart) inv.0) ∙ c.if-stopped.false in
     let new = g.C.Core.history c.event.new.self in
     let opens : g.C.Core.opening c.event.new.self ≡ opening = c.event.ensures.opening ∙ inv.0 in
     let count : c.times_reached.result ≡ passed_count b t opening new = c.times_reached.ensures ∙ ap (λ o. passed_count b t o new) opens in
     let longer : length new ≡ length now + 1 = ap length c.event.ensures.history ∙ length-append now _ in
-    let reached = s.passes b t c.args.hart opening now new (Step c.args.hart) c.times_reached-before.result c.event.ensures.history (inv.2 ∙ sym c.times_reached-before.ensures) (omega (arith, count, c.if-times_reached-before.true)) in
+    let reached = s.passes b t c.args.hart opening now new (Step c.args.hart) c.times_reached-before.result c.event.ensures.history
+    (inv.2 ∙ sym c.times_reached-before.ensures) (omega (arith, count, c.if-times_reached-before.true)) in
     let made = s.reaches_it b t c.args.hart opening before 65536 left now c.loop.counter inv.1 new c.loop-test.true going reached c.event.ensures.history in
     whole before new _ left made (omega (arith, inv.3, inv.4, longer, c.event.ensures.room, c.room.ensures, c.if-room-floor.false, c.requires.floor))
 
@@ -58,7 +61,8 @@ returns-then-stopped-clause-all g c =
     let now = g.C.Core.history c.loop.core in
     let left = g.C.Core.space c.args.core.now - c.args.floor in
     let inv = c.loop.invariant in
-    let stopped : b.is_stopped (played b opening now) c.args.hart ≡ true = sym (c.stopped.ensures ∙ ap (λ o. b.is_stopped (played b o now) c.args.hart) inv.0) ∙ c.if-stopped.true in
+    let stopped : b.is_stopped (played b opening now) c.args.hart ≡ true =
+    sym (c.stopped.ensures ∙ ap (λ o. b.is_stopped (played b o now) c.args.hart) inv.0) ∙ c.if-stopped.true in
     let made = s.stops b t c.args.hart opening before 65536 left now c.loop.counter inv.1 c.loop-test.true stopped in
     sym (whole_fits before now _ left made (omega (arith, inv.3, inv.4, c.requires.floor)))
 
@@ -83,12 +87,14 @@ returns-then-times_reached-before-clause-all g c =
     let now = g.C.Core.history c.loop.core in
     let left = g.C.Core.space c.args.core.now - c.args.floor in
     let inv = c.loop.invariant in
-    let going : b.is_stopped (played b opening now) c.args.hart ≡ false = sym (c.stopped.ensures ∙ ap (λ o. b.is_stopped (played b o now) c.args.hart) inv.0) ∙ c.if-stopped.false in
+    let going : b.is_stopped (played b opening now) c.args.hart ≡ false =
+    sym (c.stopped.ensures ∙ ap (λ o. b.is_stopped (played b o now) c.args.hart) inv.0) ∙ c.if-stopped.false in
     let new = g.C.Core.history c.event.new.self in
     let opens : g.C.Core.opening c.event.new.self ≡ opening = c.event.ensures.opening ∙ inv.0 in
     let count : c.times_reached.result ≡ passed_count b t opening new = c.times_reached.ensures ∙ ap (λ o. passed_count b t o new) opens in
     let longer : length new ≡ length now + 1 = ap length c.event.ensures.history ∙ length-append now _ in
-    let reached = s.passes b t c.args.hart opening now new (Step c.args.hart) c.times_reached-before.result c.event.ensures.history (inv.2 ∙ sym c.times_reached-before.ensures) (omega (arith, count, c.if-times_reached-before.true)) in
+    let reached = s.passes b t c.args.hart opening now new (Step c.args.hart) c.times_reached-before.result c.event.ensures.history
+    (inv.2 ∙ sym c.times_reached-before.ensures) (omega (arith, count, c.if-times_reached-before.true)) in
     let made = s.reaches_it b t c.args.hart opening before 65536 left now c.loop.counter inv.1 new c.loop-test.true going reached c.event.ensures.history in
     sym (whole_fits before new _ left made (omega (arith, inv.3, inv.4, longer, c.event.ensures.room, c.room.ensures, c.if-room-floor.false, c.requires.floor)))
 
@@ -101,8 +107,10 @@ returns-then-room-floor-clause-history g c =
     let now = g.C.Core.history c.loop.core in
     let left = g.C.Core.space c.args.core.now - c.args.floor in
     let inv = c.loop.invariant in
-    let going : b.is_stopped (played b opening now) c.args.hart ≡ false = sym (c.stopped.ensures ∙ ap (λ o. b.is_stopped (played b o now) c.args.hart) inv.0) ∙ c.if-stopped.false in
-    (s.is_cut b t c.args.hart opening before 65536 left now c.loop.counter inv.1 c.loop-test.true going (omega (arith, inv.3, c.room.ensures, c.if-room-floor.true, c.requires.floor))).0
+    let going : b.is_stopped (played b opening now) c.args.hart ≡ false =
+    sym (c.stopped.ensures ∙ ap (λ o. b.is_stopped (played b o now) c.args.hart) inv.0) ∙ c.if-stopped.false in
+    (s.is_cut b t c.args.hart opening before 65536 left now c.loop.counter inv.1 c.loop-test.true going
+    (omega (arith, inv.3, c.room.ensures, c.if-room-floor.true, c.requires.floor))).0
 
 pub returns-then-room-floor-clause-all : goal.returns-then-room-floor-clause-all
 returns-then-room-floor-clause-all g c =
@@ -113,8 +121,10 @@ returns-then-room-floor-clause-all g c =
     let now = g.C.Core.history c.loop.core in
     let left = g.C.Core.space c.args.core.now - c.args.floor in
     let inv = c.loop.invariant in
-    let going : b.is_stopped (played b opening now) c.args.hart ≡ false = sym (c.stopped.ensures ∙ ap (λ o. b.is_stopped (played b o now) c.args.hart) inv.0) ∙ c.if-stopped.false in
-    sym (s.is_cut b t c.args.hart opening before 65536 left now c.loop.counter inv.1 c.loop-test.true going (omega (arith, inv.3, c.room.ensures, c.if-room-floor.true, c.requires.floor))).1
+    let going : b.is_stopped (played b opening now) c.args.hart ≡ false =
+    sym (c.stopped.ensures ∙ ap (λ o. b.is_stopped (played b o now) c.args.hart) inv.0) ∙ c.if-stopped.false in
+    sym (s.is_cut b t c.args.hart opening before 65536 left now c.loop.counter inv.1 c.loop-test.true going
+    (omega (arith, inv.3, c.room.ensures, c.if-room-floor.true, c.requires.floor))).1
 
 pub loop-preserved : goal.loop-preserved
 loop-preserved g c =
@@ -125,17 +135,22 @@ loop-preserved g c =
     let now = g.C.Core.history c.loop.core in
     let left = g.C.Core.space c.args.core.now - c.args.floor in
     let inv = c.loop.invariant in
-    let going : b.is_stopped (played b opening now) c.args.hart ≡ false = sym (c.stopped.ensures ∙ ap (λ o. b.is_stopped (played b o now) c.args.hart) inv.0) ∙ c.if-stopped.false in
+    let going : b.is_stopped (played b opening now) c.args.hart ≡ false =
+    sym (c.stopped.ensures ∙ ap (λ o. b.is_stopped (played b o now) c.args.hart) inv.0) ∙ c.if-stopped.false in
     let new = g.C.Core.history c.event.new.self in
     let opens : g.C.Core.opening c.event.new.self ≡ opening = c.event.ensures.opening ∙ inv.0 in
     let count : c.times_reached.result ≡ passed_count b t opening new = c.times_reached.ensures ∙ ap (λ o. passed_count b t o new) opens in
     let longer : length new ≡ length now + 1 = ap length c.event.ensures.history ∙ length-append now _ in
-    let missed = s.fails b t c.args.hart opening now new (Step c.args.hart) c.times_reached-before.result c.event.ensures.history (inv.2 ∙ sym c.times_reached-before.ensures) (omega (arith, count, c.if-times_reached-before.false)) in (
+    let missed = s.fails b t c.args.hart opening now new (Step c.args.hart) c.times_reached-before.result c.event.ensures.history
+    (inv.2 ∙ sym c.times_reached-before.ensures) (omega (arith, count, c.if-times_reached-before.false)) in (
       opens,
       s.goes_on b t c.args.hart opening before 65536 left now c.loop.counter inv.1 new c.loop-test.true going missed.0 c.event.ensures.history,
       missed.1 ∙ c.times_reached-before.ensures,
       omega (arith, inv.3, longer, c.event.ensures.room),
       omega (arith, inv.4, c.event.ensures.room, c.room.ensures, c.if-room-floor.false),
       c.event.ensures.harts ∙ inv.5,
-      λ line mask. ((λ h. (inv.6 line mask).0 ((c.event.ensures.evictable line mask).0 h)), (λ h. (c.event.ensures.evictable line mask).1 ((inv.6 line mask).1 h))),
+      λ line mask. (
+        (λ h. (inv.6 line mask).0 ((c.event.ensures.evictable line mask).0 h)),
+        (λ h. (c.event.ensures.evictable line mask).1 ((inv.6 line mask).1 h)),
+      ),
     )

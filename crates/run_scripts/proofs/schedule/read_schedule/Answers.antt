@@ -2,7 +2,7 @@ use Rattle.std.proofs.Common.{◌≡◌, ◌+◌, ◌++◌, ◌∷◌, ℕ, List
 use Rattle.std.proofs.lemmas.List.{length-replicate}
 use Rattle.run_scripts.specs.Pieces.{Piece, words_at}
 use Rattle.run_scripts.specs.Schedules.{read, steps_from, before_steps}
-use Rattle.run_scripts.specs.WordLengths.{behind_steps}
+use Rattle.run_scripts.specs.links.WordLengths.{behind_steps}
 use Rattle.run_scripts.proofs.Steps.{behind_none, goes_on}
 use Rattle.run_scripts.proofs.schedule.read_schedule.Goals as goal
 
@@ -29,7 +29,8 @@ loop-at-preserved c =
     let w : Piece = record { place = at; bytes = c.piece_at-word.result.now } in
     let Runs : ℕ → Type 0 = λ n. (ws : List Piece) → steps_from n (w ∷ ws) ≡ before_steps run.thread run.count (steps_from (n + run.count) ws) in
     let count : c.len.result ≡ length done = omega (arith, c.len.ensures, c.loop-at.steps.ok.0) in
-    let longer : length new ≡ length done + run.count = ap length added ∙ length-append done (replicate run.count run.thread) ∙ ap (λ n. length done + n) (length-replicate run.count run.thread) in (
+    let longer : length new ≡ length done + run.count =
+    ap length added ∙ length-append done (replicate run.count run.thread) ∙ ap (λ n. length done + n) (length-replicate run.count run.thread) in (
       goes_on text done new (read text) at run.thread run.count (at + length c.piece_at-word.result.now) next w
           c.loop-at.invariant.0 c.piece_at-word.ensures.piece (subst Runs count c.in_ok-run.ensures.run) c.next_piece-at.ensures.pieces added longer,
       c.next_piece-at.ensures.bound,

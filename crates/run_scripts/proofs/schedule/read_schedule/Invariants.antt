@@ -1,7 +1,7 @@
 use Rattle.std.proofs.Common.{◌≡◌, ◌-◌, ◌<◌, ◌≤◌, length, drop, false}
 use Rattle.run_scripts.specs.Pieces.{begins_gap, words_at}
 use Rattle.run_scripts.specs.Schedules.{steps_from, read}
-use Rattle.run_scripts.specs.WordLengths.{behind_steps}
+use Rattle.run_scripts.specs.links.WordLengths.{behind_steps}
 use Rattle.run_scripts.proofs.schedule.read_schedule.Given as goal
 
 abbrev pub invariant-loop-at : goal.invariant-loop-at

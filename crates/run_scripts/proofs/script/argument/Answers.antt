@@ -5,8 +5,12 @@ use Rattle.run_scripts.proofs.script.argument.Goals as goal
 
 pub returns-then-line-at-eq32-clause-number : goal.returns-then-line-at-eq32-clause-number
 returns-then-line-at-eq32-clause-number c =
-    behind_space c.number.result _ _ (λ x h. λ behind. argument_number (rule_of c.args.rule) c.args.line.now c.args.place c.args.at behind c.if-at-line.true c.if-line-at-eq32.true ∙ h behind) c.number.ensures.number
+    behind_space c.number.result _ _ (λ x h. λ behind.
+    argument_number (rule_of c.args.rule) c.args.line.now c.args.place c.args.at behind c.if-at-line.true c.if-line-at-eq32.true ∙ h behind)
+    c.number.ensures.number
 
 pub returns-then-line-at-eq32-clause-refused : goal.returns-then-line-at-eq32-clause-refused
 returns-then-line-at-eq32-clause-refused c =
-    behind_space_err c.number.result _ _ (λ x h. λ behind. argument_number (rule_of c.args.rule) c.args.line.now c.args.place c.args.at behind c.if-at-line.true c.if-line-at-eq32.true ∙ h behind) c.number.ensures.refused
+    behind_space_err c.number.result _ _
+    (λ x h. λ behind. argument_number (rule_of c.args.rule) c.args.line.now c.args.place c.args.at behind c.if-at-line.true c.if-line-at-eq32.true ∙ h behind)
+    c.number.ensures.refused

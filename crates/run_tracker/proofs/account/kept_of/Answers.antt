@@ -5,12 +5,14 @@ use Rattle.run_tracker.proofs.account.kept_of.Goals as goal
 
 pub returns-then-store-durable-clause-steps : goal.returns-then-store-durable-clause-steps
 returns-then-store-durable-clause-steps c =
-    let none = stops_steps c.args.stores.now c.args.hart c.args.durable c.loop-at.at c.loop-at-test.true c.if-store-hart.true c.loop-at.invariant.ascending c.if-store-durable.true in
+    let none = stops_steps c.args.stores.now c.args.hart c.args.durable c.loop-at.at c.loop-at-test.true c.if-store-hart.true c.loop-at.invariant.ascending
+    c.if-store-durable.true in
     omega (arith, none, c.loop-at.invariant.steps)
 
 pub returns-then-store-durable-clause-rest : goal.returns-then-store-durable-clause-rest
 returns-then-store-durable-clause-rest c =
-    sym (stops_later c.args.stores.now c.args.hart c.args.durable c.loop-at.at c.loop-at-test.true c.if-store-hart.true c.loop-at.invariant.ascending c.if-store-durable.true) ∙ c.loop-at.invariant.rest
+    sym (stops_later c.args.stores.now c.args.hart c.args.durable c.loop-at.at c.loop-at-test.true c.if-store-hart.true c.loop-at.invariant.ascending
+    c.if-store-durable.true) ∙ c.loop-at.invariant.rest
 
 pub overflow_add-steps : goal.overflow_add-steps
 overflow_add-steps c =

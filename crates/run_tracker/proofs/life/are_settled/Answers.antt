@@ -22,4 +22,6 @@ unsettled_one w h (suc n) below e = by_place (cases_lt h n) (λ before. unsettle
 pub returns-then-not-is_settled_hart : goal.returns-then-not-is_settled_hart
 returns-then-not-is_settled_hart c = λ w stands.
     let machine = c.args.machine.now in
-    sym (unsettled_one w c.loop-hart.hart (length w.harts) (omega (arith, stands.standing.count, machine.sized, machine.harts.ok.0, c.harts-hart-end.ensures, c.loop-hart-test.true)) (sym (c.is_settled_hart.ensures w stands) ∙ c.if-not-is_settled_hart.true))
+    sym (unsettled_one w c.loop-hart.hart (length w.harts)
+    (omega (arith, stands.standing.count, machine.sized, machine.harts.ok.0, c.harts-hart-end.ensures, c.loop-hart-test.true))
+    (sym (c.is_settled_hart.ensures w stands) ∙ c.if-not-is_settled_hart.true))

@@ -12,7 +12,8 @@ loop-at-preserved c =
     record {
       items = λ w stands.
           let place : 8 * ((from + at) / 8) + (from + at) % 8 ≡ from + at = omega arith in
-          let value : c.durable_word.result ≡ durable_value (word_at w.words (from + at)) = c.durable_word.ensures w stands ∙ ap (λ (i : ℕ). durable_value (word_at w.words i)) place in
+          let value : c.durable_word.result ≡ durable_value (word_at w.words (from + at)) =
+          c.durable_word.ensures w stands ∙ ap (λ (i : ℕ). durable_value (word_at w.words i)) place in
           c.push_reserved.ensures.items ∙ ap (λ (xs : List ℕ). xs ++ c.durable_word.result ∷ []) (c.loop-at.invariant.items w stands)
           ∙ append_assoc before (durable_from w.words from at) (c.durable_word.result ∷ [])
           ∙ ap (λ (x : ℕ). before ++ (durable_from w.words from at ++ x ∷ [])) value

@@ -11,7 +11,7 @@ keep_all-requires-clause-at c =
     let has = c.requires.at in
     record {
       world = after_event (program_in c.args.machine.now) has.world (Evict c.args.line c.args.mask);
-      at = (c.event-reply.ensures.world has.world has.at).stands;
+      at = (c.evict-reply.ensures.world has.world has.at).stands;
       steps = has.steps;
       stands = has.stands;
       ascending = has.ascending;
@@ -23,6 +23,6 @@ pub returns-clause-steps : goal.returns-clause-steps
 returns-clause-steps c = λ marks w s m a.
     let program = program_in c.args.machine.now in
     let next : World = after_event program w (Evict c.args.line c.args.mask) in
-    let after = c.event-reply.ensures.world w m in
+    let after = c.evict-reply.ensures.world w m in
     subst (AccountStands c.keep_all.new.account) (eviction_is marks program w c.args.line c.args.mask s (length c.args.account.now.harts.items) (sym a.count))
     (c.keep_all.ensures.stands next s after.stands a)

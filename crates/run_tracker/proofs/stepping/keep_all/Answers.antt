@@ -19,11 +19,14 @@ loop-hart-preserved c =
     let within : h < length before.harts.items = omega (arith, inv.harts, c.requires.harts, c.loop-hart-test.true, c.harts-hart-end.ensures) in
     let durable : (w : World) → MachineStands machine w → c.durable_position.result ≡ (word_at w.words (point_word h)).durable =
     λ (w : World) (m : MachineStands machine w). c.durable_position.ensures w m ∙ ap (λ (n : ℕ). (word_at w.words n).durable) (sym (point_place h)) in
-    let kept : AccountStands c.keep.new.self (with_kept has.world.words h has.steps) = c.keep.ensures.stands has.world.words has.steps (durable has.world has.at) has.stands in
+    let kept : AccountStands c.keep.new.self (with_kept has.world.words h has.steps) =
+    c.keep.ensures.stands has.world.words has.steps (durable has.world has.at) has.stands in
     record {
       harts = omega (arith, kept.count, has.stands.count, harts-kept has.world.words h has.steps, inv.harts);
       stores = c.keep.ensures.stores ∙ inv.stores;
       capacity = c.keep.ensures.capacity ∙ inv.capacity;
       at = has_later machine before h has within c.keep.new.self kept c.keep.ensures.capacity;
-      stands = λ w s m a. subst (λ (k : ℕ). AccountStands c.keep.new.self (with_all_kept w.words k s)) (sym (add-one h)) (c.keep.ensures.stands w.words (with_all_kept w.words h s) (durable w m) (inv.stands w s m a));
+      stands =
+          λ w s m a. subst (λ (k : ℕ). AccountStands c.keep.new.self (with_all_kept w.words k s)) (sym (add-one h))
+          (c.keep.ensures.stands w.words (with_all_kept w.words h s) (durable w m) (inv.stands w s m a));
     }

@@ -5,4 +5,6 @@ use Rattle.rv64_link.specs.links.Layout.{number_at}
 use Rattle.rv64_link.proofs.thread.resumes.Given as goal
 
 abbrev pub invariant-loop-position : goal.invariant-loop-position
-invariant-loop-position l = l.resumes.items ++ map (λ p. code_base + 4 * number_at l.numbers p) (positions_from l.position is_resume (drop l.position l.items)) ≡ map (λ p. code_base + 4 * number_at l.numbers p) (positions_from 0 is_resume l.items)
+invariant-loop-position l =
+    l.resumes.items ++ map (λ p. code_base + 4 * number_at l.numbers p) (positions_from l.position is_resume (drop l.position l.items))
+    ≡ map (λ p. code_base + 4 * number_at l.numbers p) (positions_from 0 is_resume l.items)

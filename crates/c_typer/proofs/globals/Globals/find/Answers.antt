@@ -1,6 +1,6 @@
 use Rattle.std.proofs.Common.{◌∙◌, ℕ, Some, get_or, ap, sym, arith}
 use Rattle.std.specs.Option.{option_map}
-use Rattle.c_typer.specs.Scopes.{global_of}
+use Rattle.c_typer.specs.links.Scopes.{global_of}
 use Rattle.c_typer.proofs.Lookups.{first_found, first_missing, first_within}
 use Rattle.c_typer.proofs.globals.Globals.find.Goals as goal
 
@@ -11,7 +11,8 @@ returns-in_err-first c =
 
 pub index-requires : goal.index-requires
 index-requires c =
-    let within = first_within c.args.name.now c.args.self.now.declared.items c.in_ok-first.first (sym (c.args.self.now.placed c.args.name.now) ∙ sym c.get.ensures ∙ c.in_ok-first.was) in
+    let within = first_within c.args.name.now c.args.self.now.declared.items c.in_ok-first.first
+    (sym (c.args.self.now.placed c.args.name.now) ∙ sym c.get.ensures ∙ c.in_ok-first.was) in
     omega (arith, within, c.args.self.now.declared.ok)
 
 pub returns : goal.returns

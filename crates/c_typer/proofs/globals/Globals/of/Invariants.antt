@@ -1,9 +1,9 @@
 use Rattle.std.proofs.Common.{◌≡◌, ◌++◌, ℕ, List, map, drop}
 use Rattle.c_tree.specs.Names as n
 use Rattle.c_tree.specs.Views.{item_of}
-use Rattle.c_typer.specs.Declarations.{names_declared}
-use Rattle.c_typer.specs.Places.{place_of, first_place}
-use Rattle.c_typer.specs.Scopes.{counts_of, global_of}
+use Rattle.c_typer.specs.links.Declarations.{names_declared}
+use Rattle.c_typer.specs.links.Places.{place_of, first_place}
+use Rattle.c_typer.specs.links.Scopes.{counts_of, global_of}
 use Rattle.c_typer.proofs.globals.Globals.of.Given as goal
 
 abbrev pub invariant-loop-item : goal.invariant-loop-item

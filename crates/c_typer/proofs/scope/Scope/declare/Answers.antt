@@ -1,6 +1,6 @@
 use Rattle.std.proofs.Common.{◌≡◌, ◌∙◌, ◌++◌, List, [], ◌∷◌, length, ap, sym, refl, arith, rules}
 use Rattle.std.specs.List.{each_same}
-use Rattle.c_typer.specs.Places.{place_of}
+use Rattle.c_typer.specs.links.Places.{place_of}
 use Rattle.c_typer.specs.declared.scope.Local.{Local}
 use Rattle.c_typer.proofs.Lookups.{placed_push, hidden_grow, declares}
 use Rattle.c_typer.proofs.scope.Scope.declare.Goals as goal
@@ -27,5 +27,7 @@ invariant_of-self-2-clause-hiding c =
 pub returns-clause-declared : goal.returns-clause-declared
 returns-clause-declared c =
     let local : Local = record { name = c.in_ok-text.text; number = c.in_ok-number.number; kind = c.args.kind; hidden = c.in_ok-hidden.hidden } in
-    declares c.args.self.now.known.items c.args.self.now.mark c.args.self.now.kinds.items local c.push_reserved.new.self.items c.push.new.self.items c.args.name.now.items c.args.kind
-    c.args.self.now.within (each_same _ _ c.in_ok-text.ensures.cases.0) (search rules) refl (c.push_reserved.ensures.items ∙ ap (λ (xs : List Local). xs ++ local ∷ []) c.reserve.ensures.items) (search rules)
+    declares c.args.self.now.known.items c.args.self.now.mark c.args.self.now.kinds.items local c.push_reserved.new.self.items c.push.new.self.items
+    c.args.name.now.items c.args.kind
+    c.args.self.now.within (each_same _ _ c.in_ok-text.ensures.cases.0) (search rules) refl
+    (c.push_reserved.ensures.items ∙ ap (λ (xs : List Local). xs ++ local ∷ []) c.reserve.ensures.items) (search rules)

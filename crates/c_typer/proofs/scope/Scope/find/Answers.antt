@@ -1,6 +1,6 @@
 use Rattle.std.proofs.Common.{◌∙◌, ℕ, Some, get_or, ap, sym, arith}
 use Rattle.std.specs.Option.{option_map}
-use Rattle.c_typer.specs.Scopes.{local_of}
+use Rattle.c_typer.specs.links.Scopes.{local_of}
 use Rattle.c_typer.proofs.Lookups.{last_found, last_missing, placed_within}
 use Rattle.c_typer.proofs.scope.Scope.find.Goals as goal
 
@@ -11,7 +11,8 @@ returns-in_err-place c =
 
 pub index-requires : goal.index-requires
 index-requires c =
-    let within = placed_within c.args.self.now.places c.args.self.now.known.items c.args.self.now.placed c.args.name.now c.in_ok-place.place (sym c.get.ensures ∙ c.in_ok-place.was) in
+    let within = placed_within c.args.self.now.places c.args.self.now.known.items c.args.self.now.placed c.args.name.now c.in_ok-place.place
+    (sym c.get.ensures ∙ c.in_ok-place.was) in
     omega (arith, within, c.args.self.now.known.ok)
 
 pub returns : goal.returns

@@ -38,4 +38,5 @@ returns-clause-has c local =
     let past : length added ≤ c.loop-i.i = omega (arith, c.loop-i-test.false) in
     let h : Has now local ↔ (Has old local ⊎ Has added local) =
     joined_all old added now c.loop-i.i c.loop-i.grows c.loop-i.invariant (omega (arith, past, c.requires, ap length own, ap length others)) past local in
-    subst (λ (xs : List ℕ). Has now local ↔ (Has xs local ⊎ Has c.args.other.now local)) own (subst (λ (ys : List ℕ). Has now local ↔ (Has old local ⊎ Has ys local)) others h)
+    subst (λ (xs : List ℕ). Has now local ↔ (Has xs local ⊎ Has c.args.other.now local)) own
+    (subst (λ (ys : List ℕ). Has now local ↔ (Has old local ⊎ Has ys local)) others h)

@@ -10,7 +10,8 @@ returns-in-Some c =
     let found = c.in-Some.ensures.lookup in
     let same : c.deref.result.now ≡ words = c.deref.ensures.value ∙ c.self.view_is in
     let lt : c.args.local / 64 < length words = omega (arith, found.3.0, c.word_of.ensures, ap length same) in
-    tested words c.args.local word (found.1 ∙ ap₂ (λ (ws : List ℕ) (k : ℕ). get_or ws k word) same c.word_of.ensures ∙ get_or_default words (c.args.local / 64) word 0 lt)
+    tested words c.args.local word (found.1 ∙ ap₂ (λ (ws : List ℕ) (k : ℕ). get_or ws k word) same c.word_of.ensures
+    ∙ get_or_default words (c.args.local / 64) word 0 lt)
 
 pub returns-in-None : goal.returns-in-None
 returns-in-None c =

@@ -11,7 +11,9 @@ returns-clause-has c other =
     let old = c.index_mut.result.now in
     let view : words ≡ c.args.self.now = c.self.view_is in
     let lt : local / 64 < length words = omega (arith, c.requires, ap length view) in
-    let word : old ≡ get_or words (local / 64) 0 = c.index_mut.ensures.value ∙ ap (λ (k : ℕ). get_or words k old) c.word_of.ensures ∙ get_or_default words (local / 64) old 0 lt in
+    let word : old ≡ get_or words (local / 64) 0 =
+    c.index_mut.ensures.value ∙ ap (λ (k : ℕ). get_or words k old) c.word_of.ensures ∙ get_or_default words (local / 64) old 0 lt in
     let P : ℕ → ℕ → List ℕ → Type 0 = λ k w now. Has (set words k (with_bit w local)) other ↔ (Has now other ⊎ (other ≡ local)) in
     let h : P (local / 64) (get_or words (local / 64) 0) words = inserted words local other lt in
-    subst (λ (k : ℕ). P k old c.args.self.now) (sym c.word_of.ensures) (subst (λ (w : ℕ). P (local / 64) w c.args.self.now) (sym word) (subst (λ (now : List ℕ). P (local / 64) (get_or words (local / 64) 0) now) view h))
+    subst (λ (k : ℕ). P k old c.args.self.now) (sym c.word_of.ensures)
+    (subst (λ (w : ℕ). P (local / 64) w c.args.self.now) (sym word) (subst (λ (now : List ℕ). P (local / 64) (get_or words (local / 64) 0) now) view h))

@@ -1,6 +1,6 @@
 use Rattle.std.proofs.Common.{◌≡◌, length, map, take}
 use Rattle.flow_graph.specs.Actions.{walker_start}
-use Rattle.flow_machine.specs.Walkers.{walker_of}
+use Rattle.flow_machine.specs.links.Walkers.{walker_of}
 use Rattle.flow_machine.proofs.state.FlowState.start.Given as goal
 
 abbrev pub invariant-loop-part : goal.invariant-loop-part

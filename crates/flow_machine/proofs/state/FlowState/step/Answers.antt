@@ -2,9 +2,10 @@ use Rattle.std.proofs.Common.{◌≡◌, ℕ, ◌+◌, List, Option, ap, sym, su
 use Rattle.std.specs.Vec.{with_items}
 use Rattle.std.proofs.lemmas.List.{with_items_is}
 use Rattle.std.proofs.lemmas.Option.{slice_get_read}
-use Rattle.source_machine.specs.Sections.{AreCounted, ends}
+use Rattle.source_machine.specs.Sections.{AreCounted}
+use Rattle.source_machine.specs.links.Ends.{ends}
 use Rattle.flow_graph.specs.Nodes.{graph_of}
-use Rattle.flow_machine.specs.Walkers.{walker_of}
+use Rattle.flow_machine.specs.links.Walkers.{walker_of}
 use Rattle.flow_machine.specs.links.Hands.{hand, IsMade}
 use Rattle.flow_machine.proofs.Runs.{after_any}
 use Rattle.flow_machine.proofs.state.FlowState.step.Goals as goal

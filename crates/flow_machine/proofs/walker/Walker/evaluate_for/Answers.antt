@@ -7,7 +7,7 @@ use Rattle.c_tree.specs.Exprs.{expr_of, target_of, placed_of}
 use Rattle.source_machine.specs.Assignments.{Evaluates, assigning, pending_of, thread_with}
 use Rattle.flow_graph.specs.Nodes.{Eval}
 use Rattle.flow_graph.specs.Actions.{Walker, effect_of, effect_step, seen_by, with_walker}
-use Rattle.flow_machine.specs.Walkers.{walker_of}
+use Rattle.flow_machine.specs.links.Walkers.{walker_of}
 use Rattle.flow_machine.specs.links.Hands.{DoesEval, hand, state_in}
 use Rattle.flow_machine.proofs.Steps.{eval_made}
 use Rattle.flow_machine.proofs.walker.Walker.evaluate_for.Goals as goal

@@ -1,9 +1,9 @@
 use Rattle.std.proofs.Common.{◌≡◌, ap, sym, ℕ, List, Option, subst, refl, false, true}
-use Rattle.source_machine.specs.Sections.{ends}
+use Rattle.source_machine.specs.links.Ends.{ends}
 use Rattle.source_machine.proofs.Ends.{ends_taken, counted_same}
 use Rattle.source_machine.specs.declared.answers.Stepped.TheVariants.{Did, Waits}
 use Rattle.flow_graph.specs.Nodes.{graph_of, node_of, action_of}
-use Rattle.flow_machine.specs.Walkers.{walker_of}
+use Rattle.flow_machine.specs.links.Walkers.{walker_of}
 use Rattle.flow_machine.specs.links.Hands.{hand, IsMade}
 use Rattle.flow_machine.proofs.Steps.{node_read, lock_waits, unlock_made, end_made}
 use Rattle.flow_machine.proofs.walker.Walker.step.Goals as goal

@@ -1,6 +1,6 @@
 use Rattle.std.proofs.Common.{◌≡◌, ◌+◌, ◌*◌, ◌≤◌, map, take}
 use Rattle.rv64_isa.specs.Programs.{program_of, code_start}
-use Rattle.hart_core.specs.Objects.{AreStarts}
+use Rattle.hart_core.specs.links.Starts.{AreStarts}
 use Rattle.hart_core.proofs.program.Program.of.Given as goal
 
 abbrev pub invariant-loop-words : goal.invariant-loop-words

@@ -14,6 +14,8 @@ returns-clause-world c = λ w s.
     let long_phases : length c.set_phases.new.phases ≡ machine.phases.len = search rules in
     let count : length c.deref_mut-2.result.now ≡ length machine.program = search rules in
     crash_end machine.program (state_of machine) _ w
-    (subst (λ (harts : List Hart). AreFresh machine.program harts (length machine.program)) (sym (with_items_is machine.harts c.restart.new.harts long_harts)) c.restart.ensures)
-    (λ words stands. with_items_is machine.phases c.set_phases.new.phases long_phases ∙ c.set_phases.ensures.phases words stands ∙ ap (λ (n : ℕ). map (λ thread. phase_after_crash (durable_point words thread)) (numbers_from 0 n)) count)
+    (subst (λ (harts : List Hart). AreFresh machine.program harts (length machine.program)) (sym (with_items_is machine.harts c.restart.new.harts long_harts))
+    c.restart.ensures)
+    (λ words stands. with_items_is machine.phases c.set_phases.new.phases long_phases ∙ c.set_phases.ensures.phases words stands
+    ∙ ap (λ (n : ℕ). map (λ thread. phase_after_crash (durable_point words thread)) (numbers_from 0 n)) count)
     c.crash.ensures.stands c.clear.ensures refl s

@@ -1,5 +1,6 @@
 use Rattle.std.proofs.Common.{sym, ap, ◌∙◌}
-use Rattle.lock_discipline.specs.Masks.{mask_of, mask_of-held_of}
+use Rattle.lock_discipline.specs.Masks.{mask_of}
+use Rattle.lock_discipline.specs.links.Sets.{mask_of-held_of}
 use Rattle.lock_discipline.proofs.set.MutexSet.mask.Goals as goal
 
 pub returns : goal.returns

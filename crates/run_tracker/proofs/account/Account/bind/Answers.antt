@@ -7,8 +7,12 @@ use Rattle.run_tracker.proofs.account.Account.bind.Goals as goal
 pub returns-clause-stands : goal.returns-clause-stands
 returns-clause-stands c = λ s stands.
     let before = c.args.self.now in
-    let open_is : open_at before c.args.hart ≡ c.index.result.now = found before.harts.items c.args.hart nothing_open c.index.result.now c.requires.exists ∙ sym c.index.ensures in
-    let open_too : open_at before c.args.hart ≡ c.index_mut.result.now = found before.harts.items c.args.hart nothing_open c.index_mut.result.now c.requires.exists ∙ sym c.index_mut.ensures.value in
+    let open_is : open_at before c.args.hart ≡ c.index.result.now =
+    found before.harts.items c.args.hart nothing_open c.index.result.now c.requires.exists ∙ sym c.index.ensures in
+    let open_too : open_at before c.args.hart ≡ c.index_mut.result.now =
+    found before.harts.items c.args.hart nothing_open c.index_mut.result.now c.requires.exists ∙ sym c.index_mut.ensures.value in
     let was : open_at before c.args.hart ≡ record { free = c.index.result.now.free; first = c.index_mut.result.now.first } =
-    ap (λ (o : OpenSteps). record { free = o.free; first = (open_at before c.args.hart).first }) open_is ∙ ap (λ (o : OpenSteps). record { free = c.index.result.now.free; first = o.first }) open_too in
-    bound-stands before _ s c.args.hart c.args.position c.index.result.now.free c.index_mut.result.now.first stands c.requires.exists was refl c.push_reserved.ensures.items refl
+    ap (λ (o : OpenSteps). record { free = o.free; first = (open_at before c.args.hart).first }) open_is
+    ∙ ap (λ (o : OpenSteps). record { free = c.index.result.now.free; first = o.first }) open_too in
+    bound-stands before _ s c.args.hart c.args.position c.index.result.now.free c.index_mut.result.now.first stands c.requires.exists was refl
+    c.push_reserved.ensures.items refl

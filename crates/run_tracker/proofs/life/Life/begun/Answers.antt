@@ -8,7 +8,7 @@ use Rattle.rv64_isa.specs.Schedule.{first_steps, no_steps}
 use Rattle.ido_base.specs.Cores.{point_stores, finished_fences}
 use Rattle.ido_machine.specs.Machines.{MachineStands, program_in}
 use Rattle.run_tracker.specs.links.Accounts.{AccountStands, AreOpen, AreOrdered, weight}
-use Rattle.run_tracker.specs.links.MarkTables.{AreTables}
+use Rattle.run_tracker.specs.links.SignTables.{AreTables}
 use Rattle.run_tracker.specs.Lives.{Course, life_at, world_of, steps_in, living, opening_of}
 use Rattle.run_tracker.specs.links.Insides.{course_of, opening_by, AreCounts}
 use Rattle.run_tracker.proofs.Events.{weightless}
@@ -31,30 +31,55 @@ invariant_of-result c =
     let opening : List (List Slot) → World = λ p. opening_by p object.mutexes object.initial.items c.args.left in
     let before = c.args.before.now in
     let start : Course = life_at object marks (opening (program_of object)) before c.args.cap in
-    let is : start ≡ course_of (record { initial = c.in_ok-to_vec.field-0; mutexes = object.mutexes; addresses = c.in_ok-nodes_of.field-0; left = c.args.left; before = c.in_ok-to_vec-2.field-0; tables = c.in_ok-tables_of.field-0; machine = machine; account = account; journal = journal; points = c.in_ok-vec.field-0; fences = c.in_ok-vec-2.field-0; cap = c.args.cap }) = search rules in
+    let is : start ≡ course_of (record {
+      initial = c.in_ok-to_vec.field-0;
+      mutexes = object.mutexes;
+      addresses = c.in_ok-nodes_of.field-0;
+      left = c.args.left;
+      before = c.in_ok-to_vec-2.field-0;
+      tables = c.in_ok-tables_of.field-0;
+      machine = machine;
+      account = account;
+      journal = journal;
+      counts = c.in_ok-new-2.field-0;
+      cap = c.args.cap;
+    }) = search rules in
     let program_is : program_in machine ≡ program_of object = c.requires.program in
     let count : c.harts-harts.result ≡ length (program_of object) = c.harts-harts.ensures ∙ ap length program_is in
     let none_yet : length journal.items ≡ 0 = ap length c.in_ok-with_capacity.ensures.items in
-    let stands : AccountStands account (first_steps (length (program_of object)) before) = subst (λ (n : ℕ). AccountStands account (first_steps n before)) count c.in_ok-new.ensures.stands in
+    let stands : AccountStands account (first_steps (length (program_of object)) before) =
+    subst (λ (n : ℕ). AccountStands account (first_steps n before)) count c.in_ok-new.ensures.stands in
     let same_before : length c.in_ok-to_vec-2.field-0.items ≡ length before = search rules in
     let same_bytes : c.in_ok-to_vec.field-0.items ≡ object.initial.items = search rules in
-    let points : c.in_ok-vec.field-0.items ≡ replicate c.harts-harts.result 0 = search rules in
-    let fences : c.in_ok-vec-2.field-0.items ≡ replicate c.harts-harts.result 0 = search rules in
+    let counts = c.in_ok-new-2.field-0 in
+    let points = c.in_ok-new-2.ensures.points in
+    let fences = c.in_ok-new-2.ensures.fences in
     record {
       machine = subst (λ (x : Course). MachineStands machine (world_of x)) is c.requires.stands;
       sound = subst (λ (x : Course). IsSound (world_of x)) is c.requires.sound;
       events = c.requires.events ∙ sym none_yet;
-      tables = subst (λ (p : List (List Slot)). AreTables c.in_ok-tables_of.field-0.items p (map (λ a. a.items) c.in_ok-nodes_of.field-0.items)) (sym program_is)
+      tables =
+          subst (λ (p : List (List Slot)). AreTables c.in_ok-tables_of.field-0.items p (map (λ a. a.items) c.in_ok-nodes_of.field-0.items)) (sym program_is)
           (subst (AreTables c.in_ok-tables_of.field-0.items (program_of object)) (sym c.in_ok-nodes_of.ensures) c.in_ok-tables_of.ensures);
       account = subst (λ (x : Course). AccountStands account (steps_in x)) is stands;
       harts = sym stands.count ∙ length-replicate (length (program_of object)) no_steps ∙ ap length (sym program_is);
-      ordered = subst (λ (x : Course). AreOrdered (world_of x).words (steps_in x)) is (ordered-none (opening (program_of object)).words (first_steps (length (program_of object)) before) (length (program_of object)) refl);
-      are_open = subst (λ (x : Course). AreOpen (world_of x).words (steps_in x)) is (open-none (opening (program_of object)).words (first_steps (length (program_of object)) before) (length (program_of object)) refl);
-      light = subst (λ (x : Course). weight (steps_in x) ≤ length c.in_ok-to_vec-2.field-0.items + length journal.items) is (omega (arith, same_before, weightless (length (program_of object))));
-      points = subst (λ (x : Course). AreCounts c.in_ok-vec.field-0.items (length x.program) (point_stores living (opening_of x) x.journal)) is
-          (ap length points ∙ length-replicate c.harts-harts.result 0 ∙ count, λ h below. ap (λ (xs : List ℕ). get_or xs h 0) points ∙ each_is c.harts-harts.result h 0);
-      fences = subst (λ (x : Course). AreCounts c.in_ok-vec-2.field-0.items (length x.program) (finished_fences living (opening_of x) x.journal)) is
-          (ap length fences ∙ length-replicate c.harts-harts.result 0 ∙ count, λ h below. ap (λ (xs : List ℕ). get_or xs h 0) fences ∙ each_is c.harts-harts.result h 0);
+      ordered =
+          subst (λ (x : Course). AreOrdered (world_of x).words (steps_in x)) is
+          (ordered-none (opening (program_of object)).words (first_steps (length (program_of object)) before) (length (program_of object)) refl);
+      are_open =
+          subst (λ (x : Course). AreOpen (world_of x).words (steps_in x)) is
+          (open-none (opening (program_of object)).words (first_steps (length (program_of object)) before) (length (program_of object)) refl);
+      light =
+          subst (λ (x : Course). weight (steps_in x) ≤ length c.in_ok-to_vec-2.field-0.items + length journal.items) is
+          (omega (arith, same_before, weightless (length (program_of object))));
+      points = subst (λ (x : Course). AreCounts counts.points.items (length x.program) (point_stores living (opening_of x) x.journal)) is (
+        ap length points ∙ length-replicate c.harts-harts.result 0 ∙ count,
+        λ h below. ap (λ (xs : List ℕ). get_or xs h 0) points ∙ each_is c.harts-harts.result h 0,
+      );
+      fences = subst (λ (x : Course). AreCounts counts.fences.items (length x.program) (finished_fences living (opening_of x) x.journal)) is (
+        ap length fences ∙ length-replicate c.harts-harts.result 0 ∙ count,
+        λ h below. ap (λ (xs : List ℕ). get_or xs h 0) fences ∙ each_is c.harts-harts.result h 0,
+      );
       within = omega (arith, none_yet);
       few = omega (arith, c.requires.cap, same_before);
       bytes = omega (arith, c.requires.limits.bytes, ap length same_bytes);

@@ -1,6 +1,6 @@
 use Rattle.std.proofs.Common.{◌≡◌, ℕ, take}
 use Rattle.c_tree.specs.Source.{State}
-use Rattle.source_machine.specs.Runs.{Stands, threads_in}
+use Rattle.source_machine.specs.links.States.{Stands, threads_in}
 use Rattle.source_machine.proofs.Running.{Going}
 use Rattle.source_machine.proofs.state.SourceState.run.Given as goal
 

@@ -2,8 +2,9 @@ use Rattle.std.proofs.Common.{◌≡◌, ℕ, ◌+◌, List, Option, ap, sym, su
 use Rattle.std.specs.Vec.{with_items}
 use Rattle.std.proofs.lemmas.List.{with_items_is}
 use Rattle.std.proofs.lemmas.Option.{slice_get_read}
-use Rattle.source_machine.specs.Sections.{AreCounted, ends}
-use Rattle.source_machine.specs.links.Threads.{IsMade}
+use Rattle.source_machine.specs.Sections.{AreCounted}
+use Rattle.source_machine.specs.links.Ends.{ends}
+use Rattle.source_machine.specs.links.Threads.{IsMade, hand}
 use Rattle.source_machine.proofs.Running.{after_step}
 use Rattle.source_machine.proofs.state.SourceState.step.Goals as goal
 
@@ -22,11 +23,11 @@ returns-clause-after c = λ s ended st.
     (λ left threads l.
     let made = c.step.ensures.made left threads l in
     let P : List (Option ℕ) → Type 0 =
-    λ hs. IsMade c.index_mut-it.result.now c.step.new.self before.variables c.step.new.variables hs c.step.new.holders c.step.result
-    c.args.thread threads left in
+    λ hs. IsMade c.args.thread (hand c.index_mut-it.result.now before.variables hs) (hand c.step.new.self c.step.new.variables c.step.new.holders)
+    c.step.result threads left in
     let Q : List (Option ℕ) → Type 0 =
-    λ hs. IsMade c.index_mut-it.result.now c.step.new.self before.variables c.step.new.variables before.holders.items hs c.step.result
-    c.args.thread threads left in
+    λ hs. IsMade c.args.thread (hand c.index_mut-it.result.now before.variables before.holders.items) (hand c.step.new.self c.step.new.variables hs)
+    c.step.result threads left in
     subst Q (sym held') (subst P held made))
     (λ e h.
     let A : List ℕ → Type 0 = λ ss. AreCounted ss e in

@@ -11,8 +11,8 @@ use Rattle.ido_ints.specs.Typed.{Typed}
 use Rattle.source_machine.specs.declared.answers.Stepped.TheVariants.{Did, Waits}
 use Rattle.source_machine.specs.declared.thread.ThreadState.{ThreadState}
 use Rattle.source_machine.specs.Assignments.{Evaluates, assigning, pending_of, thread_with}
-use Rattle.source_machine.specs.Sections.{ends}
-use Rattle.source_machine.specs.links.Threads.{IsMade, model_of, state_in}
+use Rattle.source_machine.specs.links.Ends.{ends}
+use Rattle.source_machine.specs.links.Threads.{IsMade, hand, model_of, state_in}
 use Rattle.source_machine.proofs.Ends.{ends_taken, counted_same}
 use Rattle.source_machine.proofs.Steps.{node_read, end_over, end_made, never_made, unlock_made, lock_made, lock_waits, fails_made, holds_made, assign_made}
 use Rattle.source_machine.proofs.thread.ThreadState.step.Goals as goal
@@ -57,10 +57,8 @@ returns-after-is_zero-clause-made c =
     let g = node_read c.args.self.now.nodes.items _ c.args.self.now.at c.get.result c.in-Some-copied.node c.in-Some-copied.ensures c.get.ensures.lookup.0
     c.get.ensures.lookup.1 c.deref.ensures.value ∙ ap Some c.in-Test.is in
     λ left threads l.
-    let P : ℕ → Type 0 = λ at. IsMade c.args.self.now (record c.args.self.now {
-      at =
-          at;
-    }) c.args.variables.now c.args.variables.now c.args.holders.now c.args.holders.now Did c.args.number threads left in
+    let P : ℕ → Type 0 = λ at. IsMade c.args.number (hand c.args.self.now c.args.variables.now c.args.holders.now)
+    (hand (record c.args.self.now { at = at }) c.args.variables.now c.args.holders.now) Did threads left in
     let read : c.evaluate-condition.result ≡ value c.args.self.now.locals.items c.args.variables.now (expr_of c.in-Test.condition.now.expr) =
     c.evaluate-condition.ensures ∙ ap (λ (ls : List ℤ). value ls c.args.variables.now
     (expr_of c.in-Test.condition.now.expr)) c.deref-in-Test.ensures.value in
@@ -79,10 +77,8 @@ returns-then-take-clause-made c =
     c.get.ensures.lookup.1 c.deref.ensures.value ∙ ap Some c.in-Lock.is in
     let h = c.if-take.ensures in
     λ left threads l.
-    let P : List (Option ℕ) → Type 0 = λ hs. IsMade c.args.self.now (record c.args.self.now {
-      at =
-          c.in-Lock.next;
-    }) c.args.variables.now c.args.variables.now c.args.holders.now hs Did c.args.number threads left in
+    let P : List (Option ℕ) → Type 0 = λ hs. IsMade c.args.number (hand c.args.self.now c.args.variables.now c.args.holders.now)
+    (hand (record c.args.self.now { at = c.in-Lock.next }) c.args.variables.now hs) Did threads left in
     subst P (sym h.taken) (lock_made c.args.variables.now c.args.holders.now threads c.args.number c.args.self.now left c.in_default.is l c.in-Lock.mutex
     c.in-Lock.next g (h.free.0 refl))
 
@@ -100,8 +96,8 @@ returns-else-take-clause-made c =
     c.get.ensures.lookup.1 c.deref.ensures.value ∙ ap Some c.in-Lock.is in
     let h = c.if-take.ensures in
     λ left threads l.
-    let P : List (Option ℕ) → Type 0 = λ hs. IsMade c.args.self.now c.args.self.now c.args.variables.now c.args.variables.now c.args.holders.now hs
-    (Waits c.in-Lock.mutex) c.args.number threads left in
+    let P : List (Option ℕ) → Type 0 = λ hs. IsMade c.args.number (hand c.args.self.now c.args.variables.now c.args.holders.now)
+    (hand c.args.self.now c.args.variables.now hs) (Waits c.in-Lock.mutex) threads left in
     subst P (sym h.kept) (lock_waits c.args.variables.now c.args.holders.now threads c.args.number c.args.self.now left c.in_default.is l c.in-Lock.mutex
     c.in-Lock.next g (λ e. let f : false ≡ true = h.free.1 e in cc))
 
@@ -110,10 +106,8 @@ returns-in-Unlock-clause-made c =
     let g = node_read c.args.self.now.nodes.items _ c.args.self.now.at c.get.result c.in-Some-copied.node c.in-Some-copied.ensures c.get.ensures.lookup.0
     c.get.ensures.lookup.1 c.deref.ensures.value ∙ ap Some c.in-Unlock.is in
     λ left threads l.
-    let P : List (Option ℕ) → Type 0 = λ hs. IsMade c.args.self.now (record c.args.self.now {
-      at =
-          c.in-Unlock.next;
-    }) c.args.variables.now c.args.variables.now c.args.holders.now hs Did c.args.number threads left in
+    let P : List (Option ℕ) → Type 0 = λ hs. IsMade c.args.number (hand c.args.self.now c.args.variables.now c.args.holders.now)
+    (hand (record c.args.self.now { at = c.in-Unlock.next }) c.args.variables.now hs) Did threads left in
     subst P (sym c.release.ensures.holders)
     (unlock_made c.args.variables.now c.args.holders.now threads c.args.number c.args.self.now left c.in_default.is l c.in-Unlock.mutex c.in-Unlock.next g)
 

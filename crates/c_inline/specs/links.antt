@@ -1,0 +1,7 @@
+pub mod Calls
+pub mod Making
+pub mod Ranking
+pub mod Reaching
+pub mod Weighing
+pub mod Weights
+pub mod Faults

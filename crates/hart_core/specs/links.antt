@@ -1,0 +1,3 @@
+pub mod Harts
+pub mod Starts
+pub mod Refusals

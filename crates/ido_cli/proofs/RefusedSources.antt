@@ -1,0 +1,40 @@
+-- What is answered to a source that isn't compiled.
+use Rattle.std.proofs.Common.{◌≡◌, ℕ, List, ap, ◌∙◌, subst}
+use Rattle.std.specs.Prelude.{Err}
+use Rattle.ido_base.specs.declared.event.Event.{Event}
+use Rattle.flow_graph.specs.Refusals.{IsRefusedBy}
+use Rattle.compilation.specs.Translations.{Translation}
+use Rattle.ido_compile.specs.Compiling.{IsCompileAnswer}
+use Rattle.ido_compile.specs.links.Fronts.{IsFrontAnswer}
+use Rattle.ido_compile.specs.declared.error.CompileError.{CompileError}
+use Rattle.ido_compile.specs.declared.error.CompileError.TheVariants as error
+use Rattle.ido_cli.specs.Answers.{CompileAnswer, uncompiled, RegionsAnswer, uncut, ScriptedAnswer, unplayed, SourceAnswer, unaccepted}
+use Rattle.ido_cli.specs.Inputs.{source_of}
+use Rattle.ido_cli.specs.Refusals.{code_of, line_at}
+use Rattle.ido_cli.specs.links.Uncompiled.{TellsRefusal}
+
+pub compile_refused : (source : List ℕ) (found : CompileError) → IsCompileAnswer source (Err found) → (status : ℕ) (output : List ℕ) →
+    TellsRefusal found source status output → CompileAnswer source status output
+compile_refused source (error.Refused x) refused status output told = uncompiled x.rule x.place refused told
+compile_refused source error.Memory refused status output none = absurd none
+
+pub regions_refused : (source : List ℕ) (found : CompileError) → IsCompileAnswer source (Err found) → (status : ℕ) (output : List ℕ) →
+    TellsRefusal found source status output → RegionsAnswer source status output
+regions_refused source (error.Refused x) refused status output told = uncut x.rule x.place refused told
+regions_refused source error.Memory refused status output none = absurd none
+
+-- the source of an input
+module _ (source input : List ℕ) (is : source ≡ source_of input) where
+  pub run_refused : (found : CompileError) → IsFrontAnswer source (Err found) → (status : ℕ) (output : List ℕ) → TellsRefusal found source status output →
+      SourceAnswer input status output
+  run_refused (error.Refused x) refused status output (one, told) =
+      unaccepted x.rule x.place (subst (λ (text : List ℕ). IsRefusedBy text x.rule x.place) is refused)
+      (one, told ∙ ap (λ (text : List ℕ). line_at (code_of x.rule) text x.place.0) is)
+  run_refused error.Memory refused status output none = absurd none
+
+  pub script_refused : (Says : Translation → List Event → ℕ → List ℕ → Type 0) (found : CompileError) → IsCompileAnswer source (Err found) →
+      (status : ℕ) (output : List ℕ) → TellsRefusal found source status output → ScriptedAnswer Says input status output
+  script_refused Says (error.Refused x) refused status output (one, told) =
+      unplayed x.rule x.place (subst (λ (text : List ℕ). IsRefusedBy text x.rule x.place) is refused)
+      (one, told ∙ ap (λ (text : List ℕ). line_at (code_of x.rule) text x.place.0) is)
+  script_refused Says error.Memory refused status output none = absurd none

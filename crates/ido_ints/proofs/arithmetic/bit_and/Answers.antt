@@ -1,0 +1,16 @@
+-- Bit by bit, the low bits stand for themselves.
+use Rattle.std.proofs.Common.{◌∙◌, ap}
+use Rattle.std.specs.Prelude.{pos, bit_and}
+use Rattle.std.proofs.lemmas.Int.{to_z-of_z}
+use Rattle.ido_ints.specs.Typed.{typed, typed_reduced}
+use Rattle.ido_ints.proofs.LowBits.{reduced-bits_and}
+use Rattle.ido_ints.proofs.arithmetic.bit_and.Goals as goal
+
+pub returns : goal.returns
+returns c =
+    let f = c.ranges.x in
+    let g = c.ranges.y in
+    let k = c.args.range.kind in
+    let m = simp to_z-of_z at c.residue.ensures in
+    let n = simp to_z-of_z at c.residue-2.ensures in
+    c.value.ensures ∙ (λ i. typed_reduced k (pos (bit_and (m i) (n i)))) ∙ ap (typed k) (reduced-bits_and k c.args.x c.args.y)

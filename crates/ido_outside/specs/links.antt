@@ -1,0 +1,5 @@
+pub mod MemSink
+pub mod MemSource
+pub mod SureSink
+pub mod SureSource
+pub mod Gathering

@@ -1,0 +1,13 @@
+-- What the walk says where an error is told.
+use Rattle.std.specs.Prelude.{◌≡◌, IfSome, List}
+use Rattle.c_tree.specs.Locking.{Held, Walked, Broken}
+use Rattle.lock_discipline.specs.declared.error.LockError.{LockError}
+use Rattle.lock_discipline.specs.Faults.{fault_of}
+
+-- where it isn't want of memory, the walk breaks with its fault
+abbrev pub Refuses : Walked → LockError → Type 0
+Refuses w x = IfSome (fault_of x) (λ fault. w ≡ Broken fault)
+
+-- the same of a walk, whatever is behind its part
+abbrev pub RefusesAny : ((List Held → Walked) → Walked) → LockError → Type 0
+RefusesAny w x = IfSome (fault_of x) (λ fault. (behind : List Held → Walked) → w behind ≡ Broken fault)

@@ -1,0 +1,62 @@
+use Rattle.std.proofs.Common.{◌<◌, ◌==◌, not, refl, length, Some, ap, sym, subst, ◌∙◌, arith}
+use Rattle.ido_base.specs.declared.event.Reply.TheVariants.{Moved}
+use Rattle.ido_base.specs.declared.event.Event.TheVariants.{Step}
+use Rattle.rv64_isa.specs.Machine.{after_event}
+use Rattle.rv64_isa.specs.Schedule.{is_fence, is_point_store, finishes_fence, stores_point}
+use Rattle.ido_machine.specs.Machines.{program_in}
+use Rattle.ido_machine.proofs.Lists.{get_is}
+use Rattle.run_tracker.specs.declared.signs.Sign.{Sign}
+use Rattle.run_tracker.specs.links.Accounts.{AccountStands}
+use Rattle.run_tracker.proofs.Behind.{fence_done, in_table, mark_is, point_is}
+use Rattle.run_tracker.proofs.Counting.{completes-other, counted-one}
+use Rattle.run_tracker.proofs.Events.{begun_if, noted_is}
+use Rattle.run_tracker.proofs.stepping.complete.Goals as goal
+
+pub sign_at-sign-requires : goal.sign_at-sign-requires
+sign_at-sign-requires c =
+    let behind = c.requires.behind in
+    let within : c.args.hart < length c.args.tables.now = omega (arith, behind.stepped.tables_are.count, c.requires.exists) in
+    let place = in_table (program_in c.args.machine.now) c.args.tables.now behind.marks c.args.machine.now c.args.hart c.args.sight Moved behind.world
+    behind.stepped c.requires.running refl
+    c.index-tables-hart.result (get_is c.args.tables.now c.args.hart c.index-tables-hart.result within ∙ ap Some (sym c.index-tables-hart.is)) in
+    record { from = place.0; within = place.1 }
+
+pub returns-clause-steps : goal.returns-clause-steps
+returns-clause-steps c = λ program marks w s stepped a.
+    let h = c.args.hart in
+    let within : h < length c.args.tables.now = omega (arith, c.requires.behind.stepped.tables_are.count, c.requires.exists) in
+    let found = get_is c.args.tables.now h c.index-tables-hart.result within ∙ ap Some (sym c.index-tables-hart.is) in
+    let mark = c.sign_at-sign.result.mark in
+    let position = c.point_position-position.result in
+    let at = c.point_position-position.ensures (after_event program w (Step h)) stepped.stands in
+    subst (AccountStands c.bind_if.new.self)
+    (noted_is marks program w h s mark (not (position == c.args.sight.position)) position
+    (ap (λ (x : Sign). x.mark) c.sign_at-sign.ensures
+    ∙ mark_is program c.args.tables.now marks c.args.machine.now h c.args.sight Moved w stepped c.requires.running refl c.index-tables-hart.result found)
+    (point_is program c.args.tables.now marks c.args.machine.now h c.args.sight Moved w stepped c.requires.running refl position at)
+    at)
+    (c.bind_if.ensures.stands (begun_if mark h s) (c.begin_if.ensures.stands s a))
+
+pub returns-clause-counts : goal.returns-clause-counts
+returns-clause-counts c = λ program marks w stepped.
+    let h = c.args.hart in
+    let within : h < length c.args.tables.now = omega (arith, c.requires.behind.stepped.tables_are.count, c.requires.exists) in
+    let found = get_is c.args.tables.now h c.index-tables-hart.result within ∙ ap Some (sym c.index-tables-hart.is) in
+    let position = c.point_position-position.result in
+    let at = c.point_position-position.ensures (after_event program w (Step h)) stepped.stands in
+    record {
+      points =
+          counted-one c.args.counts.now.points.items c.add.new.self.points.items h (not (position == c.args.sight.position))
+          (λ g. stores_point program w (Step h) g) c.add.ensures.points
+          (omega (arith, c.requires.counts.points, c.requires.exists))
+          (point_is program c.args.tables.now marks c.args.machine.now h c.args.sight Moved w stepped c.requires.running refl position at)
+          (λ g ne. completes-other (is_point_store g) program w h g ne);
+      fences =
+          counted-one c.args.counts.now.fences.items c.add.new.self.fences.items h c.sign_at-sign.result.fence (λ g. finishes_fence program w (Step h) g)
+          c.add.ensures.fences
+          (omega (arith, c.requires.counts.fences, c.requires.exists))
+          (ap (λ (x : Sign). x.fence) c.sign_at-sign.ensures
+          ∙ fence_done program c.args.tables.now marks c.args.machine.now h c.args.sight Moved w stepped c.requires.running refl
+          c.index-tables-hart.result found)
+          (λ g ne. completes-other is_fence program w h g ne);
+    }

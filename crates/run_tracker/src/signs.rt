@@ -1,0 +1,128 @@
+//! The signs of code words: which of them are marks, and which are fences.
+ghost use Rattle.std.specs.Prelude.{◌≡◌, ◌-◌, ◌/◌, ◌<◌, ◌≤◌, ◌^◌, ◌||◌, ℕ, length, map, IfOk};
+ghost use Rattle.rv64_isa.specs.Programs.{program_of, slot_of};
+ghost use Rattle.hart_core.specs.Objects.{IsWithinLimits};
+ghost use Rattle.run_tracker.specs.links.SignTables.{is_fence_slot, plain_sign, sign_in, sign_at, is_word_at, IsTableOf, AreTables};
+
+use hart_core::program::Program;
+use ido_base::memory::OutOfMemory;
+use rv64_isa::instr::Instr;
+use rv64_isa::object::{Marks, Object, Slot};
+use std::alloc::Global;
+
+/// What is told of a code word.
+#[derive(Clone, Copy, Debug, Drop)]
+pub(crate) struct Sign {
+    /// It is a mark.
+    pub mark: bool,
+    /// It is a fence.
+    pub fence: bool,
+}
+
+/// The signs of a thread's code words.
+#[derive(Debug, Drop)]
+pub(crate) struct SignTable {
+    /// The address of the first one.
+    pub start: u64,
+    pub signs: Vec<Sign>,
+}
+
+/// What stands there is a fence.
+fn is_fence(slot: Slot) -> bool
+    ensures { result ≡ is_fence_slot slot }
+{
+    matches!(slot, Slot::Row(Instr::Fence))
+}
+
+/// The sign of a word that isn't a mark.
+fn plain_sign(word: u32) -> Sign
+    ensures { result ≡ plain_sign word }
+{
+    Sign {
+        mark: false,
+        fence: is_fence(Slot::of_word(word)),
+    }
+}
+
+/// The signs of words of which none is a mark.
+fn plain_signs(alloc: Global, words: &[u32]) -> Result<Vec<Sign>, OutOfMemory>
+    ensures { IfOk result (λ signs. signs.items ≡ map plain_sign words.now) }
+{
+    let signs: Vec<Sign> = words.iter().map(|word| plain_sign(*word)).collect(alloc)?;
+    Ok(signs)
+}
+
+/// Makes the word of this address a mark, where it is one.
+fn mark_word(signs: &mut [Sign], start: u64, address: u64)
+    ensures size { length signs.new ≡ length signs.old }
+    ensures marks { (k : ℕ) → k < length signs.old → (sign_in signs.new k).mark ≡ ((sign_in signs.old k).mark || is_word_at start k address) }
+    ensures fences { (k : ℕ) → (sign_in signs.new k).fence ≡ (sign_in signs.old k).fence }
+{
+    if address < start || address % 4 != 0 {
+        return;
+    }
+    let word = (address - start) / 4;
+    if word < signs.len() as u64 {
+        signs[word as usize].mark = true;
+    }
+}
+
+impl SignTable {
+    /// The table of these code words, of which those at these addresses are marks.
+    fn of(
+        alloc: Global,
+        start: u64,
+        words: &[u32],
+        addresses: &[u64],
+    ) -> Result<SignTable, OutOfMemory>
+        ensures { IfOk result (λ table. IsTableOf table start (map slot_of words.now) addresses.now) }
+    {
+        let mut signs = plain_signs(alloc, words)?;
+        for address in addresses {
+            mark_word(&mut signs, start, *address);
+        }
+        Ok(SignTable { start, signs })
+    }
+
+    /// The sign of the code word at this address.
+    pub fn sign_at(&self, pc: u64) -> Sign
+        requires from { self.now.start ≤ pc }
+        requires within { (pc - self.now.start) / 4 < length self.now.signs.items }
+        ensures { result ≡ sign_at self.now pc }
+    {
+        self.signs[((pc - self.start) / 4) as usize]
+    }
+}
+
+/// The tables of an object's threads.
+pub(crate) fn tables_of(
+    alloc: Global,
+    object: &Object,
+    program: &Program,
+    marks: &Marks,
+) -> Result<Vec<SignTable>, OutOfMemory>
+    requires limits { IsWithinLimits object.now }
+    requires program { program.now ≡ program_of object.now }
+    requires threads { length marks.now.threads.items ≡ length object.now.code.items }
+    ensures { IfOk result (λ tables. AreTables tables.items (program_of object.now) (map (λ t. t.nodes.items) marks.now.threads.items)) }
+{
+    let mut tables = Vec::with_capacity(alloc, object.code.len())?;
+    for thread in 0..object.code.len() {
+        let start = program.start_of(thread as u32);
+        let words = &object.code[thread];
+        let nodes = &marks.threads[thread].nodes;
+        tables.push(SignTable::of(alloc, start, words, nodes)?)?;
+    }
+    Ok(tables)
+}
+
+/// A copy of the marks' addresses.
+pub(crate) fn nodes_of(alloc: Global, marks: &Marks) -> Result<Vec<Vec<u64>>, OutOfMemory>
+    ensures { IfOk result (λ nodes. map (λ n. n.items) nodes.items ≡ map (λ t. t.nodes.items) marks.now.threads.items) }
+{
+    let mut nodes = Vec::with_capacity(alloc, marks.threads.len())?;
+    for thread in &marks.threads {
+        nodes.push(thread.nodes.to_vec(alloc)?)?;
+    }
+    Ok(nodes)
+}
