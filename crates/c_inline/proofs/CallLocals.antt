@@ -50,7 +50,7 @@ uses_shifted : (u : Use) (n : ℕ) (x : e.Expr) (l : ℕ) → Uses u (i.shifted 
 uses_shifted read n x l h = shifted_reads n x l h
 uses_shifted assigned n x l h = absurd h
 
-target_shifted : (u : Use) (n : ℕ) (x : e.Target) (l : ℕ) → TargetUses u (i.shifted_target n x) l → From n l (TargetUses u x)
+target_shifted : (u : Use) (n : ℕ) (x : e.Lvalue) (l : ℕ) → TargetUses u (i.shifted_target n x) l → From n l (TargetUses u x)
 target_shifted u n (e.ToVariable place variable kind) l h = absurd h
 target_shifted u n (e.ToElement place variable kind index) l h = uses_shifted u n index.expr l h
 target_shifted read n (e.ToLocal local kind) l h = absurd h
@@ -62,7 +62,7 @@ list_shifted u n (x ∷ xs) l h =
     ⊎_elim (λ a. from_more n l (Uses u x.expr) (ListUses u (x ∷ xs)) (λ k. inl) (uses_shifted u n x.expr l a))
     (λ b. from_more n l (ListUses u xs) (ListUses u (x ∷ xs)) (λ k. inr) (list_shifted u n xs l b)) h
 
-result_shifted : (u : Use) (n : ℕ) (x : Option e.Target) (l : ℕ) → ResultUses u (option_map (i.shifted_target n) x) l → From n l (ResultUses u x)
+result_shifted : (u : Use) (n : ℕ) (x : Option e.Lvalue) (l : ℕ) → ResultUses u (option_map (i.shifted_target n) x) l → From n l (ResultUses u x)
 result_shifted u n None l h = absurd h
 result_shifted u n (Some x) l h = target_shifted u n x l h
 
@@ -90,7 +90,7 @@ abbrev ReturnedUses : Use → Option p.Returned → (local : ℕ) → Type 0
 ReturnedUses u None l = ⊥
 ReturnedUses u (Some x) l = Uses u (e.Converted x.kind x.value.expr) l
 
-assigned_uses : (u : Use) (place : Place) (by : ℕ) (x : Option p.Returned) (target : Option e.Target) (l : ℕ) → StatementsUse u
+assigned_uses : (u : Use) (place : Place) (by : ℕ) (x : Option p.Returned) (target : Option e.Lvalue) (l : ℕ) → StatementsUse u
     (i.assigned place by x target) l → From by l (ReturnedUses u x) ⊎ ResultUses u target l
 assigned_uses u place by None target l h = absurd h
 assigned_uses u place by (Some x) None l h = absurd h

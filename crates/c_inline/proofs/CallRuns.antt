@@ -99,7 +99,7 @@ module _ (s next : m.State) (t : ℕ) (thread : m.Thread) (found : slice_get s.t
         keeps = keeps;
       }
 
-  evaluated_keeps : (place : Place) (target : e.Target) (x : e.Placed) (l : ℕ) → (StatementUses assigned (f.Assign place target x) l → ⊥) →
+  evaluated_keeps : (place : Place) (target : e.Lvalue) (x : e.Placed) (l : ℕ) → (StatementUses assigned (f.Assign place target x) l → ⊥) →
       slice_index_or (m.evaluated s thread target x.expr).locals l (pos 0) ≡ slice_index_or thread.locals l (pos 0)
   evaluated_keeps place (e.ToLocal local kind) x l n = index_other thread.locals local l _ (pos 0) (λ h. n (inl h))
   evaluated_keeps place (e.ToVariable place' variable kind) x l n = refl

@@ -142,7 +142,7 @@ module _ (vs : List p.Variable) where
           fits_shifted otherwise (second_in both (r.expr_indexes otherwise) h),
         )
 
-    target_fits_shifted : (x : e.Target) → AllIn (r.target_indexes x) → TargetFits vs (shifted_target n x)
+    target_fits_shifted : (x : e.Lvalue) → AllIn (r.target_indexes x) → TargetFits vs (shifted_target n x)
     target_fits_shifted (e.ToLocal local kind) h = tt
     target_fits_shifted (e.ToVariable place variable kind) h = tt
     target_fits_shifted (e.ToElement place variable kind index) h = (
@@ -163,7 +163,7 @@ module _ (vs : List p.Variable) where
       expr_shifted (e.Binary operator left right) h = (expr_shifted left h.0, expr_shifted right h.1)
       expr_shifted (e.Conditional kind condition chosen otherwise) h = (expr_shifted condition h.0, expr_shifted chosen h.1, expr_shifted otherwise h.2)
 
-      target_shifted : (x : e.Target) → IsTarget vs js x → IsTarget vs ks (shifted_target n x)
+      target_shifted : (x : e.Lvalue) → IsTarget vs js x → IsTarget vs ks (shifted_target n x)
       target_shifted (e.ToLocal local kind) h = at local kind h
       target_shifted (e.ToVariable place variable kind) h = h
       target_shifted (e.ToElement place variable kind index) h = (h.0, expr_shifted index.expr h.1)
@@ -196,7 +196,7 @@ module _ (x : p.Program) (prog : IsProgram x) (fit : AllFit x) where
       IsFlatPlaced z ks (shifted_placed n y)
   placed_formed n js ks at y h k = (expr_shifted x.variables n js ks at y.expr h, fits_shifted x.variables n y.expr k)
 
-  target_formed : (n : ℕ) (js ks : List Kind) → At n js ks → (y : e.Target) → IsTarget x.variables js y → AllIn x.variables (r.target_indexes y) →
+  target_formed : (n : ℕ) (js ks : List Kind) → At n js ks → (y : e.Lvalue) → IsTarget x.variables js y → AllIn x.variables (r.target_indexes y) →
       IsFlatTarget z ks (shifted_target n y)
   target_formed n js ks at y h k = (target_shifted x.variables n js ks at y h, target_fits_shifted x.variables n y k)
 
@@ -221,9 +221,9 @@ module _ (x : p.Program) (prog : IsProgram x) (fit : AllFit x) where
             (λ k kind g. subst (λ (l : ℕ). slice_get final l ≡ Some kind) (omega arith) (at (suc k) kind g)) (omega arith) h.1,
       )
 
-  assigned_formed : (place : Place) (m : ℕ) (js final : List Kind) (given : Option p.Returned) (target : Option e.Target) → At m js final →
+  assigned_formed : (place : Place) (m : ℕ) (js final : List Kind) (given : Option p.Returned) (target : Option e.Lvalue) → At m js final →
       IsReturned x js given → AllIn x.variables (r.returned_indexes given) →
-      ((y : e.Target) → target ≡ Some y → IsFlatTarget z final y) → AreFlatStatements z final (i.assigned place m given target)
+      ((y : e.Lvalue) → target ≡ Some y → IsFlatTarget z final y) → AreFlatStatements z final (i.assigned place m given target)
   assigned_formed place m js final None target at h k t = tt
   assigned_formed place m js final (Some y) None at h k t = tt
   assigned_formed place m js final (Some y) (Some w) at h k t =
@@ -234,8 +234,8 @@ module _ (x : p.Program) (prog : IsProgram x) (fit : AllFit x) where
   good_call f.no_statement ks after grows formed = record { grows = into_self ks; formed = λ final into. tt }
   good_call (f.statement_and y rest) ks after grows formed = record { grows = grows; formed = formed }
 
-  result_formed : (n : ℕ) (js ks : List Kind) → At n js ks → (o : Option e.Target) → IsResult x js o → AllIn x.variables (r.result_indexes o) →
-      (y : e.Target) → option_map (shifted_target n) o ≡ Some y → IsFlatTarget z ks y
+  result_formed : (n : ℕ) (js ks : List Kind) → At n js ks → (o : Option e.Lvalue) → IsResult x js o → AllIn x.variables (r.result_indexes o) →
+      (y : e.Lvalue) → option_map (shifted_target n) o ≡ Some y → IsFlatTarget z ks y
   result_formed n js ks at None h k y g = absurd (none-some y g)
   result_formed n js ks at (Some w) h k y g = subst (IsFlatTarget z ks) (same_Some (shifted_target n w) y g) (target_formed n js ks at w h k)
 
@@ -265,14 +265,14 @@ module _ (x : p.Program) (prog : IsProgram x) (fit : AllFit x) where
     second_called cs ds h = λ c k. h c (Contains-append_right cs ds c k)
 
     module _ (n : ℕ) (js : List Kind) where
-      abbrev made_call : (ks : List Kind) (place : Place) (function : ℕ) (arguments : List e.Placed) (result : Option e.Target) → Option p.Function →
+      abbrev made_call : (ks : List Kind) (place : Place) (function : ℕ) (arguments : List e.Placed) (result : Option e.Lvalue) → Option p.Function →
           i.Made f.Statements
       made_call ks place function arguments result o = elim o [
         | Some y ↦ i.called fs bodies place n ks y (bodies function ks) arguments result
         | None ↦ record { made = f.no_statement; kinds = ks }
       ]
 
-      called_formed : (ks : List Kind) (place : Place) (function : ℕ) (callee : p.Function) (arguments : List e.Placed) (result : Option e.Target) →
+      called_formed : (ks : List Kind) (place : Place) (function : ℕ) (callee : p.Function) (arguments : List e.Placed) (result : Option e.Lvalue) →
           At n js ks → slice_get fs function ≡ Some callee → length arguments ≡ callee.parameters → IsBody bodies function callee ks →
           AllByRecursion (IsPlaced x.variables js) arguments → AllIn x.variables (flat_map r.placed_indexes arguments) → IsResult x js result →
           AllIn x.variables (r.result_indexes result) →

@@ -14,8 +14,8 @@ use Rattle.c_tree.specs.Programs as p
 use Rattle.c_tree.specs.Flats as f
 use Rattle.c_tree.specs.Inlining as i
 use Rattle.c_tree.specs.declared.expr.Placed as placed
-use Rattle.c_tree.specs.declared.expr.Target as targets
-use Rattle.c_tree.specs.declared.expr.Target.TheVariants as target
+use Rattle.c_tree.specs.declared.expr.Lvalue as targets
+use Rattle.c_tree.specs.declared.expr.Lvalue.TheVariants as target
 use Rattle.c_tree.specs.declared.flat.Statement as flat
 use Rattle.c_tree.specs.declared.flat.Arm as arm
 use Rattle.c_tree.specs.declared.program.Function.{Function}
@@ -167,17 +167,17 @@ module _ (fs : List p.Function) (B : i.Bodies) (n : ℕ) (ks js : List Kind) (xs
       ∙ ap (λ (m : i.Made f.Statements). let r : i.Made f.Statements =
       record { made = i.one (f.If place (f.arms_list_of tests.items) m.made); kinds = m.kinds } in r) o)
 
-  pub assign_made : (x : p.Statement) (to given : targets.Target) (value from : placed.Placed) → x ≡ p.Assign place (e.target_of given) (e.placed_of from) →
+  pub assign_made : (x : p.Statement) (to given : targets.Lvalue) (value from : placed.Placed) → x ≡ p.Assign place (e.lvalue_of given) (e.placed_of from) →
       made ≡ xs ++ flat.Assign place to value ∷ [] → js ≡ ks →
-      e.target_of to ≡ i.shifted_target n (e.target_of given) → e.placed_of value ≡ i.shifted_placed n (e.placed_of from) →
+      e.lvalue_of to ≡ i.shifted_target n (e.lvalue_of given) → e.placed_of value ≡ i.shifted_placed n (e.placed_of from) →
       after (f.statements_of xs) (i.statement fs B n ks x) ≡ after (f.statements_of made) (record { made = f.no_statement; kinds = js })
   assign_made x to given value from view h k t u =
-      one_made (flat.Assign place to value) (f.Assign place (i.shifted_target n (e.target_of given)) (i.shifted_placed n (e.placed_of from)))
+      one_made (flat.Assign place to value) (f.Assign place (i.shifted_target n (e.lvalue_of given)) (i.shifted_placed n (e.placed_of from)))
       (i.statement fs B n ks x) h
       (ap₂ (f.Assign place) t u)
       (ap (i.statement fs B n ks) view ∙ ap
       (λ (hs : List Kind). let r : i.Made f.Statements =
-      record { made = i.one (f.Assign place (i.shifted_target n (e.target_of given)) (i.shifted_placed n (e.placed_of from))); kinds = hs } in r) (sym k))
+      record { made = i.one (f.Assign place (i.shifted_target n (e.lvalue_of given)) (i.shifted_placed n (e.placed_of from))); kinds = hs } in r) (sym k))
 
 pub made_alone : (old new : f.Statements) (m : i.Made f.Statements) (ks : List Kind) → after old m ≡ after new (record { made = f.no_statement; kinds = ks }) →
     after old m ≡ record { made = new; kinds = ks }
@@ -382,7 +382,7 @@ module _ (fs : List p.Function) (sizes : List (Option ℕ)) (sized : AreSized fs
   pub low_all : (g : ℕ) → g < length fs → Low fs (length fs) g
   low_all g l = let k = sized.known g l in low_more fs _ (length fs) g (found_most v.size fs sizes sized.right) (sized.right.low g k.0 k.1)
 
-  module _ (n : ℕ) (ks : List Kind) (place name : Place) (g : ℕ) (arguments : List e.Placed) (target : Option e.Target) where
+  module _ (n : ℕ) (ks : List Kind) (place name : Place) (g : ℕ) (arguments : List e.Placed) (target : Option e.Lvalue) where
     weighs : min (v.called_weight v.size 0 fs (v.known_weight sizes) g arguments target) (2 ^ 64 - 1)
         ≡ min (made_statements v.size (i.statement fs (whole fs) n ks (p.Call place name g arguments target)).made) (2 ^ 64 - 1)
     weighs =
@@ -453,7 +453,7 @@ module _ (fs : List p.Function) (sizes : List (Option ℕ)) (sized : AreSized fs
 
 -- the body of a call is begun, and what stands before it is made
 module _ (functions : List Function) (sizes : List (Option ℕ)) (sized : AreSized (map p.function_of functions) sizes)
-    (n g : ℕ) (ks : List Kind) (place : Place) (arguments : List e.Placed) (target : Option e.Target) (x : Function) (behind : Option flat.Statement)
+    (n g : ℕ) (ks : List Kind) (place : Place) (arguments : List e.Placed) (target : Option e.Lvalue) (x : Function) (behind : Option flat.Statement)
     (exists : slice_get functions g ≡ Some x) where
   mapped : slice_get (map p.function_of functions) g ≡ Some (p.function_of x)
   mapped = slice_get-map p.function_of functions g ∙ ap (option_map p.function_of) exists

@@ -18,7 +18,7 @@ pub alone : (x : i.Call) → Contains (x ∷ []) x
 alone x = (0, omega arith, refl)
 
 module _ (w : Weights) (call : ℕ) (fs : List p.Function) (F G : ℕ → ℕ) (m : ℕ) where
-  pub near_called : (function : ℕ) (arguments : List e.Placed) (result : Option e.Target) → min (F function) m ≡ min (G function) m →
+  pub near_called : (function : ℕ) (arguments : List e.Placed) (result : Option e.Lvalue) → min (F function) m ≡ min (G function) m →
       min (v.called_weight w call fs F function arguments result) m ≡ min (v.called_weight w call fs G function arguments result) m
   near_called function arguments result h = at (slice_get fs function)
     where

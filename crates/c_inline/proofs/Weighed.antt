@@ -52,7 +52,7 @@ module _ (w : Weights) where
   made_and f.no_statement b = omega arith
   made_and (f.statement_and x a) b = omega (arith, made_and a b)
 
-  same_assign : (n : ℕ) (target : e.Target) (value : ℕ) → v.assign_weight w (i.shifted_target n target) value ≡ v.assign_weight w target value
+  same_assign : (n : ℕ) (target : e.Lvalue) (value : ℕ) → v.assign_weight w (i.shifted_target n target) value ≡ v.assign_weight w target value
   same_assign n (e.ToLocal local kind) value = refl
   same_assign n (e.ToVariable place variable kind) value = refl
   same_assign n (e.ToElement place variable kind index) value = ap (λ (m : ℕ). v.node_weight w (m + value) + v.node_weight w 0) (same_nodes n index.expr)
@@ -67,7 +67,7 @@ module _ (w : Weights) where
   plus_zero : (a : ℕ) → a + 0 ≡ a
   plus_zero a = omega arith
 
-  assigned_weight : (place : Place) (first n : ℕ) (x : Option p.Returned) (target : Option e.Target) →
+  assigned_weight : (place : Place) (first n : ℕ) (x : Option p.Returned) (target : Option e.Lvalue) →
       made_statements (i.assigned place first x (option_map (i.shifted_target n) target)) ≡ v.result_weight w x target
   assigned_weight place first n (Some x) (Some target) =
       plus_zero _ ∙ same_assign n target (nodes_of (i.shifted first x.value.expr)) ∙ ap (λ (m : ℕ). v.assign_weight w target m) (same_nodes first x.value.expr)
@@ -75,7 +75,7 @@ module _ (w : Weights) where
   assigned_weight place first n None target = refl
 
   module _ (fs : List p.Function) (B : i.Bodies) (F : ℕ → ℕ) (bodies : (g : ℕ) (ks : List Kind) → made_statements (B g ks).made ≡ F g) where
-    pub called_made : (place name : Place) (n : ℕ) (ks : List Kind) (function : ℕ) (arguments : List e.Placed) (result : Option e.Target) →
+    pub called_made : (place name : Place) (n : ℕ) (ks : List Kind) (function : ℕ) (arguments : List e.Placed) (result : Option e.Lvalue) →
         made_statements (i.statement fs B n ks (p.Call place name function arguments result)).made ≡ v.called_weight w 0 fs F function arguments result
     called_made place name n ks function arguments result = at (slice_get fs function)
       where
@@ -135,7 +135,7 @@ module _ (w : Weights) where
 
 -- ---- Prices
 
-price_assign : (target : e.Target) (value : ℕ) → assign_price target value ≡ v.assign_weight v.price target value
+price_assign : (target : e.Lvalue) (value : ℕ) → assign_price target value ≡ v.assign_weight v.price target value
 price_assign (e.ToLocal local kind) value = refl
 price_assign (e.ToVariable place variable kind) value = refl
 price_assign (e.ToElement place variable kind index) value = refl

@@ -41,13 +41,13 @@ ListUses u [] l = ⊥
 ListUses u (x ∷ xs) l = Uses u x.expr l ⊎ ListUses u xs l
 
 -- a target's local is assigned, and its index reads
-abbrev pub TargetUses : Use → e.Target → (local : ℕ) → Type 0
+abbrev pub TargetUses : Use → e.Lvalue → (local : ℕ) → Type 0
 TargetUses u (e.ToVariable place variable kind) l = ⊥
 TargetUses u (e.ToElement place variable kind index) l = Uses u index.expr l
 TargetUses read (e.ToLocal local kind) l = ⊥
 TargetUses assigned (e.ToLocal local kind) l = l ≡ local
 
-abbrev pub ResultUses : Use → Option e.Target → (local : ℕ) → Type 0
+abbrev pub ResultUses : Use → Option e.Lvalue → (local : ℕ) → Type 0
 ResultUses u None l = ⊥
 ResultUses u (Some target) l = TargetUses u target l
 
@@ -76,10 +76,10 @@ AreBelow count x = (local : ℕ) → ExprReads x local → local < count
 abbrev pub AreAllBelow : (count : ℕ) → List e.Placed → Type 0
 AreAllBelow count xs = (local : ℕ) → ListUses read xs local → local < count
 
-abbrev pub IsBelow : (count : ℕ) → e.Target → Type 0
+abbrev pub IsBelow : (count : ℕ) → e.Lvalue → Type 0
 IsBelow count x = (u : Use) (local : ℕ) → TargetUses u x local → local < count
 
-abbrev pub IsResultBelow : (count : ℕ) → Option e.Target → Type 0
+abbrev pub IsResultBelow : (count : ℕ) → Option e.Lvalue → Type 0
 IsResultBelow count x = (u : Use) (local : ℕ) → ResultUses u x local → local < count
 
 -- the function takes so many arguments
@@ -138,7 +138,7 @@ pub record Site : Type 0 where
   pub name : Place
   pub function : ℕ
   pub arguments : List e.Placed
-  pub result : Option e.Target
+  pub result : Option e.Lvalue
 
 -- what it becomes, where the locals of its caller begin at a number, and there are locals of these kinds
 abbrev pub call_made : List p.Function → (deep by : ℕ) → List Kind → Site → i.Made f.Statements

@@ -2,7 +2,7 @@
 //! chain of calls takes no deep recursion.
 ghost use Rattle.std.specs.Prelude.{◌≡◌, ◌<◌, ◌++◌, ◌∷◌, [], map, length, IfOk, OnOk, slice_index_or};
 ghost use Rattle.std.specs.Option.{option_copied, option_map};
-ghost use Rattle.c_tree.specs.Exprs.{placed_of, target_of};
+ghost use Rattle.c_tree.specs.Exprs.{placed_of, lvalue_of};
 ghost use Rattle.c_tree.specs.Programs as p;
 ghost use Rattle.c_tree.specs.Programs.{function_of, returned_of};
 ghost use Rattle.c_tree.specs.Flats as f;
@@ -13,7 +13,7 @@ ghost use Rattle.c_inline.specs.links.Making.{all_made, and_any, work_if_any, al
 
 use crate::shift::{shift, shift_placed, shift_target};
 use crate::weight::{SIZE, call_weight};
-use c_tree::expr::{Expr, Placed, Target};
+use c_tree::expr::{Expr, Lvalue, Placed};
 use c_tree::flat;
 use c_tree::program::{Arm, Function, Returned, Statement};
 use ido_base::place::Place;
@@ -27,8 +27,8 @@ pub struct Bodies<'a> {
     pub sizes: &'a [Option<u64>],
 }
 
-// A body that has been begun: its function, how many of its statements are done, where its locals begin, and what
-// stands behind it.
+/// A body that has been begun: its function, how many of its statements are done, where its locals begin, and what
+/// stands behind it.
 #[derive(Drop)]
 struct Begun {
     function: u32,
@@ -72,7 +72,7 @@ fn pass(
         let value = shift_placed(alloc, by, argument)?;
         made.push(flat::Statement::Assign {
             place,
-            target: Target::Local {
+            target: Lvalue::Local {
                 local,
                 kind: kind_of(locals, index),
             },
@@ -90,10 +90,10 @@ fn assign(
     first: u32,
     returned: &Option<Returned>,
     by: u32,
-    target: &Option<Target>,
+    target: &Option<Lvalue>,
 ) -> Result<Option<flat::Statement>, AllocError>
     ensures { IfOk result (λ behind. behind_of behind
-        ≡ i.assigned place first (option_map returned_of returned.now) (option_map (i.shifted_target by) (option_map target_of target.now))) }
+        ≡ i.assigned place first (option_map returned_of returned.now) (option_map (i.shifted_target by) (option_map lvalue_of target.now))) }
 {
     match (returned, target) {
         (Some(returned), Some(target)) => {
@@ -124,18 +124,18 @@ fn begin(
     place: Place,
     function: u32,
     arguments: &[Placed],
-    target: &Option<Target>,
+    target: &Option<Lvalue>,
     kinds: &mut Vec<Kind>,
     made: &mut Vec<flat::Statement>,
 ) -> Result<Option<Begun>, AllocError>
     requires { AreSized (map function_of bodies.functions.now) bodies.sizes.now }
     ensures made { IfOk result (λ begun. let fs = map function_of bodies.entry.functions.now in
         after (f.statements_of made.old.items)
-        (i.statement fs (whole fs) by kinds.old.items (p.Call place place function (map placed_of arguments.now) (option_map target_of target.now)))
+        (i.statement fs (whole fs) by kinds.old.items (p.Call place place function (map placed_of arguments.now) (option_map lvalue_of target.now)))
         ≡ after (f.statements_of made.new.items) (begun_if_any bodies.entry.functions.now begun kinds.new.items)) }
     ensures work { IfOk result (λ begun. let fs = map function_of bodies.entry.functions.now in
         work_if_any bodies.entry.functions.now begun
-        < v.called_weight v.size 2 fs (function_work fs) function (map placed_of arguments.now) (option_map target_of target.now)) }
+        < v.called_weight v.size 2 fs (function_work fs) function (map placed_of arguments.now) (option_map lvalue_of target.now)) }
 {
     if call_weight(
         SIZE,

@@ -1,4 +1,4 @@
-//! An order of functions: callees first, and where calls lead back to a function, those functions side by side.
+//! An order of functions: callees first, and the functions of a strongly connected component of calls side by side.
 ghost use Rattle.std.specs.Prelude.{◌≡◌, ◌<◌, ◌≤◌, IfOk, MatchBool, Contains};
 ghost use Rattle.c_tree.specs.Inlining as i;
 ghost use Rattle.c_inline.specs.links.Calls.{calls_of, lists_of};
@@ -10,7 +10,7 @@ use std::alloc::{AllocError, Global};
 /// Functions in an order.
 #[derive(Drop)]
 pub struct Ranked {
-    /// Of each function its rank: meant to be the same where calls lead from the one to the other and back.
+    /// Of each function its rank: meant to be the same within a strongly connected component of calls.
     pub ranks: Vec<Option<u32>>,
     /// The functions, meant to be by rank, the lowest first.
     pub callees_first: Vec<usize>,
@@ -52,14 +52,14 @@ fn are_ranks(ranks: &[Option<u32>], calls: &[Vec<Call>]) -> bool
     true
 }
 
-// A function whose calls are being followed, and how many of them were.
+/// A function whose calls are being followed, and how many of them were.
 #[derive(Clone, Copy, Debug)]
 struct Visit {
     function: usize,
     followed: usize,
 }
 
-// A walk along calls that finds which functions lead to one another and back (Gabow, Path-based depth-first search).
+/// A walk along calls that finds which functions lead to one another and back (Gabow, Path-based depth-first search).
 #[derive(Drop)]
 struct Walk {
     // Of each function the number of its visit, where it was visited.

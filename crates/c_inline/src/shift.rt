@@ -1,9 +1,9 @@
 //! Expressions and targets whose locals are those of a function that begin at a number.
 ghost use Rattle.std.specs.Prelude.{◌≡◌, ◌+◌, IfOk};
-ghost use Rattle.c_tree.specs.Exprs.{expr_of, placed_of, target_of};
+ghost use Rattle.c_tree.specs.Exprs.{expr_of, placed_of, lvalue_of};
 ghost use Rattle.c_tree.specs.Inlining.{shifted, shifted_placed, shifted_target};
 
-use c_tree::expr::{Expr, Placed, Target};
+use c_tree::expr::{Expr, Lvalue, Placed};
 use std::alloc::{AllocError, Global};
 
 /// A local's number; beyond 2^32 - 1 there is no memory for so many.
@@ -123,31 +123,31 @@ pub fn shift_placed(alloc: Global, by: u32, placed: &Placed) -> Result<Placed, A
 }
 
 /// A target with its locals renumbered.
-pub fn shift_target(alloc: Global, by: u32, target: &Target) -> Result<Target, AllocError>
-    ensures { IfOk result (λ x. target_of x ≡ shifted_target by (target_of target.now)) }
+pub fn shift_target(alloc: Global, by: u32, target: &Lvalue) -> Result<Lvalue, AllocError>
+    ensures { IfOk result (λ x. lvalue_of x ≡ shifted_target by (lvalue_of target.now)) }
 {
     match target {
-        Target::Local { local, kind } => {
+        Lvalue::Local { local, kind } => {
             let local = shift_local(by, *local)?;
-            Ok(Target::Local { local, kind: *kind })
+            Ok(Lvalue::Local { local, kind: *kind })
         }
-        Target::Variable {
+        Lvalue::Variable {
             place,
             variable,
             kind,
-        } => Ok(Target::Variable {
+        } => Ok(Lvalue::Variable {
             place: *place,
             variable: *variable,
             kind: *kind,
         }),
-        Target::Element {
+        Lvalue::Element {
             place,
             variable,
             kind,
             index,
         } => {
             let index = shift_placed(alloc, by, index)?;
-            Ok(Target::Element {
+            Ok(Lvalue::Element {
                 place: *place,
                 variable: *variable,
                 kind: *kind,

@@ -2,12 +2,12 @@
 ghost use Rattle.std.specs.Prelude.{◌≡◌, ◌+◌, map, min};
 ghost use Rattle.std.specs.Option.{option_map};
 ghost use Rattle.c_tree.specs.Prices.{nodes_of};
-ghost use Rattle.c_tree.specs.Exprs.{target_of, placed_of};
+ghost use Rattle.c_tree.specs.Exprs.{lvalue_of, placed_of};
 ghost use Rattle.c_inline.specs.links.Weights.{node_weight, assign_weight, arguments_weight, result_weight, known_weight};
 ghost use Rattle.c_inline.specs.links.Weights.{called_weight, statement_weight, statements_weight, arms_weight};
 ghost use Rattle.c_tree.specs.Programs.{statement_of, statements_of, arms_list_of, function_of, returned_of};
 
-use c_tree::expr::{Placed, Target};
+use c_tree::expr::{Lvalue, Placed};
 use c_tree::price::nodes;
 use c_tree::program::{Arm, Function, Returned, Statement};
 
@@ -47,15 +47,15 @@ fn node_weight(weights: Weights, nodes: u64) -> u64
 }
 
 /// An assignment of a value with so many nodes.
-fn assign_weight(weights: Weights, target: &Target, value: u64) -> u64
-    ensures { result ≡ min (assign_weight weights (target_of target.now) value) u64.MAX }
+fn assign_weight(weights: Weights, target: &Lvalue, value: u64) -> u64
+    ensures { result ≡ min (assign_weight weights (lvalue_of target.now) value) u64.MAX }
 {
     match target {
-        Target::Local { .. } => node_weight(weights, value),
-        Target::Variable { .. } => {
+        Lvalue::Local { .. } => node_weight(weights, value),
+        Lvalue::Variable { .. } => {
             node_weight(weights, value).saturating_add(node_weight(weights, 0))
         }
-        Target::Element { index, .. } => {
+        Lvalue::Element { index, .. } => {
             let index = nodes(&index.expr);
             node_weight(weights, index.saturating_add(value)).saturating_add(node_weight(
                 weights, 0,
@@ -76,8 +76,8 @@ fn arguments_weight(weights: Weights, arguments: &[Placed]) -> u64
 }
 
 /// The assignment of a result.
-fn result_weight(weights: Weights, returned: &Option<Returned>, target: &Option<Target>) -> u64
-    ensures { result ≡ min (result_weight weights (option_map returned_of returned.now) (option_map target_of target.now)) u64.MAX }
+fn result_weight(weights: Weights, returned: &Option<Returned>, target: &Option<Lvalue>) -> u64
+    ensures { result ≡ min (result_weight weights (option_map returned_of returned.now) (option_map lvalue_of target.now)) u64.MAX }
 {
     match (returned, target) {
         (Some(returned), Some(target)) => {
@@ -104,10 +104,10 @@ pub fn call_weight(
     known: &[Option<u64>],
     number: u32,
     arguments: &[Placed],
-    target: &Option<Target>,
+    target: &Option<Lvalue>,
 ) -> u64
     ensures { result ≡ min (called_weight weights 0 (map function_of functions.now) (known_weight known.now) number (map placed_of arguments.now)
-        (option_map target_of target.now)) u64.MAX }
+        (option_map lvalue_of target.now)) u64.MAX }
 {
     match functions.get(number as usize) {
         Some(function) => arguments_weight(weights, arguments)

@@ -12,7 +12,7 @@ use Rattle.ido_ints.proofs.Reduced.{Bounded, Holds-Bounded, Holds-zero}
 use Rattle.c_tree.specs.Ranges.{lesser}
 use Rattle.c_ranges.proofs.Fitting.{lesser_by}
 use Rattle.c_ranges.specs.Bounds.{HeldBy}
-use Rattle.c_ranges.specs.declared.interval.Range.{Range}
+use Rattle.c_ranges.specs.declared.interval.Interval.{Interval as Range}
 
 -- the ends of every range that a kind holds
 pub record Ends (r : Range) : Type 0 where

@@ -102,7 +102,7 @@ module _ (x : f.Flat) (s : m.State) (t : ℕ) (is : IsStateOf x s) (ft : f.Threa
     pending_is q z h e = subst (IsStore x.variables) (same_Some q z e) h
 
     -- what an assignment evaluates
-    assigned : (target : e.Target) (y : e.Placed) (rest : List f.Statement) → IsFlatTarget x ft.locals target → AllByRecursion (IsLeft x ft.locals) rest →
+    assigned : (target : e.Lvalue) (y : e.Placed) (rest : List f.Statement) → IsFlatTarget x ft.locals target → AllByRecursion (IsLeft x ft.locals) rest →
         IsThreadOf x ft.locals (record (m.evaluated s thread target y.expr) { left = rest })
     assigned (e.ToLocal local kind) y rest h k = record {
       left = k;

@@ -7,7 +7,7 @@ use Rattle.ido_ints.proofs.Reduced.{Holds-Bounded}
 use Rattle.c_tree.specs.Ranges.{Interval, Within, only, full, fitted, hull, product}
 use Rattle.c_ranges.specs.Bounds.{interval_of}
 use Rattle.c_ranges.specs.links.Corners.{IsWide, HasWideCorner}
-use Rattle.c_ranges.specs.declared.interval.Range.{Range}
+use Rattle.c_ranges.specs.declared.interval.Interval.{Interval as Range}
 use Rattle.c_ranges.proofs.Fitting.{Inside, fitted_by}
 use Rattle.c_ranges.proofs.Within.{le_trans, Within_only, Within_hull_left, Within_hull_right}
 

@@ -1,9 +1,9 @@
--- What a `Range` stands for, and the bounds that it keeps.
+-- What the code's `Interval` stands for, and the bounds that it keeps.
 use Rattle.std.specs.Prelude.{◌≤ℤ◌}
 use Rattle.ido_ints.specs.declared.kinds.Kind.{Kind}
 use Rattle.ido_ints.specs.Kinds.{least_of, greatest_of}
 use Rattle.c_tree.specs.Ranges.{Interval, interval}
-use Rattle.c_ranges.specs.declared.interval.Range.{Range}
+use Rattle.c_ranges.specs.declared.interval.Interval.{Interval as Range}
 
 abbrev pub interval_of : Range → Interval
 interval_of r = interval r.lo r.hi

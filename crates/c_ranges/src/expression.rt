@@ -5,13 +5,13 @@ ghost use Rattle.c_tree.specs.Ranges.{full, fitted, hull, range_of};
 ghost use Rattle.c_tree.specs.Typing.{kind_of};
 ghost use Rattle.c_ranges.specs.Bounds.{interval_of, HeldBy};
 
-use crate::interval::Range;
+use crate::interval::Interval;
 use crate::operators::{Found, binary, unary};
 use c_tree::expr::Expr;
 use ido_ints::Kind;
 
 /// An interval that holds every value of the expression.
-pub fn range(expr: &Expr) -> Range
+pub fn range(expr: &Expr) -> Interval
     ensures value { interval_of result ≡ range_of (expr_of expr.now) }
     ensures held { HeldBy (kind_of (expr_of expr.now)) result }
     ensures at_least { neg_ℤ (pos (2 ^ 63)) ≤ℤ result.lo }
@@ -29,7 +29,7 @@ fn found(expr: &Expr) -> Found
     match expr {
         Expr::Constant { value } => Found {
             kind: value.kind(),
-            range: Range::only(value.number()),
+            range: Interval::only(value.number()),
         },
         Expr::Local { kind, .. } | Expr::Variable { kind, .. } | Expr::Element { kind, .. } => {
             full(*kind)
@@ -60,12 +60,12 @@ fn full(kind: Kind) -> Found
 {
     Found {
         kind,
-        range: Range::full(kind),
+        range: Interval::full(kind),
     }
 }
 
 /// A conversion to a kind.
-fn converted(kind: Kind, range: Range) -> Found
+fn converted(kind: Kind, range: Interval) -> Found
     requires { range.lo ≤ℤ range.hi }
     ensures kind { result.kind ≡ kind }
     ensures range { interval_of result.range ≡ fitted kind (interval_of range) }
@@ -78,7 +78,7 @@ fn converted(kind: Kind, range: Range) -> Found
 }
 
 /// A choice of two, converted to a kind.
-fn either(kind: Kind, then: Range, otherwise: Range) -> Found
+fn either(kind: Kind, then: Interval, otherwise: Interval) -> Found
     requires then { then.lo ≤ℤ then.hi }
     requires otherwise { otherwise.lo ≤ℤ otherwise.hi }
     ensures kind { result.kind ≡ kind }

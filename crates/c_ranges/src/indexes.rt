@@ -1,7 +1,7 @@
 //! The check of a program's indexes.
 ghost use Rattle.std.specs.Prelude.{◌≡◌, map, flat_map, MatchResult};
 ghost use Rattle.std.specs.Option.{option_map};
-ghost use Rattle.c_tree.specs.Exprs.{expr_of, placed_of, target_of};
+ghost use Rattle.c_tree.specs.Exprs.{expr_of, placed_of, lvalue_of};
 ghost use Rattle.c_tree.specs.Programs.{program_of, statement_of, statements_of, arms_list_of, returned_of};
 ghost use Rattle.c_tree.specs.Ranges.{elements_of, expr_indexes, placed_indexes, target_indexes, statement_indexes};
 ghost use Rattle.c_tree.specs.Ranges.{statements_indexes, arms_indexes, result_indexes, returned_indexes, AllFit};
@@ -9,8 +9,8 @@ ghost use Rattle.c_ranges.specs.Faults.{IsFaultOf};
 ghost use Rattle.c_ranges.specs.links.Firsts.{functions_indexes, threads_indexes, variables_of, index_of, fault_of, earlier, first_fault};
 
 use crate::expression::range;
-use crate::interval::Range;
-use c_tree::expr::{Expr, Placed, Target};
+use crate::interval::Interval;
+use c_tree::expr::{Expr, Lvalue, Placed};
 use c_tree::program::{Arm, Function, Program, Returned, Statement, Thread, Variable};
 use ido_base::place::Place;
 use thiserror::Error;
@@ -22,7 +22,7 @@ pub struct IndexError {
     /// The place of the index's first token.
     pub place: Place,
     /// The range of the index.
-    pub range: Range,
+    pub range: Interval,
     /// How many elements the array has.
     pub length: u32,
 }
@@ -172,8 +172,8 @@ fn of_arguments(variables: &[Variable], arguments: &[Placed]) -> Option<IndexErr
 }
 
 /// The first fault of the target of a call's result.
-fn of_assigned(variables: &[Variable], target: &Option<Target>) -> Option<IndexError>
-    ensures { result ≡ first_fault (variables_of variables.now) (result_indexes (option_map target_of target.now)) }
+fn of_assigned(variables: &[Variable], target: &Option<Lvalue>) -> Option<IndexError>
+    ensures { result ≡ first_fault (variables_of variables.now) (result_indexes (option_map lvalue_of target.now)) }
 {
     match target {
         Some(target) => of_target(variables, target),
@@ -182,12 +182,12 @@ fn of_assigned(variables: &[Variable], target: &Option<Target>) -> Option<IndexE
 }
 
 /// The first fault of a target.
-fn of_target(variables: &[Variable], target: &Target) -> Option<IndexError>
-    ensures { result ≡ first_fault (variables_of variables.now) (target_indexes (target_of target.now)) }
+fn of_target(variables: &[Variable], target: &Lvalue) -> Option<IndexError>
+    ensures { result ≡ first_fault (variables_of variables.now) (target_indexes (lvalue_of target.now)) }
 {
     match target {
-        Target::Local { .. } | Target::Variable { .. } => None,
-        Target::Element {
+        Lvalue::Local { .. } | Lvalue::Variable { .. } => None,
+        Lvalue::Element {
             variable,
             index,
             ..
@@ -244,7 +244,7 @@ fn of_index(variables: &[Variable], variable: u32, place: Place, index: &Expr) -
 {
     let range = range(index);
     let length = elements(variables, variable);
-    let all = Range {
+    let all = Interval {
         lo: 0,
         hi: i128::from(length) - 1,
     };

@@ -12,5 +12,5 @@ mod operators;
 
 pub use expression::range;
 pub use indexes::{IndexError, check};
-pub use interval::Range;
+pub use interval::Interval;
 pub use laws::{indexes_name_elements, ranges_hold};

@@ -8,17 +8,17 @@ ghost use Rattle.c_tree.specs.Ranges.{and_range, quotient_range, remainder_range
 ghost use Rattle.c_ranges.specs.Bounds.{interval_of, HeldBy};
 ghost use Rattle.c_ranges.specs.links.Corners.{IsWide, HasWideCorner};
 
-use crate::interval::Range;
+use crate::interval::Interval;
 use ido_ints::{Binary, Kind, Unary, common, promote};
 
-// The kind of an expression, and its range.
+/// The kind of an expression, and its range.
 #[derive(Clone, Copy)]
 pub(crate) struct Found {
     pub(crate) kind: Kind,
-    pub(crate) range: Range,
+    pub(crate) range: Interval,
 }
 
-// What an operator gives for one operand.
+/// What an operator gives for one operand.
 pub(crate) fn unary(operator: Unary, operand: Found) -> Found
     requires { HeldBy operand.kind operand.range }
     ensures kind { result.kind ≡ unary_kind operator operand.kind }
@@ -37,13 +37,13 @@ pub(crate) fn unary(operator: Unary, operand: Found) -> Found
         },
         Unary::Complement => Found {
             kind,
-            range: Range::full(kind),
+            range: Interval::full(kind),
         },
         Unary::Not => truth(),
     }
 }
 
-// What an operator gives for two operands.
+/// What an operator gives for two operands.
 pub(crate) fn binary(operator: Binary, left: Found, right: Found) -> Found
     requires left { HeldBy left.kind left.range }
     requires right { HeldBy right.kind right.range }
@@ -81,7 +81,7 @@ pub(crate) fn binary(operator: Binary, left: Found, right: Found) -> Found
         },
         Binary::Xor | Binary::Or => Found {
             kind,
-            range: Range::full(kind),
+            range: Interval::full(kind),
         },
         Binary::ShiftLeft => shifted_left(left),
         Binary::ShiftRight => shifted_right(left, right.range),
@@ -104,17 +104,17 @@ fn truth() -> Found
 {
     Found {
         kind: Kind::Int,
-        range: Range::truth(),
+        range: Interval::truth(),
     }
 }
 
 /// The negatives.
-fn negative(kind: Kind, x: Range) -> Range
+fn negative(kind: Kind, x: Interval) -> Interval
     requires { HeldBy kind x }
     ensures value { interval_of result ≡ fitted kind (interval (neg_ℤ x.hi) (neg_ℤ x.lo)) }
     ensures held { HeldBy kind result }
 {
-    let exact = Range {
+    let exact = Interval {
         lo: -x.hi,
         hi: -x.lo,
     };
@@ -122,13 +122,13 @@ fn negative(kind: Kind, x: Range) -> Range
 }
 
 /// The sums.
-fn sum(kind: Kind, x: Range, y: Range) -> Range
+fn sum(kind: Kind, x: Interval, y: Interval) -> Interval
     requires x { HeldBy kind x }
     requires y { HeldBy kind y }
     ensures value { interval_of result ≡ fitted kind (sum (interval_of x) (interval_of y)) }
     ensures held { HeldBy kind result }
 {
-    let exact = Range {
+    let exact = Interval {
         lo: x.lo + y.lo,
         hi: x.hi + y.hi,
     };
@@ -136,13 +136,13 @@ fn sum(kind: Kind, x: Range, y: Range) -> Range
 }
 
 /// The differences.
-fn difference(kind: Kind, x: Range, y: Range) -> Range
+fn difference(kind: Kind, x: Interval, y: Interval) -> Interval
     requires x { HeldBy kind x }
     requires y { HeldBy kind y }
     ensures value { interval_of result ≡ fitted kind (difference (interval_of x) (interval_of y)) }
     ensures held { HeldBy kind result }
 {
-    let exact = Range {
+    let exact = Interval {
         lo: x.lo - y.hi,
         hi: x.hi - y.lo,
     };
@@ -150,7 +150,7 @@ fn difference(kind: Kind, x: Range, y: Range) -> Range
 }
 
 /// The products. Where 128 bits don't hold one, no kind does.
-fn product(kind: Kind, x: Range, y: Range) -> Range
+fn product(kind: Kind, x: Interval, y: Interval) -> Interval
     requires x { HeldBy kind x }
     requires y { HeldBy kind y }
     ensures value { interval_of result ≡ fitted kind (product (interval_of x) (interval_of y)) }
@@ -158,12 +158,12 @@ fn product(kind: Kind, x: Range, y: Range) -> Range
 {
     match exact_product(x, y) {
         Some(exact) => exact.fitted(kind),
-        None => Range::full(kind),
+        None => Interval::full(kind),
     }
 }
 
 /// The least range that holds all products, where 128 bits hold its ends.
-fn exact_product(x: Range, y: Range) -> Option<Range>
+fn exact_product(x: Interval, y: Interval) -> Option<Interval>
     ensures { MatchOption result (HasWideCorner (interval_of x) (interval_of y)) (λ r. interval_of r ≡ product (interval_of x) (interval_of y)) }
 {
     let low = corners(x.lo, y)?;
@@ -172,50 +172,50 @@ fn exact_product(x: Range, y: Range) -> Option<Range>
 }
 
 /// The least range that holds the products of a number and the ends of a range.
-fn corners(factor: i128, y: Range) -> Option<Range>
+fn corners(factor: i128, y: Interval) -> Option<Interval>
     ensures { MatchOption result (IsWide (factor *ℤ y.lo) ⊎ IsWide (factor *ℤ y.hi))
         (λ r. interval_of r ≡ hull (only (factor *ℤ y.lo)) (only (factor *ℤ y.hi))) }
 {
     let low = factor.checked_mul(y.lo)?;
     let high = factor.checked_mul(y.hi)?;
-    Some(Range::only(low).hull(Range::only(high)))
+    Some(Interval::only(low).hull(Interval::only(high)))
 }
 
 /// The quotients.
-fn quotient(kind: Kind, x: Range, y: Range) -> Range
+fn quotient(kind: Kind, x: Interval, y: Interval) -> Interval
     requires x { HeldBy kind x }
     requires y { HeldBy kind y }
     ensures value { interval_of result ≡ quotient_range kind (interval_of x) (interval_of y) }
     ensures held { HeldBy kind result }
 {
     if y.is_positive_value() && x.is_from_zero_up() {
-        Range {
+        Interval {
             lo: x.lo / y.lo,
             hi: x.hi / y.lo,
         }
     } else {
-        Range::full(kind)
+        Interval::full(kind)
     }
 }
 
 /// The remainders.
-fn remainder(kind: Kind, x: Range, y: Range) -> Range
+fn remainder(kind: Kind, x: Interval, y: Interval) -> Interval
     requires x { HeldBy kind x }
     requires y { HeldBy kind y }
     ensures value { interval_of result ≡ remainder_range kind (interval_of x) (interval_of y) }
     ensures held { HeldBy kind result }
 {
     if !y.is_positive_value() {
-        return Range::full(kind);
+        return Interval::full(kind);
     }
     let most = y.lo - 1;
     if x.is_from_zero_up() {
-        Range {
+        Interval {
             lo: 0,
             hi: lesser(x.hi, most),
         }
     } else {
-        Range {
+        Interval {
             lo: -most,
             hi: most,
         }
@@ -223,20 +223,20 @@ fn remainder(kind: Kind, x: Range, y: Range) -> Range
 }
 
 /// What `&` gives.
-fn bit_and(kind: Kind, x: Range, y: Range) -> Range
+fn bit_and(kind: Kind, x: Interval, y: Interval) -> Interval
     requires x { HeldBy kind x }
     requires y { HeldBy kind y }
     ensures value { interval_of result ≡ and_range kind (interval_of x) (interval_of y) }
     ensures held { HeldBy kind result }
 {
     match (x.is_from_zero_up(), y.is_from_zero_up()) {
-        (true, true) => Range {
+        (true, true) => Interval {
             lo: 0,
             hi: lesser(x.hi, y.hi),
         },
-        (true, false) => Range { lo: 0, hi: x.hi },
-        (false, true) => Range { lo: 0, hi: y.hi },
-        (false, false) => Range::full(kind),
+        (true, false) => Interval { lo: 0, hi: x.hi },
+        (false, true) => Interval { lo: 0, hi: y.hi },
+        (false, false) => Interval::full(kind),
     }
 }
 
@@ -256,12 +256,12 @@ fn shifted_left(left: Found) -> Found
     let kind = promote(left.kind);
     Found {
         kind,
-        range: Range::full(kind),
+        range: Interval::full(kind),
     }
 }
 
 /// What `>>` gives.
-fn shifted_right(left: Found, count: Range) -> Found
+fn shifted_right(left: Found, count: Interval) -> Found
     requires { HeldBy left.kind left.range }
     ensures kind { result.kind ≡ promoted left.kind }
     ensures range { interval_of result.range ≡ shifted_range (promoted left.kind) (fitted (promoted left.kind) (interval_of left.range)) (interval_of count) }
@@ -273,7 +273,7 @@ fn shifted_right(left: Found, count: Range) -> Found
         let places = places(kind, count.lo);
         Found {
             kind,
-            range: Range {
+            range: Interval {
                 lo: x.lo >> places,
                 hi: x.hi >> places,
             },
@@ -281,7 +281,7 @@ fn shifted_right(left: Found, count: Range) -> Found
     } else {
         Found {
             kind,
-            range: Range::full(kind),
+            range: Interval::full(kind),
         }
     }
 }

@@ -25,7 +25,7 @@ good_target fuel fuel' b h h' =
     (λ y us (us₁, us₂, e, l, m). (y.name, us₁, us₂, e, l, (y.index, m, refl)))
     (λ h f. f)
   where
-    made : t.Name → Option t.Expression → t.Target
+    made : t.Name → Option t.Expression → t.Lvalue
     made n i = record { name = n; index = i }
 
 -- ---- Changes
@@ -98,10 +98,10 @@ good_change fuel fuel' b h h' = good_head {K = change_language} (change_good fue
 
 -- ---- Assignments
 
-abbrev made_of : t.Target → t.Change → t.Assignment
+abbrev made_of : t.Lvalue → t.Change → t.Assignment
 made_of x y = record { place = x.name.place; target = x; change = y }
 
-abbrev before : t.Change → Place → t.Target → t.Assignment
+abbrev before : t.Change → Place → t.Lvalue → t.Assignment
 before y place x = record { place = place; target = x; change = y }
 
 abbrev PlainLanguage : Language t.Assignment
@@ -113,10 +113,10 @@ assignment_language (Some (Punctuator p.Decrement)) = marked p.Decrement ▷ (λ
 assignment_language _ = PlainLanguage
 
 -- a target begins with its name
-target_first : (x : t.Target) (us vs : List Token) → target x us → first_place (us ++ vs) ≡ Some x.name.place
+target_first : (x : t.Lvalue) (us vs : List Token) → target x us → first_place (us ++ vs) ≡ Some x.name.place
 target_first x us vs (us₁, us₂, e, n, i) = rw (e, n) refl
 
-target_head : (x : t.Target) (us rest : List Token) → target x us → head_of (us ++ rest) ≡ Some (Name x.name.text)
+target_head : (x : t.Lvalue) (us rest : List Token) → target x us → head_of (us ++ rest) ≡ Some (Name x.name.text)
 target_head x us rest (us₁, us₂, e, n, i) = rw (e, n) refl
 
 change_ends : (y : t.Change) (us rest : List Token) → ChangeLanguage y us → OperandEnd (head_of (us ++ rest))
@@ -125,7 +125,7 @@ change_ends (t.Update operator value) us rest (us₁, us₂, e, (o, l), m) = rw 
 change_ends t.Increment us rest (o, l) = rw l refl
 change_ends t.Decrement us rest (o, l) = rw l refl
 
-changed_up : (x : t.Target) (y : t.Change) (us vs : List Token) → target x us → ChangeLanguage y vs → changed x y (us ++ vs)
+changed_up : (x : t.Lvalue) (y : t.Change) (us vs : List Token) → target x us → ChangeLanguage y vs → changed x y (us ++ vs)
 changed_up x (t.Set value) us vs u (vs₁, vs₂, e, l, m) = (us, vs, refl, u, (vs₁, vs₂, e, l, m))
 changed_up x (t.Update operator value) us vs u (vs₁, vs₂, e, l, m) = (us, vs, refl, u, (vs₁, vs₂, e, l, m))
 changed_up x t.Increment us vs u m = inl (us, vs, refl, u, m)
@@ -164,13 +164,13 @@ assignment_good fuel fuel' b h h' _ =
     plain_up (λ y us u. u) (λ h f. f)
 
 -- an assignment whose target comes first
-pub plain_down : (place : Place) (x : t.Target) (c : t.Change) (us us₁ us₂ : List Token) → us ≡ us₁ ++ us₂ → first_place us ≡ Some place → target x us₁
+pub plain_down : (place : Place) (x : t.Lvalue) (c : t.Change) (us us₁ us₂ : List Token) → us ≡ us₁ ++ us₂ → first_place us ≡ Some place → target x us₁
     → ChangeLanguage c us₂ → PlainLanguage (record { place = place; target = x; change = c }) us
 plain_down place x c us us₁ us₂ e f u m =
     let s : x.name.place ≡ place = some_same x.name.place place (sym (target_first x us₁ us₂ u) ∙ ap first_place (sym e) ∙ f) in
     (x, us₁, us₂, e, u, (c, m, ap (λ place. record { place = place; target = x; change = c }) s))
 
-assignment_out : (place : Place) (x : t.Target) (c : t.Change) (us rest : List Token) → assignment (record { place = place; target = x; change = c }) us
+assignment_out : (place : Place) (x : t.Lvalue) (c : t.Change) (us rest : List Token) → assignment (record { place = place; target = x; change = c }) us
     → assignment_language (head_of (us ++ rest)) (record { place = place; target = x; change = c }) us
 assignment_out place x (t.Set value) us rest (f, (us₁, us₂, e, u, m)) =
     let q : head_of (us ++ rest) ≡ Some (Name x.name.text) = rw (e, append_assoc us₁ us₂ rest) (target_head x us₁ (us₂ ++ rest) u) in

@@ -8,13 +8,13 @@ use Rattle.c_tree.specs.Tokens.{Token, Lexeme, Name, Number, Punctuator}
 use Rattle.c_tree.specs.declared.token.Punctuator.TheVariants as p
 use Rattle.c_tree.specs.Trees as t
 use Rattle.c_tree.specs.Languages.{mark, ◌⋅◌, name, list_of, some_of}
-use Rattle.c_tree.specs.Grammar.{expression, index, call, unary_mark, strength}
+use Rattle.c_tree.specs.Grammar.{expression, index, call, unary_mark, precedence}
 use Rattle.c_reader.specs.links.Parsing.{give, head_of, head_is, is_mark, where_head, parse_some_of, parse_arguments, call_after, right_after_name}
 use Rattle.c_reader.specs.links.Parsing.{right_by, parse_right, parse_expression, parse_operand, expression_after_name}
 use Rattle.c_reader.proofs.Good.{Language, Good, ◌▷◌, ◌▹◌, just, Anything, good_give, good_to, good_map, good_where, good_head, good_then}
 use Rattle.c_reader.proofs.Tokens.{marked, named, good_mark, good_name}
 use Rattle.c_reader.proofs.Parts.{Unless, Where, good_some_of}
-use Rattle.c_reader.proofs.Expressions.{OperandEnd, from, not_mark, ladder_ends, ladder_head, strength_high}
+use Rattle.c_reader.proofs.Expressions.{OperandEnd, from, not_mark, ladder_ends, ladder_head, precedence_high}
 use Rattle.c_reader.proofs.Operands.{ExpressionEnd, NamedLanguage, AfterLanguage, ConditionalLanguage, good_expression, good_operand}
 use Rattle.c_reader.proofs.Operands.{named_good, expression_after_good, after_up, after_down, named_up, conditional_ends}
 
@@ -34,7 +34,7 @@ expression_foreign test f n (t.Parenthesised place inner) us rest (us₁, us₂,
 expression_foreign test f n (t.Unary place o operand) us rest (us₁, us₂, e, l, m) = rw (e, l) (f.3 o)
 expression_foreign test f n (t.Cast place x operand) us rest (us₁, us₂, e, l, m) = rw (e, l) f.2
 expression_foreign test f n (t.Binary o left right) us rest (q, (us₁, us₂, e, l, m)) =
-    rw (e, append_assoc us₁ us₂ rest) (expression_foreign test f (strength o) left us₁ (us₂ ++ rest) l)
+    rw (e, append_assoc us₁ us₂ rest) (expression_foreign test f (precedence o) left us₁ (us₂ ++ rest) l)
 expression_foreign test f n (t.Conditional x y z) us rest (q, (us₁, us₂, e, l, m)) =
     rw (e, append_assoc us₁ us₂ rest) (expression_foreign test f 1 x us₁ (us₂ ++ rest) l)
 
@@ -218,7 +218,7 @@ value_out x (t.Unary place o operand) us us₁ us₂ rest e (vs₁, vs₂, e', l
     let q : head_of (us ++ rest) ≡ Some (Punctuator (unary_mark o)) = rw (e, e', l) refl in rw q (x, u, refl)
 value_out x (t.Cast place y operand) us us₁ us₂ rest e (vs₁, vs₂, e', l, m) a u =
     let q : head_of (us ++ rest) ≡ Some (Punctuator p.OpenParenthesis) = rw (e, e', l) refl in rw q (x, u, refl)
-value_out x (t.Binary o left right) us us₁ us₂ rest e (q, m) a u = let h : strength o ≤ 10 = strength_high o in let z : ⊥ = omega (arith, q, h) in absurd z
+value_out x (t.Binary o left right) us us₁ us₂ rest e (q, m) a u = let h : precedence o ≤ 10 = precedence_high o in let z : ⊥ = omega (arith, q, h) in absurd z
 value_out x (t.Conditional y z v) us us₁ us₂ rest e (q, m) a u = let z : ⊥ = omega (arith, q) in absurd z
 
 right_out : (y : t.Initial) (us rest : List Token) → RightLanguage y us → right_language (head_of (us ++ rest)) y us

@@ -117,7 +117,7 @@ unary_opens unary.Not n = opening n
 rises_provided : (h : ℕ) (A : Type 0) (P : List Token → Type 0) → Rises h P → Rises h (provided A P)
 rises_provided h A P a = record { go = λ ts (c, x) n. a.go ts x n }
 
-spelt : (x : t.Expression) (strength : ℕ) → IsSpelt x (g.expression_from x strength)
+spelt : (x : t.Expression) (precedence : ℕ) → IsSpelt x (g.expression_from x precedence)
 spelt (t.Number place value) s = record { rise = 0; long = omega arith; rises = rises_at 0 place (Number value) same_mark }
 spelt (t.Named x) s = record { rise = 0; long = omega arith; rises = rises_at 0 x.place (Name x.text) same_mark }
 spelt (t.Element array index) s =
@@ -140,7 +140,7 @@ spelt (t.Parenthesised place inner) s =
           (rises_both i.rise 0 _ _ i.rises (rises_one 0 (Punctuator p.CloseParenthesis) same_mark));
     }
 spelt (t.Unary place operator operand) s =
-    let i = spelt operand g.strongest in
+    let i = spelt operand g.highest_precedence in
     let long = i.long in
     record {
       rise = 1 + i.rise;
@@ -149,7 +149,7 @@ spelt (t.Unary place operator operand) s =
           (rises_at 1 place (Punctuator (g.unary_mark operator)) (unary_opens operator)) i.rises;
     }
 spelt (t.Cast place kind operand) s =
-    let i = spelt operand g.strongest in
+    let i = spelt operand g.highest_precedence in
     let long = i.long in
     record {
       rise = 1 + (0 + (0 + i.rise));
@@ -158,8 +158,8 @@ spelt (t.Cast place kind operand) s =
           (rises_both 0 (0 + i.rise) _ _ (rises_type kind) (rises_both 0 i.rise _ _ (rises_one 0 (Punctuator p.CloseParenthesis) same_mark) i.rises));
     }
 spelt (t.Binary operator left right) s =
-    let l = spelt left (g.strength operator) in
-    let r = spelt right (g.strength operator + 1) in
+    let l = spelt left (g.precedence operator) in
+    let r = spelt right (g.precedence operator + 1) in
     let first = l.long in
     let second = r.long in
     record {
@@ -305,7 +305,7 @@ holds_maybe P f (Some x) = f x
 
 -- ---- Expressions and what is made of them
 
-low_expression : (x : t.Expression) (strength : ℕ) → Holds (λ room. IsLow 129 x) (g.expression_from x strength)
+low_expression : (x : t.Expression) (precedence : ℕ) → Holds (λ room. IsLow 129 x) (g.expression_from x precedence)
 low_expression x s = record { go = λ ts y n room free low. let e = spelt x s in let r = e.rises.go ts y n in (r.0, fits ts n e.rise e.long r.1 low) }
   where
     fits : (ts : List Token) (n : Nesting) (rise : ℕ) → height x ≤ rise + 1 → n.others + rise ≤ (nesting_after n ts).others → is_high_from n ts ≡ false →
@@ -339,10 +339,10 @@ low_index : (x : Option t.Expression) → Holds (λ room. IsLowIf 129 x) (g.inde
 low_index None = holds_empty
 low_index (Some x) = then _ _ _ (mark p.OpenBracket (λ n. refl)) (and_then _ _ _ (low_expression x 0) (mark p.CloseBracket (λ n. refl)))
 
-low_target : (x : t.Target) → Holds (λ room. IsLowIf 129 x.index) (g.target x)
+low_target : (x : t.Lvalue) → Holds (λ room. IsLowIf 129 x.index) (g.target x)
 low_target x = then _ _ _ (name x.name) (low_index x.index)
 
-low_changed : (x : t.Target) (c : t.Change) → Holds (λ room. IsLowIf 129 x.index × IsLowChange 129 c) (g.changed x c)
+low_changed : (x : t.Lvalue) (c : t.Change) → Holds (λ room. IsLowIf 129 x.index × IsLowChange 129 c) (g.changed x c)
 low_changed x (t.Set value) = holds_both _ _ _ _ (low_target x) (then _ _ _ (mark p.Assign (λ n. refl)) (low_expression value 0))
 low_changed x (t.Update operator value) = holds_both _ _ _ _ (low_target x) (then _ _ _ (mark (p.Update operator) (λ n. refl)) (low_expression value 0))
 low_changed x t.Increment =

@@ -8,7 +8,7 @@ use Rattle.ido_ints.specs.declared.operators.Binary.TheVariants as binary
 use Rattle.c_tree.specs.Tokens.{Token, Lexeme, Punctuator}
 use Rattle.c_tree.specs.declared.token.Punctuator.TheVariants as p
 use Rattle.c_tree.specs.Trees as t
-use Rattle.c_tree.specs.Grammar.{expression_from, strength}
+use Rattle.c_tree.specs.Grammar.{expression_from, precedence}
 use Rattle.c_reader.specs.links.Parsing.{Parser, head_of, head_is, is_mark, operator_at, operator_in}
 use Rattle.c_reader.specs.links.Parsing.{is_operator_at, operators_at, operators_after, ◌>>=◌, taking}
 use Rattle.c_reader.proofs.Good.{Language, Good, ◌▷◌, just, found_in, Anything, Strict, good_give, good_to}
@@ -34,29 +34,29 @@ not_mark x l no_mark = go (is_mark x l) refl
     go true e = absurd (no_mark (is_mark-true x l e))
     go false e = e
 
-operator_is : (n : ℕ) (l : Lexeme) (o : bo.Binary) → operator_at n l ≡ Some o → (l ≡ Punctuator (p.Binary o)) × (strength o ≡ n)
-operator_is n (Punctuator (p.Binary x)) o e = go (nat_eq (strength x) n) refl e
+operator_is : (n : ℕ) (l : Lexeme) (o : bo.Binary) → operator_at n l ≡ Some o → (l ≡ Punctuator (p.Binary o)) × (precedence o ≡ n)
+operator_is n (Punctuator (p.Binary x)) o e = go (nat_eq (precedence x) n) refl e
   where
-    go : (b : Bool) → nat_eq (strength x) n ≡ b → elim b as (λ b. Option bo.Binary) [ true ↦ Some x | false ↦ None ] ≡ Some o →
-        (Punctuator (p.Binary x) ≡ Punctuator (p.Binary o)) × (strength o ≡ n)
-    go true q e = let s : x ≡ o = some_same x o e in (ap (λ x. Punctuator (p.Binary x)) s, subst (λ y. strength y ≡ n) s (eqb-true (strength x) n q))
+    go : (b : Bool) → nat_eq (precedence x) n ≡ b → elim b as (λ b. Option bo.Binary) [ true ↦ Some x | false ↦ None ] ≡ Some o →
+        (Punctuator (p.Binary x) ≡ Punctuator (p.Binary o)) × (precedence o ≡ n)
+    go true q e = let s : x ≡ o = some_same x o e in (ap (λ x. Punctuator (p.Binary x)) s, subst (λ y. precedence y ≡ n) s (eqb-true (precedence x) n q))
     go false q e = cc
 operator_is n _ o e = cc
 
-is_operator : (n : ℕ) (o : bo.Binary) → strength o ≡ n → operator_at n (Punctuator (p.Binary o)) ≡ Some o
-is_operator n o e = rw (eq-eqb (strength o) n e, operator_at) refl
+is_operator : (n : ℕ) (o : bo.Binary) → precedence o ≡ n → operator_at n (Punctuator (p.Binary o)) ≡ Some o
+is_operator n o e = rw (eq-eqb (precedence o) n e, operator_at) refl
 
-no_operator : (m : ℕ) (o : bo.Binary) → (strength o ≡ m → ⊥) → is_operator_at m (Punctuator (p.Binary o)) ≡ false
-no_operator m o h = go (nat_eq (strength o) m) refl
+no_operator : (m : ℕ) (o : bo.Binary) → (precedence o ≡ m → ⊥) → is_operator_at m (Punctuator (p.Binary o)) ≡ false
+no_operator m o h = go (nat_eq (precedence o) m) refl
   where
-    go : (b : Bool) → nat_eq (strength o) m ≡ b → is_operator_at m (Punctuator (p.Binary o)) ≡ false
-    go true q = absurd (h (eqb-true (strength o) m q))
+    go : (b : Bool) → nat_eq (precedence o) m ≡ b → is_operator_at m (Punctuator (p.Binary o)) ≡ false
+    go true q = absurd (h (eqb-true (precedence o) m q))
     go false q = rw (q, is_operator_at) refl
 
-operator_ends : (n : ℕ) (o : bo.Binary) → strength o < n → End n (Some (Punctuator (p.Binary o)))
+operator_ends : (n : ℕ) (o : bo.Binary) → precedence o < n → End n (Some (Punctuator (p.Binary o)))
 operator_ends n o h = (not_mark p.OpenBracket (Punctuator (p.Binary o)) (λ q. cc), λ m e. no_operator m o (λ q. let z : ⊥ = omega (arith, h, e, q) in z))
 
--- ---- A chain of operators of one strength
+-- ---- A chain of operators of one precedence
 
 abbrev operator_in_language : ℕ → Language bo.Binary
 operator_in_language n = found_in (operator_in n)
@@ -81,7 +81,7 @@ longer_down n left y us many (o, us₁, us₂, e, l, (r, us₃, us₄, e', h, c)
 operator_strict : (n : ℕ) → Strict (operator_in_language n)
 operator_strict n o us (t, e, f) = rw e (lit≤ tt)
 
--- a chain begins with an operator of its strength, if it isn't empty
+-- a chain begins with an operator of its precedence, if it isn't empty
 chain_ends : (n : ℕ) (left y : t.Expression) (us rest : List Token) → Chain n left y us → End n (head_of rest) → End (n + 1) (head_of (us ++ rest))
 chain_ends n left y us rest (zero, (q, e)) f = rw e (f.0, λ m h. f.1 m (omega (arith, h)))
 chain_ends n left y us rest (suc many, (o, us₁, us₂, e, (t, e', e''), c)) f =
@@ -101,8 +101,8 @@ chain_out n left y us rest (zero, (q, e)) f = inr ((q, e), rw e (f.1 n (omega ar
 chain_out n left y us rest (suc many, (o, us₁, us₂, e, (t, e', e''), c)) f =
     inl (longer_down n left y us many (o, us₁, us₂, e, (t, e', e''), c), rw (e, e') (rw (e'', is_operator_at) refl))
 
--- an operator of each strength
-operator_with : (levels : ℕ) → levels ≤ 9 → (o : bo.Binary) × (strength o ≡ 10 - levels)
+-- an operator of each precedence
+operator_with : (levels : ℕ) → levels ≤ 9 → (o : bo.Binary) × (precedence o ≡ 10 - levels)
 operator_with zero h = (binary.Mul, refl)
 operator_with (suc zero) h = (binary.Add, refl)
 operator_with (suc (suc zero)) h = (binary.ShiftLeft, refl)
@@ -115,12 +115,12 @@ operator_with (suc (suc (suc (suc (suc (suc (suc (suc zero)))))))) h = (binary.L
 operator_with (suc (suc (suc (suc (suc (suc (suc (suc (suc zero))))))))) h = (binary.LogicalOr, refl)
 operator_with (suc (suc (suc (suc (suc (suc (suc (suc (suc (suc n)))))))))) h = let z : ⊥ = omega (arith, h) in absurd z
 
-good_operator : {b : ℕ} (n : ℕ) (o : bo.Binary) → strength o ≡ n
+good_operator : {b : ℕ} (n : ℕ) (o : bo.Binary) → precedence o ≡ n
     → Good b (operator_in_language n) (operator_in_language n) Anything (taking (operator_in n)) (taking (operator_in n))
 good_operator n o e = good_taking (operator_in n) (record { place = record { 0 = 0 }; lexeme = Punctuator (p.Binary o) }) o (is_operator n o e)
 
 -- a chain, where its right operands are read
-longer_good : {b c : ℕ} (n : ℕ) (o : bo.Binary) → strength o ≡ n → b ≤ suc c → c ≤ b → (right right' : Parser t.Expression)
+longer_good : {b c : ℕ} (n : ℕ) (o : bo.Binary) → precedence o ≡ n → b ≤ suc c → c ≤ b → (right right' : Parser t.Expression)
     → Good b (from (n + 1)) (from (n + 1)) (End (n + 1)) right right' →
     (loop loop' : t.Expression → Parser t.Expression) → ((left : t.Expression) → Good c (Chain n left) (Chain n left) (End n) (loop left) (loop' left)) →
     (left : t.Expression) → Good b (Chain n left) (Longer n left) (End n) (do o ← taking (operator_in n); y ← right; loop (t.Binary o left y))
@@ -133,7 +133,7 @@ longer_good n o e bc cb right right' g loop loop' h left =
     (λ o y us rest m f. tt))
     (longer_up n left) (λ y us u. u) (λ h f. f)
 
-operators_step : {b c : ℕ} (n : ℕ) (o : bo.Binary) → strength o ≡ n → b ≤ suc c → c ≤ b → (right right' : Parser t.Expression)
+operators_step : {b c : ℕ} (n : ℕ) (o : bo.Binary) → precedence o ≡ n → b ≤ suc c → c ≤ b → (right right' : Parser t.Expression)
     → Good b (from (n + 1)) (from (n + 1)) (End (n + 1)) right right' → (fuel fuel' : ℕ) →
     ((left : t.Expression) → Good c (Chain n left) (Chain n left) (End n) (operators_at n right fuel left) (operators_at n right' fuel' left)) →
     (left : t.Expression) → Good b (Chain n left) (Chain n left) (End n) (operators_at n right (suc fuel) left) (operators_at n right' (suc fuel') left)
@@ -143,7 +143,7 @@ operators_step n o e bc cb right right' g fuel fuel' h left =
     (good_to {U' = Chain n left} {K' = just left} (good_give left) (λ y us u. (0, u)) (λ y us u. u) (λ h f. tt))
     (chain_out n left)
 
-operators_good : (n : ℕ) (o : bo.Binary) → strength o ≡ n → (right right' : Parser t.Expression) → (fuel fuel' b : ℕ) → b ≤ fuel → b ≤ fuel' →
+operators_good : (n : ℕ) (o : bo.Binary) → precedence o ≡ n → (right right' : Parser t.Expression) → (fuel fuel' b : ℕ) → b ≤ fuel → b ≤ fuel' →
     Good b (from (n + 1)) (from (n + 1)) (End (n + 1)) right right' → Good 0 (from (n + 1)) (from (n + 1)) (End (n + 1)) right right →
     (left : t.Expression) → Good b (Chain n left) (Chain n left) (End n) (operators_at n right fuel left) (operators_at n right' fuel' left)
 operators_good n o e right right' zero fuel' b h h' g g₀ left = good_small h (λ ts. ([], refl, [], left, (0, (refl, refl))))
@@ -154,9 +154,9 @@ operators_good n o e right right' (suc fuel) (suc fuel') b h h' g g₀ left =
     operators_step {b = b} {c = b - 1} n o e (omega arith) (omega arith) right right' g fuel fuel'
     (operators_good n o e right right' fuel fuel' (b - 1) (omega (arith, h)) (omega (arith, h')) (good_less g (omega arith)) g₀) left
 
--- ---- The ladder of strengths
+-- ---- The ladder of precedences
 
--- the operators of the so many greatest strengths that follow on an operand
+-- the operators of the so many greatest precedences that follow on an operand
 abbrev pub Ladder : (levels : ℕ) → (left : t.Expression) → Language t.Expression
 Ladder zero left = just left
 Ladder (suc levels) left = Ladder levels left ▷ Chain (10 - levels)
@@ -210,7 +210,7 @@ ladder_up : (levels levels' : ℕ) (left y : t.Expression) (us : List Token) →
 ladder_up levels levels' left y us h l =
     let e : (levels' - levels) + levels ≡ levels' = omega (arith, h) in rw e at (ladder_more (levels' - levels) levels left y us l)
 
--- what binds tighter is also from a weaker strength on
+-- what binds tighter is also from a weaker precedence on
 pub from_weaker : (n m : ℕ) (x : t.Expression) (us : List Token) → n ≤ m → 1 ≤ m → from m x us → from n x us
 from_weaker n m (t.Number place value) us h h' u = u
 from_weaker n m (t.Named x) us h h' u = u
@@ -240,46 +240,46 @@ ladder_join (suc levels) left y us vs h u (x, us₁, us₂, e, l, (many, c)) =
     rw (e, s) (rw (append_assoc us us₁ us₂) at (chain_join (10 - levels) many x y (us ++ us₁) us₂ (omega (arith, h))
     (from_weaker (10 - levels) (11 - levels) x (us ++ us₁) (omega (arith, h)) (omega (arith, h)) below) c))
 
--- each strength is between 1 and 10
-pub strength_low : (o : bo.Binary) → 1 ≤ strength o
-strength_low binary.LogicalOr = lit≤ tt
-strength_low binary.LogicalAnd = lit≤ tt
-strength_low binary.Or = lit≤ tt
-strength_low binary.Xor = lit≤ tt
-strength_low binary.And = lit≤ tt
-strength_low binary.Equal = lit≤ tt
-strength_low binary.NotEqual = lit≤ tt
-strength_low binary.Less = lit≤ tt
-strength_low binary.Greater = lit≤ tt
-strength_low binary.LessEqual = lit≤ tt
-strength_low binary.GreaterEqual = lit≤ tt
-strength_low binary.ShiftLeft = lit≤ tt
-strength_low binary.ShiftRight = lit≤ tt
-strength_low binary.Add = lit≤ tt
-strength_low binary.Sub = lit≤ tt
-strength_low binary.Mul = lit≤ tt
-strength_low binary.Div = lit≤ tt
-strength_low binary.Rem = lit≤ tt
+-- each precedence is between 1 and 10
+pub precedence_low : (o : bo.Binary) → 1 ≤ precedence o
+precedence_low binary.LogicalOr = lit≤ tt
+precedence_low binary.LogicalAnd = lit≤ tt
+precedence_low binary.Or = lit≤ tt
+precedence_low binary.Xor = lit≤ tt
+precedence_low binary.And = lit≤ tt
+precedence_low binary.Equal = lit≤ tt
+precedence_low binary.NotEqual = lit≤ tt
+precedence_low binary.Less = lit≤ tt
+precedence_low binary.Greater = lit≤ tt
+precedence_low binary.LessEqual = lit≤ tt
+precedence_low binary.GreaterEqual = lit≤ tt
+precedence_low binary.ShiftLeft = lit≤ tt
+precedence_low binary.ShiftRight = lit≤ tt
+precedence_low binary.Add = lit≤ tt
+precedence_low binary.Sub = lit≤ tt
+precedence_low binary.Mul = lit≤ tt
+precedence_low binary.Div = lit≤ tt
+precedence_low binary.Rem = lit≤ tt
 
-pub strength_high : (o : bo.Binary) → strength o ≤ 10
-strength_high binary.LogicalOr = lit≤ tt
-strength_high binary.LogicalAnd = lit≤ tt
-strength_high binary.Or = lit≤ tt
-strength_high binary.Xor = lit≤ tt
-strength_high binary.And = lit≤ tt
-strength_high binary.Equal = lit≤ tt
-strength_high binary.NotEqual = lit≤ tt
-strength_high binary.Less = lit≤ tt
-strength_high binary.Greater = lit≤ tt
-strength_high binary.LessEqual = lit≤ tt
-strength_high binary.GreaterEqual = lit≤ tt
-strength_high binary.ShiftLeft = lit≤ tt
-strength_high binary.ShiftRight = lit≤ tt
-strength_high binary.Add = lit≤ tt
-strength_high binary.Sub = lit≤ tt
-strength_high binary.Mul = lit≤ tt
-strength_high binary.Div = lit≤ tt
-strength_high binary.Rem = lit≤ tt
+pub precedence_high : (o : bo.Binary) → precedence o ≤ 10
+precedence_high binary.LogicalOr = lit≤ tt
+precedence_high binary.LogicalAnd = lit≤ tt
+precedence_high binary.Or = lit≤ tt
+precedence_high binary.Xor = lit≤ tt
+precedence_high binary.And = lit≤ tt
+precedence_high binary.Equal = lit≤ tt
+precedence_high binary.NotEqual = lit≤ tt
+precedence_high binary.Less = lit≤ tt
+precedence_high binary.Greater = lit≤ tt
+precedence_high binary.LessEqual = lit≤ tt
+precedence_high binary.GreaterEqual = lit≤ tt
+precedence_high binary.ShiftLeft = lit≤ tt
+precedence_high binary.ShiftRight = lit≤ tt
+precedence_high binary.Add = lit≤ tt
+precedence_high binary.Sub = lit≤ tt
+precedence_high binary.Mul = lit≤ tt
+precedence_high binary.Div = lit≤ tt
+precedence_high binary.Rem = lit≤ tt
 
 -- an expression without `?` outside brackets is an operand and a ladder behind it
 pub ladder_split : (levels : ℕ) (y : t.Expression) (us : List Token) → levels ≤ 10 → from (11 - levels) y us → (from 11 ▷ Ladder levels) y us
@@ -293,43 +293,43 @@ ladder_split levels (t.Unary place operator operand) us h u =
 ladder_split levels (t.Cast place x operand) us h u = (t.Cast place x operand, us, [], sym (append-nil us), u, ladder_none levels (t.Cast place x operand))
 ladder_split levels (t.Conditional condition then otherwise) us h (q, u) = let z : ⊥ = omega (arith, h, q) in absurd z
 ladder_split levels (t.Binary o a r) us h (q, (us₁, us₂, e, ha, (us₃, us₄, e', (place, m), hr))) =
-    let low : _ = strength_low o in
-    let high : _ = strength_high o in
-    let s : 11 - (11 - strength o) ≡ strength o = omega (arith, high) in
-    let d : 10 - (10 - strength o) ≡ strength o = omega (arith, high) in
-    let deep : (from 11 ▷ Ladder (11 - strength o)) a us₁ = ladder_split (11 - strength o) a us₁ (omega (arith, low)) (rw s ha) in
+    let low : _ = precedence_low o in
+    let high : _ = precedence_high o in
+    let s : 11 - (11 - precedence o) ≡ precedence o = omega (arith, high) in
+    let d : 10 - (10 - precedence o) ≡ precedence o = omega (arith, high) in
+    let deep : (from 11 ▷ Ladder (11 - precedence o)) a us₁ = ladder_split (11 - precedence o) a us₁ (omega (arith, low)) (rw s ha) in
     go low high d deep
   where
-    go : 1 ≤ strength o → strength o ≤ 10 → 10 - (10 - strength o) ≡ strength o → (from 11 ▷ Ladder (11 - strength o)) a us₁
+    go : 1 ≤ precedence o → precedence o ≤ 10 → 10 - (10 - precedence o) ≡ precedence o → (from 11 ▷ Ladder (11 - precedence o)) a us₁
         → (from 11 ▷ Ladder levels) (t.Binary o a r) us
     go low high d (left, vs₁, vs₂, f, hl, l) =
-        let b : 11 - strength o ≡ suc (10 - strength o) = omega (arith, high) in
-        let l' : Ladder (suc (10 - strength o)) left a vs₂ = rw b at l in
+        let b : 11 - precedence o ≡ suc (10 - precedence o) = omega (arith, high) in
+        let l' : Ladder (suc (10 - precedence o)) left a vs₂ = rw b at l in
         let (x, ws₁, ws₂, g, hx, (many, c)) = l' in
-        let last : (operator_in_language (10 - (10 - strength o)) ▷ (λ o'. from (10 - (10 - strength o) + 1) ▷ (λ r'. just (t.Binary o' a r'))))
+        let last : (operator_in_language (10 - (10 - precedence o)) ▷ (λ o'. from (10 - (10 - precedence o) + 1) ▷ (λ r'. just (t.Binary o' a r'))))
         (t.Binary o a r) us₂ =
         rw d (
           o,
           us₃,
           us₄,
           e',
-          (record { place = place; lexeme = Punctuator (p.Binary o) }, m, is_operator (strength o) o refl),
+          (record { place = place; lexeme = Punctuator (p.Binary o) }, m, is_operator (precedence o) o refl),
           (r, us₄, [], sym (append-nil us₄), hr, (refl, refl)),
         ) in
-        let whole : Ladder (suc (10 - strength o)) left (t.Binary o a r) (vs₂ ++ us₂) = (
+        let whole : Ladder (suc (10 - precedence o)) left (t.Binary o a r) (vs₂ ++ us₂) = (
           x,
           ws₁,
           ws₂ ++ us₂,
           ap (λ l. l ++ us₂) g ∙ append_assoc ws₁ ws₂ us₂,
           hx,
-          (suc many, chain_more (10 - (10 - strength o)) many x a (t.Binary o a r) o ws₂ us₂ c last),
+          (suc many, chain_more (10 - (10 - precedence o)) many x a (t.Binary o a r) o ws₂ us₂ c last),
         ) in (
           left,
           vs₁,
           vs₂ ++ us₂,
           e ∙ ap (λ l. l ++ us₂) f ∙ append_assoc vs₁ vs₂ us₂,
           hl,
-          ladder_up (suc (10 - strength o)) levels left (t.Binary o a r) (vs₂ ++ us₂) (omega (arith, h, q, low, high)) whole,
+          ladder_up (suc (10 - precedence o)) levels left (t.Binary o a r) (vs₂ ++ us₂) (omega (arith, h, q, low, high)) whole,
         )
 
 -- ---- The parsers of the ladder
@@ -357,7 +357,7 @@ operators_more : {b : ℕ} (fuel fuel' : ℕ) → b ≤ fuel → b ≤ fuel' →
     (levels : ℕ) → levels ≤ 9 → AfterGood b operand operand' fuel fuel' levels → AfterGood 0 operand operand fuel fuel levels
     → AfterGood b operand operand' fuel fuel' (suc levels)
 operators_more {b = b} fuel fuel' h h' operand operand' g g₀ levels l below below₀ left =
-    let oq : (o : bo.Binary) × (strength o ≡ 10 - levels) = operator_with levels l in
+    let oq : (o : bo.Binary) × (precedence o ≡ 10 - levels) = operator_with levels l in
     good_to {U = Ladder levels left ▷ Chain (10 - levels)} {K = Ladder levels left ▷ Chain (10 - levels)} {F = End (10 - levels)}
     (good_then {M = Chain (10 - levels)} {F = End (11 - levels)} {G = End (10 - levels)} (below left)
     (λ x. operators_good (10 - levels) oq.0 oq.1 (do y ← operand; operators_after operand fuel levels y)

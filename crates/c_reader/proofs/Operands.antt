@@ -14,7 +14,7 @@ use Rattle.c_tree.specs.Tokens.{Token, Lexeme, Name, Number, Punctuator}
 use Rattle.c_tree.specs.declared.token.Punctuator.TheVariants as p
 use Rattle.c_tree.specs.Trees as t
 use Rattle.c_tree.specs.Languages.{maybe, mark_at}
-use Rattle.c_tree.specs.Grammar.{expression, index, strength, type, unary_mark}
+use Rattle.c_tree.specs.Grammar.{expression, index, precedence, type, unary_mark}
 use Rattle.c_reader.specs.links.Parsing.{Parser, give, head_of, head_is, is_mark, taking, unary_of, unary_in, parse_mark}
 use Rattle.c_reader.specs.links.Parsing.{parse_type, parse_index, element, operand_after_name, operand_after_opening}
 use Rattle.c_reader.specs.links.Parsing.{operand_by, operand_over, conditional_after, expression_after}
@@ -24,7 +24,7 @@ use Rattle.c_reader.proofs.Good.{good_where, good_head, good_then, good_then_les
 use Rattle.c_reader.proofs.Tokens.{some_same, marked, named, numbered, good_mark, good_name, good_number, marked-strict, named-strict}
 use Rattle.c_reader.proofs.Parts.{good_maybe}
 use Rattle.c_reader.proofs.Types.{TypeEnd, good_type, type_begins}
-use Rattle.c_reader.proofs.Expressions.{OperandEnd, End, from, Ladder, strength_low, strength_high, ladder_join}
+use Rattle.c_reader.proofs.Expressions.{OperandEnd, End, from, Ladder, precedence_low, precedence_high, ladder_join}
 use Rattle.c_reader.proofs.Expressions.{ladder_split, ladder_ends, from_weaker, AfterGood, operators_after_good}
 
 -- ---- What may follow an expression
@@ -102,7 +102,7 @@ expression_begins n (t.Parenthesised place inner) us rest (us₁, us₂, e, l, m
 expression_begins n (t.Unary place operator operand) us rest (us₁, us₂, e, l, m) = rw (e, l) refl
 expression_begins n (t.Cast place x operand) us rest (us₁, us₂, e, l, m) = rw (e, l) refl
 expression_begins n (t.Binary operator left right) us rest (q, (us₁, us₂, e, l, m)) =
-    rw (e, append_assoc us₁ us₂ rest) (expression_begins (strength operator) left us₁ (us₂ ++ rest) l)
+    rw (e, append_assoc us₁ us₂ rest) (expression_begins (precedence operator) left us₁ (us₂ ++ rest) l)
 expression_begins n (t.Conditional condition then otherwise) us rest (q, (us₁, us₂, e, l, m)) =
     rw (e, append_assoc us₁ us₂ rest) (expression_begins 1 condition us₁ (us₂ ++ rest) l)
 
@@ -236,7 +236,7 @@ operand_out (t.Cast place x operand) us rest (us₁, us₂, e, l, (us₃, us₄,
       refl,
       inl (x, us₃, us₄, e', m, (c, us₅, us₆, e₂, n, (operand, r, refl))),
     )
-operand_out (t.Binary o left right) us rest (q, u) = let h : strength o ≤ 10 = strength_high o in let z : ⊥ = omega (arith, q, h) in absurd z
+operand_out (t.Binary o left right) us rest (q, u) = let h : precedence o ≤ 10 = precedence_high o in let z : ⊥ = omega (arith, q, h) in absurd z
 operand_out (t.Conditional condition then otherwise) us rest (q, u) = let z : ⊥ = omega (arith, q) in absurd z
 
 pub operand_over_good : {b c : ℕ} → b ≤ suc c → {o o' e e' : Parser t.Expression} → Good c (from 11) (from 11) OperandEnd o o'
@@ -321,7 +321,7 @@ after_down (t.Element array i) us u = ladder_down (t.Element array i) us u
 after_down (t.Parenthesised place inner) us u = ladder_down (t.Parenthesised place inner) us u
 after_down (t.Unary place o operand) us u = ladder_down (t.Unary place o operand) us u
 after_down (t.Cast place x operand) us u = ladder_down (t.Cast place x operand) us u
-after_down (t.Binary o left right) us (q, u) = ladder_down (t.Binary o left right) us (strength_low o, u)
+after_down (t.Binary o left right) us (q, u) = ladder_down (t.Binary o left right) us (precedence_low o, u)
 after_down (t.Conditional x a b) us (q, (us₁, us₂, e, u, (us₃, us₄, e', (p, pq), (us₅, us₆, e₂, ha, (us₇, us₈, e₃, (c, pc), hb))))) =
     go (ladder_split 10 x us₁ (lit≤ tt) u)
   where

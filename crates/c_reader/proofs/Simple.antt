@@ -232,10 +232,10 @@ good_first fuel fuel' b h h' =
 
 -- ---- Statements that begin with a name, before their semicolon
 
-abbrev assign_of : t.Target → t.Change → t.Statement
+abbrev assign_of : t.Lvalue → t.Change → t.Statement
 assign_of x y = t.Assign (record { place = x.name.place; target = x; change = y })
 
-abbrev FromRight : t.Target → Language t.Statement
+abbrev FromRight : t.Lvalue → Language t.Statement
 FromRight x = marked p.Assign ▷ (λ o. RightLanguage ▹ assigned_from x)
 
 -- a change by another mark than `=`
@@ -245,14 +245,14 @@ IsOther (t.Update operator value) = Unit {0}
 IsOther t.Increment = Unit {0}
 IsOther t.Decrement = Unit {0}
 
-abbrev FromChange : t.Target → Language t.Statement
+abbrev FromChange : t.Lvalue → Language t.Statement
 FromChange x y us = (c : t.Change) × IsOther c × ChangeLanguage c us × (assign_of x c ≡ y)
 
 -- what stands behind the target of a statement
-abbrev pub BehindTarget : t.Target → Language t.Statement
+abbrev pub BehindTarget : t.Lvalue → Language t.Statement
 BehindTarget x y us = FromRight x y us ⊎ FromChange x y us
 
-change_split : (x : t.Target) (y : t.Statement) (us : List Token) → (ChangeLanguage ▹ assign_of x) y us → BehindTarget x y us
+change_split : (x : t.Lvalue) (y : t.Statement) (us : List Token) → (ChangeLanguage ▹ assign_of x) y us → BehindTarget x y us
 change_split x y us (t.Set value, (us₁, us₂, e, (o, l), m), q) = inl (o, us₁, us₂, e, l, (t.Value value, m, q))
 change_split x y us (t.Update operator value, m, q) = inr (t.Update operator value, tt, m, q)
 change_split x y us (t.Increment, m, q) = inr (t.Increment, tt, m, q)
@@ -264,7 +264,7 @@ other_head (t.Update operator value) us rest o (us₁, us₂, e, (place, l), m) 
 other_head t.Increment us rest o (place, l) = rw l refl
 other_head t.Decrement us rest o (place, l) = rw l refl
 
-behind_target_good : (fuel fuel' b : ℕ) → b ≤ fuel → b ≤ fuel' → (x : t.Target)
+behind_target_good : (fuel fuel' b : ℕ) → b ≤ fuel → b ≤ fuel' → (x : t.Lvalue)
     → Good b (BehindTarget x) (BehindTarget x) RightEnd (statement_after_target fuel x) (statement_after_target fuel' x)
 behind_target_good fuel fuel' b h h' x =
     good_where {K₁ = FromRight x} {K₂ = FromChange x} (head_is (is_mark p.Assign))
@@ -281,7 +281,7 @@ behind_target_good fuel fuel' b h h' x =
     out y us rest (inl (o, us₁, us₂, e, l, m)) f = inl ((o, us₁, us₂, e, l, m), rw (e, l) refl)
     out y us rest (inr (c, o, m, q)) f = inr ((c, o, m, q), other_head c us rest o m)
 
-abbrev at_index : t.Name → Option t.Expression → t.Target
+abbrev at_index : t.Name → Option t.Expression → t.Lvalue
 at_index n i = record { name = n; index = i }
 
 abbrev FromTarget : t.Name → Language t.Statement
@@ -293,7 +293,7 @@ BehindName n y us = (CallLanguage n ▹ t.CallOnly) y us ⊎ FromTarget n y us
 
 behind_target_head : (test : Option Lexeme → Bool) → test (Some (Punctuator p.Assign)) ≡ false → test (Some (Punctuator p.Increment)) ≡ false
     → test (Some (Punctuator p.Decrement)) ≡ false → ((o : _) → test (Some (Punctuator (p.Update o))) ≡ false) →
-    (x : t.Target) (y : t.Statement) (us rest : List Token) → BehindTarget x y us → test (head_of (us ++ rest)) ≡ false
+    (x : t.Lvalue) (y : t.Statement) (us rest : List Token) → BehindTarget x y us → test (head_of (us ++ rest)) ≡ false
 behind_target_head test a b c d x y us rest (inl (o, us₁, us₂, e, l, m)) = rw (e, l) a
 behind_target_head test a b c d x y us rest (inr (t.Set value, o, m, q)) = absurd o
 behind_target_head test a b c d x y us rest (inr (t.Update operator value, o, (us₁, us₂, e, (place, l), m), q)) = rw (e, l) (d operator)

@@ -480,11 +480,11 @@ statement_good fuel fuel' b h h' B B' g g₀ _ = declared_good fuel fuel' b h h'
 
 -- ---- Each statement is found by its first token
 
-target_down : (x : t.Target) (y : t.Statement) (us us₁ us₂ : List Token) → us ≡ us₁ ++ us₂ → target x us₁ → BehindTarget x y us₂ → (named ▷ BehindName) y us
+target_down : (x : t.Lvalue) (y : t.Statement) (us us₁ us₂ : List Token) → us ≡ us₁ ++ us₂ → target x us₁ → BehindTarget x y us₂ → (named ▷ BehindName) y us
 target_down x y us us₁ us₂ e (vs₁, vs₂, e', n, i) b =
     (x.name, vs₁, vs₂ ++ us₂, e ∙ ap (λ l. l ++ us₂) e' ∙ append_assoc vs₁ vs₂ us₂, n, inr (x.index, vs₂, us₂, refl, i, b))
 
-target_name : (x : t.Target) (us us₁ us₂ rest : List Token) → us ≡ us₁ ++ us₂ → target x us₁ → head_of (us ++ rest) ≡ Some (Name x.name.text)
+target_name : (x : t.Lvalue) (us us₁ us₂ rest : List Token) → us ≡ us₁ ++ us₂ → target x us₁ → head_of (us ++ rest) ≡ Some (Name x.name.text)
 target_name x us us₁ us₂ rest e (vs₁, vs₂, e', n, i) = rw (e, e', n) refl
 
 -- an assignment begins with its target, or with `++` or `--`

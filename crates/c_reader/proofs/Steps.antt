@@ -178,7 +178,7 @@ maybe_initial_is fuel ts = refl
 
 -- ---- Statements
 
-pub statement_behind_target_is : (fuel : ℕ) (x : t.Target) (ts : List Token) → statement_behind_target fuel x ts
+pub statement_behind_target_is : (fuel : ℕ) (x : t.Lvalue) (ts : List Token) → statement_behind_target fuel x ts
     ≡ where_head (head_is (is_mark p.Assign))
     (do parse_mark p.Assign; y ← right_side fuel; give (assigned_from x y))
     (do y ← parse_change fuel; give (t.Assign (record { place = x.name.place; target = x; change = y }))) ts

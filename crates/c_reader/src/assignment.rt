@@ -1,6 +1,6 @@
 //! Assignments and calls.
 ghost use Rattle.std.specs.Prelude.{map};
-ghost use Rattle.c_tree.specs.Views.{assignment_of, call_of, change_of, expression_of, name_of, target_of};
+ghost use Rattle.c_tree.specs.Views.{assignment_of, call_of, change_of, expression_of, name_of, lvalue_of};
 ghost use Rattle.c_reader.specs.links.Parsing as spec;
 ghost use Rattle.c_reader.specs.links.Reads.{Reads};
 ghost use Rattle.c_reader.specs.links.Rows.{right_of};
@@ -11,7 +11,7 @@ use crate::expression::{expression, expression_after_name, index};
 use crate::halt::Halt;
 use crate::token::Lexeme;
 use c_tree::token::Punctuator;
-use c_tree::tree::{Assignment, Call, Change, Expression, Name, Target};
+use c_tree::tree::{Assignment, Call, Change, Expression, Lvalue, Name};
 use std::alloc::Global;
 
 /// The right side of an assignment.
@@ -22,12 +22,12 @@ pub enum RightSide {
 }
 
 /// A name, perhaps with an index.
-pub fn target(alloc: Global, tokens: &mut Cursor<'_>, fuel: usize) -> Result<Target, Halt>
-    ensures { Reads target_of (spec.parse_target fuel tokens.old) result tokens.new }
+pub fn target(alloc: Global, tokens: &mut Cursor<'_>, fuel: usize) -> Result<Lvalue, Halt>
+    ensures { Reads lvalue_of (spec.parse_target fuel tokens.old) result tokens.new }
 {
     let name = tokens.name(alloc)?;
     let index = index(alloc, tokens, fuel)?;
-    Ok(Target { name, index })
+    Ok(Lvalue { name, index })
 }
 
 /// What stands behind a target.

@@ -6,7 +6,7 @@ ghost use Rattle.c_reader.specs.links.Tokens.{lexeme_of, tokens_of};
 ghost use Rattle.c_reader.specs.links.Parsing as spec;
 ghost use Rattle.c_reader.specs.links.Reads.{Reads, Gives};
 ghost use Rattle.c_reader.specs.links.Steps.{at_end, parse_unary, parse_update};
-ghost use Rattle.c_tree.specs.Grammar.{strength};
+ghost use Rattle.c_tree.specs.Grammar.{precedence};
 
 use crate::halt::Halt;
 use crate::token::{Lexeme, Token};
@@ -203,24 +203,24 @@ impl<'a> Cursor<'a> {
         Ok(operator)
     }
 
-    /// Is the next token an operator with two operands, of this strength?
-    pub fn sees_operator(&self, strength: u8) -> bool
-        ensures { result ≡ spec.head_is (spec.is_operator_at strength) (spec.head_of self.now) }
+    /// Is the next token an operator with two operands, of this precedence?
+    pub fn sees_operator(&self, precedence: u8) -> bool
+        ensures { result ≡ spec.head_is (spec.is_operator_at precedence) (spec.head_of self.now) }
     {
         match self.left {
             [] => false,
-            [next, ..] => operator_at(strength, next.lexeme).is_some(),
+            [next, ..] => operator_at(precedence, next.lexeme).is_some(),
         }
     }
 
-    /// Reads an operator with two operands, of this strength.
-    pub fn operator(&mut self, strength: u8) -> Result<Binary, Halt>
-        ensures { Gives (spec.taking (spec.operator_in strength) self.old) result self.new }
+    /// Reads an operator with two operands, of this precedence.
+    pub fn operator(&mut self, precedence: u8) -> Result<Binary, Halt>
+        ensures { Gives (spec.taking (spec.operator_in precedence) self.old) result self.new }
     {
         let [next, left @ ..] = self.left else {
             return Err(Halt::Wrong);
         };
-        let Some(operator) = operator_at(strength, next.lexeme) else {
+        let Some(operator) = operator_at(precedence, next.lexeme) else {
             return Err(Halt::Wrong);
         };
         self.left = left;
@@ -228,14 +228,14 @@ impl<'a> Cursor<'a> {
     }
 }
 
-/// The operator with two operands that a token is, where it has this strength.
-fn operator_at(strength: u8, lexeme: Lexeme<'_>) -> Option<Binary>
-    ensures { result ≡ spec.operator_at strength (lexeme_of lexeme.entry) }
+/// The operator with two operands that a token is, where it has this precedence.
+fn operator_at(precedence: u8, lexeme: Lexeme<'_>) -> Option<Binary>
+    ensures { result ≡ spec.operator_at precedence (lexeme_of lexeme.entry) }
 {
     let Lexeme::Punctuator(Punctuator::Binary(operator)) = lexeme else {
         return None;
     };
-    if strength_of(operator) == strength {
+    if precedence_of(operator) == precedence {
         Some(operator)
     } else {
         None
@@ -243,8 +243,8 @@ fn operator_at(strength: u8, lexeme: Lexeme<'_>) -> Option<Binary>
 }
 
 /// How tightly an operator binds: from `||` to `*`.
-fn strength_of(operator: Binary) -> u8
-    ensures { result ≡ strength operator }
+fn precedence_of(operator: Binary) -> u8
+    ensures { result ≡ precedence operator }
 {
     match operator {
         Binary::LogicalOr => 1,

@@ -17,8 +17,8 @@ use ido_base::place::Place;
 use ido_ints::{Binary, Kind, Unary};
 use std::alloc::{AllocError, Global};
 
-/// How many strengths the operators with two operands have: the greatest is that of `*`.
-const STRENGTHS: u8 = 10;
+/// How many precedences the operators with two operands have: the greatest is that of `*`.
+const PRECEDENCES: u8 = 10;
 
 /// An expression.
 #[cycle(expression)]
@@ -29,7 +29,7 @@ pub fn expression(alloc: Global, tokens: &mut Cursor<'_>, fuel: usize) -> Result
         return Err(Halt::Wrong);
     }
     let first = operand(alloc, tokens, fuel)?;
-    let condition = operators(alloc, tokens, fuel, STRENGTHS, first)?;
+    let condition = operators(alloc, tokens, fuel, PRECEDENCES, first)?;
     conditional(alloc, tokens, fuel - 1, condition)
 }
 
@@ -53,30 +53,30 @@ pub fn conditional(
     Ok(conditional_of(alloc, condition, then, otherwise)?)
 }
 
-/// The operators of so many strengths, from the greatest on, that follow on an operand.
+/// The operators of so many precedences, from the greatest on, that follow on an operand.
 #[cycle(expression)]
 pub fn operators(
     alloc: Global,
     tokens: &mut Cursor<'_>,
     fuel: usize,
-    strengths: u8,
+    precedences: u8,
     first: Expression,
 ) -> Result<Expression, Halt>
-    requires { strengths ≤ 10 }
-    ensures { Reads expression_of (operators_behind fuel strengths (expression_of first) tokens.old) result tokens.new }
+    requires { precedences ≤ 10 }
+    ensures { Reads expression_of (operators_behind fuel precedences (expression_of first) tokens.old) result tokens.new }
 {
-    if strengths == 0 {
+    if precedences == 0 {
         return Ok(first);
     }
-    let strength = STRENGTHS - (strengths - 1);
-    let mut left = operators(alloc, tokens, fuel, strengths - 1, first)?;
+    let precedence = PRECEDENCES - (precedences - 1);
+    let mut left = operators(alloc, tokens, fuel, precedences - 1, first)?;
     for _turn in 0..fuel {
-        if !tokens.sees_operator(strength) {
+        if !tokens.sees_operator(precedence) {
             return Ok(left);
         }
-        let operator = tokens.operator(strength)?;
+        let operator = tokens.operator(precedence)?;
         let right = operand(alloc, tokens, fuel)?;
-        let right = operators(alloc, tokens, fuel, strengths - 1, right)?;
+        let right = operators(alloc, tokens, fuel, precedences - 1, right)?;
         left = binary_of(alloc, operator, left, right)?;
     }
     Err(Halt::Wrong)
@@ -178,7 +178,7 @@ pub fn expression_after_name(
     ensures { Reads expression_of (expression_behind_name fuel (name_of name) tokens.old) result tokens.new }
 {
     let first = operand_after_name(alloc, tokens, fuel, name)?;
-    let condition = operators(alloc, tokens, fuel, STRENGTHS, first)?;
+    let condition = operators(alloc, tokens, fuel, PRECEDENCES, first)?;
     conditional(alloc, tokens, fuel, condition)
 }
 

@@ -2,7 +2,7 @@
 ghost use Rattle.std.specs.Prelude.{◌≡◌, IfOk};
 ghost use Rattle.std.specs.Option.{option_map};
 ghost use Rattle.c_tree.specs.Trees as t;
-ghost use Rattle.c_tree.specs.Views.{assignment_of, call_of, declaration_of, expression_of, first_of, initial_of, name_of, statement_of, target_of};
+ghost use Rattle.c_tree.specs.Views.{assignment_of, call_of, declaration_of, expression_of, first_of, initial_of, name_of, statement_of, lvalue_of};
 ghost use Rattle.c_reader.specs.links.Parsing as spec;
 ghost use Rattle.c_reader.specs.links.Reads.{Reads};
 ghost use Rattle.c_reader.specs.links.Steps.{maybe_initial, parse_assignment_statement, parse_declaration_statement, parse_lock};
@@ -15,7 +15,7 @@ use crate::halt::Halt;
 use crate::kind::kind;
 use c_tree::token::{Keyword, Punctuator};
 use c_tree::tree::{
-    Assignment, Call, Change, Declaration, Expression, First, Initial, Name, Statement, Target,
+    Assignment, Call, Change, Declaration, Expression, First, Initial, Lvalue, Name, Statement,
 };
 use std::alloc::{AllocError, Global};
 
@@ -159,8 +159,8 @@ fn assigned_of(alloc: Global, assigned: Assignment) -> Result<Statement, AllocEr
 }
 
 /// The result of a call, assigned.
-fn result_of(alloc: Global, target: Target, call: Call) -> Result<Statement, AllocError>
-    ensures { IfOk result (λ x. statement_of x ≡ t.AssignResult (target_of target) (call_of call)) }
+fn result_of(alloc: Global, target: Lvalue, call: Call) -> Result<Statement, AllocError>
+    ensures { IfOk result (λ x. statement_of x ≡ t.AssignResult (lvalue_of target) (call_of call)) }
 {
     let target = Box::new(alloc, target)?;
     let call = Box::new(alloc, call)?;
@@ -181,9 +181,9 @@ fn statement_after_target(
     alloc: Global,
     tokens: &mut Cursor<'_>,
     fuel: usize,
-    target: Target,
+    target: Lvalue,
 ) -> Result<Statement, Halt>
-    ensures { Reads statement_of (statement_behind_target fuel (target_of target) tokens.old) result tokens.new }
+    ensures { Reads statement_of (statement_behind_target fuel (lvalue_of target) tokens.old) result tokens.new }
 {
     let place = target.name.place;
     if !tokens.sees(Punctuator::Assign) {
@@ -224,7 +224,7 @@ fn statement_after_name(
         return Ok(called_of(alloc, call)?);
     }
     let index = index(alloc, tokens, fuel)?;
-    statement_after_target(alloc, tokens, fuel, Target { name, index })
+    statement_after_target(alloc, tokens, fuel, Lvalue { name, index })
 }
 
 /// A statement that begins with a name.

@@ -1,11 +1,11 @@
 //! The check of what expressions need.
 ghost use Rattle.std.specs.Prelude.{◌≡◌, ◌∷◌, [], map, MatchResult, None, Some};
-ghost use Rattle.c_tree.specs.Exprs.{placed_of, target_of};
+ghost use Rattle.c_tree.specs.Exprs.{placed_of, lvalue_of};
 ghost use Rattle.c_tree.specs.Flats.{flat_of, thread_of, statement_of, statements_of, arms_list_of};
 ghost use Rattle.c_tree.specs.Temporaries.{assign_exprs, statement_exprs, statements_exprs, arms_exprs, temporaries_fault};
 ghost use Rattle.c_temporaries.specs.links.Firsts.{first_deep, threads_exprs};
 
-use c_tree::expr::{Placed, Target};
+use c_tree::expr::{Lvalue, Placed};
 use c_tree::flat::{Arm, Flat, Statement, Thread};
 use c_tree::price::need;
 use ido_base::limits::MOST_TEMPORARIES;
@@ -43,12 +43,12 @@ fn of_placed(placed: &Placed) -> Option<Place>
 }
 
 /// The first one of an assignment.
-fn of_assigned(target: &Target, value: &Placed) -> Option<Place>
-    ensures { result ≡ first_deep (assign_exprs (target_of target.now) (placed_of value.now)) }
+fn of_assigned(target: &Lvalue, value: &Placed) -> Option<Place>
+    ensures { result ≡ first_deep (assign_exprs (lvalue_of target.now) (placed_of value.now)) }
 {
     match target {
-        Target::Local { .. } | Target::Variable { .. } => of_placed(value),
-        Target::Element { index, .. } => of_placed(index).or(of_placed(value)),
+        Lvalue::Local { .. } | Lvalue::Variable { .. } => of_placed(value),
+        Lvalue::Element { index, .. } => of_placed(index).or(of_placed(value)),
     }
 }
 

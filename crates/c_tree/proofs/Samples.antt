@@ -25,13 +25,13 @@ all_of (x ∷ xs) = t.statement_and x (all_of xs)
 abbrev pub block : ℕ → List t.Statement → ℕ → t.Block
 block opening xs closing = t.Braced (at opening) (all_of xs) (at closing)
 
-abbrev pub scalar : t.Name → t.Target
+abbrev pub scalar : t.Name → t.Lvalue
 scalar x = record { name = x; index = None }
 
-abbrev pub element : t.Name → t.Expression → t.Target
+abbrev pub element : t.Name → t.Expression → t.Lvalue
 element x index = record { name = x; index = Some index }
 
-abbrev pub assignment : ℕ → t.Target → t.Change → t.Assignment
+abbrev pub assignment : ℕ → t.Lvalue → t.Change → t.Assignment
 assignment place target change = record { place = at place; target = target; change = change }
 
 abbrev pub call : t.Name → List t.Expression → t.Call

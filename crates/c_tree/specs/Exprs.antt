@@ -7,8 +7,8 @@ use Rattle.ido_ints.specs.declared.operators.Binary as b
 use Rattle.ido_ints.specs.Typed.{Typed}
 use Rattle.c_tree.specs.declared.expr.Expr as e
 use Rattle.c_tree.specs.declared.expr.Placed as placed
-use Rattle.c_tree.specs.declared.expr.Target as target
-use Rattle.c_tree.specs.declared.expr.Target.TheVariants as targets
+use Rattle.c_tree.specs.declared.expr.Lvalue as target
+use Rattle.c_tree.specs.declared.expr.Lvalue.TheVariants as targets
 
 pub data Expr : Type 0 where
   Constant : (value : Typed) → Expr
@@ -31,10 +31,10 @@ pub record Placed : Type 0 where
   pub expr : Expr
 
 -- what is assigned; places are those of names
-pub data Target : Type 0 where
-  ToLocal : (local : ℕ) → Kind → Target
-  ToVariable : (place : Place) → (variable : ℕ) → Kind → Target
-  ToElement : (place : Place) → (variable : ℕ) → Kind → (index : Placed) → Target
+pub data Lvalue : Type 0 where
+  ToLocal : (local : ℕ) → Kind → Lvalue
+  ToVariable : (place : Place) → (variable : ℕ) → Kind → Lvalue
+  ToElement : (place : Place) → (variable : ℕ) → Kind → (index : Placed) → Lvalue
 
 -- ---- What the types of `expr` stand for
 
@@ -52,7 +52,7 @@ expr_of (e.Conditional' kind _ condition _ chosen _ otherwise) = Conditional kin
 abbrev pub placed_of : placed.Placed → Placed
 placed_of x = record { place = x.place; expr = expr_of x.expr }
 
-abbrev pub target_of : target.Target → Target
-target_of (targets.Local local kind) = ToLocal local kind
-target_of (targets.Variable place variable kind) = ToVariable place variable kind
-target_of (targets.Element place variable kind index) = ToElement place variable kind (placed_of index)
+abbrev pub lvalue_of : target.Lvalue → Lvalue
+lvalue_of (targets.Local local kind) = ToLocal local kind
+lvalue_of (targets.Variable place variable kind) = ToVariable place variable kind
+lvalue_of (targets.Element place variable kind index) = ToElement place variable kind (placed_of index)

@@ -5,7 +5,7 @@ use Rattle.ido_ints.specs.declared.kinds.Kind.{Kind}
 use Rattle.c_tree.specs.Trees.{Name}
 use Rattle.c_tree.specs.Views.{name_of}
 use Rattle.c_tree.specs.Programs.{Variable, variable_of}
-use Rattle.c_tree.specs.Exprs.{Placed, Target, placed_of, target_of}
+use Rattle.c_tree.specs.Exprs.{Placed, Lvalue, placed_of, lvalue_of}
 use Rattle.c_tree.specs.declared.flat.Statement as f
 use Rattle.c_tree.specs.declared.flat.Arm as arm
 use Rattle.c_tree.specs.declared.flat.Thread as thread
@@ -13,7 +13,7 @@ use Rattle.c_tree.specs.declared.flat.Flat as flat
 
 mutual
   pub data Statement : Type 0 where
-    Assign : (place : Place) → Target → (value : Placed) → Statement
+    Assign : (place : Place) → Lvalue → (value : Placed) → Statement
     If : (place : Place) → Arms → (otherwise : Statements) → Statement
     While : (place : Place) → (condition : Placed) → (body : Statements) → Statement
     Do : (place : Place) → (body : Statements) → (condition : Placed) → Statement
@@ -46,7 +46,7 @@ pub record Flat : Type 0 where
 
 abbrev mutual
   pub statement_of : f.Statement → Statement
-  statement_of (f.Assign place target value) = Assign place (target_of target) (placed_of value)
+  statement_of (f.Assign place target value) = Assign place (lvalue_of target) (placed_of value)
   statement_of (f.If' place _ arms _ otherwise) = If place (arms_of arms) (row_of otherwise)
   statement_of (f.While' place condition _ body) = While place (placed_of condition) (row_of body)
   statement_of (f.Do' place _ body condition) = Do place (row_of body) (placed_of condition)

@@ -35,29 +35,29 @@ type x ts = (ks : List Keyword) × Contains (spellings x) ks × words ks ts
 -- ---- Expressions (C11 6.5)
 
 -- how tightly an operator binds: from `||` to `*`
-abbrev pub strength : Binary → ℕ
-strength binary.LogicalOr = 1
-strength binary.LogicalAnd = 2
-strength binary.Or = 3
-strength binary.Xor = 4
-strength binary.And = 5
-strength binary.Equal = 6
-strength binary.NotEqual = 6
-strength binary.Less = 7
-strength binary.Greater = 7
-strength binary.LessEqual = 7
-strength binary.GreaterEqual = 7
-strength binary.ShiftLeft = 8
-strength binary.ShiftRight = 8
-strength binary.Add = 9
-strength binary.Sub = 9
-strength binary.Mul = 10
-strength binary.Div = 10
-strength binary.Rem = 10
+abbrev pub precedence : Binary → ℕ
+precedence binary.LogicalOr = 1
+precedence binary.LogicalAnd = 2
+precedence binary.Or = 3
+precedence binary.Xor = 4
+precedence binary.And = 5
+precedence binary.Equal = 6
+precedence binary.NotEqual = 6
+precedence binary.Less = 7
+precedence binary.Greater = 7
+precedence binary.LessEqual = 7
+precedence binary.GreaterEqual = 7
+precedence binary.ShiftLeft = 8
+precedence binary.ShiftRight = 8
+precedence binary.Add = 9
+precedence binary.Sub = 9
+precedence binary.Mul = 10
+precedence binary.Div = 10
+precedence binary.Rem = 10
 
 -- operands that no operator with two operands may part
-abbrev pub strongest : ℕ
-strongest = 11
+abbrev pub highest_precedence : ℕ
+highest_precedence = 11
 
 abbrev pub unary_mark : Unary → Punctuator
 unary_mark unary.Plus = p.Binary binary.Add
@@ -71,10 +71,10 @@ expression_from (t.Number place value) n = number_at place value
 expression_from (t.Named x) n = name x
 expression_from (t.Element array index) n = name array ⋅ mark p.OpenBracket ⋅ expression_from index 0 ⋅ mark p.CloseBracket
 expression_from (t.Parenthesised place inner) n = mark_at place p.OpenParenthesis ⋅ expression_from inner 0 ⋅ mark p.CloseParenthesis
-expression_from (t.Unary place operator operand) n = mark_at place (unary_mark operator) ⋅ expression_from operand strongest
-expression_from (t.Cast place x operand) n = mark_at place p.OpenParenthesis ⋅ type x ⋅ mark p.CloseParenthesis ⋅ expression_from operand strongest
+expression_from (t.Unary place operator operand) n = mark_at place (unary_mark operator) ⋅ expression_from operand highest_precedence
+expression_from (t.Cast place x operand) n = mark_at place p.OpenParenthesis ⋅ type x ⋅ mark p.CloseParenthesis ⋅ expression_from operand highest_precedence
 expression_from (t.Binary operator left right) n =
-    provided (n ≤ strength operator) (expression_from left (strength operator) ⋅ mark (p.Binary operator) ⋅ expression_from right (strength operator + 1))
+    provided (n ≤ precedence operator) (expression_from left (precedence operator) ⋅ mark (p.Binary operator) ⋅ expression_from right (precedence operator + 1))
 expression_from (t.Conditional condition then otherwise) n =
     provided (n ≡ 0) (expression_from condition 1 ⋅ mark p.Question ⋅ expression_from then 0 ⋅ mark p.Colon ⋅ expression_from otherwise 0)
 
@@ -87,10 +87,10 @@ abbrev pub index : Option t.Expression → List Token → Type 0
 index None = empty
 index (Some x) = mark p.OpenBracket ⋅ expression x ⋅ mark p.CloseBracket
 
-abbrev pub target : t.Target → List Token → Type 0
+abbrev pub target : t.Lvalue → List Token → Type 0
 target x = name x.name ⋅ index x.index
 
-abbrev pub changed : t.Target → t.Change → List Token → Type 0
+abbrev pub changed : t.Lvalue → t.Change → List Token → Type 0
 changed x (t.Set value) = target x ⋅ mark p.Assign ⋅ expression value
 changed x (t.Update operator value) = target x ⋅ mark (p.Update operator) ⋅ expression value
 changed x t.Increment = target x ⋅ mark p.Increment or mark p.Increment ⋅ target x

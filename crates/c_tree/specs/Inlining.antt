@@ -73,7 +73,7 @@ shifted n (e.Conditional kind condition chosen otherwise) = e.Conditional kind (
 abbrev pub shifted_placed : (by : ℕ) → e.Placed → e.Placed
 shifted_placed n x = record x { expr = shifted n x.expr }
 
-abbrev pub shifted_target : (by : ℕ) → e.Target → e.Target
+abbrev pub shifted_target : (by : ℕ) → e.Lvalue → e.Lvalue
 shifted_target n (e.ToLocal local kind) = e.ToLocal (n + local) kind
 shifted_target n (e.ToVariable place variable kind) = e.ToVariable place variable kind
 shifted_target n (e.ToElement place variable kind index) = e.ToElement place variable kind (shifted_placed n index)
@@ -102,7 +102,7 @@ passed place n ks (x ∷ xs) = f.statement_and (f.Assign place (e.ToLocal n (sli
     drop_first (j ∷ js) = js
 
 -- the result, converted to its function's kind (C11 6.8.6.4), is assigned
-abbrev pub assigned : Place → (by : ℕ) → Option p.Returned → Option e.Target → f.Statements
+abbrev pub assigned : Place → (by : ℕ) → Option p.Returned → Option e.Lvalue → f.Statements
 assigned place n (Some x) (Some target) = one (f.Assign place target (record { place = x.value.place; expr = e.Converted x.kind (shifted n x.value.expr) }))
 assigned place n (Some x) None = f.no_statement
 assigned place n None target = f.no_statement
@@ -118,7 +118,7 @@ Bodies = (function : ℕ) → List Kind → Made f.Statements
 
 module _ (fs : List p.Function) (bodies : Bodies) where
   -- the parameters, the body, the result
-  abbrev pub called : Place → (by : ℕ) → List Kind → p.Function → (body : Made f.Statements) → List e.Placed → Option e.Target → Made f.Statements
+  abbrev pub called : Place → (by : ℕ) → List Kind → p.Function → (body : Made f.Statements) → List e.Placed → Option e.Lvalue → Made f.Statements
   called place n ks x body arguments result =
       let made = statements_and (passed place (length ks) x.locals (map (shifted_placed n) arguments))
       (statements_and body.made (assigned place (length ks) x.result (option_map (shifted_target n) result))) in

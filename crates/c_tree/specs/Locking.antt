@@ -43,13 +43,13 @@ expr_uses (e.Converted kind operand) = expr_uses operand
 expr_uses (e.Binary operator left right) = expr_uses left ++ expr_uses right
 expr_uses (e.Conditional kind condition chosen otherwise) = expr_uses condition ++ expr_uses chosen ++ expr_uses otherwise
 
-abbrev pub target_uses : e.Target → List Use
+abbrev pub target_uses : e.Lvalue → List Use
 target_uses (e.ToLocal local kind) = []
 target_uses (e.ToVariable place variable kind) = record { variable = variable; place = place } ∷ []
 target_uses (e.ToElement place variable kind index) = record { variable = variable; place = place } ∷ expr_uses index.expr
 
 -- the value before the target
-abbrev pub assign_uses : e.Target → (value : e.Placed) → List Use
+abbrev pub assign_uses : e.Lvalue → (value : e.Placed) → List Use
 assign_uses target value = expr_uses value.expr ++ target_uses target
 
 abbrev pub guard_of : List Variable → (variable : ℕ) → ℕ
@@ -71,7 +71,7 @@ AreGuarded vs h us = find (λ u. not (is_guarded vs h u)) us ≡ None
 module _ (vs : List Variable) where
   mutual
     pub data Keeps : Held → f.Statement → Held → Type 0 where
-      assign : {h : Held} (place : Place) (target : e.Target) (value : e.Placed) → AreGuarded vs h (assign_uses target value)
+      assign : {h : Held} (place : Place) (target : e.Lvalue) (value : e.Placed) → AreGuarded vs h (assign_uses target value)
           → Keeps h (f.Assign place target value) h
       choose : {h after : Held} (place : Place) (arms : f.Arms) (otherwise : f.Statements) → KeepArms h arms after → KeepAll h otherwise after
           → Keeps h (f.If place arms otherwise) after

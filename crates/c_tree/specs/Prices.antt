@@ -48,7 +48,7 @@ abbrev pub node_price : ℕ → ℕ
 node_price nodes = 96 + 16 * nodes
 
 -- an assignment of a variable has a second node, the store
-abbrev pub assign_price : e.Target → (value : ℕ) → ℕ
+abbrev pub assign_price : e.Lvalue → (value : ℕ) → ℕ
 assign_price (e.ToLocal local kind) value = node_price value
 assign_price (e.ToVariable place variable kind) value = node_price value + node_price 0
 assign_price (e.ToElement place variable kind index) value = node_price (nodes_of index.expr + value) + node_price 0

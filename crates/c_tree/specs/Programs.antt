@@ -4,7 +4,7 @@ use Rattle.std.specs.Option.{option_map}
 use Rattle.ido_base.specs.declared.place.Place.{Place}
 use Rattle.ido_ints.specs.declared.kinds.Kind.{Kind}
 use Rattle.c_tree.specs.Trees.{Name}
-use Rattle.c_tree.specs.Exprs.{Placed, Target, placed_of, target_of}
+use Rattle.c_tree.specs.Exprs.{Placed, Lvalue, placed_of, lvalue_of}
 use Rattle.c_tree.specs.Views.{name_of}
 use Rattle.c_tree.specs.declared.program.Variable as variable
 use Rattle.c_tree.specs.declared.program.Statement as p
@@ -26,9 +26,9 @@ pub record Variable : Type 0 where
 
 mutual
   pub data Statement : Type 0 where
-    Assign : (place : Place) → Target → (value : Placed) → Statement
+    Assign : (place : Place) → Lvalue → (value : Placed) → Statement
     -- a call by the name at `name`, and the assignment of its result
-    Call : (place : Place) → (name : Place) → (function : ℕ) → (arguments : List Placed) → (result : Option Target) → Statement
+    Call : (place : Place) → (name : Place) → (function : ℕ) → (arguments : List Placed) → (result : Option Lvalue) → Statement
     If : (place : Place) → Arms → (otherwise : Statements) → Statement
     While : (place : Place) → (condition : Placed) → (body : Statements) → Statement
     Do : (place : Place) → (body : Statements) → (condition : Placed) → Statement
@@ -77,8 +77,8 @@ variable_of x = record { name = name_of x.name; guard = x.guard; kind = x.kind; 
 
 abbrev mutual
   pub statement_of : p.Statement → Statement
-  statement_of (p.Assign place target value) = Assign place (target_of target) (placed_of value)
-  statement_of (p.Call place name function arguments result) = Call place name function (map placed_of arguments.items) (option_map target_of result)
+  statement_of (p.Assign place target value) = Assign place (lvalue_of target) (placed_of value)
+  statement_of (p.Call place name function arguments result) = Call place name function (map placed_of arguments.items) (option_map lvalue_of result)
   statement_of (p.If' place _ arms _ otherwise) = If place (arms_of arms) (row_of otherwise)
   statement_of (p.While' place condition _ body) = While place (placed_of condition) (row_of body)
   statement_of (p.Do' place _ body condition) = Do place (row_of body) (placed_of condition)

@@ -154,12 +154,12 @@ expr_indexes (e.Conditional kind condition chosen otherwise) = expr_indexes cond
 abbrev pub placed_indexes : e.Placed → List Index
 placed_indexes x = expr_indexes x.expr
 
-abbrev pub target_indexes : e.Target → List Index
+abbrev pub target_indexes : e.Lvalue → List Index
 target_indexes (e.ToLocal local kind) = []
 target_indexes (e.ToVariable place variable kind) = []
 target_indexes (e.ToElement place variable kind index) = record { variable = variable; place = index.place; expr = index.expr } ∷ placed_indexes index
 
-abbrev pub result_indexes : Option e.Target → List Index
+abbrev pub result_indexes : Option e.Lvalue → List Index
 result_indexes None = []
 result_indexes (Some x) = target_indexes x
 

@@ -6,7 +6,7 @@ use Rattle.ido_base.specs.Locks.{holds_none}
 use Rattle.ido_ints.specs.Typed.{Typed}
 use Rattle.ido_ints.specs.Operators.{is_zero}
 use Rattle.ido_ints.specs.Reduction.{reduced}
-use Rattle.c_tree.specs.Exprs.{Expr, Placed, Target, ToLocal, ToVariable, ToElement}
+use Rattle.c_tree.specs.Exprs.{Expr, Placed, Lvalue, ToLocal, ToVariable, ToElement}
 use Rattle.c_tree.specs.Values.{element_at, value}
 use Rattle.c_tree.specs.Flats as f
 use Rattle.c_tree.specs.Programs.{Variable}
@@ -76,7 +76,7 @@ abbrev pub value_in : State → Thread → Expr → Typed
 value_in s thread x = value thread.locals s.variables x
 
 -- the thread once it has evaluated a value for a target: a local has it, a store of a variable is pending
-abbrev pub evaluated : State → Thread → Target → Expr → Thread
+abbrev pub evaluated : State → Thread → Lvalue → Expr → Thread
 evaluated s thread (ToLocal local kind) x =
     record thread { locals = slice_set thread.locals local (reduced kind (value_in s thread x).number) }
 evaluated s thread (ToVariable place variable kind) x =

@@ -8,7 +8,7 @@ use Rattle.c_tree.specs.Flats as f
 use Rattle.c_tree.specs.Prices.{need_of, thread_price}
 
 -- the index before the value
-abbrev pub assign_exprs : e.Target → e.Placed → List e.Placed
+abbrev pub assign_exprs : e.Lvalue → e.Placed → List e.Placed
 assign_exprs (e.ToLocal local kind) value = value ∷ []
 assign_exprs (e.ToVariable place variable kind) value = value ∷ []
 assign_exprs (e.ToElement place variable kind index) value = index ∷ value ∷ []

@@ -29,7 +29,7 @@ pub data Expression : Type 0 where
 -- ---- Assignments and calls
 
 -- a name, or an element of an array
-pub record Target : Type 0 where
+pub record Lvalue : Type 0 where
   pub name : Name
   pub index : Option Expression
 
@@ -45,7 +45,7 @@ pub data Change : Type 0 where
 
 pub record Assignment : Type 0 where
   pub place : Place
-  pub target : Target
+  pub target : Lvalue
   pub change : Change
 
 -- `function(arguments)`
@@ -81,7 +81,7 @@ mutual
     Declare : Declaration → Statement
     Assign : Assignment → Statement
     -- `target = call;`
-    AssignResult : Target → Call → Statement
+    AssignResult : Lvalue → Call → Statement
     CallOnly : Call → Statement
     If : (place : Place) → Arms → Otherwise → Statement
     While : (place : Place) → (condition : Expression) → Block → Statement

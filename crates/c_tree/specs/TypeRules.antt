@@ -105,7 +105,7 @@ module _ (gs : List n.Global) where
   maybe_faults s None = []
   maybe_faults s (Some x) = expression_faults s x
 
-  abbrev pub target_faults : n.Scope → t.Target → List Fault
+  abbrev pub target_faults : n.Scope → t.Lvalue → List Fault
   target_faults s x = use_faults s x.name (is_some x.index) ++ maybe_faults s x.index
 
   abbrev pub change_faults : n.Scope → t.Change → List Fault

@@ -124,34 +124,34 @@ module _ (gs : List n.Global) where
 
   -- ---- Targets and assignments (C11 6.5.16)
 
-  abbrev pub target_named : n.Scope → t.Name → e.Target
+  abbrev pub target_named : n.Scope → t.Name → e.Lvalue
   target_named s x = elim (n.meaning gs s x.text) [
     | n.IsLocal l ↦ e.ToLocal l.number l.kind
     | n.IsGlobal (n.Variable number kind is_array) ↦ e.ToVariable x.place number kind
     | _ ↦ e.ToLocal 0 kind.Int
   ]
 
-  abbrev pub target_element : n.Scope → t.Name → e.Placed → e.Target
+  abbrev pub target_element : n.Scope → t.Name → e.Placed → e.Lvalue
   target_element s x index = elim (n.meaning gs s x.text) [
     | n.IsGlobal (n.Variable number kind is_array) ↦ e.ToElement x.place number kind index
     | _ ↦ e.ToLocal 0 kind.Int
   ]
 
-  abbrev pub target : n.Scope → t.Target → e.Target
+  abbrev pub target : n.Scope → t.Lvalue → e.Lvalue
   target s x = elim x.index [
     | Some index ↦ target_element s x.name (placed s index)
     | None ↦ target_named s x.name
   ]
 
   -- what the target has before
-  abbrev pub before : n.Scope → t.Target → e.Expr
+  abbrev pub before : n.Scope → t.Lvalue → e.Expr
   before s x = elim x.index [
     | Some index ↦ element s x.name (first_place index) (expr s index)
     | None ↦ named s x.name
   ]
 
   -- the new value; that of `x op= v` is `x op v`, and begins with the target's name
-  abbrev pub changed : n.Scope → t.Target → t.Change → e.Placed
+  abbrev pub changed : n.Scope → t.Lvalue → t.Change → e.Placed
   changed s x (t.Set value) = placed s value
   changed s x (t.Update operator value) = record { place = x.name.place; expr = e.Binary operator (before s x) (expr s value) }
   changed s x t.Increment = record { place = x.name.place; expr = e.Binary b.Add (before s x) (int 1) }
@@ -161,7 +161,7 @@ module _ (gs : List n.Global) where
   abbrev pub assignment_at : Place → n.Scope → t.Assignment → p.Statement
   assignment_at place s x = p.Assign place (target s x.target) (changed s x.target x.change)
 
-  abbrev pub call : Place → n.Scope → t.Call → Option e.Target → p.Statement
+  abbrev pub call : Place → n.Scope → t.Call → Option e.Lvalue → p.Statement
   call place s x result = elim (n.meaning gs s x.function.text) [
     | n.IsGlobal (n.Function number gives parameters) ↦ p.Call place x.function.place number (map (placed s) x.arguments) result
     | _ ↦ p.Call place x.function.place 0 (map (placed s) x.arguments) result

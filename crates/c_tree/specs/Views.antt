@@ -5,7 +5,7 @@ use Rattle.std.specs.Option.{option_map}
 use Rattle.c_tree.specs.Trees as t
 use Rattle.c_tree.specs.declared.tree.Name as n
 use Rattle.c_tree.specs.declared.tree.Expression as e
-use Rattle.c_tree.specs.declared.tree.Target.{Target}
+use Rattle.c_tree.specs.declared.tree.Lvalue.{Lvalue}
 use Rattle.c_tree.specs.declared.tree.Change.{Change}
 use Rattle.c_tree.specs.declared.tree.Change.TheVariants as change
 use Rattle.c_tree.specs.declared.tree.Assignment.{Assignment}
@@ -45,8 +45,8 @@ expression_of (e.Cast' place kind _ operand) = t.Cast place kind (expression_of 
 expression_of (e.Binary' operator _ left _ right) = t.Binary operator (expression_of left) (expression_of right)
 expression_of (e.Conditional' _ condition _ then _ otherwise) = t.Conditional (expression_of condition) (expression_of then) (expression_of otherwise)
 
-abbrev pub target_of : Target → t.Target
-target_of x = record { name = name_of x.name; index = option_map expression_of x.index }
+abbrev pub lvalue_of : Lvalue → t.Lvalue
+lvalue_of x = record { name = name_of x.name; index = option_map expression_of x.index }
 
 abbrev pub change_of : Change → t.Change
 change_of (change.Set value) = t.Set (expression_of value)
@@ -55,7 +55,7 @@ change_of change.Increment = t.Increment
 change_of change.Decrement = t.Decrement
 
 abbrev pub assignment_of : Assignment → t.Assignment
-assignment_of x = record { place = x.place; target = target_of x.target; change = change_of x.change }
+assignment_of x = record { place = x.place; target = lvalue_of x.target; change = change_of x.change }
 
 abbrev pub call_of : Call → t.Call
 call_of x = record { function = name_of x.function; arguments = map expression_of x.arguments.items }
@@ -79,7 +79,7 @@ abbrev mutual
   statement_of (s.Empty place) = t.Empty place
   statement_of (s.Declaration x) = t.Declare (declaration_of (box_value x))
   statement_of (s.Assignment x) = t.Assign (assignment_of (box_value x))
-  statement_of (s.CallAssignment x c) = t.AssignResult (target_of (box_value x)) (call_of (box_value c))
+  statement_of (s.CallAssignment x c) = t.AssignResult (lvalue_of (box_value x)) (call_of (box_value c))
   statement_of (s.Call c) = t.CallOnly (call_of (box_value c))
   statement_of (s.If' place _ arms s.None') = t.If place (arms_of arms) t.Nothing
   statement_of (s.If' place _ arms (s.Some' opening _ inside closing)) = t.If place (arms_of arms) (t.Else (t.Braced opening (row_of inside) closing))

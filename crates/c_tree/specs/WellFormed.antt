@@ -63,7 +63,7 @@ module _ (vs : List p.Variable) (ks : List Kind) where
   abbrev pub IsPlaced : e.Placed → Type 0
   IsPlaced x = IsExpr x.expr
 
-  abbrev pub IsTarget : e.Target → Type 0
+  abbrev pub IsTarget : e.Lvalue → Type 0
   IsTarget (e.ToLocal local kind) = slice_get ks local ≡ Some kind
   IsTarget (e.ToVariable place variable kind) = IsDeclared vs variable kind false
   IsTarget (e.ToElement place variable kind index) = IsDeclared vs variable kind true × IsExpr index.expr
@@ -85,7 +85,7 @@ module _ (vs : List p.Variable) where
   Fits (e.Binary operator left right) = Fits left × Fits right
   Fits (e.Conditional kind condition chosen otherwise) = Fits condition × Fits chosen × Fits otherwise
 
-  abbrev pub TargetFits : e.Target → Type 0
+  abbrev pub TargetFits : e.Lvalue → Type 0
   TargetFits (e.ToLocal local kind) = Unit {0}
   TargetFits (e.ToVariable place variable kind) = Unit {0}
   TargetFits (e.ToElement place variable kind index) = IndexFits variable index.place index.expr × Fits index.expr
@@ -104,7 +104,7 @@ HasProgramArm p.no_arm = ⊥
 HasProgramArm (p.arm_and condition body rest) = Unit {0}
 
 module _ (x : p.Program) (ks : List Kind) where
-  abbrev pub IsResult : Option e.Target → Type 0
+  abbrev pub IsResult : Option e.Lvalue → Type 0
   IsResult None = Unit {0}
   IsResult (Some target) = IsTarget x.variables ks target
 
@@ -152,7 +152,7 @@ module _ (x : f.Flat) (ks : List Kind) where
   abbrev pub IsFlatPlaced : e.Placed → Type 0
   IsFlatPlaced y = IsExpr x.variables ks y.expr × Fits x.variables y.expr
 
-  abbrev pub IsFlatTarget : e.Target → Type 0
+  abbrev pub IsFlatTarget : e.Lvalue → Type 0
   IsFlatTarget y = IsTarget x.variables ks y × TargetFits x.variables y
 
   abbrev mutual

@@ -94,7 +94,7 @@ pub struct Placed {
 
 /// What is assigned.
 #[derive(Drop)]
-pub enum Target {
+pub enum Lvalue {
     /// A local, by its number.
     Local {
         local: u32,

@@ -1,5 +1,5 @@
 //! The flat form: threads with their calls replaced and their locals numbered a thread at a time.
-use crate::expr::{Placed, Target};
+use crate::expr::{Lvalue, Placed};
 use crate::program::Variable;
 use crate::tree::Name;
 use ido_base::place::Place;
@@ -12,7 +12,7 @@ pub enum Statement {
     /// The target takes the value, converted to its kind.
     Assign {
         place: Place,
-        target: Target,
+        target: Lvalue,
         value: Placed,
     },
     /// The first arm whose condition isn't 0, else the last part.

@@ -2,10 +2,10 @@
 ghost use Rattle.std.specs.Prelude.{◌≡◌, ◌<◌, ◌+◌, ◌*◌, length, min, max, slice_get, IfSome};
 ghost use Rattle.c_tree.specs.Prices.{nodes_of, need_of, need_of_both, is_logical, node_price, assign_price};
 ghost use Rattle.c_tree.specs.Prices.{thread_price, statement_price, statements_price, arms_price};
-ghost use Rattle.c_tree.specs.Exprs.{expr_of, target_of};
+ghost use Rattle.c_tree.specs.Exprs.{expr_of, lvalue_of};
 ghost use Rattle.c_tree.specs.Flats.{statement_of, statements_of, arms_list_of, flat_of};
 
-use crate::expr::{Expr, Target};
+use crate::expr::{Expr, Lvalue};
 use crate::flat::{Arm, Flat, Statement};
 use ido_ints::Binary;
 
@@ -106,13 +106,13 @@ fn node_price(nodes: u64) -> u64
 }
 
 /// The price of an assignment.
-fn assign_price(target: &Target, value: u64) -> u64
-    ensures { result ≡ min (assign_price (target_of target.now) value) u64.MAX }
+fn assign_price(target: &Lvalue, value: u64) -> u64
+    ensures { result ≡ min (assign_price (lvalue_of target.now) value) u64.MAX }
 {
     match target {
-        Target::Local { .. } => node_price(value),
-        Target::Variable { .. } => node_price(value).saturating_add(96),
-        Target::Element { index, .. } => {
+        Lvalue::Local { .. } => node_price(value),
+        Lvalue::Variable { .. } => node_price(value).saturating_add(96),
+        Lvalue::Element { index, .. } => {
             let index = nodes(&index.expr);
             node_price(index.saturating_add(value)).saturating_add(96)
         }

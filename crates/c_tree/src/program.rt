@@ -1,5 +1,5 @@
 //! Programs whose names are resolved and whose kinds are fixed.
-use crate::expr::{Placed, Target};
+use crate::expr::{Lvalue, Placed};
 use crate::tree::Name;
 use ido_base::place::Place;
 use ido_ints::Kind;
@@ -25,7 +25,7 @@ pub enum Statement {
     /// The target takes the value, converted to its kind.
     Assign {
         place: Place,
-        target: Target,
+        target: Lvalue,
         value: Placed,
     },
     /// A call, and the assignment of its result. The name is at `name`.
@@ -34,7 +34,7 @@ pub enum Statement {
         name: Place,
         function: u32,
         arguments: Vec<Placed>,
-        result: Option<Target>,
+        result: Option<Lvalue>,
     },
     /// The first arm whose condition isn't 0, else the last part.
     If {

@@ -57,7 +57,7 @@ pub enum Expression {
 
 /// What is assigned: a name, or an element of an array.
 #[derive(Drop)]
-pub struct Target {
+pub struct Lvalue {
     pub name: Name,
     pub index: Option<Expression>,
 }
@@ -79,7 +79,7 @@ pub enum Change {
 #[derive(Drop)]
 pub struct Assignment {
     pub place: Place,
-    pub target: Target,
+    pub target: Lvalue,
     pub change: Change,
 }
 
@@ -153,7 +153,7 @@ pub enum Statement {
     Assignment(Box<Assignment>),
     /// `target = call;`
     CallAssignment {
-        target: Box<Target>,
+        target: Box<Lvalue>,
         call: Box<Call>,
     },
     Call(Box<Call>),

@@ -176,7 +176,7 @@ module _ (gs : List n.Global) where
   maybe_ordered s None = tt
   maybe_ordered s (Some x) = expression_ordered s x
 
-  target_ordered : (s : n.Scope) (x : t.Target) → Ordered (target_faults gs s x)
+  target_ordered : (s : n.Scope) (x : t.Lvalue) → Ordered (target_faults gs s x)
   target_ordered s x =
       both (use_faults gs s x.name (is_some x.index)) (maybe_faults gs s x.index) (use_ordered s x.name (is_some x.index)) (maybe_ordered s x.index)
 

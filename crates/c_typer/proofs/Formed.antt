@@ -224,7 +224,7 @@ module _ (x : p.Program) (gs : List n.Global) (sorts : AllByRecursion (λ (y : n
 
     -- ---- Assignments and calls
 
-    target_formed : (y : t.Target) → rules.target_faults gs s y ≡ [] → IsTarget x.variables ks (made.target gs s y)
+    target_formed : (y : t.Lvalue) → rules.target_faults gs s y ≡ [] → IsTarget x.variables ks (made.target gs s y)
     target_formed y h = go y.index h
       where
         go : (o : Option t.Expression) → rules.use_faults gs s y.name (is_some o) ++ rules.maybe_faults gs s o ≡ [] → IsTarget x.variables ks (elim o [
@@ -236,7 +236,7 @@ module _ (x : p.Program) (gs : List n.Global) (sorts : AllByRecursion (λ (y : n
             target_element_formed y.name (made.placed gs s index) (nil_left (rules.use_faults gs s y.name true) (rules.expression_faults gs s index) q)
             (expr_formed index (nil_right (rules.use_faults gs s y.name true) (rules.expression_faults gs s index) q))
 
-    before_formed : (y : t.Target) → rules.target_faults gs s y ≡ [] → IsExpr x.variables ks (made.before gs s y)
+    before_formed : (y : t.Lvalue) → rules.target_faults gs s y ≡ [] → IsExpr x.variables ks (made.before gs s y)
     before_formed y h = go y.index h
       where
         go : (o : Option t.Expression) → rules.use_faults gs s y.name (is_some o) ++ rules.maybe_faults gs s o ≡ [] → IsExpr x.variables ks (elim o [
@@ -249,7 +249,7 @@ module _ (x : p.Program) (gs : List n.Global) (sorts : AllByRecursion (λ (y : n
             (nil_left (rules.use_faults gs s y.name true) (rules.expression_faults gs s index) q)
             (expr_formed index (nil_right (rules.use_faults gs s y.name true) (rules.expression_faults gs s index) q))
 
-    changed_formed : (y : t.Target) (c : t.Change) → rules.target_faults gs s y ≡ [] → rules.change_faults gs s c ≡ [] →
+    changed_formed : (y : t.Lvalue) (c : t.Change) → rules.target_faults gs s y ≡ [] → rules.change_faults gs s c ≡ [] →
         IsPlaced x.variables ks (made.changed gs s y c)
     changed_formed y (t.Set value) h k = expr_formed value k
     changed_formed y (t.Update operator value) h k = (before_formed y h, expr_formed value k)
@@ -272,7 +272,7 @@ module _ (x : p.Program) (gs : List n.Global) (sorts : AllByRecursion (λ (y : n
       arguments_formed ys (nil_right (rules.expression_faults gs s y) (flat_map (rules.expression_faults gs s) ys) h),
     )
 
-    call_formed : (place : Place) (c : t.Call) (result : Option e.Target) → rules.call_faults gs s c (is_some result) ≡ [] → IsResult x ks result →
+    call_formed : (place : Place) (c : t.Call) (result : Option e.Lvalue) → rules.call_faults gs s c (is_some result) ≡ [] → IsResult x ks result →
         IsStatement x ks (made.call gs place s c result)
     call_formed place c result h r =
         go (n.meaning gs s c.function.text) (meaning_in s c.function.text known)

@@ -1,7 +1,7 @@
 //! Targets, assignments and calls.
 ghost use Rattle.std.specs.Prelude.{◌≡◌, map, flat_map, IfOk, OnOk, is_some};
 ghost use Rattle.std.specs.Option.{option_map};
-ghost use Rattle.c_tree.specs.Exprs.{expr_of, placed_of, target_of};
+ghost use Rattle.c_tree.specs.Exprs.{expr_of, placed_of, lvalue_of};
 ghost use Rattle.c_tree.specs.Programs as p;
 ghost use Rattle.c_tree.specs.TypeRules as rules;
 ghost use Rattle.c_tree.specs.Typing as typing;
@@ -15,7 +15,7 @@ use crate::faults::Faults;
 use crate::globals::Globals;
 use crate::meaning::{int, resolve};
 use crate::scope::Scope;
-use c_tree::expr::{Expr, Placed, Target};
+use c_tree::expr::{Expr, Lvalue, Placed};
 use c_tree::program::Statement;
 use c_tree::rule::Rule;
 use c_tree::tree;
@@ -31,11 +31,11 @@ pub fn target(
     globals: &Globals,
     scope: &Scope,
     faults: &mut Faults,
-    assigned: &tree::Target,
-) -> Result<Target, AllocError>
-    ensures made { IfOk result (λ x. target_of x ≡ typing.target (globals_of globals.now) (scope_of scope.now) (v.target_of assigned.now)) }
+    assigned: &tree::Lvalue,
+) -> Result<Lvalue, AllocError>
+    ensures made { IfOk result (λ x. lvalue_of x ≡ typing.target (globals_of globals.now) (scope_of scope.now) (v.lvalue_of assigned.now)) }
     ensures noted { OnOk result (first_of faults.new ≡ noted (first_of faults.old)
-        (rules.target_faults (globals_of globals.now) (scope_of scope.now) (v.target_of assigned.now))) }
+        (rules.target_faults (globals_of globals.now) (scope_of scope.now) (v.lvalue_of assigned.now))) }
 {
     let name = &assigned.name;
     match &assigned.index {
@@ -56,9 +56,9 @@ fn before(
     alloc: Global,
     globals: &Globals,
     scope: &Scope,
-    assigned: &tree::Target,
+    assigned: &tree::Lvalue,
 ) -> Result<Expr, AllocError>
-    ensures { IfOk result (λ x. expr_of x ≡ typing.before (globals_of globals.now) (scope_of scope.now) (v.target_of assigned.now)) }
+    ensures { IfOk result (λ x. expr_of x ≡ typing.before (globals_of globals.now) (scope_of scope.now) (v.lvalue_of assigned.now)) }
 {
     match &assigned.index {
         Some(index) => {
@@ -74,11 +74,11 @@ fn updated(
     alloc: Global,
     globals: &Globals,
     scope: &Scope,
-    assigned: &tree::Target,
+    assigned: &tree::Lvalue,
     operator: Binary,
     value: Expr,
 ) -> Result<Placed, AllocError>
-    ensures { IfOk result (λ x. placed_of x ≡ updated_as (globals_of globals.now) (scope_of scope.now) (v.target_of assigned.now) operator (expr_of value)) }
+    ensures { IfOk result (λ x. placed_of x ≡ updated_as (globals_of globals.now) (scope_of scope.now) (v.lvalue_of assigned.now) operator (expr_of value)) }
 {
     let before = before(alloc, globals, scope, assigned)?;
     Ok(Placed {
@@ -93,10 +93,10 @@ fn changed(
     globals: &Globals,
     scope: &Scope,
     faults: &mut Faults,
-    assigned: &tree::Target,
+    assigned: &tree::Lvalue,
     change: &Change,
 ) -> Result<Placed, AllocError>
-    ensures made { IfOk result (λ x. placed_of x ≡ typing.changed (globals_of globals.now) (scope_of scope.now) (v.target_of assigned.now)
+    ensures made { IfOk result (λ x. placed_of x ≡ typing.changed (globals_of globals.now) (scope_of scope.now) (v.lvalue_of assigned.now)
         (v.change_of change.now)) }
     ensures noted { OnOk result (first_of faults.new ≡ noted (first_of faults.old)
         (rules.change_faults (globals_of globals.now) (scope_of scope.now) (v.change_of change.now))) }
@@ -186,10 +186,10 @@ pub fn call(
     faults: &mut Faults,
     place: Place,
     read: &Call,
-    result_target: Option<Target>,
+    result_target: Option<Lvalue>,
 ) -> Result<Statement, AllocError>
     ensures made { IfOk result (λ x. p.statement_of x ≡ typing.call (globals_of globals.now) place (scope_of scope.now) (v.call_of read.now)
-        (option_map target_of result_target)) }
+        (option_map lvalue_of result_target)) }
     ensures noted { OnOk result (first_of faults.new ≡ noted (first_of faults.old)
         (rules.call_faults (globals_of globals.now) (scope_of scope.now) (v.call_of read.now) (is_some result_target))) }
 {
@@ -227,7 +227,7 @@ pub fn declaration(
         (rules.declaration_faults (globals_of globals.now) (scope_of scope.now) (v.declaration_of read.now))) }
 {
     note_twice(scope, faults, &read.name);
-    let target = Target::Local {
+    let target = Lvalue::Local {
         local: scope.next_number()?,
         kind: read.kind,
     };

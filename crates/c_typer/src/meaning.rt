@@ -4,7 +4,7 @@ ghost use Rattle.ido_ints.specs.Kinds.{Holds};
 ghost use Rattle.ido_ints.specs.Typed.{typed};
 ghost use Rattle.ido_ints.specs.declared.kinds.Kind.TheVariants.{Int};
 ghost use Rattle.c_tree.specs.Exprs as e;
-ghost use Rattle.c_tree.specs.Exprs.{expr_of, placed_of, target_of};
+ghost use Rattle.c_tree.specs.Exprs.{expr_of, placed_of, lvalue_of};
 ghost use Rattle.c_tree.specs.Names as n;
 ghost use Rattle.c_typer.specs.links.Meanings.{count_rule, element_as, function_as, function_rule, meaning_of, mutex_as};
 ghost use Rattle.c_typer.specs.links.Meanings.{mutex_rule, named_as, rule_if, target_as, target_element_as, use_rule};
@@ -12,7 +12,7 @@ ghost use Rattle.c_typer.specs.links.Scopes.{globals_of, scope_of};
 
 use crate::globals::{Globals, Sort};
 use crate::scope::{Local, Scope};
-use c_tree::expr::{Expr, Placed, Target};
+use c_tree::expr::{Expr, Lvalue, Placed};
 use c_tree::rule::Rule;
 use ido_base::place::Place;
 use ido_ints::{Kind, Value};
@@ -85,20 +85,20 @@ impl<'a> Meaning<'a> {
     }
 
     /// The name at a place as a target, or any where it is none.
-    pub fn target(self, place: Place) -> Target
-        ensures { target_of result ≡ target_as (meaning_of self.entry) place }
+    pub fn target(self, place: Place) -> Lvalue
+        ensures { lvalue_of result ≡ target_as (meaning_of self.entry) place }
     {
         match self {
-            Meaning::Local(local) => Target::Local {
+            Meaning::Local(local) => Lvalue::Local {
                 local: local.number,
                 kind: local.kind,
             },
-            Meaning::Global(Sort::Variable { number, kind, .. }) => Target::Variable {
+            Meaning::Global(Sort::Variable { number, kind, .. }) => Lvalue::Variable {
                 place,
                 variable: *number,
                 kind: *kind,
             },
-            _ => Target::Local {
+            _ => Lvalue::Local {
                 local: 0,
                 kind: Kind::Int,
             },
@@ -106,17 +106,17 @@ impl<'a> Meaning<'a> {
     }
 
     /// The element of the name at a place as a target, or any where it is none.
-    pub fn target_element(self, place: Place, index: Placed) -> Target
-        ensures { target_of result ≡ target_element_as (meaning_of self.entry) place (placed_of index) }
+    pub fn target_element(self, place: Place, index: Placed) -> Lvalue
+        ensures { lvalue_of result ≡ target_element_as (meaning_of self.entry) place (placed_of index) }
     {
         match self {
-            Meaning::Global(Sort::Variable { number, kind, .. }) => Target::Element {
+            Meaning::Global(Sort::Variable { number, kind, .. }) => Lvalue::Element {
                 place,
                 variable: *number,
                 kind: *kind,
                 index,
             },
-            _ => Target::Local {
+            _ => Lvalue::Local {
                 local: 0,
                 kind: Kind::Int,
             },

@@ -1,6 +1,6 @@
 //! Bytes read as an image, from which a machine can begin.
 ghost use Rattle.std.specs.Prelude.{◌≡◌, ◌+◌, ◌*◌, ◌/◌, ◌≤◌, ◌++◌, length, map, IfOk, OnOk};
-ghost use Rattle.ido_base.specs.declared.limits.TheConstants.{MOST_STEPS};
+ghost use Rattle.ido_base.specs.declared.limits.TheConstants.{MOST_INPUT_BYTES, MOST_STEPS};
 ghost use Rattle.c_tree.specs.Flats.{flat_of};
 ghost use Rattle.variable_layout.specs.Placing.{HaveRoom};
 ghost use Rattle.crash_images.specs.Contents.{log_words, word_bytes};
@@ -61,7 +61,7 @@ fn extend(words: &mut Vec<u64>, others: &[u64]) -> Result<(), OutOfMemory>
 /// the source, at most 1,048,576, and these; the number of bytes of the variables, as the source's object has it, their durable
 /// words, and those of the logs, 128 for each thread; the number of runs, and of each run the thread and how many steps it took.
 pub fn read_image(alloc: Global, bytes: &[u8]) -> Result<Image, ImageError>
-    requires short { length bytes.now ≤ 67108864 }
+    requires short { length bytes.now ≤ MOST_INPUT_BYTES }
     ensures answer { IsImageAnswer bytes.now result }
     // It has as many words as the variables and the logs have, and at most 4,000,000 steps.
     ensures words { IfOk result (λ image. length image.words.items ≡

@@ -7,13 +7,11 @@ ghost use Rattle.crash_images.specs.links.Views.{run_of};
 
 use crate::state::Run;
 use c_tree::flat::Flat;
+use ido_base::limits::MOST_STEPS;
 use ido_base::memory::OutOfMemory;
 use source_machine::SourceState;
 use std::alloc::Global;
 use thiserror::Error;
-
-/// Steps of a schedule at most.
-const MOST_STEPS: u64 = 4_000_000;
 
 /// Why runs tell no schedule.
 #[derive(Clone, Copy, Debug, PartialEq, Eq, Drop, Error)]
@@ -36,7 +34,7 @@ impl From<OutOfMemory> for ScheduleFault {
     }
 }
 
-// The steps before the first fault of form, or all where there is none.
+/// The steps before the first fault of form, or all where there is none.
 #[derive(Drop)]
 struct Prefix {
     steps: Vec<u32>,

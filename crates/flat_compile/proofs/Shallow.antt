@@ -57,7 +57,7 @@ joined : (ns ms : List Node) → AllQuiet ns → AllQuiet ms → AllQuiet (ns ++
 joined [] ms h k = k
 joined (n ∷ ns) ms h k = (h.0, joined ns ms h.1 k)
 
-quiet_assign : (target : e.Target) (place : Place) (value : e.Placed) (first next : ℕ) → Quiet (assign_exprs target value) →
+quiet_assign : (target : e.Lvalue) (place : Place) (value : e.Placed) (first next : ℕ) → Quiet (assign_exprs target value) →
     AllQuiet (assign_nodes place target value first next)
 quiet_assign (e.ToLocal local kind) place value first next h = (h, tt)
 quiet_assign (e.ToVariable name variable kind) place value first next h = (h, (refl, tt))

@@ -30,7 +30,7 @@ on : (eval : Bool) (xs ys : List Node) → Follow eval xs → Follow false ys �
 on eval [] ys h k = any eval ys k
 on eval (x ∷ xs) ys h k = (h.0, on (is_eval x.action) xs ys h.1 k)
 
-assigned : (target : e.Target) (place : Place) (value : e.Placed) (first next : ℕ) → Follow false (assign_nodes place target value first next)
+assigned : (target : e.Lvalue) (place : Place) (value : e.Placed) (first next : ℕ) → Follow false (assign_nodes place target value first next)
 assigned (e.ToLocal local kind) place value first next = (λ s. cc, tt)
 assigned (e.ToVariable name variable kind) place value first next = (λ s. cc, (λ s. refl, tt))
 assigned (e.ToElement name variable kind index) place value first next = (λ s. cc, (λ s. refl, tt))

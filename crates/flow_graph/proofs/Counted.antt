@@ -7,7 +7,7 @@ use Rattle.flow_graph.specs.Nodes.{End}
 use Rattle.flow_graph.specs.Lowering.{test_node, plain_node, assign_nodes, assign_count, count, statements_count, arms_count}
 use Rattle.flow_graph.specs.Lowering.{thread_count, entry, statement_nodes, statements_nodes, arms_nodes, thread_nodes}
 
-length-assign_nodes : (target : e.Target) (place : Place) (value : e.Placed) (first next : ℕ) →
+length-assign_nodes : (target : e.Lvalue) (place : Place) (value : e.Placed) (first next : ℕ) →
     length (assign_nodes place target value first next) ≡ assign_count target
 length-assign_nodes (e.ToLocal local kind) place value first next = refl
 length-assign_nodes (e.ToVariable name variable kind) place value first next = refl

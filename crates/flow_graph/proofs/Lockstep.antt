@@ -108,7 +108,7 @@ module _ (x : f.Flat) (walkers : List Walker) (threads : List m.Thread) (count :
         WalkerMatches x (walker_at at ls p ended) (thread_with left ls p ended)
     moved at left ls p ended a = record { locals = refl; pending = refl; ended = refl; stands = a }
 
-    evals : (target : e.Target) (value : e.Placed) (next at : ℕ) (ls : List ℤ) (ended : Bool) (place : Place) (rest : List f.Statement) →
+    evals : (target : e.Lvalue) (value : e.Placed) (next at : ℕ) (ls : List ℤ) (ended : Bool) (place : Place) (rest : List f.Statement) →
         At all next (behind_eval target rest) → Steps (Eval target value next) at ls None ended (f.Assign place target value ∷ rest)
     evals (e.ToLocal local kind) value next at ls ended place rest a = one_changes vs hs _ _ (moved next rest _ None ended a)
     evals (e.ToVariable name variable kind) value next at ls ended place rest a = one_changes vs hs _ _ (moved next rest ls (Some _) ended a)

@@ -118,7 +118,7 @@ module _ (vs : List Variable) (ks : List Kind) (ls : List ℤ) (ns : List (List 
       (lies_expr condition p one w.0 fit.0) (lies_expr chosen p one w.1 fit.1))
       (lies_expr otherwise p one w.2 fit.2) c
 
-  pub lies_target : (target : e.Target) (p : Option Pending) (one : Element) → IsTarget vs ks target → TargetFits vs target →
+  pub lies_target : (target : e.Lvalue) (p : Option Pending) (one : Element) → IsTarget vs ks target → TargetFits vs target →
       Contains (target_elements target (seen p)) one → LiesInOne (target_reads target) one
   lies_target (e.ToLocal local kind) p one w fit c = absurd (contains_none one c)
   lies_target (e.ToVariable place variable kind) p one w fit c = absurd (contains_none one c)

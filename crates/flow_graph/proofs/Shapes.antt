@@ -52,12 +52,12 @@ pub record WritesThere (all : List Node) (next : ℕ) (l : Location) : Type 0 wh
   pub at : slice_get all next ≡ Some node
   pub writes : node.writes ≡ Some l
 
-abbrev pub OwedAt : List Node → e.Target → (next : ℕ) → Type 0
+abbrev pub OwedAt : List Node → e.Lvalue → (next : ℕ) → Type 0
 OwedAt all (e.ToLocal local kind) next = Unit {0}
 OwedAt all (e.ToVariable place variable kind) next = WritesThere all next (scalar variable)
 OwedAt all (e.ToElement place variable kind index) next = WritesThere all next (elements variable (range_of index.expr))
 
-pub record EvalShape (all : List Node) (target : e.Target) (value : e.Placed) (next : ℕ) (n : Node) : Type 0 where
+pub record EvalShape (all : List Node) (target : e.Lvalue) (value : e.Placed) (next : ℕ) (n : Node) : Type 0 where
   pub reads : n.reads ≡ target_reads target ++ expr_reads value.expr
   pub writes : n.writes ≡ None
   pub owed : OwedAt all target next
@@ -82,7 +82,7 @@ module _ (all : List Node) where
   joined [] ms h k = k
   joined (n ∷ ns) ms h k = (h.0, joined ns ms h.1 k)
 
-  shaped_assign : (target : e.Target) (place : Place) (value : e.Placed) (first next : ℕ) → Has all first (assign_nodes place target value first next) →
+  shaped_assign : (target : e.Lvalue) (place : Place) (value : e.Placed) (first next : ℕ) → Has all first (assign_nodes place target value first next) →
       AllShaped all (assign_nodes place target value first next)
   shaped_assign (e.ToLocal local kind) place value first next h = (record { reads = refl; writes = refl; owed = tt }, tt)
   shaped_assign (e.ToVariable name variable kind) place value first next h = (

@@ -63,7 +63,7 @@ has_itself all = record { each = λ k s g. at_same all k (0 + k) s (omega arith)
 -- ---- What is left at a node
 
 -- behind an evaluation for a target
-abbrev pub behind_eval : e.Target → List f.Statement → Standing
+abbrev pub behind_eval : e.Lvalue → List f.Statement → Standing
 behind_eval (e.ToLocal local kind) rest = free rest
 behind_eval (e.ToVariable place variable kind) rest = owing rest
 behind_eval (e.ToElement place variable kind index) rest = owing rest
@@ -73,7 +73,7 @@ abbrev pub behind_arms : Place → f.Arms → (otherwise : f.Statements) → Lis
 behind_arms place f.no_arm otherwise = opened_all otherwise
 behind_arms place (f.arm_and condition body rest) otherwise = f.If place (f.arm_and condition body rest) otherwise ∷ []
 
-pub record Assigns (all : List Standing) (target : e.Target) (value : e.Placed) (next : ℕ) (s : Standing) : Type 0 where
+pub record Assigns (all : List Standing) (target : e.Lvalue) (value : e.Placed) (next : ℕ) (s : Standing) : Type 0 where
   pub place : Place
   pub rest : List f.Statement
   pub is : s ≡ free (f.Assign place target value ∷ rest)
@@ -123,7 +123,7 @@ agree_append all (n ∷ ns) ms (s ∷ ss) rs h k = (h.0, agree_append all ns ms 
 
 -- ---- As many as there are nodes
 
-length-assign_standings : (target : e.Target) (place : Place) (value : e.Placed) (rest : List f.Statement) →
+length-assign_standings : (target : e.Lvalue) (place : Place) (value : e.Placed) (rest : List f.Statement) →
     length (assign_standings place target value rest) ≡ assign_count target
 length-assign_standings (e.ToLocal local kind) place value rest = refl
 length-assign_standings (e.ToVariable name variable kind) place value rest = refl
@@ -169,7 +169,7 @@ entry_end : (n first : ℕ) → entry n first (first + n) ≡ first
 entry_end zero first = omega arith
 entry_end (suc n) first = refl
 
-assign_some : (target : e.Target) → 0 < assign_count target
+assign_some : (target : e.Lvalue) → 0 < assign_count target
 assign_some (e.ToLocal local kind) = omega arith
 assign_some (e.ToVariable place variable kind) = omega arith
 assign_some (e.ToElement place variable kind index) = omega arith
@@ -187,7 +187,7 @@ module _ (x : f.Flat) (ks : List Kind) (all : List Standing) where
   count_some (f.Lock place mutex) h = omega arith
   count_some (f.Unlock place mutex) h = omega arith
 
-  enters_assign : (target : e.Target) (place : Place) (value : e.Placed) (first : ℕ) (rest : List f.Statement) →
+  enters_assign : (target : e.Lvalue) (place : Place) (value : e.Placed) (first : ℕ) (rest : List f.Statement) →
       Has all first (assign_standings place target value rest) → At all first (free (f.Assign place target value ∷ rest))
   enters_assign (e.ToLocal local kind) place value first rest h = has_head all first _ _ h
   enters_assign (e.ToVariable name variable kind) place value first rest h = has_head all first _ _ h
@@ -233,7 +233,7 @@ module _ (x : f.Flat) (ks : List Kind) (all : List Standing) where
 
   -- ---- Nodes
 
-  agree_assign : (target : e.Target) (place : Place) (value : e.Placed) (first next : ℕ) (rest : List f.Statement) →
+  agree_assign : (target : e.Lvalue) (place : Place) (value : e.Placed) (first next : ℕ) (rest : List f.Statement) →
       Has all first (assign_standings place target value rest) → At all next (free rest) →
       Agree all (assign_nodes place target value first next) (assign_standings place target value rest)
   agree_assign (e.ToLocal local kind) place value first next rest h a = (record { place = place; rest = rest; is = refl; follows = a }, tt)

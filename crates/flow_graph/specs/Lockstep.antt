@@ -23,7 +23,7 @@ abbrev pub owing : List f.Statement → Standing
 owing left = record { left = left; owes = true }
 
 -- of an assignment with `rest` behind it: the store of a variable has a node of its own
-abbrev pub assign_standings : Place → e.Target → e.Placed → (rest : List f.Statement) → List Standing
+abbrev pub assign_standings : Place → e.Lvalue → e.Placed → (rest : List f.Statement) → List Standing
 assign_standings place (e.ToLocal local kind) value rest = free (f.Assign place (e.ToLocal local kind) value ∷ rest) ∷ []
 assign_standings place (e.ToVariable name variable kind) value rest =
     free (f.Assign place (e.ToVariable name variable kind) value ∷ rest) ∷ owing rest ∷ []

@@ -49,22 +49,22 @@ expr_reads (e.Conditional kind condition chosen otherwise) = expr_reads conditio
 -- ---- Nodes
 
 -- the index of an element is read before the value
-abbrev pub target_locals : e.Target → List ℕ
+abbrev pub target_locals : e.Lvalue → List ℕ
 target_locals (e.ToLocal local kind) = []
 target_locals (e.ToVariable place variable kind) = []
 target_locals (e.ToElement place variable kind index) = expr_locals index.expr
 
-abbrev pub target_reads : e.Target → List Location
+abbrev pub target_reads : e.Lvalue → List Location
 target_reads (e.ToLocal local kind) = []
 target_reads (e.ToVariable place variable kind) = []
 target_reads (e.ToElement place variable kind index) = expr_reads index.expr
 
-abbrev pub target_local : e.Target → Option ℕ
+abbrev pub target_local : e.Lvalue → Option ℕ
 target_local (e.ToLocal local kind) = Some local
 target_local (e.ToVariable place variable kind) = None
 target_local (e.ToElement place variable kind index) = None
 
-abbrev pub eval_node : Place → e.Target → e.Placed → (next : ℕ) → Node
+abbrev pub eval_node : Place → e.Lvalue → e.Placed → (next : ℕ) → Node
 eval_node place target value next = record {
   place = place;
   action = Eval target value next;
@@ -93,7 +93,7 @@ store_node place variable kind location next =
     record { place = place; action = Store variable kind next; uses = []; assigns = None; reads = []; writes = Some location }
 
 -- an assignment of a variable has a second node, the store
-abbrev pub assign_nodes : Place → e.Target → e.Placed → (first next : ℕ) → List Node
+abbrev pub assign_nodes : Place → e.Lvalue → e.Placed → (first next : ℕ) → List Node
 assign_nodes place (e.ToLocal local kind) value first next = eval_node place (e.ToLocal local kind) value next ∷ []
 assign_nodes place (e.ToVariable name variable kind) value first next =
     eval_node place (e.ToVariable name variable kind) value (suc first) ∷ store_node place variable kind (scalar variable) next ∷ []
@@ -103,7 +103,7 @@ assign_nodes place (e.ToElement name variable kind index) value first next =
 
 -- ---- How many nodes
 
-abbrev pub assign_count : e.Target → ℕ
+abbrev pub assign_count : e.Lvalue → ℕ
 assign_count (e.ToLocal local kind) = 1
 assign_count (e.ToVariable place variable kind) = 2
 assign_count (e.ToElement place variable kind index) = 2

@@ -3,7 +3,7 @@ use Rattle.std.specs.Prelude.{ℕ, List, [], ◌∷◌, map, Option, Some, None}
 use Rattle.ido_base.specs.declared.place.Place.{Place}
 use Rattle.ido_base.specs.declared.location.Location.{Location}
 use Rattle.ido_ints.specs.declared.kinds.Kind.{Kind}
-use Rattle.c_tree.specs.Exprs.{Placed, Target, placed_of, target_of}
+use Rattle.c_tree.specs.Exprs.{Placed, Lvalue, placed_of, lvalue_of}
 use Rattle.flow_graph.specs.declared.graph.Action as action
 use Rattle.flow_graph.specs.declared.graph.Action.TheVariants as actions
 use Rattle.flow_graph.specs.declared.graph.Node as node
@@ -12,7 +12,7 @@ use Rattle.flow_graph.specs.declared.graph.Graph as graph
 
 pub data Action : Type 0 where
   -- a local takes the value, or the store of a variable is pending
-  Eval : Target → (value : Placed) → (next : ℕ) → Action
+  Eval : Lvalue → (value : Placed) → (next : ℕ) → Action
   -- the pending store is made
   Store : (variable : ℕ) → Kind → (next : ℕ) → Action
   Test : (condition : Placed) → (holds fails : ℕ) → Action
@@ -66,7 +66,7 @@ successors End = []
 -- ---- What the types of `graph` stand for
 
 abbrev pub action_of : action.Action → Action
-action_of (actions.Eval target value next) = Eval (target_of target.now) (placed_of value.now) next
+action_of (actions.Eval target value next) = Eval (lvalue_of target.now) (placed_of value.now) next
 action_of (actions.Store variable kind next) = Store variable kind next
 action_of (actions.Test condition holds fails) = Test (placed_of condition.now) holds fails
 action_of (actions.Lock mutex next) = Lock mutex next

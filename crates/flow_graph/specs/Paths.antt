@@ -34,7 +34,7 @@ expr_elements (e.Binary operator left right) seen = expr_elements left seen ++ e
 expr_elements (e.Conditional kind condition chosen otherwise) seen =
     expr_elements condition seen ++ expr_elements chosen seen ++ expr_elements otherwise seen
 
-abbrev pub target_elements : e.Target → Seen → List Element
+abbrev pub target_elements : e.Lvalue → Seen → List Element
 target_elements (e.ToLocal local kind) seen = []
 target_elements (e.ToVariable place variable kind) seen = []
 target_elements (e.ToElement place variable kind index) seen = expr_elements index.expr seen

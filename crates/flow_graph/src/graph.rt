@@ -2,7 +2,7 @@
 ghost use Rattle.std.specs.Prelude.{◌≡◌};
 ghost use Rattle.flow_graph.specs.Nodes.{node_of, next_of, other_of};
 
-use c_tree::expr::{Placed, Target};
+use c_tree::expr::{Lvalue, Placed};
 use ido_base::location::Location;
 use ido_base::place::Place;
 use ido_ints::Kind;
@@ -12,7 +12,7 @@ use ido_ints::Kind;
 pub enum Action<'a> {
     /// Evaluates a value for a target: a local takes it, the store of a variable is pending from then on.
     Eval {
-        target: &'a Target,
+        target: &'a Lvalue,
         value: &'a Placed,
         next: usize,
     },

@@ -1,10 +1,10 @@
 //! How many nodes a part has. A count that 64 bits don't hold is answered as want of memory.
 ghost use Rattle.std.specs.Prelude.{◌≡◌, suc, ◌+◌, IfOk};
-ghost use Rattle.c_tree.specs.Exprs.{target_of};
+ghost use Rattle.c_tree.specs.Exprs.{lvalue_of};
 ghost use Rattle.c_tree.specs.Flats.{statement_of, statements_of, arms_list_of};
 ghost use Rattle.flow_graph.specs.Lowering.{assign_count, count, statements_count, arms_count};
 
-use c_tree::expr::Target;
+use c_tree::expr::Lvalue;
 use c_tree::flat::{Arm, Statement};
 use ido_base::memory::OutOfMemory;
 
@@ -16,12 +16,12 @@ pub(crate) fn sum(number: usize, more: usize) -> Result<usize, OutOfMemory>
 }
 
 /// An assignment of a variable has two nodes.
-fn count_assignment(target: &Target) -> usize
-    ensures { result ≡ assign_count (target_of target.now) }
+fn count_assignment(target: &Lvalue) -> usize
+    ensures { result ≡ assign_count (lvalue_of target.now) }
 {
     match target {
-        Target::Local { .. } => 1,
-        Target::Variable { .. } | Target::Element { .. } => 2,
+        Lvalue::Local { .. } => 1,
+        Lvalue::Variable { .. } | Lvalue::Element { .. } => 2,
     }
 }
 

@@ -1,13 +1,13 @@
 //! Nodes, one at a time.
 ghost use Rattle.std.specs.Prelude.{◌≡◌, suc, Some, None, length, IfOk};
-ghost use Rattle.c_tree.specs.Exprs.{placed_of, target_of};
+ghost use Rattle.c_tree.specs.Exprs.{placed_of, lvalue_of};
 ghost use Rattle.flow_graph.specs.Nodes.{node_of, action_of};
 ghost use Rattle.flow_graph.specs.Lowering.{plain_node, eval_node, test_node, store_node, assign_nodes};
 ghost use Rattle.flow_lower.specs.links.Growth.{Adds};
 
 use crate::counts::sum;
 use crate::expressions::{add_locals, add_reads, elements};
-use c_tree::expr::{Placed, Target};
+use c_tree::expr::{Lvalue, Placed};
 use flow_graph::graph::{Action, Node};
 use ido_base::location::Location;
 use ido_base::memory::OutOfMemory;
@@ -33,19 +33,19 @@ pub(crate) fn plain<'a>(alloc: Global, place: Place, action: Action<'a>) -> Node
 fn eval<'a>(
     alloc: Global,
     place: Place,
-    target: &'a Target,
+    target: &'a Lvalue,
     value: &'a Placed,
     next: usize,
 ) -> Result<Node<'a>, OutOfMemory>
-    ensures { IfOk result (λ node. node_of node ≡ eval_node place (target_of target.now) (placed_of value.now) next) }
+    ensures { IfOk result (λ node. node_of node ≡ eval_node place (lvalue_of target.now) (placed_of value.now) next) }
 {
     let mut uses = Vec::new(alloc);
     let mut reads = Vec::new(alloc);
     let mut assigns = None;
     match target {
-        Target::Local { local, .. } => assigns = Some(*local),
-        Target::Variable { .. } => {}
-        Target::Element { index, .. } => {
+        Lvalue::Local { local, .. } => assigns = Some(*local),
+        Lvalue::Variable { .. } => {}
+        Lvalue::Element { index, .. } => {
             add_locals(&mut uses, &index.expr)?;
             add_reads(&mut reads, &index.expr)?;
         }
@@ -123,16 +123,16 @@ pub(crate) fn add_assignment<'a>(
     alloc: Global,
     nodes: &mut Vec<Node<'a>>,
     place: Place,
-    target: &'a Target,
+    target: &'a Lvalue,
     value: &'a Placed,
     next: usize,
 ) -> Result<(), OutOfMemory>
     ensures { IfOk result (λ _. Adds nodes.old.items nodes.new.items
-        (assign_nodes place (target_of target.now) (placed_of value.now) (length nodes.old.items) next)) }
+        (assign_nodes place (lvalue_of target.now) (placed_of value.now) (length nodes.old.items) next)) }
 {
     match target {
-        Target::Local { .. } => nodes.push(eval(alloc, place, target, value, next)?)?,
-        Target::Variable { variable, kind, .. } => {
+        Lvalue::Local { .. } => nodes.push(eval(alloc, place, target, value, next)?)?,
+        Lvalue::Variable { variable, kind, .. } => {
             let behind = sum(nodes.len(), 1)?;
             nodes.push(eval(alloc, place, target, value, behind)?)?;
             let location = Location {
@@ -142,7 +142,7 @@ pub(crate) fn add_assignment<'a>(
             };
             nodes.push(store(alloc, place, *variable, *kind, location, next))?;
         }
-        Target::Element {
+        Lvalue::Element {
             variable,
             kind,
             index,

@@ -3,7 +3,7 @@ use Rattle.std.proofs.Common.{◌≡◌, refl, ℕ, zero, suc, List, [], ◌∷�
 use Rattle.std.specs.Prelude.{slice_get, if◌then◌else◌}
 use Rattle.std.proofs.lemmas.Option.{slice_get-get_or}
 use Rattle.flow_graph.specs.declared.graph.Node as code
-use Rattle.c_tree.specs.Exprs.{Placed, Target, ToLocal, ToVariable, ToElement}
+use Rattle.c_tree.specs.Exprs.{Placed, Lvalue, ToLocal, ToVariable, ToElement}
 use Rattle.c_tree.specs.Source as m
 use Rattle.flow_graph.specs.Nodes.{Action, Eval, Lock, Unlock, End, Node, Graph, node_of}
 use Rattle.flow_graph.specs.Actions.{Walker, FlowState, effect_of, effect_step, seen_by, node_step, with_walker, with_holder}
@@ -66,7 +66,7 @@ module _ (g : Graph) (number : ℕ) (before : Hand) (walkers : List Walker) (n :
   end_made is live = made _ Did _ (ap step_by is ∙ ap end_by live) refl refl
 
 -- a value is evaluated for a target: the thread is as the source's is then
-pub eval_made : (t : Target) (x : Placed) (next number : ℕ) (h : Hand) (walkers : List Walker) (thread : m.Thread) →
+pub eval_made : (t : Lvalue) (x : Placed) (next number : ℕ) (h : Hand) (walkers : List Walker) (thread : m.Thread) →
     thread ≡ m.evaluated (record { variables = h.variables; holders = h.holders; threads = [] })
     (record { left = []; locals = h.walker.locals; pending = h.walker.pending; ended = h.walker.ended }) t x.expr →
     effect_step (state_in h walkers) number h.walker (effect_of (Eval t x next) (seen_by (state_in h walkers) h.walker)) ≡

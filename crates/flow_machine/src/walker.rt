@@ -1,6 +1,6 @@
 //! A thread on its way through a graph.
 ghost use Rattle.std.specs.Prelude.{◌≡◌, ℕ, ◌+◌, IfOk};
-ghost use Rattle.c_tree.specs.Exprs.{placed_of, target_of};
+ghost use Rattle.c_tree.specs.Exprs.{placed_of, lvalue_of};
 ghost use Rattle.source_machine.specs.Sections.{AreCounted};
 ghost use Rattle.source_machine.specs.links.Ends.{ends};
 ghost use Rattle.flow_graph.specs.Nodes.{Eval};
@@ -8,7 +8,7 @@ ghost use Rattle.flow_graph.specs.Actions.{walker_start};
 ghost use Rattle.flow_machine.specs.links.Walkers.{walker_of};
 ghost use Rattle.flow_machine.specs.links.Hands.{hand_of, DoesEval, StepIsMade};
 
-use c_tree::expr::{Placed, Target};
+use c_tree::expr::{Lvalue, Placed};
 use flow_graph::graph::{Action, Graph, Part};
 use ido_base::memory::OutOfMemory;
 use source_machine::assignment::{Pending, assign};
@@ -106,8 +106,8 @@ impl Walker {
     }
 
     /// Evaluates a value for a target, and goes on: a local has it, or the store of a variable is pending.
-    fn evaluate_for(&mut self, target: &Target, value: &Placed, variables: &Variables, next: usize)
-        ensures { DoesEval (Eval (target_of target.now) (placed_of value.now) next) (walker_of self.old) (walker_of self.new) variables.now }
+    fn evaluate_for(&mut self, target: &Lvalue, value: &Placed, variables: &Variables, next: usize)
+        ensures { DoesEval (Eval (lvalue_of target.now) (placed_of value.now) next) (walker_of self.old) (walker_of self.new) variables.now }
     {
         assign(
             target,

@@ -3,7 +3,7 @@
 #![tactic(auto)]
 
 use anyhow::{Error, anyhow};
-use c_tree::expr::{Expr, Placed, Target};
+use c_tree::expr::{Expr, Lvalue, Placed};
 use c_tree::flat::{Flat, Statement, Thread};
 use c_tree::tree::Name;
 use flow_live::live;
@@ -49,7 +49,7 @@ fn to_local(a: Global, local: u32, variable: u32) -> Result<Statement, AllocErro
     };
     Ok(Statement::Assign {
         place: HERE,
-        target: Target::Local { local, kind: KIND },
+        target: Lvalue::Local { local, kind: KIND },
         value: placed(sum(a, held, number)?),
     })
 }
@@ -64,7 +64,7 @@ fn to_variable(a: Global, local: u32, variable: u32) -> Result<Statement, AllocE
     let held = Expr::Local { local, kind: KIND };
     Ok(Statement::Assign {
         place: HERE,
-        target: Target::Variable {
+        target: Lvalue::Variable {
             place: HERE,
             variable,
             kind: KIND,

@@ -73,7 +73,7 @@ fn reduce(kind: Kind, number: i128) -> i128
     Range::of(kind).narrow(residue(number))
 }
 
-// The numbers of a kind: the least one, and a one in each place of the width.
+/// The numbers of a kind: the least one, and a one in each place of the width.
 #[derive(Clone, Copy)]
 pub(crate) struct Range {
     kind: Kind,
@@ -97,7 +97,7 @@ impl Range {
         self.kind
     }
 
-    // The value of a number of 64 bits.
+    /// The value of a number of 64 bits.
     pub(crate) fn value(self, number: u64) -> Value
         ensures { result ≡ typed_reduced self.kind (pos number) }
     {

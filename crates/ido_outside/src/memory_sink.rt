@@ -9,7 +9,7 @@ use crate::{Failed, Sink};
 use ido_base::memory::OutOfMemory;
 use std::alloc::{AllocError, Global};
 
-// Bytes in room that was reserved for them.
+/// Bytes in room that was reserved for them.
 #[derive(Drop)]
 struct Reserve {
     bytes: Vec<u8>,

@@ -10,7 +10,7 @@ fn bytes_of(rt: &HostRuntime, bytes: &[u8]) -> Result<Vec<u8>, AllocError> {
     bytes.to_vec(rt.alloc())
 }
 
-// A reader of the text and a writer, of `piece` bytes a call at most. The call of number `fails` fails.
+/// A reader of the text and a writer, of `piece` bytes a call at most. The call of number `fails` fails.
 #[derive(Drop)]
 struct Slow {
     piece: usize,

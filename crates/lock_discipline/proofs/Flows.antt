@@ -79,7 +79,7 @@ module _ (vs : List Variable) where
 
   -- ---- A set before a step is the one at its place
 
-  first_step : (target : e.Target) (h : Held) → slice_get (replicate (assign_steps target) h) 0 ≡ Some h
+  first_step : (target : e.Lvalue) (h : Held) → slice_get (replicate (assign_steps target) h) 0 ≡ Some h
   first_step (e.ToLocal local kind) h = refl
   first_step (e.ToVariable name variable kind) h = refl
   first_step (e.ToElement name variable kind index) h = refl
@@ -115,7 +115,7 @@ module _ (vs : List Variable) where
 
   -- ---- The set at a step's place is held before it
 
-  at_assign : (place : Place) (target : e.Target) (value : e.Placed) (h : Held) (n : ℕ) (k : Held) → slice_get (replicate (assign_steps target) h) n ≡ Some k →
+  at_assign : (place : Place) (target : e.Lvalue) (value : e.Placed) (h : Held) (n : ℕ) (k : Held) → slice_get (replicate (assign_steps target) h) n ≡ Some k →
       HeldIn vs h (f.Assign place target value) n k
   at_assign place (e.ToLocal local kind) value h zero k p = subst (λ x. HeldIn vs h (f.Assign place (e.ToLocal local kind) value) 0 x) (same_some h k p)
       (evaluate place _ value)

@@ -6,9 +6,9 @@ use Rattle.std.specs.List.{list_any, list_all}
 use Rattle.std.proofs.lemmas.List.Folds.{list_any-append, list_all-append}
 use Rattle.std.proofs.lemmas.List.Elements.{All-nil, All-cons, All-head, All-tail}
 use Rattle.ido_base.specs.declared.place.Place.{Place}
-use Rattle.c_tree.specs.Exprs.{expr_of, target_of}
+use Rattle.c_tree.specs.Exprs.{expr_of, lvalue_of}
 use Rattle.c_tree.specs.declared.expr.Placed.{Placed}
-use Rattle.c_tree.specs.declared.expr.Target.{Target}
+use Rattle.c_tree.specs.declared.expr.Lvalue.{Lvalue}
 use Rattle.c_tree.specs.declared.flat.Statement as s
 use Rattle.c_tree.specs.declared.flat.Arm as arm
 use Rattle.c_tree.specs.Programs.{Variable}
@@ -182,11 +182,11 @@ module _ (vs : List Variable) (h : Held) where
 
   -- ---- An assignment
 
-  pub assign_is : (x : s.Statement) (place : Place) (target : Target) (value : Placed) → x ≡ s.Assign place target value →
+  pub assign_is : (x : s.Statement) (place : Place) (target : Lvalue) (value : Placed) → x ≡ s.Assign place target value →
       walk vs (length h) h (f.statement_of x) ≡ and_then (walk_uses vs (length h) h (expr_uses (expr_of value.expr)))
-      (λ _. walk_uses vs (length h) h (target_uses (target_of target)))
+      (λ _. walk_uses vs (length h) h (target_uses (lvalue_of target)))
   assign_is x place target value is = ap (λ y. walk vs (length h) h (f.statement_of y)) is
-      ∙ uses_append vs (length h) h (expr_uses (expr_of value.expr)) (target_uses (target_of target))
+      ∙ uses_append vs (length h) h (expr_uses (expr_of value.expr)) (target_uses (lvalue_of target))
 
   -- ---- A `while`
 

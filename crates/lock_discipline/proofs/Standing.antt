@@ -41,7 +41,7 @@ module _ (vs : List Variable) (none : Held) where
       (h, refl, subst (λ (y : List f.Statement). KeepList vs h y none) is a.0)
   all_found (h ∷ hs) (m ∷ ls) (suc n) left a e = all_found hs ls n left a.1 e
 
-  assign_keeps : (place : Place) (target : e.Target) (value : e.Placed) (h : Held) (rest : List f.Statement) → AreGuarded vs h (assign_uses target value) →
+  assign_keeps : (place : Place) (target : e.Lvalue) (value : e.Placed) (h : Held) (rest : List f.Statement) → AreGuarded vs h (assign_uses target value) →
       KeepList vs h rest none → AllKeep (sets_in h (f.Assign place target value)) (assign_lefts place target value rest)
   assign_keeps place (e.ToLocal local kind) value h rest g k = ((h, l.assign place (e.ToLocal local kind) value g, k), tt)
   assign_keeps place (e.ToVariable name variable kind) value h rest g k = ((h, l.assign place (e.ToVariable name variable kind) value g, k), (k, tt))

@@ -10,7 +10,7 @@ use Rattle.source_machine.specs.Discipline.{StateKeeps}
 use Rattle.lock_discipline.specs.Steps.{HeldBefore}
 
 -- before an assignment's value, and before its store, if it has one
-abbrev pub assign_lefts : (place : Place) → e.Target → (value : e.Placed) → (rest : List f.Statement) → List (List f.Statement)
+abbrev pub assign_lefts : (place : Place) → e.Lvalue → (value : e.Placed) → (rest : List f.Statement) → List (List f.Statement)
 assign_lefts place (e.ToLocal local kind) value rest = (f.Assign place (e.ToLocal local kind) value ∷ rest) ∷ []
 assign_lefts place (e.ToVariable name variable kind) value rest = (f.Assign place (e.ToVariable name variable kind) value ∷ rest) ∷ rest ∷ []
 assign_lefts place (e.ToElement name variable kind index) value rest = (f.Assign place (e.ToElement name variable kind index) value ∷ rest) ∷ rest ∷ []

@@ -10,7 +10,7 @@ use Rattle.c_tree.specs.Locking.{Held, none_held, Keeps, KeepAll, IsDisciplined}
 -- ---- How many steps
 
 -- an assignment of a variable has a second step, the store
-abbrev pub assign_steps : e.Target → ℕ
+abbrev pub assign_steps : e.Lvalue → ℕ
 assign_steps (e.ToLocal local kind) = 1
 assign_steps (e.ToVariable place variable kind) = 2
 assign_steps (e.ToElement place variable kind index) = 2
@@ -43,7 +43,7 @@ thread_steps t = steps_of_all t.body + 1
 module _ (vs : List Variable) where
   mutual
     pub data HeldIn : Held → f.Statement → (step : ℕ) → Held → Type 0 where
-      evaluate : {h : Held} (place : Place) (target : e.Target) (value : e.Placed) → HeldIn h (f.Assign place target value) 0 h
+      evaluate : {h : Held} (place : Place) (target : e.Lvalue) (value : e.Placed) → HeldIn h (f.Assign place target value) 0 h
       store_variable : {h : Held} (place : Place) (name : Place) (variable : ℕ) (kind : Kind) (value : e.Placed) →
           HeldIn h (f.Assign place (e.ToVariable name variable kind) value) 1 h
       store_element : {h : Held} (place : Place) (name : Place) (variable : ℕ) (kind : Kind) (index : e.Placed) (value : e.Placed) →

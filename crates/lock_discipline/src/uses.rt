@@ -1,14 +1,14 @@
 //! The variables that a step uses, each under its mutex.
 ghost use Rattle.std.specs.Prelude.{◌≡◌, [], ◌∷◌, length, map, MatchResult};
 ghost use Rattle.c_tree.specs.Programs.{variable_of};
-ghost use Rattle.c_tree.specs.Exprs.{expr_of, target_of};
+ghost use Rattle.c_tree.specs.Exprs.{expr_of, lvalue_of};
 ghost use Rattle.c_tree.specs.Locking.{Behind, guard_of, walk_uses, expr_uses, target_uses};
 ghost use Rattle.lock_discipline.specs.links.Refusals.{Refuses};
 ghost use Rattle.lock_discipline.specs.links.Uses.{use_of};
 
 use crate::error::LockError;
 use crate::set::MutexSet;
-use c_tree::expr::{Expr, Target};
+use c_tree::expr::{Expr, Lvalue};
 use c_tree::program::Variable;
 use ido_base::place::Place;
 
@@ -85,19 +85,19 @@ pub fn check_expr(variables: &[Variable], held: MutexSet, expr: &Expr) -> Result
 pub fn check_target(
     variables: &[Variable],
     held: MutexSet,
-    target: &Target,
+    target: &Lvalue,
 ) -> Result<(), LockError>
-    ensures { let w = walk_uses (map variable_of variables.now) (length held) held (target_uses (target_of target.now)) in
+    ensures { let w = walk_uses (map variable_of variables.now) (length held) held (target_uses (lvalue_of target.now)) in
         MatchResult result (λ _. w ≡ Behind held) (Refuses w) }
 {
     match target {
-        Target::Local { .. } => Ok(()),
-        Target::Variable {
+        Lvalue::Local { .. } => Ok(()),
+        Lvalue::Variable {
             place,
             variable,
             ..
         } => check_use(variables, held, *variable, *place),
-        Target::Element {
+        Lvalue::Element {
             place,
             variable,
             index,

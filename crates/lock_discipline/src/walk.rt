@@ -11,7 +11,7 @@ ghost use Rattle.lock_discipline.specs.links.Flow.{sets_in, sets_in_all, sets_in
 use crate::error::LockError;
 use crate::set::MutexSet;
 use crate::uses::{check_expr, check_target};
-use c_tree::expr::Target;
+use c_tree::expr::Lvalue;
 use c_tree::flat::{Arm, Statement, Thread};
 use c_tree::program::Variable;
 use ido_base::place::Place;
@@ -60,9 +60,9 @@ fn walk_statement(
             check_expr(variables, held, &value.expr)?;
             check_target(variables, held, target)?;
             match target {
-                Target::Local { .. } => {}
+                Lvalue::Local { .. } => {}
                 // the store is a step of its own
-                Target::Variable { .. } | Target::Element { .. } => sets.push(held)?,
+                Lvalue::Variable { .. } | Lvalue::Element { .. } => sets.push(held)?,
             }
             Ok(held)
         }

@@ -1,5 +1,5 @@
 //! Flat forms of one thread, with one mutex and one variable of kind `int`.
-use c_tree::expr::{Expr, Placed, Target};
+use c_tree::expr::{Expr, Lvalue, Placed};
 use c_tree::flat::{Flat, Statement, Thread};
 use c_tree::program::Variable;
 use c_tree::tree::Name;
@@ -14,7 +14,7 @@ pub(crate) const KIND: Kind = Kind::Int;
 /// The target takes the sum.
 pub(crate) fn sum(
     a: Global,
-    target: Target,
+    target: Lvalue,
     left: Expr,
     right: Expr,
 ) -> Result<Statement, AllocError> {

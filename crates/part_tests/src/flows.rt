@@ -1,6 +1,6 @@
 //! A source and the graph of its flat form, stepped beside each other: a sum past the greatest `int`.
 use crate::flats::{HERE, KIND, flat, sum};
-use c_tree::expr::{Expr, Target};
+use c_tree::expr::{Expr, Lvalue};
 use c_tree::flat::Statement;
 use flow_lower::lower;
 use flow_machine::FlowState;
@@ -29,7 +29,7 @@ fn in_step_with_the_source(rt: HostRuntime) -> Result<(), Fail> {
     let one = Expr::Constant {
         value: Value::reduce(KIND, 1),
     };
-    let target = Target::Variable {
+    let target = Lvalue::Variable {
         place: HERE,
         variable: 0,
         kind: KIND,

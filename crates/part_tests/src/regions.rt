@@ -1,5 +1,5 @@
 //! Cuts of a section that stores, reads and stores again, with their faults worked out by hand.
-use c_tree::expr::{Expr, Placed, Target};
+use c_tree::expr::{Expr, Lvalue, Placed};
 use flow_graph::cuts::Cuts;
 use flow_graph::graph::{Action, Graph, Node};
 use ido_base::location::Location;
@@ -70,7 +70,7 @@ fn store<'a>(a: Global, written: Location, next: usize) -> Node<'a> {
 /// Lock, store, read, store, unlock, end.
 fn section<'a>(
     a: Global,
-    target: &'a Target,
+    target: &'a Lvalue,
     value: &'a Placed,
     first: Location,
     read: Location,
@@ -106,8 +106,8 @@ fn cuts(a: Global, [lock, last, unlock]: [bool; 3]) -> Result<Cuts, AllocError> 
     })
 }
 
-fn target() -> Target {
-    Target::Local {
+fn target() -> Lvalue {
+    Lvalue::Local {
         local: 0,
         kind: KIND,
     }

@@ -1,6 +1,6 @@
 //! What is live in a short thread, and registers of its locals that clash, worked out by hand.
 use crate::flats::{HERE, KIND, flat, sum};
-use c_tree::expr::{Expr, Target};
+use c_tree::expr::{Expr, Lvalue};
 use c_tree::flat::Statement;
 use flow_graph::colours::Colours;
 use flow_live::live;
@@ -22,7 +22,7 @@ fn local(local: u32) -> Expr {
 
 /// The local takes the sum.
 fn keep(a: Global, local: u32, left: Expr, right: Expr) -> Result<Statement, AllocError> {
-    sum(a, Target::Local { local, kind: KIND }, left, right)
+    sum(a, Lvalue::Local { local, kind: KIND }, left, right)
 }
 
 /// The locals that are live before each node. Node i assigns local i; 0 and 2 are read at node 3, 1 and 3 at node 4.
@@ -41,7 +41,7 @@ const COLOURS: [([u8; 4], Option<(usize, usize, usize)>); 6] = [
 #[test]
 fn live_locals_and_clashes(rt: HostRuntime) -> Result<(), Fail> {
     let a = rt.alloc();
-    let target = Target::Variable {
+    let target = Lvalue::Variable {
         place: HERE,
         variable: 0,
         kind: KIND,

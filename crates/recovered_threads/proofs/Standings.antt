@@ -20,7 +20,7 @@ use Rattle.flow_graph.specs.Lockstep.{Standing, free, assign_standings, standing
 abbrev left_of : Standing → List f.Statement
 left_of s = s.left
 
-assign_left : (place : Place) (target : e.Target) (value : e.Placed) (rest : List f.Statement) →
+assign_left : (place : Place) (target : e.Lvalue) (value : e.Placed) (rest : List f.Statement) →
     map left_of (assign_standings place target value rest) ≡ assign_lefts place target value rest
 assign_left place (e.ToLocal local kind) value rest = refl
 assign_left place (e.ToVariable name variable kind) value rest = refl
@@ -66,7 +66,7 @@ left_at t step s h =
 
 -- ---- How many there are
 
-count_assign : (target : e.Target) (place : Place) (value : e.Placed) (rest : List f.Statement) →
+count_assign : (target : e.Lvalue) (place : Place) (value : e.Placed) (rest : List f.Statement) →
     length (assign_standings place target value rest) ≡ assign_count target
 count_assign (e.ToLocal local kind) place value rest = refl
 count_assign (e.ToVariable name variable kind) place value rest = refl

@@ -38,7 +38,7 @@ both : (ns ms : List Node) → AllAssign ns → AllAssign ms → AllAssign (ns +
 both [] ms a b = b
 both (n ∷ ns) ms a b = (a.0, both ns ms a.1 b)
 
-assign_assigns : (place : Place) (target : e.Target) (value : e.Placed) (first next : ℕ) → AllAssign (assign_nodes place target value first next)
+assign_assigns : (place : Place) (target : e.Lvalue) (value : e.Placed) (first next : ℕ) → AllAssign (assign_nodes place target value first next)
 assign_assigns place (e.ToLocal local kind) value first next = (tt, tt)
 assign_assigns place (e.ToVariable name variable kind) value first next = (tt, (tt, tt))
 assign_assigns place (e.ToElement name variable kind index) value first next = (tt, (tt, tt))

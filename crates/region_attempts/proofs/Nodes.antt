@@ -61,7 +61,7 @@ module _ (vs : List Variable) (h : Held) (seen : Seen) (one : Element) where
       (λ d. expr_held chosen (guarded_right vs h (expr_uses condition) (expr_uses chosen) first) d))
       (λ d. expr_held otherwise (guarded_right vs h (expr_uses condition ++ expr_uses chosen) (expr_uses otherwise) g) d) c
 
-  target_held : (target : e.Target) → AreGuarded vs h (target_uses target) → Contains (target_elements target seen) one → IsHeld
+  target_held : (target : e.Lvalue) → AreGuarded vs h (target_uses target) → Contains (target_elements target seen) one → IsHeld
   target_held (e.ToLocal local kind) g c = absurd (contains_none one c)
   target_held (e.ToVariable place v kind) g c = absurd (contains_none one c)
   target_held (e.ToElement place v kind index) g c = expr_held index.expr (guarded_rest vs h _ (expr_uses index.expr) g) c

@@ -95,7 +95,7 @@ module _ (vs : List Variable) where
   stored : (h : Held) (us rest : List Use) (u : Use) → AreGuarded vs h (us ++ u ∷ rest) → holds h (guard_of vs u.variable) ≡ true
   stored h us rest u g = yes (is_guarded vs h u) (none_there (λ (w : Use). not (is_guarded vs h w)) us rest u g)
 
-  guarded_assign : (place : Place) (target : e.Target) (value : e.Placed) (h : Held) (first next : ℕ) → AreGuarded vs h (assign_uses target value) →
+  guarded_assign : (place : Place) (target : e.Lvalue) (value : e.Placed) (h : Held) (first next : ℕ) → AreGuarded vs h (assign_uses target value) →
       AllGuarded vs (sets_in h (f.Assign place target value)) (assign_nodes place target value first next)
   guarded_assign place (e.ToLocal local kind) value h first next g = (quiet vs h _ refl, tt)
   guarded_assign place (e.ToVariable name variable kind) value h first next g = (
@@ -164,7 +164,7 @@ module _ (vs : List Variable) where
 
 -- ---- Steps and nodes are counted alike
 
-steps_assign : (target : e.Target) (place : Place) (value : e.Placed) → steps (f.Assign place target value) ≡ count (f.Assign place target value)
+steps_assign : (target : e.Lvalue) (place : Place) (value : e.Placed) → steps (f.Assign place target value) ≡ count (f.Assign place target value)
 steps_assign (e.ToLocal local kind) place value = refl
 steps_assign (e.ToVariable name variable kind) place value = refl
 steps_assign (e.ToElement name variable kind index) place value = refl

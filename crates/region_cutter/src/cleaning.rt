@@ -53,7 +53,7 @@ fn lines(alloc: Global, graph: &Graph, shapes: &[Shape]) -> Result<Vec<Option<u6
     Ok(lines)
 }
 
-// Whether a boundary stands at the node.
+/// Whether a boundary stands at the node.
 pub(crate) fn stands(flags: &[bool], node: usize) -> bool
     ensures { IsTrue result ↔ (slice_get flags.now node ≡ Some true) }
 {
@@ -63,7 +63,7 @@ pub(crate) fn stands(flags: &[bool], node: usize) -> bool
     }
 }
 
-// Whether the node of this number takes a mutex and a boundary stands behind it.
+/// Whether the node of this number takes a mutex and a boundary stands behind it.
 pub(crate) fn has_behind(graph: &Graph, cuts: &Cuts, number: usize, node: &Node) -> bool
     requires { slice_get graph.now.nodes.items number ≡ Some node.now }
     ensures { IsTrue result ↔ HasBehind (graph_of graph.now) (boundaries_of cuts.now) number }

@@ -9,7 +9,7 @@ use flow_graph::graph::{Action, Graph, Node};
 use ido_base::memory::OutOfMemory;
 use std::alloc::Global;
 
-// Whether the node takes a mutex.
+/// Whether the node takes a mutex.
 pub(crate) fn locks(node: &Node) -> bool
     ensures { result ≡ locks (node_of node.now).action }
 {
@@ -19,7 +19,7 @@ pub(crate) fn locks(node: &Node) -> bool
     }
 }
 
-// Whether the node gives a mutex back.
+/// Whether the node gives a mutex back.
 pub(crate) fn unlocks(node: &Node) -> bool
     ensures { result ≡ unlocks (node_of node.now).action }
 {

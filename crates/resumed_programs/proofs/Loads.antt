@@ -219,7 +219,7 @@ module _ (x : f.Flat) (w : IsWellFormed x) (s : FlowState) (good : Good x s) (t 
   expr_here y formed each =
       loaded_expr x.variables ks kinds walker.locals walker.pending s.variables locals_held variables_held loads y.expr formed.0 formed.1 each
 
-  target_here : (target : e.Target) → IsTarget x.variables ks target → TargetFits x.variables target →
+  target_here : (target : e.Lvalue) → IsTarget x.variables ks target → TargetFits x.variables target →
       ((one : Element) → Contains (target_elements target (seen_by s walker)) one → Loaded here loads one) → IsAnsweredIn here loads target
   target_here (e.ToLocal local kind) formed fits each = tt
   target_here (e.ToVariable place variable kind) formed fits each = tt

@@ -18,7 +18,7 @@ use Rattle.rv64_codegen.specs.Emitting.{turned, straight}
 use Rattle.rv64_codegen.specs.links.Threads.{IsOwn, IsAt, IsKeptFor, Guards, stands, absent, Goes, Does, plan_in, thread_of, choices_of}
 use Rattle.rv64_codegen.proofs.Opened.{two_appended, one_appended, boundary_is, few_live}
 
-pub nodes_alike : (t : e.Target) → target_nodes t ≡ programs.target_nodes t
+pub nodes_alike : (t : e.Lvalue) → target_nodes t ≡ programs.target_nodes t
 nodes_alike (e.ToLocal local kind) = refl
 nodes_alike (e.ToVariable place variable kind) = refl
 nodes_alike (e.ToElement place variable kind index) = refl
@@ -47,7 +47,7 @@ module _ (x : opened.ThreadPlan) (node : ℕ) where
 
   -- ---- What it does
 
-  pub eval_done : (target : e.Target) (value : e.Placed) (next : ℕ) (old mid new : List CodeItem) → IsAt x node (Eval target value next) →
+  pub eval_done : (target : e.Lvalue) (value : e.Placed) (next : ℕ) (old mid new : List CodeItem) → IsAt x node (Eval target value next) →
       Appends old mid (IsEvaluation (homes_of x.frame) target value.expr) → Appends mid new (Goes x node next) →
       Appends old new (Does x node (Eval target value next))
   eval_done target value next old mid new at a g =

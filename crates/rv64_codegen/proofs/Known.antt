@@ -30,7 +30,7 @@ use Rattle.rv64_codegen.proofs.Lowered.{price_of, prices, price_thread, IsSound,
 
 -- ---- As many steps as nodes
 
-assign_alike : (target : e.Target) → assign_steps target ≡ assign_count target
+assign_alike : (target : e.Lvalue) → assign_steps target ≡ assign_count target
 assign_alike (e.ToLocal local kind) = refl
 assign_alike (e.ToVariable place variable kind) = refl
 assign_alike (e.ToElement place variable kind index) = refl

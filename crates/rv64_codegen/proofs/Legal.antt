@@ -125,7 +125,7 @@ module _ (p : Plan) (t : Thread) (plan : IsPlan p) (of : IsThread p t) where
       locals = reads_are_held (homes p t) (source_of p t seen) x t'.expr formed.0 held;
     }
 
-    pub may_reach : (target : e.Target) → IsFlatTarget p.flat t.kinds target → HoldsEach (homes p t) (source_of p t seen) x (target_locals target) →
+    pub may_reach : (target : e.Lvalue) → IsFlatTarget p.flat t.kinds target → HoldsEach (homes p t) (source_of p t seen) x (target_locals target) →
         IsAnsweredIn (source_of p t seen) around.loads target → MayReach (homes p t) (source_of p t seen) around x target
     may_reach (e.ToLocal local kind) formed held loaded = tt
     may_reach (e.ToVariable place variable kind) formed held loaded = slice_get_within vs variable formed.0.it formed.0.found

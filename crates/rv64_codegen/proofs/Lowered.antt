@@ -42,7 +42,7 @@ prices_append ns ms = sum_by-append price_of ns ms
 prices_one : (n : Node) → prices (n ∷ []) ≡ price_of n
 prices_one n = omega arith
 
-price_assign : (target : e.Target) (place : Place) (value : e.Placed) (first next : ℕ) →
+price_assign : (target : e.Lvalue) (place : Place) (value : e.Placed) (first next : ℕ) →
     prices (assign_nodes place target value first next) ≡ assign_price target (nodes_of value.expr)
 price_assign (e.ToLocal local kind) place value first next = omega arith
 price_assign (e.ToVariable name variable kind) place value first next = omega arith
@@ -185,7 +185,7 @@ module _ (x : f.Flat) (ks : List Kind) (lo hi : ℕ) (variables : AllByRecursion
       let small : element_number r.hi < n = below_count r.hi n high (omega (arith, count, some)) in
       omega (arith, single, small, count, same)
 
-  sound_assign : (target : e.Target) (place : Place) (value : e.Placed) (first next : ℕ) → IsFlatTarget x ks target → IsFlatPlaced x ks value → lo ≤ first →
+  sound_assign : (target : e.Lvalue) (place : Place) (value : e.Placed) (first next : ℕ) → IsFlatTarget x ks target → IsFlatPlaced x ks value → lo ≤ first →
       first + assign_count target ≤ hi → Within next → AllSound (assign_nodes place target value first next)
   sound_assign (e.ToLocal local kind) place value first next t v a b w =
       (record { formed = (t, (v, w)); writes = none_written _ _ refl }, tt)

@@ -214,7 +214,7 @@ module _ (p : Plan) (t : Thread) (c : Choices) (plan : IsPlan p) (of : IsThread 
         }))
     does_it (Eval (e.ToElement place variable kind index) val next) same known d call answered effect eq =
         let store : Pending = record { variable = variable; element = element_in seen index.expr; number = reduced kind (number_in seen val.expr) } in
-        let target : e.Target = e.ToElement place variable kind index in
+        let target : e.Lvalue = e.ToElement place variable kind index in
         let held : HoldsEach (homes p t) (source_of p t seen) x (expr_locals index.expr ++ expr_locals val.expr) =
         performs.held_uses p t c plan of choices places program items n node is own at before does goes guarded doing sited agrees.words agrees.of_program
         agrees.live agrees.cleans agrees.core s meets seen bank x enters target val next same known d.0 d.1 answered in

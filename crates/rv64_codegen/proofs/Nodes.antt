@@ -67,7 +67,7 @@ pub record StoresThere (all : List Node) (next variable : ℕ) (k : Kind) : Type
 
 module _ (x : f.Flat) (ks : List Kind) (lo hi : ℕ) (all : List Node) where
   -- an evaluation for a variable has its store behind it
-  abbrev pub IsOwed : e.Target → (next : ℕ) → Type 0
+  abbrev pub IsOwed : e.Lvalue → (next : ℕ) → Type 0
   IsOwed (e.ToLocal local kind) next = Unit {0}
   IsOwed (e.ToVariable place variable kind) next = StoresThere all next variable kind
   IsOwed (e.ToElement place variable kind index) next = StoresThere all next variable kind
@@ -76,7 +76,7 @@ module _ (x : f.Flat) (ks : List Kind) (lo hi : ℕ) (all : List Node) where
   abbrev pub IsInside : ℕ → Type 0
   IsInside next = (lo ≤ next) × (next < hi)
 
-  pub record EvalKnown (target : e.Target) (value : e.Placed) (next : ℕ) (n : Node) : Type 0 where
+  pub record EvalKnown (target : e.Lvalue) (value : e.Placed) (next : ℕ) (n : Node) : Type 0 where
     pub target_is : IsFlatTarget x ks target
     pub value_is : IsFlatPlaced x ks value
     pub uses : n.uses ≡ target_locals target ++ expr_locals value.expr
@@ -127,7 +127,7 @@ module _ (x : f.Flat) (ks : List Kind) (lo hi : ℕ) (all : List Node) where
   entry_in zero first next a b c d = (c, d)
   entry_in (suc n) first next a b c d = (a, omega arith)
 
-  assign_known : (target : e.Target) (place : Place) (value : e.Placed) (first next : ℕ) → IsFlatTarget x ks target → IsFlatPlaced x ks value →
+  assign_known : (target : e.Lvalue) (place : Place) (value : e.Placed) (first next : ℕ) → IsFlatTarget x ks target → IsFlatPlaced x ks value →
       Has all first (assign_nodes place target value first next) → lo ≤ first → first + assign_count target ≤ hi → lo ≤ next → next < hi →
       AllKnown (assign_nodes place target value first next)
   assign_known (e.ToLocal local kind) place value first next w v h a b c d =

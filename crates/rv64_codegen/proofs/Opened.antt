@@ -210,7 +210,7 @@ module _ (x : opened.ThreadPlan) (node : ℕ) where
       subst (λ (h : Homes). AreAtHome h t) (sym o.homes)
       (formed_is_at_home q.flat.variables o.thread.text.locals (homes q u) t (has_homes q o.plan u o.thread) formed)
 
-  pub target_home : (a : Action) (t : e.Target) → (at : IsAt x node a) → IsTarget q.flat.variables at.own.open_is.thread.text.locals t →
+  pub target_home : (a : Action) (t : e.Lvalue) → (at : IsAt x node a) → IsTarget q.flat.variables at.own.open_is.thread.text.locals t →
       IsAtHome (homes_of x.frame) t
   target_home a t at formed =
       let o = at.own.open_is in

@@ -164,7 +164,7 @@ module _ (p : Plan) (t : Thread) (c : Choices) (plan : IsPlan p) (of : IsThread 
 
       -- ---- Evaluations
 
-      module _ (target : e.Target) (val : e.Placed) (next : ℕ) (same : is.action ≡ Eval target val next)
+      module _ (target : e.Lvalue) (val : e.Placed) (next : ℕ) (same : is.action ≡ Eval target val next)
           (known : EvalKnown p.flat t.kinds t.part.first t.part.end p.graph.nodes target val next is)
           (evaluation : IsEvaluation h target val.expr does) (goes_to : GoesTo p t c node next goes)
           (answered : IsAnswered src s.around.loads (Eval target val next))
@@ -207,7 +207,7 @@ module _ (p : Plan) (t : Thread) (c : Choices) (plan : IsPlan p) (of : IsThread 
           (got.unchanged 3 (set_kept h local kind 3 refl (λ e3. local_other (slice_index t.registers local) 3 refl register (sym e3))))))
 
       -- a store is pending behind it
-      module _ (target : e.Target) (val : e.Placed) (next : ℕ) (same : is.action ≡ Eval target val next)
+      module _ (target : e.Lvalue) (val : e.Placed) (next : ℕ) (same : is.action ≡ Eval target val next)
           (known : EvalKnown p.flat t.kinds t.part.first t.part.end p.graph.nodes target val next is)
           (evaluation : IsEvaluation h target val.expr does) (goes_to : GoesTo p t c node next goes)
           (answered : IsAnswered src s.around.loads (Eval target val next))

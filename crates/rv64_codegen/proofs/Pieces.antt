@@ -20,7 +20,7 @@ use Rattle.node_code.proofs.Legs.{way, weaker}
 use Rattle.rv64_codegen.specs.Evaluations.{MayReach, MayEvaluate, may_write, Has, IsAssigned, IsEvaluation, IsTest, IsTested, is_taken, target_nodes}
 use Rattle.rv64_codegen.specs.links.Targets.{IsSelected, IsTurned}
 
-pub is_evaluation : (h : Homes) (target : e.Target) (t : e.Placed) (code : List Instr) (piece : List CodeItem) → IsSelected h target t code →
+pub is_evaluation : (h : Homes) (target : e.Lvalue) (t : e.Placed) (code : List Instr) (piece : List CodeItem) → IsSelected h target t code →
     IsComputing code piece → IsEvaluation h target t.expr piece
 is_evaluation h target t code piece sel comp = record {
   closed = comp.closed;

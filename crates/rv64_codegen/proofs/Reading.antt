@@ -75,7 +75,7 @@ formed_is_at_home vs ks h (e.Binary operator t u) homes f = (formed_is_at_home v
 formed_is_at_home vs ks h (e.Conditional k t u v) homes f =
     (formed_is_at_home vs ks h t homes f.0, formed_is_at_home vs ks h u homes f.1, formed_is_at_home vs ks h v homes f.2)
 
-pub target_is_at_home : (vs : List p.Variable) (ks : List Kind) (h : Homes) (t : e.Target) → HasHomes vs ks h → IsTarget vs ks t → IsAtHome h t
+pub target_is_at_home : (vs : List p.Variable) (ks : List Kind) (h : Homes) (t : e.Lvalue) → HasHomes vs ks h → IsTarget vs ks t → IsAtHome h t
 target_is_at_home vs ks h (e.ToLocal local k) homes f = (local_in_range vs ks h local k homes f, homes.registers local (slice_get_within ks local k f))
 target_is_at_home vs ks h (e.ToVariable place variable k) homes f = variable_at_home vs ks h variable f.it homes f.found
 target_is_at_home vs ks h (e.ToElement place variable k index) homes f =

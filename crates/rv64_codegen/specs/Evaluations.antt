@@ -48,13 +48,13 @@ IsRefused xs Memory = Unit {0}
 
 -- ---- What a node evaluates
 
-abbrev pub target_nodes : e.Target → ℕ
+abbrev pub target_nodes : e.Lvalue → ℕ
 target_nodes (e.ToLocal local kind) = 0
 target_nodes (e.ToVariable place variable kind) = 0
 target_nodes (e.ToElement place variable kind index) = nodes_of index.expr
 
 -- what is assigned has a register, or an address
-abbrev pub IsAtHome : Homes → e.Target → Type 0
+abbrev pub IsAtHome : Homes → e.Lvalue → Type 0
 IsAtHome h (e.ToLocal local kind) = (local < length h.registers) × (is_local (slice_index h.registers local) ≡ true)
 IsAtHome h (e.ToVariable place variable kind) = variable < length h.addresses
 IsAtHome h (e.ToElement place variable kind index) = (variable < length h.addresses) × x.AreAtHome h index.expr
@@ -66,27 +66,27 @@ module _ (h : Homes) (s : Source) (around : Surroundings) (registers : List ℕ)
     pub locals : x.HoldsLocals h s registers t
 
   -- so may a target's index
-  abbrev pub MayReach : e.Target → Type 0
+  abbrev pub MayReach : e.Lvalue → Type 0
   MayReach (e.ToLocal local kind) = Unit {0}
   MayReach (e.ToVariable place variable kind) = variable < length s.variables
   MayReach (e.ToElement place variable kind index) =
       IsDeclared s.variables variable kind true × IndexFits s.variables variable index.place index.expr × MayEvaluate index.expr
 
 -- the registers that an evaluation may change
-abbrev pub may_write : Homes → e.Target → (register : ℕ) → Bool
+abbrev pub may_write : Homes → e.Lvalue → (register : ℕ) → Bool
 may_write h (e.ToLocal local kind) n = n == slice_index h.registers local || is_temporary n
 may_write h (e.ToVariable place variable kind) n = n == roles.pending_value || (n == roles.pending_address || is_temporary n)
 may_write h (e.ToElement place variable kind index) n = n == roles.pending_value || (n == roles.pending_address || is_temporary n)
 
 -- a local's register has the value, converted to its kind; or x28 has the address of an element, and x29 its value
-abbrev pub Has : Homes → Source → (registers : List ℕ) → e.Target → Typed → Type 0
+abbrev pub Has : Homes → Source → (registers : List ℕ) → e.Lvalue → Typed → Type 0
 Has h s y (e.ToLocal local kind) v = Carries y (slice_index h.registers local) (converted v kind)
 Has h s y (e.ToVariable place variable kind) v = (read y roles.pending_address ≡ x.place_of s variable 0) × Carries y roles.pending_value (converted v kind)
 Has h s y (e.ToElement place variable kind index) v =
     (read y roles.pending_address ≡ x.place_of s variable (element_at (value s.locals s.numbers index.expr))) × Carries y roles.pending_value (converted v kind)
 
 -- registers y behind an evaluation from registers x
-pub record IsAssigned (h : Homes) (s : Source) (target : e.Target) (t : e.Expr) (x y : List ℕ) : Type 0 where
+pub record IsAssigned (h : Homes) (s : Source) (target : e.Lvalue) (t : e.Expr) (x y : List ℕ) : Type 0 where
   pub are : AreRegisters y
   pub unchanged : (n : ℕ) → may_write h target n ≡ false → read y n ≡ read x n
   pub has : Has h s y target (value s.locals s.numbers t)
@@ -94,13 +94,13 @@ pub record IsAssigned (h : Homes) (s : Source) (target : e.Target) (t : e.Expr) 
 -- ---- Evaluations
 
 -- the mark, and the evaluation; its loads are those of elements that the index and the value read
-pub record Evaluates (h : Homes) (target : e.Target) (t : e.Expr) (piece : List CodeItem) (at : Site piece) : Type 0 where
+pub record Evaluates (h : Homes) (target : e.Lvalue) (t : e.Expr) (piece : List CodeItem) (at : Site piece) : Type 0 where
   pub evaluates : (s : Source) (x : List ℕ) → AreRegisters x → MayReach h s at.linking.setting.around x target → MayEvaluate h s at.linking.setting.around x t →
       Leads at x (begin_of piece at) (end_of piece at) (Mark ∷ []) (IsAssigned h s target t x)
   pub marks : marks_in piece at ≡ begin_of piece at ∷ []
   pub resumes : resumes_in piece at ≡ []
 
-pub record IsEvaluation (h : Homes) (target : e.Target) (t : e.Expr) (piece : List CodeItem) : Type 0 where
+pub record IsEvaluation (h : Homes) (target : e.Lvalue) (t : e.Expr) (piece : List CodeItem) : Type 0 where
   pub closed : IsClosed piece
   pub few : sum_by most_words_of piece ≤ 16 * (target_nodes target + nodes_of t) + 17
   pub fences : fences_in piece ≡ 0

@@ -48,4 +48,4 @@ abbrev pub FormedIsAtHome : Type 0
 FormedIsAtHome = (vs : List p.Variable) (ks : List Kind) (h : Homes) (t : e.Expr) → HasHomes vs ks h → IsExpr vs ks t → AreAtHome h t
 
 abbrev pub FormedTargetIsAtHome : Type 0
-FormedTargetIsAtHome = (vs : List p.Variable) (ks : List Kind) (h : Homes) (t : e.Target) → HasHomes vs ks h → IsTarget vs ks t → IsAtHome h t
+FormedTargetIsAtHome = (vs : List p.Variable) (ks : List Kind) (h : Homes) (t : e.Lvalue) → HasHomes vs ks h → IsTarget vs ks t → IsAtHome h t

@@ -1,6 +1,6 @@
 //! What nodes do, and how they go on.
 ghost use Rattle.std.specs.Prelude.{◌≡◌, ◌==◌, ◌+◌, [], ◌∷◌, OnOk, MatchResult};
-ghost use Rattle.c_tree.specs.Exprs.{placed_of, target_of};
+ghost use Rattle.c_tree.specs.Exprs.{placed_of, lvalue_of};
 ghost use Rattle.c_tree.specs.Temporaries.{assign_exprs};
 ghost use Rattle.flow_graph.specs.Nodes.{Eval, Store, Test, Lock, Unlock, End, action_of};
 ghost use Rattle.node_code.specs.Pieces.{Appends};
@@ -13,7 +13,7 @@ use crate::error::{EmitError, emit_error};
 use crate::evaluations::push_evaluation;
 use crate::tests_of_conditions::push_test;
 use crate::thread::ThreadPlan;
-use c_tree::expr::{Placed, Target};
+use c_tree::expr::{Lvalue, Placed};
 use flow_graph::graph::Action;
 use ido_base::memory::OutOfMemory;
 use ido_ints::Kind;
@@ -50,15 +50,15 @@ fn push_eval(
     items: &mut Vec<CodeItem>,
     thread: &ThreadPlan,
     node: usize,
-    target: &Target,
+    target: &Lvalue,
     value: &Placed,
     next: usize,
 ) -> Result<(), EmitError>
-    requires { IsAt thread.now node (Eval (target_of target.now) (placed_of value.now) next) }
+    requires { IsAt thread.now node (Eval (lvalue_of target.now) (placed_of value.now) next) }
     ensures { MatchResult result
-        (λ _. NeedFew (assign_exprs (target_of target.now) (placed_of value.now)) ×
-        Appends items.old.items items.new.items (Does thread.now node (Eval (target_of target.now) (placed_of value.now) next)))
-        (λ error. IsRefusedBy (assign_exprs (target_of target.now) (placed_of value.now)) error) }
+        (λ _. NeedFew (assign_exprs (lvalue_of target.now) (placed_of value.now)) ×
+        Appends items.old.items items.new.items (Does thread.now node (Eval (lvalue_of target.now) (placed_of value.now) next)))
+        (λ error. IsRefusedBy (assign_exprs (lvalue_of target.now) (placed_of value.now)) error) }
 {
     match push_evaluation(alloc, items, &thread.frame, target, value) {
         Ok(()) => {}

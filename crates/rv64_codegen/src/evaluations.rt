@@ -1,7 +1,7 @@
 //! Evaluations.
 ghost use Rattle.std.specs.Prelude.{◌≡◌, ◌≤◌, ◌+◌, MatchResult};
 ghost use Rattle.ido_base.specs.declared.limits.TheConstants.{MOST_PRICE};
-ghost use Rattle.c_tree.specs.Exprs.{expr_of, placed_of, target_of};
+ghost use Rattle.c_tree.specs.Exprs.{expr_of, placed_of, lvalue_of};
 ghost use Rattle.c_tree.specs.Prices.{nodes_of, node_price};
 ghost use Rattle.c_tree.specs.Temporaries.{assign_exprs};
 ghost use Rattle.expr_code.specs.Evaluating.{AreAtHome, homes_of};
@@ -10,7 +10,7 @@ ghost use Rattle.rv64_codegen.specs.Evaluations.{IsRefused, NeedFew, IsAtHome, I
 ghost use Rattle.rv64_codegen.specs.links.Targets.{IsSelected};
 
 use crate::targets::{Assigned, element_code, local_code, variable_code};
-use c_tree::expr::{Placed, Target};
+use c_tree::expr::{Lvalue, Placed};
 use expr_code::{Frame, SelectError};
 use node_code::push_computing;
 use rv64_isa::instr::Instr;
@@ -21,19 +21,19 @@ use std::alloc::Global;
 fn target_code(
     alloc: Global,
     frame: &Frame,
-    target: &Target,
+    target: &Lvalue,
     value: &Placed,
 ) -> Result<Vec<Instr>, SelectError>
-    requires target { IsAtHome (homes_of frame.now) (target_of target.now) }
+    requires target { IsAtHome (homes_of frame.now) (lvalue_of target.now) }
     requires home { AreAtHome (homes_of frame.now) (expr_of value.now.expr) }
-    requires price { node_price (target_nodes (target_of target.now) + nodes_of (expr_of value.now.expr)) ≤ MOST_PRICE }
+    requires price { node_price (target_nodes (lvalue_of target.now) + nodes_of (expr_of value.now.expr)) ≤ MOST_PRICE }
     ensures { MatchResult result
-        (λ code. IsSelected (homes_of frame.now) (target_of target.now) (placed_of value.now) code.items)
-        (λ error. IsRefused (assign_exprs (target_of target.now) (placed_of value.now)) error) }
+        (λ code. IsSelected (homes_of frame.now) (lvalue_of target.now) (placed_of value.now) code.items)
+        (λ error. IsRefused (assign_exprs (lvalue_of target.now) (placed_of value.now)) error) }
 {
     match target {
-        Target::Local { local, kind } => local_code(alloc, frame, *local, *kind, value),
-        Target::Variable {
+        Lvalue::Local { local, kind } => local_code(alloc, frame, *local, *kind, value),
+        Lvalue::Variable {
             place,
             variable,
             kind,
@@ -45,7 +45,7 @@ fn target_code(
             };
             variable_code(alloc, frame, assigned, value)
         }
-        Target::Element {
+        Lvalue::Element {
             place,
             variable,
             kind,
@@ -67,16 +67,16 @@ pub fn push_evaluation(
     alloc: Global,
     items: &mut Vec<CodeItem>,
     frame: &Frame,
-    target: &Target,
+    target: &Lvalue,
     value: &Placed,
 ) -> Result<(), SelectError>
-    requires target { IsAtHome (homes_of frame.now) (target_of target.now) }
+    requires target { IsAtHome (homes_of frame.now) (lvalue_of target.now) }
     requires home { AreAtHome (homes_of frame.now) (expr_of value.now.expr) }
-    requires price { node_price (target_nodes (target_of target.now) + nodes_of (expr_of value.now.expr)) ≤ MOST_PRICE }
+    requires price { node_price (target_nodes (lvalue_of target.now) + nodes_of (expr_of value.now.expr)) ≤ MOST_PRICE }
     ensures { MatchResult result
-        (λ _. NeedFew (assign_exprs (target_of target.now) (placed_of value.now)) ×
-        Appends items.old.items items.new.items (IsEvaluation (homes_of frame.now) (target_of target.now) (expr_of value.now.expr)))
-        (λ error. IsRefused (assign_exprs (target_of target.now) (placed_of value.now)) error) }
+        (λ _. NeedFew (assign_exprs (lvalue_of target.now) (placed_of value.now)) ×
+        Appends items.old.items items.new.items (IsEvaluation (homes_of frame.now) (lvalue_of target.now) (expr_of value.now.expr)))
+        (λ error. IsRefused (assign_exprs (lvalue_of target.now) (placed_of value.now)) error) }
 {
     let code = match target_code(alloc, frame, target, value) {
         Ok(code) => code,

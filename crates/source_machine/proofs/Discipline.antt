@@ -87,7 +87,7 @@ module _ (x : f.Flat) (s : m.State) (t : ℕ) (thread : m.Thread) (there : slice
     at_rest h p e = cc
 
     -- what is evaluated reads what is guarded
-    evaluated_same : (other : m.State) → LooksSame x s other t → (target : e.Target) (placed : e.Placed) →
+    evaluated_same : (other : m.State) → LooksSame x s other t → (target : e.Lvalue) (placed : e.Placed) →
         AreGuarded x.variables held (assign_uses target placed) → m.evaluated other thread target placed.expr ≡ m.evaluated s thread target placed.expr
     evaluated_same other l (e.ToLocal local kind) placed g =
         ap (λ (y : Typed). record thread { locals = slice_set thread.locals local (reduced kind y.number) })
@@ -106,7 +106,7 @@ module _ (x : f.Flat) (s : m.State) (t : ℕ) (thread : m.Thread) (there : slice
         (value_same x.variables held thread.locals s.variables other.variables (same_at other l) placed.expr first)
 
     -- and the store that is then pending is guarded
-    evaluated_guarded : (target : e.Target) (placed : e.Placed) → AreGuarded x.variables held (assign_uses target placed) → (p : m.Pending) →
+    evaluated_guarded : (target : e.Lvalue) (placed : e.Placed) → AreGuarded x.variables held (assign_uses target placed) → (p : m.Pending) →
         (m.evaluated s thread target placed.expr).pending ≡ Some p → holds held (guard_of x.variables p.variable) ≡ true
     evaluated_guarded (e.ToLocal local kind) placed g p h = at_rest held p h
     evaluated_guarded (e.ToVariable place variable kind) placed g p h =
@@ -136,7 +136,7 @@ module _ (x : f.Flat) (s : m.State) (t : ℕ) (thread : m.Thread) (there : slice
 
     module _ (rest : List f.Statement) where
       -- an assignment
-      by_assign : (place : Place) (target : e.Target) (placed : e.Placed) → thread.left ≡ f.Assign place target placed ∷ rest →
+      by_assign : (place : Place) (target : e.Lvalue) (placed : e.Placed) → thread.left ≡ f.Assign place target placed ∷ rest →
           KeepList x.variables held (f.Assign place target placed ∷ rest) none →
           Does x s t thread (λ z. m.statement_step z t thread (f.Assign place target placed) rest)
       by_assign place target placed first keep =

@@ -38,7 +38,7 @@ module _ (vs : List Variable) where
   -- ---- What a statement that keeps it says
 
   -- the uses of an assignment are guarded, and the set stays
-  pub keeps_assign : {h after : Held} {place : Place} {target : e.Target} {value : e.Placed} → Keeps vs h (f.Assign place target value) after →
+  pub keeps_assign : {h after : Held} {place : Place} {target : e.Lvalue} {value : e.Placed} → Keeps vs h (f.Assign place target value) after →
       AreGuarded vs h (assign_uses target value) × (after ≡ h)
   keeps_assign (l.assign place target value g) = (g, refl)
 

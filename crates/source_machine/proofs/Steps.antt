@@ -7,9 +7,9 @@ use Rattle.std.proofs.lemmas.Option.{slice_get-get_or}
 use Rattle.std.proofs.lemmas.Bool.Decides.{nat_tests}
 use Rattle.ido_base.specs.declared.place.Place.{Place}
 use Rattle.ido_ints.specs.Operators.{is_zero}
-use Rattle.c_tree.specs.Exprs.{placed_of, target_of, expr_of}
+use Rattle.c_tree.specs.Exprs.{placed_of, lvalue_of, expr_of}
 use Rattle.c_tree.specs.declared.expr.Placed as code
-use Rattle.c_tree.specs.declared.expr.Target as code_target
+use Rattle.c_tree.specs.declared.expr.Lvalue as code_target
 use Rattle.c_tree.specs.Flats as f
 use Rattle.c_tree.specs.Source as m
 use Rattle.c_tree.specs.Values.{value}
@@ -176,15 +176,15 @@ module _ (vs : List (List ℤ)) (hs : List (Option ℕ)) (threads : List m.Threa
           ap (λ (b : Bool). left_as (if not b then m.opened_all body ++ (f.While place (placed_of condition.now) body ∷ rest) else rest)) zero)
     ]
 
-    pub assign_made : (target : Bor code_target.Target) (x : Bor code.Placed) (next : ℕ) (u : ThreadState) →
+    pub assign_made : (target : Bor code_target.Lvalue) (x : Bor code.Placed) (next : ℕ) (u : ThreadState) →
         slice_get t.nodes.items t.at ≡ Some (node.Assign target x next) → u.nodes ≡ t.nodes →
-        model_of u left ≡ m.evaluated before model (target_of target.now) (expr_of x.now.expr) →
+        model_of u left ≡ m.evaluated before model (lvalue_of target.now) (expr_of x.now.expr) →
         IsMade n now (hand (record u { at = next }) vs hs) Did threads left
     assign_made target x next u g same is =
         let d = does (node.Assign target x next) g in
         let P : Vec Node Global → Type 0 = λ ns. IsCode ns.items l.lefts in
         made_did (record u { at = next }) vs hs d.rest (record { lefts = l.lefts; nodes = subst P (sym same) l.nodes; here = d.follows })
-        (prefix (f.Assign d.place (target_of target.now) (placed_of x.now)) d.rest d.is
+        (prefix (f.Assign d.place (lvalue_of target.now) (placed_of x.now)) d.rest d.is
         ∙ ap (λ (mo : m.Thread). let o : Option m.State = Some (m.with_thread before n (record mo { left = d.rest })) in o) (sym is))
 
 -- the node that the code reads

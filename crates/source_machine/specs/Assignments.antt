@@ -1,7 +1,7 @@
 -- What an assignment changes of a thread.
 use Rattle.std.specs.Prelude.{◌≡◌, ℕ, List, Option, Bool, ℤ}
 use Rattle.std.specs.Option.{option_map}
-use Rattle.c_tree.specs.Exprs.{Expr, Target}
+use Rattle.c_tree.specs.Exprs.{Expr, Lvalue}
 use Rattle.c_tree.specs.Flats as f
 use Rattle.c_tree.specs.Source as m
 use Rattle.source_machine.specs.declared.assignment.Pending.{Pending}
@@ -22,7 +22,7 @@ abbrev pub thread_with : Assigning → (left : List f.Statement) → (ended : Bo
 thread_with a left ended = record { left = left; locals = a.locals; pending = a.pending; ended = ended }
 
 -- they become those of a thread that has evaluated the value for the target
-abbrev pub Evaluates : Target → Expr → (variables : List (List ℤ)) → (before after : Assigning) → Type 0
+abbrev pub Evaluates : Lvalue → Expr → (variables : List (List ℤ)) → (before after : Assigning) → Type 0
 Evaluates target value variables before after = (left : List f.Statement) (ended : Bool) (holders : List (Option ℕ)) (threads : List m.Thread) →
     thread_with after left ended ≡ m.evaluated (record { variables = variables; holders = holders; threads = threads })
     (thread_with before left ended) target value

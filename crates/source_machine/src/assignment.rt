@@ -1,10 +1,10 @@
 //! Assignments (C11 6.5.16).
-ghost use Rattle.c_tree.specs.Exprs.{expr_of, target_of};
+ghost use Rattle.c_tree.specs.Exprs.{expr_of, lvalue_of};
 ghost use Rattle.source_machine.specs.Assignments.{Evaluates, assigning};
 
 use crate::evaluation::{element_at, evaluate};
 use crate::variables::Variables;
-use c_tree::expr::{Expr, Target};
+use c_tree::expr::{Expr, Lvalue};
 
 /// A store that is still to be made.
 #[derive(Clone, Copy)]
@@ -18,24 +18,24 @@ pub struct Pending {
 
 /// Evaluates a value for a target: a local has it, the store of a variable is pending.
 pub fn assign(
-    target: &Target,
+    target: &Lvalue,
     value: &Expr,
     locals: &mut [i128],
     pending: &mut Option<Pending>,
     variables: &Variables,
 )
-    ensures { Evaluates (target_of target.now) (expr_of value.now) variables.now (assigning locals.old pending.old) (assigning locals.new pending.new) }
+    ensures { Evaluates (lvalue_of target.now) (expr_of value.now) variables.now (assigning locals.old pending.old) (assigning locals.new pending.new) }
 {
     let value = evaluate(value, locals, variables);
     match target {
-        Target::Local { local, kind } => {
+        Lvalue::Local { local, kind } => {
             let local = *local as usize;
             let number = value.convert(*kind).number();
             if local < locals.len() {
                 locals[local] = number;
             }
         }
-        Target::Variable { variable, kind, .. } => {
+        Lvalue::Variable { variable, kind, .. } => {
             let number = value.convert(*kind).number();
             *pending = Some(Pending {
                 variable: *variable,
@@ -43,7 +43,7 @@ pub fn assign(
                 number,
             });
         }
-        Target::Element {
+        Lvalue::Element {
             variable,
             kind,
             index,

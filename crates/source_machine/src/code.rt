@@ -6,7 +6,7 @@ ghost use Rattle.c_tree.specs.Flats.{statement_of, statements_of, arms_list_of};
 ghost use Rattle.c_tree.specs.Source.{opened, opened_all};
 ghost use Rattle.source_machine.specs.links.Codes.{Emits, EmitsArm, EmitsArms, EmitsLoop, IsPushed, IsCodeOf};
 
-use c_tree::expr::{Placed, Target};
+use c_tree::expr::{Lvalue, Placed};
 use c_tree::flat::{Arm, Statement};
 use ido_base::memory::OutOfMemory;
 use std::alloc::Global;
@@ -18,7 +18,7 @@ pub(crate) enum Node<'a> {
     End,
     /// The target takes the value.
     Assign {
-        target: &'a Target,
+        target: &'a Lvalue,
         value: &'a Placed,
         next: usize,
     },

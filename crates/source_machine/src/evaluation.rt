@@ -48,8 +48,8 @@ pub fn evaluate(expr: &Expr, locals: &[i128], variables: &Variables) -> Number
     }
 }
 
-// The low 64 bits of a number, and the kind that it is computed in. An operator needs no more of its operands, but where
-// it asks whether they are 0.
+/// The low 64 bits of a number, and the kind that it is computed in. An operator needs no more of its operands, but where
+/// it asks whether they are 0.
 #[derive(Clone, Copy)]
 struct LowBits {
     kind: Kind,

@@ -46,7 +46,7 @@ abbrev pub source_of : Plan → Thread → Seen → x.Source
 source_of p t seen = record { variables = p.flat.variables; kinds = t.kinds; locals = seen.locals; numbers = seen.variables }
 
 -- loads of the elements that the target's index reads are answered
-abbrev pub IsAnsweredIn : x.Source → (loads : (address bytes : ℕ) → Option ℕ) → e.Target → Type 0
+abbrev pub IsAnsweredIn : x.Source → (loads : (address bytes : ℕ) → Option ℕ) → e.Lvalue → Type 0
 IsAnsweredIn s loads (e.ToLocal local kind) = Unit {0}
 IsAnsweredIn s loads (e.ToVariable place variable kind) = Unit {0}
 IsAnsweredIn s loads (e.ToElement place variable kind index) = x.AreLoaded s loads index.expr

@@ -22,7 +22,7 @@ use Rattle.thread_code.specs.Entering.{Enters, IsAnswered, source_of}
 use Rattle.thread_code.specs.Performing.{Places, Entrance, EntersAt, Performs, Keeping, GoesOnBehind}
 
 -- expression nodes of a node, a target's index included
-abbrev pub target_nodes : e.Target → ℕ
+abbrev pub target_nodes : e.Lvalue → ℕ
 target_nodes (e.ToLocal local kind) = 0
 target_nodes (e.ToVariable place variable kind) = 0
 target_nodes (e.ToElement place variable kind index) = nodes_of index.expr

@@ -70,7 +70,7 @@ module _ (lo hi : ℕ) where
       AreIn (successors (test_node place condition holds fails).action)
   test_in place condition holds fails a b = (a.0, a.1, (b.0, b.1, tt))
 
-  assign_lies : (target : e.Target) (place : Place) (value : e.Placed) (first next : ℕ) → lo ≤ first → first + assign_count target ≤ hi → lo ≤ next →
+  assign_lies : (target : e.Lvalue) (place : Place) (value : e.Placed) (first next : ℕ) → lo ≤ first → first + assign_count target ≤ hi → lo ≤ next →
       next < hi →
       Lies (assign_nodes place target value first next) (assign_count target)
   assign_lies (e.ToLocal local kind) place value first next a b c d = record { many = refl; all = ((c, d, tt), tt) }

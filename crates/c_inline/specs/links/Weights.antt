@@ -16,7 +16,7 @@ size = record { node = 1; expression = 0; branch = 1 }
 abbrev pub node_weight : Weights → (nodes : ℕ) → ℕ
 node_weight w nodes = w.node + w.expression * nodes
 
-abbrev pub assign_weight : Weights → e.Target → (value : ℕ) → ℕ
+abbrev pub assign_weight : Weights → e.Lvalue → (value : ℕ) → ℕ
 assign_weight w (e.ToLocal local kind) value = node_weight w value
 assign_weight w (e.ToVariable place variable kind) value = node_weight w value + node_weight w 0
 assign_weight w (e.ToElement place variable kind index) value = node_weight w (nodes_of index.expr + value) + node_weight w 0
@@ -25,14 +25,14 @@ abbrev pub arguments_weight : Weights → List e.Placed → ℕ
 arguments_weight w [] = 0
 arguments_weight w (x ∷ xs) = node_weight w (nodes_of x.expr) + arguments_weight w xs
 
-abbrev pub result_weight : Weights → Option p.Returned → Option e.Target → ℕ
+abbrev pub result_weight : Weights → Option p.Returned → Option e.Lvalue → ℕ
 result_weight w (Some x) (Some target) = assign_weight w target (nodes_of x.value.expr)
 result_weight w (Some x) None = 0
 result_weight w None target = 0
 
 -- each call weighs so much by itself, and functions weigh so much
 module _ (w : Weights) (call : ℕ) (fs : List p.Function) (weight : (function : ℕ) → ℕ) where
-  abbrev pub called_weight : (function : ℕ) → List e.Placed → Option e.Target → ℕ
+  abbrev pub called_weight : (function : ℕ) → List e.Placed → Option e.Lvalue → ℕ
   called_weight function arguments result = elim (slice_get fs function) [
     | Some x ↦ call + (arguments_weight w arguments + weight function + result_weight w x.result result)
     | None ↦ call

@@ -7,7 +7,7 @@ use Rattle.c_tree.specs.Ranges.{Interval, Index, range_of, index_fits, statement
 use Rattle.c_tree.specs.declared.program.Variable as variable
 use Rattle.c_tree.specs.declared.program.Function as function
 use Rattle.c_tree.specs.declared.program.Thread as thread
-use Rattle.c_ranges.specs.declared.interval.Range.{Range}
+use Rattle.c_ranges.specs.declared.interval.Interval.{Interval as Range}
 use Rattle.c_ranges.specs.declared.indexes.IndexError.{IndexError}
 
 abbrev pub variables_of : List variable.Variable → List p.Variable

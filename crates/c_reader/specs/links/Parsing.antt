@@ -15,7 +15,7 @@ use Rattle.c_tree.specs.declared.token.Keyword.TheVariants as k
 use Rattle.c_tree.specs.declared.token.Punctuator as pn
 use Rattle.c_tree.specs.declared.token.Punctuator.TheVariants as p
 use Rattle.c_tree.specs.Trees as t
-use Rattle.c_tree.specs.Grammar.{strength}
+use Rattle.c_tree.specs.Grammar.{precedence}
 
 -- ---- Parsers
 
@@ -171,19 +171,19 @@ abbrev pub operator_of : Lexeme → Option Binary
 operator_of (Punctuator (p.Binary x)) = Some x
 operator_of _ = None
 
--- the same, where it has this strength
-abbrev pub operator_at : (strength : ℕ) → Lexeme → Option Binary
+-- the same, where it has this precedence
+abbrev pub operator_at : (precedence : ℕ) → Lexeme → Option Binary
 operator_at n x = elim (operator_of x) [
-  | Some operator ↦ elim (nat_eq (strength operator) n) [ true ↦ Some operator | false ↦ None ]
+  | Some operator ↦ elim (nat_eq (precedence operator) n) [ true ↦ Some operator | false ↦ None ]
   | None ↦ None
 ]
 
 -- the same of a token
-abbrev pub operator_in : (strength : ℕ) → Token → Option Binary
+abbrev pub operator_in : (precedence : ℕ) → Token → Option Binary
 operator_in n t = operator_at n t.lexeme
 
--- a lexeme is an operator with two operands of this strength
-abbrev pub is_operator_at : (strength : ℕ) → Lexeme → Bool
+-- a lexeme is an operator with two operands of this precedence
+abbrev pub is_operator_at : (precedence : ℕ) → Lexeme → Bool
 is_operator_at n x = elim (operator_at n x) [ Some operator ↦ true | None ↦ false ]
 
 -- the operator with one operand that a token is
@@ -322,13 +322,13 @@ operand_by operand expression _ = do x ← taking unary_in; y ← operand; give 
 abbrev pub operand_over : (operand expression : Parser t.Expression) → Parser t.Expression
 operand_over operand expression = by_head (operand_by operand expression)
 
--- the operators of this strength that follow on a left operand; the parser is that of their right operands
-abbrev pub operators_at : (strength : ℕ) → (right : Parser t.Expression) → (fuel : ℕ) → (left : t.Expression) → Parser t.Expression
+-- the operators of this precedence that follow on a left operand; the parser is that of their right operands
+abbrev pub operators_at : (precedence : ℕ) → (right : Parser t.Expression) → (fuel : ℕ) → (left : t.Expression) → Parser t.Expression
 operators_at n right zero left = wrong
 operators_at n right (suc fuel) left =
     where_head (head_is (is_operator_at n)) (do o ← taking (operator_in n); y ← right; operators_at n right fuel (t.Binary o left y)) (give left)
 
--- the operators of the so many greatest strengths that follow on an operand: 0 for none, 10 for all
+-- the operators of the so many greatest precedences that follow on an operand: 0 for none, 10 for all
 abbrev pub operators_after : (operand : Parser t.Expression) → (fuel : ℕ) → (levels : ℕ) → (left : t.Expression) → Parser t.Expression
 operators_after operand fuel zero left = give left
 operators_after operand fuel (suc levels) left = do
@@ -366,7 +366,7 @@ expression_after_name fuel x = do y ← operand_after_name (parse_expression fue
 -- ---- Assignments and calls
 
 -- a name, perhaps with an index
-abbrev pub parse_target : (fuel : ℕ) → Parser t.Target
+abbrev pub parse_target : (fuel : ℕ) → Parser t.Lvalue
 parse_target fuel = do x ← parse_name; i ← parse_index (parse_expression fuel); give (record { name = x; index = i })
 
 -- the operator of an update
@@ -452,13 +452,13 @@ abbrev pub parse_name_in_parentheses : Parser t.Name
 parse_name_in_parentheses = do parse_mark p.OpenParenthesis; x ← parse_name; parse_mark p.CloseParenthesis; give x
 
 -- an assignment of the right side to the target
-abbrev pub assigned_from : t.Target → t.Initial → t.Statement
+abbrev pub assigned_from : t.Lvalue → t.Initial → t.Statement
 assigned_from x (t.Value y) = t.Assign (record { place = x.name.place; target = x; change = t.Set y })
 assigned_from x (t.Result c) = t.AssignResult x c
 assigned_from x t.Absent = t.Empty x.name.place
 
 -- what stands behind the target of a statement, before its semicolon
-abbrev pub statement_after_target : (fuel : ℕ) → t.Target → Parser t.Statement
+abbrev pub statement_after_target : (fuel : ℕ) → t.Lvalue → Parser t.Statement
 statement_after_target fuel x = where_head (head_is (is_mark p.Assign))
     (do parse_mark p.Assign; y ← parse_right fuel; give (assigned_from x y))
     (do y ← parse_change fuel; give (t.Assign (record { place = x.name.place; target = x; change = y })))

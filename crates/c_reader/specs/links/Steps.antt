@@ -1,4 +1,4 @@
--- Steps of the parser that functions of the code take. Each of the later ones is opaque, so that no goal holds the strengths of all operators.
+-- Steps of the parser that functions of the code take. Each of the later ones is opaque, so that no goal holds the precedences of all operators.
 use Rattle.std.specs.Prelude.{ℕ, ◌-◌, List, [], ◌∷◌, ◌++◌, Bool, true, false}
 use Rattle.ido_base.specs.declared.place.Place.{Place}
 use Rattle.ido_ints.specs.declared.operators.Unary.{Unary}
@@ -26,15 +26,15 @@ parse_unary = taking unary_in
 abbrev pub parse_update : Parser Binary
 parse_update = taking update_in
 
--- the operators of the so many greatest strengths behind an operand
+-- the operators of the so many greatest precedences behind an operand
 unfoldable pub operators_behind : (fuel levels : ℕ) → (left : t.Expression) → Parser t.Expression
 operators_behind fuel levels left ts = operators_after (parse_operand fuel) fuel levels left ts
 
--- an operand and the operators of so many strengths behind it
+-- an operand and the operators of so many precedences behind it
 abbrev pub right_operand : (fuel levels : ℕ) → Parser t.Expression
 right_operand fuel levels = parse_operand fuel >>= operators_behind fuel levels
 
--- at most so many operators of the next strength behind a left operand
+-- at most so many operators of the next precedence behind a left operand
 unfoldable pub operators_from : (fuel levels count : ℕ) → (left : t.Expression) → Parser t.Expression
 operators_from fuel levels count left ts = operators_at (10 - levels) (right_operand fuel levels) count left ts
 
@@ -59,7 +59,7 @@ unfoldable pub maybe_initial : (fuel : ℕ) → Parser t.Initial
 maybe_initial fuel ts = parse_initial fuel ts
 
 -- what stands behind the target of a statement
-unfoldable pub statement_behind_target : (fuel : ℕ) → t.Target → Parser t.Statement
+unfoldable pub statement_behind_target : (fuel : ℕ) → t.Lvalue → Parser t.Statement
 statement_behind_target fuel x ts = statement_after_target fuel x ts
 
 -- what stands behind the name that a statement begins with

@@ -32,12 +32,12 @@ abbrev pub element_as : n.Meaning → Place → (index_place : Place) → e.Expr
 element_as (n.IsGlobal (n.Variable number kind is_array)) place index_place index = e.Element place number kind index_place index
 element_as _ place index_place index = int 0
 
-abbrev pub target_as : n.Meaning → Place → e.Target
+abbrev pub target_as : n.Meaning → Place → e.Lvalue
 target_as (n.IsLocal l) place = e.ToLocal l.number l.kind
 target_as (n.IsGlobal (n.Variable number kind is_array)) place = e.ToVariable place number kind
 target_as _ place = e.ToLocal 0 kind.Int
 
-abbrev pub target_element_as : n.Meaning → Place → e.Placed → e.Target
+abbrev pub target_element_as : n.Meaning → Place → e.Placed → e.Lvalue
 target_element_as (n.IsGlobal (n.Variable number kind is_array)) place index = e.ToElement place number kind index
 target_element_as _ place index = e.ToLocal 0 kind.Int
 
@@ -83,5 +83,5 @@ count_rule _ arguments = None
 -- ---- Updates
 
 -- the value that `x op= v` gives
-abbrev pub updated_as : List n.Global → n.Scope → t.Target → b.Binary → e.Expr → e.Placed
+abbrev pub updated_as : List n.Global → n.Scope → t.Lvalue → b.Binary → e.Expr → e.Placed
 updated_as gs s x operator value = record { place = x.name.place; expr = e.Binary operator (typing.before gs s x) value }

@@ -12,11 +12,11 @@ use Rattle.expr_code.specs.Evaluating.{Homes, Source, IsAt, Ends, fences_among}
 use Rattle.rv64_codegen.specs.Evaluations.{NeedFew, MayReach, MayEvaluate, may_write, Has, target_nodes}
 
 -- the code does what is assigned
-pub record IsTargetCode (h : Homes) (target : e.Target) (t : e.Expr) (code : List Instr) : Type 0 where
+pub record IsTargetCode (h : Homes) (target : e.Lvalue) (t : e.Expr) (code : List Instr) : Type 0 where
   pub ends : (s : Source) (r : Surroundings) (m : Moment) → IsAt r code m → MayReach h s r m.registers target → MayEvaluate h s r m.registers t →
       Ends r code (may_write h target) (λ y. Has h s y target (value s.locals s.numbers t)) m
 
-pub record IsSelected (h : Homes) (target : e.Target) (t : e.Placed) (code : List Instr) : Type 0 where
+pub record IsSelected (h : Homes) (target : e.Lvalue) (t : e.Placed) (code : List Instr) : Type 0 where
   pub few : NeedFew (assign_exprs target t)
   pub does : IsTargetCode h target t.expr code
   pub short : length code ≤ 16 * (target_nodes target + nodes_of t.expr) + 16

@@ -1,7 +1,7 @@
 -- Code of threads: what is left to do at each position of it, and what is emitted.
 use Rattle.std.specs.Prelude.{◌≡◌, ℕ, ◌<◌, ◌≤◌, List, [], ◌∷◌, ◌++◌, length, slice_get, Some}
 use Rattle.ido_base.specs.declared.place.Place.{Place}
-use Rattle.c_tree.specs.Exprs.{Placed, Target, placed_of, target_of}
+use Rattle.c_tree.specs.Exprs.{Placed, Lvalue, placed_of, lvalue_of}
 use Rattle.c_tree.specs.Flats as f
 use Rattle.c_tree.specs.Flats.{statements_of}
 use Rattle.c_tree.specs.declared.flat.Arm as code_arm
@@ -25,7 +25,7 @@ behind place (f.arm_and condition body rest) otherwise = f.If place (f.arm_and c
 
 -- ---- What is left at a node
 
-pub record Assigns (lefts : Lefts) (target : Target) (value : Placed) (next : ℕ) (left : List f.Statement) : Type 0 where
+pub record Assigns (lefts : Lefts) (target : Lvalue) (value : Placed) (next : ℕ) (left : List f.Statement) : Type 0 where
   pub place : Place
   pub rest : List f.Statement
   pub follows : At lefts next rest
@@ -60,7 +60,7 @@ pub data Tests (lefts : Lefts) (condition : Placed) (holds fails : ℕ) (left : 
 
 abbrev pub Does : Lefts → Node → List f.Statement → Type 0
 Does lefts node.End left = left ≡ []
-Does lefts (node.Assign target value next) left = Assigns lefts (target_of target.now) (placed_of value.now) next left
+Does lefts (node.Assign target value next) left = Assigns lefts (lvalue_of target.now) (placed_of value.now) next left
 Does lefts (node.Test condition holds fails) left = Tests lefts (placed_of condition.now) holds fails left
 Does lefts (node.Lock mutex next) left = Locks lefts mutex next left
 Does lefts (node.Unlock mutex next) left = Unlocks lefts mutex next left

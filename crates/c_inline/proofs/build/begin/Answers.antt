@@ -4,7 +4,7 @@ use Rattle.std.specs.Option.{option_map}
 use Rattle.std.proofs.lemmas.List.{length-map}
 use Rattle.std.proofs.lemmas.Option.{slice_get_read}
 use Rattle.ido_ints.specs.declared.kinds.Kind.{Kind}
-use Rattle.c_tree.specs.Exprs.{placed_of, target_of}
+use Rattle.c_tree.specs.Exprs.{placed_of, lvalue_of}
 use Rattle.c_tree.specs.Programs.{function_of}
 use Rattle.c_tree.specs.Flats as f
 use Rattle.c_tree.specs.Inlining as i
@@ -16,14 +16,14 @@ pub returns-then-call_weight-eq0-clause-made : goal.returns-then-call_weight-eq0
 returns-then-call_weight-eq0-clause-made c =
     ap (after (f.statements_of c.args.made.now.items))
     (call_none (map function_of c.args.bodies.functions.now) c.args.bodies.sizes.now c.requires c.args.by c.args.kinds.now.items c.args.place c.args.place
-    c.args.function (map placed_of c.args.arguments.now) (option_map target_of c.args.target.now)
+    c.args.function (map placed_of c.args.arguments.now) (option_map lvalue_of c.args.target.now)
     (omega (arith, c.call_weight.ensures, c.if-call_weight-eq0.true)))
 
 pub returns-in_default-clause-made : goal.returns-in_default-clause-made
 returns-in_default-clause-made c =
     ap (after (f.statements_of c.args.made.now.items))
     (call_past (map function_of c.args.bodies.functions.now) c.args.bodies.sizes.now c.requires c.args.by c.args.kinds.now.items c.args.place c.args.place
-    c.args.function (map placed_of c.args.arguments.now) (option_map target_of c.args.target.now)
+    c.args.function (map placed_of c.args.arguments.now) (option_map lvalue_of c.args.target.now)
     (omega (arith, c.in_default.ensures.lookup.3, length-map c.args.bodies.functions.now function_of)))
 
 pub returns-clause-made : goal.returns-clause-made
@@ -34,7 +34,7 @@ returns-clause-made c =
     let h = c.in-Some.ensures.lookup in
     let exists : slice_get functions c.args.function ≡ Some called = slice_get_read functions (length functions) c.args.function called refl h.3.0 h.1 in
     call_begun functions c.args.bodies.sizes.now c.requires c.args.by c.args.function c.args.kinds.now.items c.args.place (map placed_of c.args.arguments.now)
-    (option_map target_of c.args.target.now) called c.in_ok-behind.behind exists
+    (option_map lvalue_of c.args.target.now) called c.in_ok-behind.behind exists
     c.in_ok-first.first c.extend_from_slice.new.self.items (f.statements_of c.args.made.now.items) (f.statements_of c.pass.new.made.items)
     (c.in_ok-first.ensures ∙ ap length c.deref.ensures.value)
     (c.in_ok-extend_from_slice.ensures.items ∙ ap (λ (ks : List Kind). c.args.kinds.now.items ++ ks) c.deref-3.ensures.value)
@@ -50,4 +50,4 @@ returns-clause-work c =
     let h = c.in-Some.ensures.lookup in
     let exists : slice_get functions c.args.function ≡ Some called = slice_get_read functions (length functions) c.args.function called refl h.3.0 h.1 in
     call_work functions c.args.bodies.sizes.now c.requires 0 c.args.function [] c.args.place (map placed_of c.args.arguments.now)
-    (option_map target_of c.args.target.now) called c.in_ok-behind.behind exists c.in_ok-first.first
+    (option_map lvalue_of c.args.target.now) called c.in_ok-behind.behind exists c.in_ok-first.first

@@ -1,7 +1,7 @@
 -- The indexes of a statement are those of its parts, in order.
 use Rattle.std.proofs.Common.{refl, sym, ap, ap₂, ◌∙◌, ◌++◌, map, flat_map, List, arith, rules}
 use Rattle.std.specs.Option.{option_map}
-use Rattle.c_tree.specs.Exprs.{placed_of, target_of}
+use Rattle.c_tree.specs.Exprs.{placed_of, lvalue_of}
 use Rattle.c_tree.specs.Programs as p
 use Rattle.c_tree.specs.Ranges.{Index, placed_indexes, result_indexes, statement_indexes, statements_indexes, arms_indexes}
 use Rattle.c_tree.specs.declared.expr.Placed.{Placed}
@@ -37,7 +37,7 @@ of_statement-returns-in-Call t c =
     let vs = variables_of c.args.variables.now in
     let w = c.in-Call in
     joined vs _ _ _ _ _ c.earlier-in-Call.ensures c.of_arguments.ensures c.of_assigned.ensures
-    ∙ ap (λ (xs : List Placed). first_fault vs (flat_map placed_indexes (map placed_of xs) ++ result_indexes (option_map target_of w.assigned)))
+    ∙ ap (λ (xs : List Placed). first_fault vs (flat_map placed_indexes (map placed_of xs) ++ result_indexes (option_map lvalue_of w.assigned)))
     c.deref.ensures.value
     ∙ ap (λ (x : Statement). first_fault vs (statement_indexes (p.statement_of x))) (sym w.is)
 

@@ -38,40 +38,40 @@ operand-returns-in_ok-opening-in-Some-Punctuator-OpenParenthesis t c =
 pub operand-returns-in_ok-unary_of-in_default : goal.operand-returns-in_ok-unary_of-in_default
 operand-returns-in_ok-unary_of-in_default t c = let e = operand_at c.args.fuel c.args.tokens.now (omega arith) in grind (arith, common_steps)
 
-pub operators-returns-then-strengths-eq0 : goal.operators-returns-then-strengths-eq0
-operators-returns-then-strengths-eq0 t c = let none : c.args.strengths ≡ 0 = omega arith in behind_none _ _ _ _ none
+pub operators-returns-then-precedences-eq0 : goal.operators-returns-then-precedences-eq0
+operators-returns-then-precedences-eq0 t c = let none : c.args.precedences ≡ 0 = omega arith in behind_none _ _ _ _ none
 
 pub operators-returns-in_err-left : goal.operators-returns-in_err-left
 operators-returns-in_err-left t c =
-    let e = behind_some c.args.fuel c.args.strengths (expression_of c.args.first) c.args.tokens.now (omega arith) in grind (arith, common_steps)
+    let e = behind_some c.args.fuel c.args.precedences (expression_of c.args.first) c.args.tokens.now (omega arith) in grind (arith, common_steps)
 
 pub operators-loop-turn-init : goal.operators-loop-turn-init
 operators-loop-turn-init t c =
-    let e = behind_some c.args.fuel c.args.strengths (expression_of c.args.first) c.args.tokens.now (omega arith) in grind (arith, common_steps)
+    let e = behind_some c.args.fuel c.args.precedences (expression_of c.args.first) c.args.tokens.now (omega arith) in grind (arith, common_steps)
 
 pub operators-returns-then-not-sees_operator : goal.operators-returns-then-not-sees_operator
 operators-returns-then-not-sees_operator t c =
-    let e = from_some c.args.fuel (c.args.strengths - 1) c.loop-turn._turn (expression_of c.loop-turn.left) c.loop-turn.tokens c.loop-turn-test.true in
+    let e = from_some c.args.fuel (c.args.precedences - 1) c.loop-turn._turn (expression_of c.loop-turn.left) c.loop-turn.tokens c.loop-turn-test.true in
     grind (arith, common_steps)
 
 pub operators-returns-in_err-operator : goal.operators-returns-in_err-operator
 operators-returns-in_err-operator t c =
-    let e = from_some c.args.fuel (c.args.strengths - 1) c.loop-turn._turn (expression_of c.loop-turn.left) c.loop-turn.tokens c.loop-turn-test.true in
+    let e = from_some c.args.fuel (c.args.precedences - 1) c.loop-turn._turn (expression_of c.loop-turn.left) c.loop-turn.tokens c.loop-turn-test.true in
     grind (arith, common_steps)
 
 pub operators-returns-in_err-right : goal.operators-returns-in_err-right
 operators-returns-in_err-right t c =
-    let e = from_some c.args.fuel (c.args.strengths - 1) c.loop-turn._turn (expression_of c.loop-turn.left) c.loop-turn.tokens c.loop-turn-test.true in
+    let e = from_some c.args.fuel (c.args.precedences - 1) c.loop-turn._turn (expression_of c.loop-turn.left) c.loop-turn.tokens c.loop-turn-test.true in
     grind (arith, common_steps)
 
 pub operators-returns-in_err-right-2 : goal.operators-returns-in_err-right-2
 operators-returns-in_err-right-2 t c =
-    let e = from_some c.args.fuel (c.args.strengths - 1) c.loop-turn._turn (expression_of c.loop-turn.left) c.loop-turn.tokens c.loop-turn-test.true in
+    let e = from_some c.args.fuel (c.args.precedences - 1) c.loop-turn._turn (expression_of c.loop-turn.left) c.loop-turn.tokens c.loop-turn-test.true in
     grind (arith, common_steps)
 
 pub operators-loop-turn-preserved : goal.operators-loop-turn-preserved
 operators-loop-turn-preserved t c =
-    let e = from_some c.args.fuel (c.args.strengths - 1) c.loop-turn._turn (expression_of c.loop-turn.left) c.loop-turn.tokens c.loop-turn-test.true in
+    let e = from_some c.args.fuel (c.args.precedences - 1) c.loop-turn._turn (expression_of c.loop-turn.left) c.loop-turn.tokens c.loop-turn-test.true in
     grind (arith, common_steps)
 
 pub operators-returns : goal.operators-returns

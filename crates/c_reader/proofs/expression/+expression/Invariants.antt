@@ -7,7 +7,7 @@ abbrev pub decreases-operand : goal.decreases-operand
 decreases-operand l = 20 * l.fuel
 
 abbrev pub decreases-operators : goal.decreases-operators
-decreases-operators l = 20 * l.fuel + 1 + l.strengths
+decreases-operators l = 20 * l.fuel + 1 + l.precedences
 
 abbrev pub decreases-expression : goal.decreases-expression
 decreases-expression l = 20 * l.fuel + 12
@@ -26,5 +26,5 @@ decreases-operand_after_opening l = 20 * l.fuel + 14
 
 abbrev pub invariant-operators-loop-turn : goal.invariant-operators-loop-turn
 invariant-operators-loop-turn l =
-    operators_behind l.fuel l.strengths (expression_of l.fn.first) l.fn.tokens
-    ≡ operators_from l.fuel (l.strengths - 1) (l.fuel - l._turn) (expression_of l.left) l.tokens
+    operators_behind l.fuel l.precedences (expression_of l.fn.first) l.fn.tokens
+    ≡ operators_from l.fuel (l.precedences - 1) (l.fuel - l._turn) (expression_of l.left) l.tokens

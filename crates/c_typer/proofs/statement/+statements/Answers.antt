@@ -14,7 +14,7 @@ use Rattle.c_tree.specs.declared.tree.Call.{Call}
 use Rattle.c_tree.specs.declared.tree.Expression.{Expression}
 use Rattle.c_tree.specs.declared.tree.Head.{Head}
 use Rattle.c_tree.specs.declared.tree.Statement.{Statement}
-use Rattle.c_tree.specs.declared.tree.Target.{Target}
+use Rattle.c_tree.specs.declared.tree.Lvalue.{Lvalue}
 use Rattle.c_tree.proofs.TreeRows.{of_block, of_if, of_while, of_do, of_for}
 use Rattle.c_typer.specs.links.Noted.{first_of, noted}
 use Rattle.c_typer.specs.links.Rows.{loop_as, loop_faults}
@@ -113,10 +113,10 @@ statement-returns-in_ok-next-in-CallAssignment-clause-noted t c =
     let gs = globals_of c.args.globals.now in
     let s = scope_of c.args.scope.now in
     let w = c.in-CallAssignment in
-    let assigned = v.target_of c.deref-in-CallAssignment-2.result.now in
+    let assigned = v.lvalue_of c.deref-in-CallAssignment-2.result.now in
     let read = v.call_of c.deref-in-CallAssignment-3.result.now in
     let view = ap v.statement_of w.is
-    ∙ ap₂ (λ (x : Target) (y : Call). tree.AssignResult (v.target_of x) (v.call_of y)) (sym c.deref-in-CallAssignment-2.ensures)
+    ∙ ap₂ (λ (x : Lvalue) (y : Call). tree.AssignResult (v.lvalue_of x) (v.call_of y)) (sym c.deref-in-CallAssignment-2.ensures)
     (sym c.deref-in-CallAssignment-3.ensures) in
     always c.add-in-CallAssignment.result
     (noted_both (first_of c.args.faults.now) (first_of c.target.new.faults) (first_of c.call.new.faults) (rules.target_faults gs s assigned)

@@ -1,6 +1,6 @@
 use Rattle.std.proofs.Common.{List, subst}
 use Rattle.rv64_isa.specs.declared.instr.Instr.{Instr}
-use Rattle.c_tree.specs.Exprs.{placed_of, target_of}
+use Rattle.c_tree.specs.Exprs.{placed_of, lvalue_of}
 use Rattle.expr_code.specs.Evaluating.{homes_of}
 use Rattle.node_code.specs.Pieces.{IsComputing}
 use Rattle.rv64_codegen.proofs.Pieces.{is_evaluation}
@@ -12,7 +12,7 @@ returns-in-Ok-push_computing c = (
   record {
     piece = c.in-Ok-push_computing.ensures.piece;
     appended = c.in-Ok-push_computing.ensures.appended;
-    is = is_evaluation (homes_of c.args.frame.now) (target_of c.args.target.now) (placed_of c.args.value.now) c.in-Ok.code.items
+    is = is_evaluation (homes_of c.args.frame.now) (lvalue_of c.args.target.now) (placed_of c.args.value.now) c.in-Ok.code.items
         c.in-Ok-push_computing.ensures.piece c.in-Ok.ensures
         (subst (λ (is : List Instr). IsComputing is c.in-Ok-push_computing.ensures.piece) c.deref.ensures.value c.in-Ok-push_computing.ensures.is);
   },

@@ -1,7 +1,7 @@
 use Rattle.std.proofs.Common.{◌≡◌, ◌∙◌, ◌<◌, List, [], ◌∷◌, ap, sym, subst, refl, arith, length, length-append}
 use Rattle.std.proofs.lemmas.Bool.Decides.{nat_tests}
 use Rattle.std.specs.Prelude.{IfOk}
-use Rattle.c_tree.specs.Exprs.{placed_of, target_of}
+use Rattle.c_tree.specs.Exprs.{placed_of, lvalue_of}
 use Rattle.c_tree.specs.Flats as f
 use Rattle.c_tree.specs.declared.flat.Statement.{Statement}
 use Rattle.c_tree.specs.declared.flat.Arm.{Arm}
@@ -15,7 +15,7 @@ use Rattle.source_machine.proofs.code.+emission.Goals as goal
 pub emit-returns-in-Assign : goal.emit-returns-in-Assign
 emit-returns-in-Assign t c =
     let w = c.in-Assign in
-    rw w.is (ok_node _ _ _ _ (f.Assign w.place (target_of w.target) (placed_of w.value) ∷ []) c.args.next c.push.ensures
+    rw w.is (ok_node _ _ _ _ (f.Assign w.place (lvalue_of w.target) (placed_of w.value) ∷ []) c.args.next c.push.ensures
     (λ all rest at. record { place = w.place; rest = rest; follows = at; is = refl }))
 
 pub emit-returns-then-is_empty : goal.emit-returns-then-is_empty

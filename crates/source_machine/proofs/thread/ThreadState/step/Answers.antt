@@ -4,7 +4,7 @@ use Rattle.std.specs.Vec.{with_items}
 use Rattle.std.specs.Option.{option_map}
 use Rattle.std.proofs.lemmas.List.{with_items_is}
 use Rattle.c_tree.specs.Source as m
-use Rattle.c_tree.specs.Exprs.{expr_of, target_of}
+use Rattle.c_tree.specs.Exprs.{expr_of, lvalue_of}
 use Rattle.c_tree.specs.Values.{value}
 use Rattle.ido_ints.specs.Operators.{is_zero}
 use Rattle.ido_ints.specs.Typed.{Typed}
@@ -41,10 +41,10 @@ returns-in-Assign-clause-made c =
       pending =
           c.assign.new.pending;
     } in
-    let before : List ℤ → Type 0 = λ ls. Evaluates (target_of c.in-Assign.target.now) (expr_of c.in-Assign.value.now.expr) c.args.variables.now
+    let before : List ℤ → Type 0 = λ ls. Evaluates (lvalue_of c.in-Assign.target.now) (expr_of c.in-Assign.value.now.expr) c.args.variables.now
     (assigning ls c.args.self.now.pending) (assigning c.assign.new.locals c.assign.new.pending) in
     let after : List ℤ → Type 0 = λ ls. thread_with (record { locals = ls; pending = option_map pending_of c.assign.new.pending }) left c.args.self.now.ended ≡
-    m.evaluated (state_in c.args.variables.now c.args.holders.now threads) (model_of c.args.self.now left) (target_of c.in-Assign.target.now)
+    m.evaluated (state_in c.args.variables.now c.args.holders.now threads) (model_of c.args.self.now left) (lvalue_of c.in-Assign.target.now)
     (expr_of c.in-Assign.value.now.expr) in
     let written : (with_items c.args.self.now.locals c.assign.new.locals).items ≡ c.assign.new.locals = with_items_is c.args.self.now.locals c.assign.new.locals
     (omega (arith, c.assign.auto.locals, ap length c.deref_mut.ensures.value, c.args.self.now.locals.ok.0)) in
