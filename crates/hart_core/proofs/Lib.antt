@@ -1,4 +1,3 @@
 pub mod Accesses
-pub mod Completions
 pub mod Ends
 pub mod Holding

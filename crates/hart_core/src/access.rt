@@ -1,6 +1,6 @@
 //! Loads, stores, cleans and fences of a hart.
-ghost use Rattle.std.specs.Prelude.{◌≡◌, ◌==◌, ◌&&◌, ℕ, ◌+◌, ◌<◌, ◌≤◌, ◌^◌, List, Option, IfNone, IsTrue};
-ghost use Rattle.ido_base.specs.Layout.{in_range as is_in_range, aligned as is_aligned, point_at, word_number};
+ghost use Rattle.std.specs.Prelude.{◌≡◌, ℕ, ◌+◌, ◌<◌, ◌≤◌, ◌^◌, List, Option, IfNone, IsTrue};
+ghost use Rattle.ido_base.specs.Layout.{in_range as is_in_range, aligned as is_aligned};
 ghost use Rattle.line_memory.specs.Access.{is_width};
 ghost use Rattle.line_memory.specs.links.Stands.{threads_of, stores_of};
 ghost use Rattle.rv64_isa.specs.declared.phase.Phase.{Phase};
@@ -56,23 +56,8 @@ fn refused(memory: &LineMemory, address: u64, bytes: u32) -> Option<Cause>
     None
 }
 
-/// A store of this kind at the address is made, and into the word of the hart's point.
-pub(crate) fn is_point_store(
-    number: u32,
-    kind: StoreKind,
-    address: u64,
-    memory: &LineMemory,
-) -> bool
-    ensures { result ≡ ((is_in_range (threads_of memory.now) address (store_bytes kind) && is_aligned address (store_bytes kind))
-        && (word_number address == word_number (point_at number))) }
-{
-    let bytes = store_width(kind);
-    memory.in_range(address, bytes)
-        && aligned(address, bytes)
-        && memory.is_in_point(number, address, bytes)
-}
-
 /// A load into a register.
+#[inline(always)]
 pub(crate) fn load(
     kind: LoadKind,
     address: u64,
@@ -96,6 +81,7 @@ pub(crate) fn load(
 }
 
 /// A store of the low bytes of a value.
+#[inline(always)]
 pub(crate) fn store(
     kind: StoreKind,
     address: u64,

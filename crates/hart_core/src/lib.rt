@@ -4,7 +4,6 @@
 
 mod access;
 mod calls;
-pub mod completion;
 pub mod effects;
 pub mod hart;
 pub mod program;

@@ -79,6 +79,7 @@ impl Program {
 
     /// What stands at a pc in a thread's own code; none where that has no word there, or there is no such
     /// thread.
+    #[inline(always)]
     pub fn fetch(&self, thread: u32, pc: u64) -> Option<Slot>
         ensures { result ≡ fetched self.now thread pc }
     {

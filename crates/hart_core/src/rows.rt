@@ -66,6 +66,7 @@ fn word_shift_of(operation: ShiftOperation) -> Operation
 }
 
 /// What the instruction does at this pc, with these registers.
+#[inline(always)]
 #[tactic(auto, unfolding(rv64_isa::specs::Rows::row))]
 pub fn effect(instr: Instr, registers: &[u64; 32], pc: u64) -> Effect
     ensures { effect_in result registers.now ≡ row instr registers.now pc }

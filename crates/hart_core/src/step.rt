@@ -46,6 +46,7 @@ fn go(pc: u64, hart: &mut Hart) -> Reply
 }
 
 /// What an effect does.
+#[inline(always)]
 fn apply(
     number: u32,
     effect: Effect,
@@ -89,6 +90,7 @@ fn apply(
 /// A step of the hart of this number, which executes instructions: an instruction, or one write-back of the
 /// oldest entry of its queue where a clean meets a full queue or a fence one that isn't empty. A hart that
 /// waits or is stuck changes nothing.
+#[inline(always)]
 pub fn step(
     number: u32,
     program: &Program,

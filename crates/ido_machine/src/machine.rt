@@ -4,7 +4,6 @@ ghost use Rattle.line_memory.specs.links.Stands.{threads_of, stores_of};
 
 use crate::harts;
 use crate::running::step_one;
-use hart_core::completion;
 use hart_core::hart::Hart;
 use hart_core::program::Program;
 use ido_base::event::{Event, Reply};
@@ -40,7 +39,6 @@ impl Machine {
     ghost use Rattle.ido_base.specs.Locks.{holds_none};
     ghost use Rattle.rv64_isa.specs.Programs.{program_of};
     ghost use Rattle.rv64_isa.specs.Machine.{Hart as HartModel, World, IsValidEvent, happens, machine_start, machine_from};
-    ghost use Rattle.rv64_isa.specs.Schedule.{finishes_fence, stores_point};
     ghost use Rattle.hart_core.specs.Objects.{IsWithinLimits};
     ghost use Rattle.ido_machine.specs.Machines.{program_in, events_of, MachineStands, IsAfter};
 
@@ -173,30 +171,6 @@ impl Machine {
         self.recovering = true;
         self.events += 1;
         Reply::Device
-    }
-
-    /// The next step of a hart finishes a fence of it.
-    pub fn finishes_fence(&self, hart: u32) -> bool
-        requires { hart < length (program_in self.now) }
-        ensures { (w : World) → MachineStands self.now w → result ≡ finishes_fence (program_in self.now) w (Step hart) hart }
-    {
-        let at = hart as usize;
-        completion::finishes_fence(hart, &self.program, self.phases[at], &self.harts[at])
-    }
-
-    /// The next step of a hart stores its point.
-    pub fn stores_point(&self, hart: u32) -> bool
-        requires { hart < length (program_in self.now) }
-        ensures { (w : World) → MachineStands self.now w → result ≡ stores_point (program_in self.now) w (Step hart) hart }
-    {
-        let at = hart as usize;
-        completion::stores_point(
-            hart,
-            &self.program,
-            self.phases[at],
-            &self.harts[at],
-            &self.memory,
-        )
     }
 
     /// The phase of a hart.

@@ -26,7 +26,7 @@ pub struct LineMemory {
 }
 
 impl LineMemory {
-    ghost use Rattle.std.specs.Prelude.{◌≡◌, ℕ, ◌+◌, ◌*◌, ◌/◌, ◌%◌, ◌^◌, ◌<◌, ◌≤◌, ◌==◌, List, [], ◌∷◌, ◌++◌, length, map, IfOk, IsTrue};
+    ghost use Rattle.std.specs.Prelude.{◌≡◌, ℕ, ◌+◌, ◌*◌, ◌/◌, ◌%◌, ◌^◌, ◌<◌, ◌≤◌, List, [], ◌∷◌, ◌++◌, length, map, IfOk, IsTrue};
     ghost use Rattle.ido_base.specs.Words.{Word, Entry, word_of, word_at, last_position, live_value};
     ghost use Rattle.ido_base.specs.Words.{durable_value, loaded, stored, entry_of, drained, evicted, crashed};
     ghost use Rattle.ido_base.specs.Layout.{in_range as is_in_range, aligned, byte_number, line_bytes, line_count};
@@ -113,14 +113,6 @@ impl LineMemory {
         ensures exists { result < line_count (threads_of self.now) }
     {
         (bytes::byte_number(address) / LINE_BYTES) as u32
-    }
-
-    /// The bytes, so many from the address on, are of the word of the thread's point.
-    pub fn is_in_point(&self, thread: u32, address: u64, bytes: u32) -> bool
-        requires { IsTrue (is_in_range (threads_of self.now) address bytes) }
-        ensures { result ≡ (word_number address == word_number (point_at thread)) }
-    {
-        bytes::byte_number(address) / 8 == bytes::byte_number(log::point_at(thread)) / 8
     }
 
     /// The durable value of the word that has the byte at the address.

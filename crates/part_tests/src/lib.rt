@@ -13,6 +13,8 @@ mod flows;
 #[cfg(test)]
 mod harts;
 #[cfg(test)]
+mod lives;
+#[cfg(test)]
 mod regions;
 #[cfg(test)]
 mod registers;

@@ -1,6 +1,6 @@
 -- What a step of a hart has done, by what was seen of the hart before it.
 use Rattle.std.proofs.Common.{◌≡◌, ◌⊎◌, ℕ, ◌+◌, ◌-◌, ◌/◌, ◌<◌, ◌≤◌, List, length, slice_get, slice_index_or, []}
-use Rattle.std.proofs.Common.{Some, None, Bool, true, false, not, cond, ◌==◌, ap, sym, subst, ◌∙◌, arith, inl, inr}
+use Rattle.std.proofs.Common.{Some, None, Bool, true, false, not, cond, ◌==◌, ◌||◌, refl, ap, sym, subst, ◌∙◌, arith, inl, inr}
 use Rattle.std.proofs.lemmas.Bool.{cases_eq, cases_Bool}
 use Rattle.ido_base.specs.declared.event.Event.TheVariants.{Step}
 use Rattle.ido_base.specs.declared.event.Reply.{Reply}
@@ -16,14 +16,14 @@ use Rattle.run_tracker.specs.declared.counts.Counts.{Counts}
 use Rattle.run_tracker.specs.declared.signs.SignTable.{SignTable}
 use Rattle.run_tracker.specs.declared.stepping.Sight.{Sight}
 use Rattle.run_tracker.specs.links.Accounts.{AreOpen, point_word}
-use Rattle.run_tracker.specs.links.SignTables.{sign_at, IsTableOf}
+use Rattle.run_tracker.specs.links.SignTables.{is_plain, sign_at, IsTableOf}
 use Rattle.run_tracker.specs.links.Parts.{is_drained, seen_step, HasStepped, HaveCounted}
 use Rattle.run_tracker.proofs.Counting.{completes-other, counted-none}
 use Rattle.run_tracker.proofs.Drains.{undrained}
-use Rattle.run_tracker.proofs.Events.{noted}
+use Rattle.run_tracker.proofs.Events.{noted, noted_is}
 use Rattle.run_tracker.proofs.Growing.{differs, grown}
 use Rattle.run_tracker.proofs.Opens.{all_kept_none, open-noted}
-use Rattle.run_tracker.proofs.Sights.{completes_none, completes_one, fence_is, fence_tells, has_sign, mark_tells}
+use Rattle.run_tracker.proofs.Sights.{completes_none, completes_one, fence_is, fence_tells, has_sign, mark_tells, store_tells, stores_none}
 use Rattle.run_tracker.proofs.Sights.{moved_fetched, none_moved, none_running, one_moved, passes_none, passes_one}
 
 module _ (program : List (List Slot)) (tables : List SignTable) (marks : List (List ℕ)) (machine : Machine) (h : ℕ) (sight : Sight) (reply : Reply) (w : World)
@@ -135,6 +135,49 @@ module _ (program : List (List Slot)) (tables : List SignTable) (marks : List (L
       fence_done =
           fence_tells program h sight.pc some_slot.0 there table (slice_index_or marks h []) table_is
           ∙ sym (completes_one program w h is_fence stepped.seen.hart (Some some_slot.0) one some_slot.1 ∙ fence_is stepped.seen.hart some_slot.0)
+
+      -- no point is stored where nothing is
+      pub no_point : (sign_at table sight.pc).store ≡ false → stores_point program w (Step h) h ≡ false
+      no_point e =
+          let tells = store_tells program h sight.pc some_slot.0 there table (slice_index_or marks h []) table_is in
+          completes_one program w h (is_point_store h) stepped.seen.hart (Some some_slot.0) one some_slot.1
+          ∙ stores_none h stepped.seen.hart some_slot.0 (sym tells ∙ e)
+
+      -- the newest value of the point stands there
+      pub position_is : (position : ℕ) (store : Bool) → store ≡ (sign_at table sight.pc).store → (store ≡ true → position ≡ last_in next) →
+          (store ≡ false → position ≡ sight.position) → position ≡ last_in next
+      position_is position true is stored unstored = stored refl
+      position_is position false is stored unstored =
+          let more = grown h w stepped.seen.point some_value program stepped.seen.hart stepped.seen.found (running_is true running) (moved_is true moves) in
+          omega (arith, unstored refl, stepped.seen.position, more ∙ ap (λ (b : Bool). last_in w + cond b 1 0) (no_point (sym is)))
+
+      -- a plain word changes nothing that is accounted for
+      module _ (plain : is_plain (sign_at table sight.pc) ≡ true) where
+        parts : ((sign_at table sight.pc).mark ≡ false) × ((sign_at table sight.pc).fence ≡ false) × ((sign_at table sight.pc).store ≡ false)
+        parts = of_plain (sign_at table sight.pc).mark (sign_at table sight.pc).fence (sign_at table sight.pc).store plain
+          where
+            of_plain : (mark fence store : Bool) → not (mark || fence || store) ≡ true → (mark ≡ false) × (fence ≡ false) × (store ≡ false)
+            of_plain false false false e = (refl, refl, refl)
+            of_plain false false true e = cc
+            of_plain false true store e = cc
+            of_plain true fence store e = cc
+
+        pub plain_steps : (s : Steps) → with_step marks program w h s ≡ s
+        plain_steps s = sym (noted_is marks program w h s false false (last_in next) (sym parts.0 ∙ mark_is) (sym (no_point parts.2)) refl)
+
+        pub plain_counts : (counts : Counts) → HaveCounted counts counts program w (Step h)
+        plain_counts counts = record {
+          points = counted-none counts.points.items (λ g. stores_point program w (Step h) g) (of_all (λ g. is_point_store g) (no_point parts.2));
+          fences = counted-none counts.fences.items (λ g. finishes_fence program w (Step h) g) (of_all (λ g. is_fence) (sym fence_done ∙ parts.1));
+        }
+          where
+            of_all : (test : ℕ → Effect → Bool) → completes (test h) program w (Step h) h ≡ false →
+                (g : ℕ) → completes (test g) program w (Step h) g ≡ false
+            of_all test none g = by_place (cases_eq g h)
+              where
+                by_place : (g ≡ h) ⊎ (g ≡ h → ⊥) → completes (test g) program w (Step h) g ≡ false
+                by_place (inl same) = subst (λ (k : ℕ). completes (test k) program w (Step h) k ≡ false) (sym same) none
+                by_place (inr ne) = completes-other (test g) program w h g ne
 
     pub point_is : (position : ℕ) → position ≡ last_in next → not (position == sight.position) ≡ stores_point program w (Step h) h
     point_is position e =

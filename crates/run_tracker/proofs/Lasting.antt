@@ -1,5 +1,5 @@
 -- A life stands behind an event.
-use Rattle.std.proofs.Common.{Vec, Global, ◌≡◌, ℕ, ◌+◌, ◌/◌, ◌<◌, ◌≤◌, ◌^◌, List, [], ◌∷◌, ◌++◌, length}
+use Rattle.std.proofs.Common.{◌≡◌, ℕ, ◌+◌, ◌/◌, ◌<◌, ◌≤◌, ◌^◌, List, [], ◌∷◌, ◌++◌, length}
 use Rattle.std.proofs.Common.{map, slice_index, Bool, cond, ap, sym, subst, ◌∙◌, arith, length-append}
 use Rattle.std.specs.Vec.{vec_capacity, vec_len}
 use Rattle.ido_base.specs.declared.event.Event.{Event}
@@ -14,6 +14,7 @@ use Rattle.ido_machine.specs.Machines.{MachineStands, program_in, events_of}
 use Rattle.run_tracker.specs.declared.account.Account.{Account}
 use Rattle.run_tracker.specs.declared.counts.Counts.{Counts}
 use Rattle.run_tracker.specs.declared.life.Life.TheInside.{Inside}
+use Rattle.run_tracker.specs.links.Journals.{Recorded}
 use Rattle.run_tracker.specs.links.Accounts.{AccountStands, AreOpen, AreOrdered, weight}
 use Rattle.run_tracker.specs.links.SignTables.{AreTables}
 use Rattle.run_tracker.specs.Lives.{Course, world_of, steps_in, with_event, living, opening_of}
@@ -31,7 +32,7 @@ module _ (life : Inside) (stands : LifeStands life) where
   steps_count = stands.account.count ∙ stands.harts
 
   -- there is room for an event
-  pub is_ready : length life.journal.items < life.cap → IsReady life.tables.items life.machine life.account
+  pub is_ready : length life.journal.events < life.cap → IsReady life.tables.items life.machine life.account
   is_ready room = record {
     marks = map (λ a. a.items) life.addresses.items;
     tables_are = stands.tables;
@@ -47,7 +48,7 @@ module _ (life : Inside) (stands : LifeStands life) where
     };
   }
 
-  few_counts : (counts : List ℕ) (done : ℕ → ℕ) → AreCounts counts (length (program_in life.machine)) done → ((h : ℕ) → done h ≤ length life.journal.items) →
+  few_counts : (counts : List ℕ) (done : ℕ → ℕ) → AreCounts counts (length (program_in life.machine)) done → ((h : ℕ) → done h ≤ length life.journal.events) →
       (h : ℕ) → h < length (program_in life.machine) → slice_index counts h < 2 ^ 63
   few_counts counts done are few h below = omega (arith, are.1 h below, few h, stands.within, stands.few)
 
@@ -55,20 +56,20 @@ module _ (life : Inside) (stands : LifeStands life) where
   has_counts = record {
     points = stands.points.0;
     fences = stands.fences.0;
-    few_points = few_counts life.counts.points.items (point_stores living (opening_of (course_of life)) life.journal.items) stands.points
-        (λ h. passed-few living (λ m. living.stores_point m h) (opening_of (course_of life)) life.journal.items);
-    few_fences = few_counts life.counts.fences.items (finished_fences living (opening_of (course_of life)) life.journal.items) stands.fences
-        (λ h. passed-few living (λ m. living.finishes_fence m h) (opening_of (course_of life)) life.journal.items);
+    few_points = few_counts life.counts.points.items (point_stores living (opening_of (course_of life)) life.journal.events) stands.points
+        (λ h. passed-few living (λ m. living.stores_point m h) (opening_of (course_of life)) life.journal.events);
+    few_fences = few_counts life.counts.fences.items (finished_fences living (opening_of (course_of life)) life.journal.events) stands.fences
+        (λ h. passed-few living (λ m. living.finishes_fence m h) (opening_of (course_of life)) life.journal.events);
   }
 
-  module _ (event : Event) (machine : Machine) (account : Account) (journal : Vec Event Global) (counts : Counts)
-      (valid : IsValidEvent (length (program_in life.machine)) event) (room : length life.journal.items < life.cap)
+  module _ (event : Event) (machine : Machine) (account : Account) (journal : Recorded) (counts : Counts)
+      (valid : IsValidEvent (length (program_in life.machine)) event) (room : length life.journal.events < life.cap)
       (same : program_in machine ≡ program_in life.machine) (events : events_of machine ≡ events_of life.machine + 1)
       (world : MachineStands machine (after_event (program_in life.machine) (world_of (course_of life)) event))
       (steps : AccountStands account
       (steps_after (map (λ a. a.items) life.addresses.items) (program_in life.machine) (world_of (course_of life)) event (steps_in (course_of life))))
       (counted : HaveCounted life.counts counts (program_in life.machine) (world_of (course_of life)) event)
-      (journal_is : journal.items ≡ life.journal.items ++ event ∷ []) (journal_room : vec_capacity journal ≡ vec_capacity life.journal)
+      (journal_is : journal ≡ record life.journal { events = life.journal.events ++ event ∷ [] })
       (kept_room : vec_capacity account.kept ≡ vec_capacity life.account.kept) (stores_room : vec_capacity account.stores ≡ vec_capacity life.account.stores)
       (stores : vec_len account.stores ≤ vec_len life.account.stores + 1) where
     pub course_is : course_of (record life { machine = machine; account = account; journal = journal; counts = counts }) ≡ with_event (course_of life) event
@@ -82,14 +83,14 @@ module _ (life : Inside) (stands : LifeStands life) where
           journal = j;
           cap = life.cap;
         } in
-        ap (λ (p : List (List Slot)). at p journal.items) same ∙ ap (at (program_in life.machine)) journal_is
+        ap (λ (p : List (List Slot)). at p journal.events) same ∙ ap (λ (j : Recorded). at (program_in life.machine) j.events) journal_is
 
     world_is : world_of (with_event (course_of life) event) ≡ after_event (program_in life.machine) (world_of (course_of life)) event
-    world_is = after_more (program_in life.machine) (course_of life).opening life.journal.items event
+    world_is = after_more (program_in life.machine) (course_of life).opening life.journal.events event
 
     steps_are : steps_in (with_event (course_of life) event)
         ≡ steps_after (map (λ a. a.items) life.addresses.items) (program_in life.machine) (world_of (course_of life)) event (steps_in (course_of life))
-    steps_are = along_more (map (λ a. a.items) life.addresses.items) (program_in life.machine) (course_of life).opening life.journal.items event _
+    steps_are = along_more (map (λ a. a.items) life.addresses.items) (program_in life.machine) (course_of life).opening life.journal.events event _
 
     -- what is so of the course with the event is so of the new one
     moved : (P : Course → Type 0) → P (with_event (course_of life) event) →
@@ -101,8 +102,8 @@ module _ (life : Inside) (stands : LifeStands life) where
     counts_are old new done now does are grown more =
         (grown.size ∙ are.0, λ h below. grown.each h (omega (arith, below, are.0)) ∙ ap (λ (n : ℕ). n + cond (does h) 1 0) (are.1 h below) ∙ sym (more h))
 
-    longer : length journal.items ≡ length life.journal.items + 1
-    longer = ap length journal_is ∙ length-append life.journal.items (event ∷ [])
+    longer : length journal.events ≡ length life.journal.events + 1
+    longer = ap (λ (j : Recorded). length j.events) journal_is ∙ length-append life.journal.events (event ∷ [])
 
     valid_steps : IsValidEvent (length (steps_in (course_of life)).harts) event
     valid_steps = subst (λ (n : ℕ). IsValidEvent n event) (sym steps_count) valid
@@ -128,8 +129,8 @@ module _ (life : Inside) (stands : LifeStands life) where
           (subst (λ (w : World). AreOpen w.words (steps_in (with_event (course_of life) event))) (sym world_is)
           (subst (AreOpen (after_event (program_in life.machine) (world_of (course_of life)) event).words) (sym steps_are)
           (open-after (map (λ a. a.items) life.addresses.items) (program_in life.machine) (world_of (course_of life)) event (steps_in (course_of life)))));
-      light = moved (λ (x : Course). weight (steps_in x) ≤ length life.before.items + length journal.items)
-          (subst (λ (s : Steps). weight s ≤ length life.before.items + length journal.items) (sym steps_are)
+      light = moved (λ (x : Course). weight (steps_in x) ≤ length life.before.items + length journal.events)
+          (subst (λ (s : Steps). weight s ≤ length life.before.items + length journal.events) (sym steps_are)
           (omega (
             arith,
             weight-after (map (λ a. a.items) life.addresses.items) (program_in life.machine) (world_of (course_of life)) event
@@ -138,19 +139,19 @@ module _ (life : Inside) (stands : LifeStands life) where
             longer,
           )));
       points = moved (λ (x : Course). AreCounts counts.points.items (length x.program) (point_stores living (opening_of x) x.journal))
-          (counts_are life.counts.points.items counts.points.items (point_stores living (opening_of (course_of life)) life.journal.items)
-          (point_stores living (opening_of (course_of life)) (life.journal.items ++ event ∷ []))
+          (counts_are life.counts.points.items counts.points.items (point_stores living (opening_of (course_of life)) life.journal.events)
+          (point_stores living (opening_of (course_of life)) (life.journal.events ++ event ∷ []))
           (λ h. stores_point (program_in life.machine) (world_of (course_of life)) event h) stands.points counted.points
-          (λ h. points_more (opening_of (course_of life)) life.journal.items event h));
+          (λ h. points_more (opening_of (course_of life)) life.journal.events event h));
       fences = moved (λ (x : Course). AreCounts counts.fences.items (length x.program) (finished_fences living (opening_of x) x.journal))
-          (counts_are life.counts.fences.items counts.fences.items (finished_fences living (opening_of (course_of life)) life.journal.items)
-          (finished_fences living (opening_of (course_of life)) (life.journal.items ++ event ∷ []))
+          (counts_are life.counts.fences.items counts.fences.items (finished_fences living (opening_of (course_of life)) life.journal.events)
+          (finished_fences living (opening_of (course_of life)) (life.journal.events ++ event ∷ []))
           (λ h. finishes_fence (program_in life.machine) (world_of (course_of life)) event h) stands.fences counted.fences
-          (λ h. fences_more (opening_of (course_of life)) life.journal.items event h));
+          (λ h. fences_more (opening_of (course_of life)) life.journal.events event h));
       within = omega (arith, room, longer);
       few = stands.few;
       bytes = stands.bytes;
-      journal_room = omega (arith, journal_room, stands.journal_room);
+      journal_room = omega (arith, ap (λ (j : Recorded). j.room) journal_is, stands.journal_room);
       kept_room = omega (arith, kept_room, stands.kept_room);
       stores_room = omega (arith, stores_room, stands.stores_room);
       stores = omega (arith, stores, stands.stores, longer);

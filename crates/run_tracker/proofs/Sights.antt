@@ -15,10 +15,10 @@ use Rattle.rv64_isa.specs.declared.phase.Phase.TheVariants.{Take, Wait, Resume, 
 use Rattle.rv64_isa.specs.Rows.{Effect, row}
 use Rattle.rv64_isa.specs.Programs.{fetched, code_of, code_start}
 use Rattle.rv64_isa.specs.Machine.{Hart, World, reply_to, happens, stepped, phase_step, executed}
-use Rattle.rv64_isa.specs.Schedule.{completes, completing, effect_at, has_moved, is_fence, is_running, passes_mark, is_mark}
+use Rattle.rv64_isa.specs.Schedule.{completes, completing, effect_at, has_moved, is_fence, is_point_store, is_running, passes_mark, is_mark}
 use Rattle.run_tracker.specs.declared.signs.Sign.{Sign}
 use Rattle.run_tracker.specs.declared.signs.SignTable.{SignTable}
-use Rattle.run_tracker.specs.links.SignTables.{is_fence_slot, is_word_at, sign_at, sign_in, IsTableOf}
+use Rattle.run_tracker.specs.links.SignTables.{is_fence_slot, is_store_slot, is_word_at, sign_at, sign_in, IsTableOf}
 
 -- ---- Tables
 
@@ -94,6 +94,9 @@ module _ (program : List (List Slot)) (h pc : ℕ) (slot : Slot) (there : fetche
 
     pub fence_tells : (sign_at table pc).fence ≡ is_fence_slot slot
     fence_tells = ap (λ (x : Sign). x.fence) sign_is ∙ is.fences _ slot fetched_place.2
+
+    pub store_tells : (sign_at table pc).store ≡ is_store_slot slot
+    store_tells = ap (λ (x : Sign). x.store) sign_is ∙ is.stores _ slot fetched_place.2
 
 -- ---- A hart that goes on has an instruction
 
@@ -181,3 +184,27 @@ instr_tells Ecall registers pc = refl
 pub fence_is : (hart : Hart) (slot : Slot) → slot_tells is_fence hart (Some slot) ≡ is_fence_slot slot
 fence_is hart (Row instr) = instr_tells instr hart.registers hart.pc
 fence_is hart (NoRow word) = refl
+
+-- ---- Stores
+
+unstoring : (h : ℕ) (instr : Instr) (registers : List ℕ) (pc : ℕ) → is_store_slot (Row instr) ≡ false → is_point_store h (row instr registers pc) ≡ false
+unfolding row
+unstoring h (Lui rd immediate) registers pc e = refl
+unstoring h (Auipc rd immediate) registers pc e = refl
+unstoring h (Jal rd offset) registers pc e = refl
+unstoring h (Jalr rd rs1 offset) registers pc e = refl
+unstoring h (Branch condition rs1 rs2 offset) registers pc e = refl
+unstoring h (Load kind rd rs1 offset) registers pc e = refl
+unstoring h (Store kind rs2 rs1 offset) registers pc e = cc
+unstoring h (OpImmediate operation rd rs1 immediate) registers pc e = refl
+unstoring h (ShiftImmediate operation rd rs1 count) registers pc e = refl
+unstoring h (ShiftImmediateWord operation rd rs1 count) registers pc e = refl
+unstoring h (Op operation rd rs1 rs2) registers pc e = refl
+unstoring h (CboClean rs1) registers pc e = refl
+unstoring h Fence registers pc e = refl
+unstoring h Ecall registers pc e = refl
+
+-- what doesn't store stores no point
+pub stores_none : (h : ℕ) (hart : Hart) (slot : Slot) → is_store_slot slot ≡ false → slot_tells (is_point_store h) hart (Some slot) ≡ false
+stores_none h hart (Row instr) e = unstoring h instr hart.registers hart.pc e
+stores_none h hart (NoRow word) e = refl

@@ -4,6 +4,7 @@
 
 mod account;
 mod counts;
+mod journal;
 pub mod life;
 mod signs;
 mod stepping;

@@ -16,6 +16,7 @@ ghost use Rattle.run_tracker.specs.links.Insides.{opening_by};
 
 use crate::account::Account;
 use crate::counts::Counts;
+use crate::journal::Journal;
 use crate::signs::{SignTable, nodes_of, tables_of};
 use crate::stepping::make;
 use ido_base::event::{Event, Reply};
@@ -46,7 +47,7 @@ pub struct Life {
     tables: Vec<SignTable>,
     machine: Machine,
     account: Account,
-    journal: Vec<Event>,
+    journal: Journal,
     counts: Counts,
     cap: u64,
 }
@@ -169,7 +170,7 @@ impl Life {
             tables: tables_of(alloc, object, machine.program(), marks)?,
             machine,
             account: Account::new(alloc, harts, before, cap)?,
-            journal: Vec::with_capacity(alloc, cap as usize)?,
+            journal: Journal::new(alloc, cap)?,
             counts: Counts::new(alloc, harts)?,
             cap,
         })
@@ -186,21 +187,21 @@ impl Life {
     pub fn room(&self) -> u64
         ensures { result ≡ self.now.cap - length self.now.journal }
     {
-        self.cap.saturating_sub(self.journal.len() as u64)
+        self.cap.saturating_sub(self.journal.count())
     }
 
     /// How many events were made.
     pub fn events(&self) -> u64
         ensures { result ≡ length self.now.journal }
     {
-        self.journal.len() as u64
+        self.journal.count()
     }
 
     /// The events, the first one first.
-    pub fn journal(&self) -> &[Event]
-        ensures { result.now ≡ self.now.journal }
+    pub fn journal(&self, alloc: Global) -> Result<Vec<Event>, OutOfMemory>
+        ensures { IfOk result (λ events. events.items ≡ self.now.journal) }
     {
-        &self.journal
+        self.journal.events(alloc)
     }
 
     /// The kept schedule: a number of a hart for each step of the source that is kept.
@@ -263,7 +264,7 @@ impl Life {
         ensures reply { result ≡ reply_to self.old.program (world_of self.old) event }
         ensures life { self.new ≡ with_event self.old event }
     {
-        self.journal.push_reserved(event);
+        self.journal.push(event);
         make(
             event,
             &mut self.machine,

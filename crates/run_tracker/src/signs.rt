@@ -1,8 +1,8 @@
-//! The signs of code words: which of them are marks, and which are fences.
+//! The signs of code words: which of them are marks, which are fences, and which store.
 ghost use Rattle.std.specs.Prelude.{◌≡◌, ◌-◌, ◌/◌, ◌<◌, ◌≤◌, ◌^◌, ◌||◌, ℕ, length, map, IfOk};
 ghost use Rattle.rv64_isa.specs.Programs.{program_of, slot_of};
 ghost use Rattle.hart_core.specs.Objects.{IsWithinLimits};
-ghost use Rattle.run_tracker.specs.links.SignTables.{is_fence_slot, plain_sign, sign_in, sign_at, is_word_at, IsTableOf, AreTables};
+ghost use Rattle.run_tracker.specs.links.SignTables.{is_fence_slot, is_plain, is_store_slot, plain_sign, sign_in, sign_at, is_word_at, IsTableOf, AreTables};
 
 use hart_core::program::Program;
 use ido_base::memory::OutOfMemory;
@@ -17,6 +17,18 @@ pub(crate) struct Sign {
     pub mark: bool,
     /// It is a fence.
     pub fence: bool,
+    /// It stores.
+    pub store: bool,
+}
+
+impl Sign {
+    /// It is nothing of these: there is nothing to account for.
+    #[inline(always)]
+    pub fn is_plain(self) -> bool
+        ensures { result ≡ is_plain self }
+    {
+        !(self.mark | self.fence | self.store)
+    }
 }
 
 /// The signs of a thread's code words.
@@ -28,19 +40,28 @@ pub(crate) struct SignTable {
 }
 
 /// What stands there is a fence.
-fn is_fence(slot: Slot) -> bool
-    ensures { result ≡ is_fence_slot slot }
+fn is_fence(slot: &Slot) -> bool
+    ensures { result ≡ is_fence_slot slot.now }
 {
     matches!(slot, Slot::Row(Instr::Fence))
+}
+
+/// What stands there stores.
+fn is_store(slot: &Slot) -> bool
+    ensures { result ≡ is_store_slot slot.now }
+{
+    matches!(slot, Slot::Row(Instr::Store { .. }))
 }
 
 /// The sign of a word that isn't a mark.
 fn plain_sign(word: u32) -> Sign
     ensures { result ≡ plain_sign word }
 {
+    let slot = Slot::of_word(word);
     Sign {
         mark: false,
-        fence: is_fence(Slot::of_word(word)),
+        fence: is_fence(&slot),
+        store: is_store(&slot),
     }
 }
 
@@ -57,6 +78,7 @@ fn mark_word(signs: &mut [Sign], start: u64, address: u64)
     ensures size { length signs.new ≡ length signs.old }
     ensures marks { (k : ℕ) → k < length signs.old → (sign_in signs.new k).mark ≡ ((sign_in signs.old k).mark || is_word_at start k address) }
     ensures fences { (k : ℕ) → (sign_in signs.new k).fence ≡ (sign_in signs.old k).fence }
+    ensures stores { (k : ℕ) → (sign_in signs.new k).store ≡ (sign_in signs.old k).store }
 {
     if address < start || address % 4 != 0 {
         return;
@@ -85,6 +107,7 @@ impl SignTable {
     }
 
     /// The sign of the code word at this address.
+    #[inline(always)]
     pub fn sign_at(&self, pc: u64) -> Sign
         requires from { self.now.start ≤ pc }
         requires within { (pc - self.now.start) / 4 < length self.now.signs.items }

@@ -1,6 +1,6 @@
-//! What an event does to the machine, to the account and to the counts. What a step goes through is marked inline down to
-//! that of `hart_core`: a run makes millions of them.
-ghost use Rattle.std.specs.Prelude.{◌≡◌, ◌+◌, ◌<◌, ◌≤◌, ◌^◌, List, true, ℕ, length};
+//! What an event does to the machine, to the account and to the counts. What a step goes through is marked inline: a run
+//! makes millions of them.
+ghost use Rattle.std.specs.Prelude.{◌≡◌, ◌+◌, ◌<◌, ◌≤◌, ◌^◌, List, true, false, ℕ, length};
 ghost use Rattle.std.specs.Vec.{vec_capacity, vec_len};
 ghost use Rattle.ido_base.specs.declared.event.Event.TheVariants.{Step, Evict, Crash};
 ghost use Rattle.ido_base.specs.declared.event.Reply.TheVariants.{Moved};
@@ -16,7 +16,7 @@ ghost use Rattle.run_tracker.specs.links.Parts.{IsSeen, seen_step, HasStepped, I
 
 use crate::account::Account;
 use crate::counts::Counts;
-use crate::signs::SignTable;
+use crate::signs::{Sign, SignTable};
 use ido_base::event::{Event, Reply};
 use ido_base::limits::{LOG_LINES, VARIABLE_LINES};
 use ido_machine::machine::Machine;
@@ -37,6 +37,7 @@ pub(crate) struct Sight {
 }
 
 /// The hart executes instructions.
+#[inline(always)]
 fn is_running(phase: Phase) -> bool
     ensures { result ≡ is_running phase }
 {
@@ -44,6 +45,7 @@ fn is_running(phase: Phase) -> bool
 }
 
 /// Where the newest value of a hart's point stands among those that the point's word has had.
+#[inline(always)]
 fn point_position(machine: &Machine, hart: u32) -> u64
     requires { hart < length (program_in machine.now) }
     ensures { (w : World) → MachineStands machine.now w → result ≡ last_position (word_at w.words (point_word hart)) }
@@ -52,6 +54,7 @@ fn point_position(machine: &Machine, hart: u32) -> u64
 }
 
 /// What is seen of a hart.
+#[inline(always)]
 fn look(machine: &Machine, hart: u32) -> Sight
     requires { hart < length (program_in machine.now) }
     ensures { (w : World) → MachineStands machine.now w → IsSeen w hart result }
@@ -80,8 +83,24 @@ fn keep_all(machine: &Machine, account: &mut Account)
     }
 }
 
+/// The same behind an instruction with this sign, before which that was seen: where it doesn't store, the point has no newer
+/// value.
+#[inline(always)]
+fn position_behind(machine: &Machine, hart: u32, sign: Sign, sight: Sight) -> u64
+    requires { hart < length (program_in machine.now) }
+    ensures stored { sign.store ≡ true → (w : World) → MachineStands machine.now w → result ≡ last_position (word_at w.words (point_word hart)) }
+    ensures unstored { sign.store ≡ false → result ≡ sight.position }
+{
+    if sign.store {
+        point_position(machine, hart)
+    } else {
+        sight.position
+    }
+}
+
 /// A hart of which this was seen has completed an instruction. Where that is a mark a step of the source is begun, and where
 /// it stored the point, the steps begun so far are bound to that. None is durable yet.
+#[inline(always)]
 fn complete(
     machine: &Machine,
     account: &mut Account,
@@ -106,7 +125,10 @@ fn complete(
     ensures capacity { vec_capacity account.new.kept ≡ vec_capacity account.old.kept }
 {
     let sign = tables[hart as usize].sign_at(sight.pc);
-    let position = point_position(machine, hart);
+    if sign.is_plain() {
+        return;
+    }
+    let position = position_behind(machine, hart, sign, sight);
     let point = position != sight.position;
     account.begin_if(sign.mark, hart);
     account.bind_if(point, hart, position);
@@ -114,6 +136,7 @@ fn complete(
 }
 
 /// Accounts for the step of a hart of which this was seen, by the reply to it.
+#[inline(always)]
 fn note(
     machine: &Machine,
     account: &mut Account,

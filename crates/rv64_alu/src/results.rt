@@ -13,6 +13,7 @@ use rv64_isa::instr::Operation;
 
 /// What the operation leaves, of what its two source registers hold (RISC-V unprivileged ISA, "RV64I Base Integer
 /// Instruction Set" and "M" Extension).
+#[inline(always)]
 #[tactic(auto, unfolding(rv64_isa::specs::Arithmetic::result_of))]
 pub fn alu(operation: Operation, a: u64, b: u64) -> u64
     ensures { result ≡ result_of operation a b }

@@ -26,7 +26,7 @@ course_of life = record {
   variable_words = length life.initial.items / 8;
   kept_before = life.before.items;
   opening = opening_by (program_in life.machine) life.mutexes life.initial.items life.left;
-  journal = life.journal.items;
+  journal = life.journal.events;
   cap = life.cap;
 }
 
@@ -38,19 +38,19 @@ AreCounts counts harts done = (length counts ≡ harts) × ((h : ℕ) → h < ha
 pub record LifeStands (life : Inside) : Type 0 where
   pub machine : MachineStands life.machine (world_of (course_of life))
   pub sound : IsSound (world_of (course_of life))
-  pub events : events_of life.machine ≡ length life.journal.items
+  pub events : events_of life.machine ≡ length life.journal.events
   pub tables : AreTables life.tables.items (program_in life.machine) (map (λ a. a.items) life.addresses.items)
   pub account : AccountStands life.account (steps_in (course_of life))
   pub harts : length life.account.harts.items ≡ length (program_in life.machine)
   pub ordered : AreOrdered (world_of (course_of life)).words (steps_in (course_of life))
   pub are_open : AreOpen (world_of (course_of life)).words (steps_in (course_of life))
-  pub light : weight (steps_in (course_of life)) ≤ length life.before.items + length life.journal.items
-  pub points : AreCounts life.counts.points.items (length (program_in life.machine)) (point_stores living (opening_of (course_of life)) life.journal.items)
-  pub fences : AreCounts life.counts.fences.items (length (program_in life.machine)) (finished_fences living (opening_of (course_of life)) life.journal.items)
-  pub within : length life.journal.items ≤ life.cap
+  pub light : weight (steps_in (course_of life)) ≤ length life.before.items + length life.journal.events
+  pub points : AreCounts life.counts.points.items (length (program_in life.machine)) (point_stores living (opening_of (course_of life)) life.journal.events)
+  pub fences : AreCounts life.counts.fences.items (length (program_in life.machine)) (finished_fences living (opening_of (course_of life)) life.journal.events)
+  pub within : length life.journal.events ≤ life.cap
   pub few : length life.before.items + life.cap < 2 ^ 63
   pub bytes : length life.initial.items ≤ MOST_VARIABLE_BYTES
-  pub journal_room : life.cap ≤ vec_capacity life.journal
+  pub journal_room : life.cap ≤ life.journal.room
   pub kept_room : length life.before.items + life.cap ≤ vec_capacity life.account.kept
   pub stores_room : life.cap ≤ vec_capacity life.account.stores
-  pub stores : vec_len life.account.stores ≤ length life.journal.items
+  pub stores : vec_len life.account.stores ≤ length life.journal.events

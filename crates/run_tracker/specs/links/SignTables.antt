@@ -1,7 +1,7 @@
 -- Tables of signs.
-use Rattle.std.specs.Prelude.{◌≡◌, ℕ, ◌-◌, ◌/◌, ◌%◌, ◌<◌, List, [], length, slice_get, slice_index_or, Some, Bool, true, false, nat_le, ◌==◌, ◌&&◌}
+use Rattle.std.specs.Prelude.{◌≡◌, ℕ, ◌-◌, ◌/◌, ◌%◌, ◌<◌, List, [], length, slice_get, slice_index_or, Some, Bool, true, false, not, nat_le, ◌==◌, ◌&&◌, ◌||◌}
 use Rattle.std.specs.List.{list_any}
-use Rattle.rv64_isa.specs.declared.instr.Instr.TheVariants.{Fence}
+use Rattle.rv64_isa.specs.declared.instr.Instr.TheVariants.{Fence, Store}
 use Rattle.rv64_isa.specs.declared.object.Slot.{Slot}
 use Rattle.rv64_isa.specs.declared.object.Slot.TheVariants.{Row}
 use Rattle.rv64_isa.specs.Programs.{slot_of, code_of, code_start}
@@ -19,12 +19,23 @@ is_fence_slot slot = elim slot [
   | _ ↦ false
 ]
 
+-- what stands there stores
+abbrev pub is_store_slot : Slot → Bool
+is_store_slot slot = elim slot [
+  | Row (Store kind rs2 rs1 offset) ↦ true
+  | _ ↦ false
+]
+
 -- the sign of a word that isn't a mark
 abbrev pub plain_sign : (word : ℕ) → Sign
-plain_sign word = record { mark = false; fence = is_fence_slot (slot_of word) }
+plain_sign word = record { mark = false; fence = is_fence_slot (slot_of word); store = is_store_slot (slot_of word) }
+
+-- nothing is to be accounted for
+abbrev pub is_plain : Sign → Bool
+is_plain sign = not (sign.mark || sign.fence || sign.store)
 
 abbrev pub no_sign : Sign
-no_sign = record { mark = false; fence = false }
+no_sign = record { mark = false; fence = false; store = false }
 
 -- the sign of the k-th word
 abbrev pub sign_in : List Sign → (k : ℕ) → Sign
@@ -40,6 +51,7 @@ pub record IsTableOf (table : SignTable) (start : ℕ) (code : List Slot) (addre
   pub size : length table.signs.items ≡ length code
   pub marks : (k : ℕ) → k < length code → (sign_in table.signs.items k).mark ≡ list_any (is_word_at start k) addresses
   pub fences : (k : ℕ) (slot : Slot) → slice_get code k ≡ Some slot → (sign_in table.signs.items k).fence ≡ is_fence_slot slot
+  pub stores : (k : ℕ) (slot : Slot) → slice_get code k ≡ Some slot → (sign_in table.signs.items k).store ≡ is_store_slot slot
 
 -- a table for each thread of the program, with its marks
 pub record AreTables (tables : List SignTable) (program : List (List Slot)) (marks : List (List ℕ)) : Type 0 where

@@ -7,7 +7,8 @@ use Rattle.ido_machine.specs.Machines.{program_in}
 use Rattle.ido_machine.proofs.Lists.{get_is}
 use Rattle.run_tracker.specs.declared.signs.Sign.{Sign}
 use Rattle.run_tracker.specs.links.Accounts.{AccountStands}
-use Rattle.run_tracker.proofs.Behind.{fence_done, in_table, mark_is, point_is}
+use Rattle.run_tracker.specs.links.SignTables.{is_plain}
+use Rattle.run_tracker.proofs.Behind.{fence_done, in_table, mark_is, plain_counts, plain_steps, point_is, position_is}
 use Rattle.run_tracker.proofs.Counting.{completes-other, counted-one}
 use Rattle.run_tracker.proofs.Events.{begun_if, noted_is}
 use Rattle.run_tracker.proofs.stepping.complete.Goals as goal
@@ -21,14 +22,35 @@ sign_at-sign-requires c =
     c.index-tables-hart.result (get_is c.args.tables.now c.args.hart c.index-tables-hart.result within ∙ ap Some (sym c.index-tables-hart.is)) in
     record { from = place.0; within = place.1 }
 
+pub returns-then-is_plain-clause-steps : goal.returns-then-is_plain-clause-steps
+returns-then-is_plain-clause-steps c = λ program marks w s stepped a.
+    let h = c.args.hart in
+    let within : h < length c.args.tables.now = omega (arith, c.requires.behind.stepped.tables_are.count, c.requires.exists) in
+    let found = get_is c.args.tables.now h c.index-tables-hart.result within ∙ ap Some (sym c.index-tables-hart.is) in
+    let plain = sym (c.is_plain.ensures ∙ ap is_plain c.sign_at-sign.ensures) ∙ c.if-is_plain.true in
+    subst (AccountStands c.args.account.now)
+    (sym (plain_steps program c.args.tables.now marks c.args.machine.now h c.args.sight Moved w stepped c.requires.running refl c.index-tables-hart.result found
+    plain s)) a
+
+pub returns-then-is_plain-clause-counts : goal.returns-then-is_plain-clause-counts
+returns-then-is_plain-clause-counts c = λ program marks w stepped.
+    let h = c.args.hart in
+    let within : h < length c.args.tables.now = omega (arith, c.requires.behind.stepped.tables_are.count, c.requires.exists) in
+    let found = get_is c.args.tables.now h c.index-tables-hart.result within ∙ ap Some (sym c.index-tables-hart.is) in
+    let plain = sym (c.is_plain.ensures ∙ ap is_plain c.sign_at-sign.ensures) ∙ c.if-is_plain.true in
+    plain_counts program c.args.tables.now marks c.args.machine.now h c.args.sight Moved w stepped c.requires.running refl c.index-tables-hart.result found
+    plain c.args.counts.now
+
 pub returns-clause-steps : goal.returns-clause-steps
 returns-clause-steps c = λ program marks w s stepped a.
     let h = c.args.hart in
     let within : h < length c.args.tables.now = omega (arith, c.requires.behind.stepped.tables_are.count, c.requires.exists) in
     let found = get_is c.args.tables.now h c.index-tables-hart.result within ∙ ap Some (sym c.index-tables-hart.is) in
     let mark = c.sign_at-sign.result.mark in
-    let position = c.point_position-position.result in
-    let at = c.point_position-position.ensures (after_event program w (Step h)) stepped.stands in
+    let position = c.position_behind-position.result in
+    let at = position_is program c.args.tables.now marks c.args.machine.now h c.args.sight Moved w stepped c.requires.running refl
+    c.index-tables-hart.result found position c.sign_at-sign.result.store (ap (λ (x : Sign). x.store) c.sign_at-sign.ensures)
+    (λ stores. c.position_behind-position.ensures.stored stores (after_event program w (Step h)) stepped.stands) c.position_behind-position.ensures.unstored in
     subst (AccountStands c.bind_if.new.self)
     (noted_is marks program w h s mark (not (position == c.args.sight.position)) position
     (ap (λ (x : Sign). x.mark) c.sign_at-sign.ensures
@@ -42,8 +64,10 @@ returns-clause-counts c = λ program marks w stepped.
     let h = c.args.hart in
     let within : h < length c.args.tables.now = omega (arith, c.requires.behind.stepped.tables_are.count, c.requires.exists) in
     let found = get_is c.args.tables.now h c.index-tables-hart.result within ∙ ap Some (sym c.index-tables-hart.is) in
-    let position = c.point_position-position.result in
-    let at = c.point_position-position.ensures (after_event program w (Step h)) stepped.stands in
+    let position = c.position_behind-position.result in
+    let at = position_is program c.args.tables.now marks c.args.machine.now h c.args.sight Moved w stepped c.requires.running refl
+    c.index-tables-hart.result found position c.sign_at-sign.result.store (ap (λ (x : Sign). x.store) c.sign_at-sign.ensures)
+    (λ stores. c.position_behind-position.ensures.stored stores (after_event program w (Step h)) stepped.stands) c.position_behind-position.ensures.unstored in
     record {
       points =
           counted-one c.args.counts.now.points.items c.add.new.self.points.items h (not (position == c.args.sight.position))

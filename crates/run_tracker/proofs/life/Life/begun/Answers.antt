@@ -7,6 +7,7 @@ use Rattle.rv64_isa.specs.Machine.{World}
 use Rattle.rv64_isa.specs.Schedule.{first_steps, no_steps}
 use Rattle.ido_base.specs.Cores.{point_stores, finished_fences}
 use Rattle.ido_machine.specs.Machines.{MachineStands, program_in}
+use Rattle.run_tracker.specs.links.Journals.{Recorded}
 use Rattle.run_tracker.specs.links.Accounts.{AccountStands, AreOpen, AreOrdered, weight}
 use Rattle.run_tracker.specs.links.SignTables.{AreTables}
 use Rattle.run_tracker.specs.Lives.{Course, life_at, world_of, steps_in, living, opening_of}
@@ -27,7 +28,7 @@ invariant_of-result c =
     let marks = c.args.marks.now in
     let machine = c.args.machine in
     let account = c.in_ok-new.field-0 in
-    let journal = c.in_ok-with_capacity.field-0 in
+    let journal = c.in_ok-new-2.field-0 in
     let opening : List (List Slot) → World = λ p. opening_by p object.mutexes object.initial.items c.args.left in
     let before = c.args.before.now in
     let start : Course = life_at object marks (opening (program_of object)) before c.args.cap in
@@ -41,19 +42,19 @@ invariant_of-result c =
       machine = machine;
       account = account;
       journal = journal;
-      counts = c.in_ok-new-2.field-0;
+      counts = c.in_ok-new-3.field-0;
       cap = c.args.cap;
     }) = search rules in
     let program_is : program_in machine ≡ program_of object = c.requires.program in
     let count : c.harts-harts.result ≡ length (program_of object) = c.harts-harts.ensures ∙ ap length program_is in
-    let none_yet : length journal.items ≡ 0 = ap length c.in_ok-with_capacity.ensures.items in
+    let none_yet : length journal.events ≡ 0 = ap (λ (j : Recorded). length j.events) c.in_ok-new-2.ensures in
     let stands : AccountStands account (first_steps (length (program_of object)) before) =
     subst (λ (n : ℕ). AccountStands account (first_steps n before)) count c.in_ok-new.ensures.stands in
     let same_before : length c.in_ok-to_vec-2.field-0.items ≡ length before = search rules in
     let same_bytes : c.in_ok-to_vec.field-0.items ≡ object.initial.items = search rules in
-    let counts = c.in_ok-new-2.field-0 in
-    let points = c.in_ok-new-2.ensures.points in
-    let fences = c.in_ok-new-2.ensures.fences in
+    let counts = c.in_ok-new-3.field-0 in
+    let points = c.in_ok-new-3.ensures.points in
+    let fences = c.in_ok-new-3.ensures.fences in
     record {
       machine = subst (λ (x : Course). MachineStands machine (world_of x)) is c.requires.stands;
       sound = subst (λ (x : Course). IsSound (world_of x)) is c.requires.sound;
@@ -70,7 +71,7 @@ invariant_of-result c =
           subst (λ (x : Course). AreOpen (world_of x).words (steps_in x)) is
           (open-none (opening (program_of object)).words (first_steps (length (program_of object)) before) (length (program_of object)) refl);
       light =
-          subst (λ (x : Course). weight (steps_in x) ≤ length c.in_ok-to_vec-2.field-0.items + length journal.items) is
+          subst (λ (x : Course). weight (steps_in x) ≤ length c.in_ok-to_vec-2.field-0.items + length journal.events) is
           (omega (arith, same_before, weightless (length (program_of object))));
       points = subst (λ (x : Course). AreCounts counts.points.items (length x.program) (point_stores living (opening_of x) x.journal)) is (
         ap length points ∙ length-replicate c.harts-harts.result 0 ∙ count,
@@ -83,7 +84,7 @@ invariant_of-result c =
       within = omega (arith, none_yet);
       few = omega (arith, c.requires.cap, same_before);
       bytes = omega (arith, c.requires.limits.bytes, ap length same_bytes);
-      journal_room = omega (arith, c.in_ok-with_capacity.ensures.exact);
+      journal_room = omega (arith, ap (λ (j : Recorded). j.room) c.in_ok-new-2.ensures);
       kept_room = omega (arith, c.in_ok-new.ensures.kept, same_before);
       stores_room = omega (arith, c.in_ok-new.ensures.reserved);
       stores = omega (arith, c.in_ok-new.ensures.stores);

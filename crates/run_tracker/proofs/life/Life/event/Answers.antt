@@ -21,10 +21,10 @@ invariant_of-self c =
     let marks : List (List ℕ) = map (λ a. a.items) life.addresses.items in
     let made = c.make in
     let valid : IsValidEvent (length program) event = subst (λ (x : Course). IsValidEvent (length x.program) event) (sym c.self.view_is) c.requires.valid in
-    let room : length life.journal.items < life.cap = subst (λ (x : Course). length x.journal < x.cap) (sym c.self.view_is) c.requires.room in
+    let room : length life.journal.events < life.cap = subst (λ (x : Course). length x.journal < x.cap) (sym c.self.view_is) c.requires.room in
     let tables = subst (λ (ts : List SignTable). AreTables ts program marks) (sym c.deref.ensures.value) stands.tables in
-    lasts life stands event made.new.machine made.new.account c.push_reserved.new.self made.new.counts valid room made.ensures.program made.ensures.events
+    lasts life stands event made.new.machine made.new.account c.push.new.self made.new.counts valid room made.ensures.program made.ensures.events
     (made.ensures.world world stands.machine).stands
     (made.ensures.steps marks world (steps_in (course_of life)) tables stands.machine stands.account stands.are_open)
     (made.ensures.counts world stands.machine)
-    c.push_reserved.ensures.items c.push_reserved.ensures.capacity made.ensures.capacity made.ensures.reserved made.ensures.stores
+    c.push.ensures made.ensures.capacity made.ensures.reserved made.ensures.stores

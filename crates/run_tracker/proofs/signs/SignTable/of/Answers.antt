@@ -1,10 +1,11 @@
 use Rattle.std.proofs.Common.{◌≡◌, ℕ, zero, suc, List, [], ◌∷◌, map, length, take, get_or, slice_get, Some, refl, ap, sym, ◌∙◌, arith}
 use Rattle.std.proofs.lemmas.List.{length-map, get_or-map, take_all}
 use Rattle.std.specs.List.{list_any}
+use Rattle.rv64_isa.specs.declared.object.Slot.{Slot}
 use Rattle.rv64_isa.specs.Programs.{slot_of}
 use Rattle.ido_machine.proofs.Lists.{get_map, get_some}
 use Rattle.run_tracker.specs.declared.signs.Sign.{Sign}
-use Rattle.run_tracker.specs.links.SignTables.{is_fence_slot, is_word_at, no_sign, plain_sign, sign_in}
+use Rattle.run_tracker.specs.links.SignTables.{is_fence_slot, is_store_slot, is_word_at, no_sign, plain_sign, sign_in}
 use Rattle.run_tracker.proofs.Sights.{in_length}
 use Rattle.run_tracker.proofs.signs.SignTable.of.Goals as goal
 
@@ -21,6 +22,7 @@ loop-address-init c =
       size = ap length plain ∙ length-map words plain_sign;
       marks = λ k below. ap (λ (xs : List Sign). (sign_in xs k).mark) plain ∙ ap (λ (x : Sign). x.mark) (get_or-map plain_sign words k 0 no_sign below);
       fences = λ k word found. ap (λ (xs : List Sign). (sign_in xs k).fence) plain ∙ ap (λ (x : Sign). x.fence) (get_map plain_sign words k word no_sign found);
+      stores = λ k word found. ap (λ (xs : List Sign). (sign_in xs k).store) plain ∙ ap (λ (x : Sign). x.store) (get_map plain_sign words k word no_sign found);
     }
 
 pub returns : goal.returns
@@ -30,12 +32,18 @@ returns c =
     let inv = c.loop-address.invariant in
     let all : take c.loop-address.address-index addresses ≡ addresses = take_all c.loop-address.address-index addresses c.loop-address-test.false in
     let long : length (map slot_of words) ≡ length words = length-map words slot_of in
+    let word_of : (k : ℕ) (slot : Slot) → slice_get (map slot_of words) k ≡ Some slot → (word : ℕ) × (slice_get words k ≡ Some word) × (slot_of word ≡ slot) =
+    λ k slot found.
+    let some = get_some words k (omega (arith, in_length (map slot_of words) k slot found, long)) in
+    (some.0, some.1, sym (get_map slot_of words k some.0 slot some.1) ∙ get_found (map slot_of words) k slot found) in
     record {
       starts = refl;
       size = inv.size ∙ sym long;
       marks = λ k below. inv.marks k (omega (arith, below, long)) ∙ ap (list_any (is_word_at c.args.start k)) all;
       fences = λ k slot found.
-          let some = get_some words k (omega (arith, in_length (map slot_of words) k slot found, long)) in
-          let is : slot_of some.0 ≡ slot = sym (get_map slot_of words k some.0 slot some.1) ∙ get_found (map slot_of words) k slot found in
-          inv.fences k some.0 some.1 ∙ ap is_fence_slot is;
+          let word = word_of k slot found in
+          inv.fences k word.0 word.1 ∙ ap is_fence_slot word.2;
+      stores = λ k slot found.
+          let word = word_of k slot found in
+          inv.stores k word.0 word.1 ∙ ap is_store_slot word.2;
     }
