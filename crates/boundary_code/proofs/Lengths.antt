@@ -6,7 +6,7 @@ use Rattle.std.proofs.lemmas.List.{length-append}
 use Rattle.rv64_isa.specs.declared.instr.Instr.{Instr}
 use Rattle.rv64_isa.specs.declared.instr.Instr.TheVariants.{Fence}
 use Rattle.boundary_code.specs.Boundaries.{lines_in_use}
-use Rattle.boundary_code.specs.links.Listing.{keep_slots, clean_lines, point, commit, bank_part, boundary_list, last_list}
+use Rattle.boundary_code.specs.links.InstructionLists.{keep_slots, clean_lines, point, commit, bank_part, boundary_list, last_list}
 
 slots_length : (live : List ℕ) → length (keep_slots live) ≡ length live
 slots_length [] = refl

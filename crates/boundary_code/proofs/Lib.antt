@@ -1,6 +1,6 @@
-pub mod Registers
-pub mod Banks
-pub mod Points
-pub mod Whole
+mod Registers
+mod Banks
+mod Points
+mod WholeBoundaries
 mod Worked
-pub mod Lengths
+mod Lengths

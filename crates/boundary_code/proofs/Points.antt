@@ -11,13 +11,12 @@ use Rattle.rv64_isa.specs.declared.instr.Operation.TheVariants.{Add, Srl}
 use Rattle.rv64_isa.specs.declared.instr.ImmediateOperation.TheVariants.{Addi}
 use Rattle.rv64_isa.specs.declared.instr.ShiftOperation.TheVariants.{Srli}
 use Rattle.rv64_isa.specs.declared.instr.StoreKind.TheVariants.{Sd}
-use Rattle.rv64_isa.specs.Rows.{Effect, GoesOn, Stores, Cleans, Fences, row, read, next, displaced, upper}
+use Rattle.rv64_isa.specs.Rows.{Effect, Continues, Stores, Cleans, Fences, row, read, next, displaced, upper}
 use Rattle.rv64_isa.specs.Arithmetic.{sign_extended, result_of}
 use Rattle.rv64_isa.specs.Signed.{twos_complement}
-use Rattle.log_layout.specs.Roles.{is_temporary}
-use Rattle.boundary_code.specs.links.Listing.{point, commit}
-use Rattle.operator_code.proofs.Runs.{Runs, stop, go, store, clean, fence}
-use Rattle.operator_code.proofs.Registers.{read_same, read_other, length-changed, displaced_small, signed12, signed32}
+use Rattle.memory_layout.specs.Roles.{is_temporary}
+use Rattle.boundary_code.specs.links.InstructionLists.{point, commit}
+use Rattle.operator_code.proofs.Public.{RunsFrom, stop, go, store, clean, fence, read_same, read_other, length-changed, displaced_small, signed12, signed32}
 use Rattle.boundary_code.proofs.Registers.{Ready, bank_bit, not_temporary}
 
 -- ---- The distance in two immediates
@@ -71,24 +70,24 @@ fence_row : (z : List ℕ) (pc : ℕ) → row Fence z pc ≡ Fences
 unfolding row
 fence_row z pc = refl
 
-auipc_row : (z : List ℕ) (u pc : ℕ) → row (Auipc 30 u) z pc ≡ GoesOn (slice_set z 30 ((pc + upper u) % 2 ^ 64)) (next pc)
+auipc_row : (z : List ℕ) (u pc : ℕ) → row (Auipc 30 u) z pc ≡ Continues (slice_set z 30 ((pc + upper u) % 2 ^ 64)) (next pc)
 unfolding row
 auipc_row z u pc = refl
 
-low_row : (z : List ℕ) (l v pc : ℕ) → read z 30 ≡ v → row (OpImmediate Addi 30 30 l) z pc ≡ GoesOn
+low_row : (z : List ℕ) (l v pc : ℕ) → read z 30 ≡ v → row (OpImmediate Addi 30 30 l) z pc ≡ Continues
     (slice_set z 30 (result_of Add v (sign_extended 12 64 l))) (next pc)
 unfolding row
-low_row z l v pc e = ap (λ (n : ℕ). GoesOn (slice_set z 30 (result_of Add n (sign_extended 12 64 l))) (next pc)) e
+low_row z l v pc e = ap (λ (n : ℕ). Continues (slice_set z 30 (result_of Add n (sign_extended 12 64 l))) (next pc)) e
 
-bit_row : (z : List ℕ) (bank pc : ℕ) → read z 3 ≡ 256 * bank → bank < 2 → row (ShiftImmediate Srli 7 3 8) z pc ≡ GoesOn (slice_set z 7 bank) (next pc)
+bit_row : (z : List ℕ) (bank pc : ℕ) → read z 3 ≡ 256 * bank → bank < 2 → row (ShiftImmediate Srli 7 3 8) z pc ≡ Continues (slice_set z 7 bank) (next pc)
 unfolding row
-bit_row z bank pc e b = ap (λ (n : ℕ). GoesOn (slice_set z 7 (result_of Srl n 8)) (next pc)) e ∙
-    ap (λ (n : ℕ). GoesOn (slice_set z 7 n) (next pc)) (bank_bit bank b)
+bit_row z bank pc e b = ap (λ (n : ℕ). Continues (slice_set z 7 (result_of Srl n 8)) (next pc)) e ∙
+    ap (λ (n : ℕ). Continues (slice_set z 7 n) (next pc)) (bank_bit bank b)
 
-add_row : (z : List ℕ) (v w pc : ℕ) → read z 30 ≡ v → read z 7 ≡ w → row (Op Add 30 30 7) z pc ≡ GoesOn (slice_set z 30 (result_of Add v w)) (next pc)
+add_row : (z : List ℕ) (v w pc : ℕ) → read z 30 ≡ v → read z 7 ≡ w → row (Op Add 30 30 7) z pc ≡ Continues (slice_set z 30 (result_of Add v w)) (next pc)
 unfolding row
-add_row z v w pc e f = ap (λ (n : ℕ). GoesOn (slice_set z 30 (result_of Add n (read z 7))) (next pc)) e ∙
-    ap (λ (n : ℕ). GoesOn (slice_set z 30 (result_of Add v n)) (next pc)) f
+add_row z v w pc e f = ap (λ (n : ℕ). Continues (slice_set z 30 (result_of Add n (read z 7))) (next pc)) e ∙
+    ap (λ (n : ℕ). Continues (slice_set z 30 (result_of Add v n)) (next pc)) f
 
 point_row : (z : List ℕ) (r thread value pc : ℕ) → thread < 8 → read z 31 ≡ log_of thread → read z r ≡ value →
     row (Store Sd r 31 0) z pc ≡ Stores (point_at thread) 8 value
@@ -105,21 +104,21 @@ clean_row z thread pc e = ap (λ (n : ℕ). Cleans n) e
 -- ---- The part
 
 pub commit_run : (z : List ℕ) (r thread value pc : ℕ) → thread < 8 → read z 31 ≡ log_of thread → read z r ≡ value →
-    Runs (commit r) z pc (Stores (point_at thread) 8 value ∷ Cleans (point_at thread) ∷ Fences ∷ []) z
+    RunsFrom (commit r) z pc (Stores (point_at thread) 8 value ∷ Cleans (point_at thread) ∷ Fences ∷ []) z
 commit_run z r thread value pc t e f =
     store (Store Sd r 31 0) (CboClean 31 ∷ Fence ∷ []) z pc (point_at thread) 8 value (Cleans (point_at thread) ∷ Fences ∷ []) z
     (point_row z r thread value pc t e f)
     (clean (CboClean 31) (Fence ∷ []) z (pc + 4) (point_at thread) (Fences ∷ []) z (clean_row z thread (pc + 4) e)
     (fence Fence [] z (pc + 4 + 4) [] z (fence_row z (pc + 4 + 4)) (stop z (pc + 4 + 4 + 4))))
 
--- behind a boundary that writes this bank, begun with registers x
+-- after a boundary that writes this bank, begun with registers x
 pub record Left (bank : ℕ) (x y : List ℕ) : Type 0 where
   pub offset : read y 3 ≡ 256 * bank
   pub others : (r : ℕ) → is_temporary r ≡ false → r ≢ 3 → read y r ≡ read x r
 
 pub record Committed (thread bank r t : ℕ) (x z : List ℕ) (pc : ℕ) : Type 0 where
   pub end : List ℕ
-  pub runs : Runs (Fence ∷ point r ++ commit 30) z pc
+  pub runs : RunsFrom (Fence ∷ point r ++ commit 30) z pc
       (Fences ∷ Stores (point_at thread) 8 (((pc + 4 + (28 + t)) % 2 ^ 64 + bank) % 2 ^ 64) ∷ Cleans (point_at thread) ∷ Fences ∷ []) end
   pub left : Left bank x end
 
@@ -137,12 +136,12 @@ committed thread bank r t x z pc few b c h =
     let l1 : length z1 ≡ 32 = length-changed z 30 v1 h.count in
     let l2 : length z2 ≡ 32 = length-changed z1 30 v2 l1 in
     let l3 : length z3 ≡ 32 = length-changed z2 7 bank l2 in
-    let second : row (OpImmediate Addi 30 30 (low_part r)) z1 (at + 4) ≡ GoesOn z2 (next (at + 4)) =
+    let second : row (OpImmediate Addi 30 30 (low_part r)) z1 (at + 4) ≡ Continues z2 (next (at + 4)) =
     low_row z1 (low_part r) v1 (at + 4) (read_same z 30 v1 h.count (lit< tt)) ∙
-    ap (λ (n : ℕ). GoesOn (slice_set z1 30 n) (next (at + 4))) (resumes_at at r t c) in
-    let third : row (ShiftImmediate Srli 7 3 8) z2 (at + 4 + 4) ≡ GoesOn z3 (next (at + 4 + 4)) =
+    ap (λ (n : ℕ). Continues (slice_set z1 30 n) (next (at + 4))) (resumes_at at r t c) in
+    let third : row (ShiftImmediate Srli 7 3 8) z2 (at + 4 + 4) ≡ Continues z3 (next (at + 4 + 4)) =
     bit_row z2 bank (at + 4 + 4) (read_other z1 30 3 v2 refl ∙ read_other z 30 3 v1 refl ∙ h.offset) b in
-    let fourth : row (Op Add 30 30 7) z3 (at + 4 + 4 + 4) ≡ GoesOn z4 (next (at + 4 + 4 + 4)) =
+    let fourth : row (Op Add 30 30 7) z3 (at + 4 + 4 + 4) ≡ Continues z4 (next (at + 4 + 4 + 4)) =
     add_row z3 v2 bank (at + 4 + 4 + 4) (read_other z2 7 30 bank refl ∙ read_same z1 30 v2 l1 (lit< tt)) (read_same z2 7 bank l2 (lit< tt)) in
     let log : read z4 31 ≡ log_of thread = read_other z3 30 31 v3 refl ∙ read_other z2 7 31 bank refl ∙ read_other z1 30 31 v2 refl ∙
     read_other z 30 31 v1 refl ∙ h.log in

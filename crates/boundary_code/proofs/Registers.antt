@@ -1,13 +1,13 @@
--- Reads of registers behind writes, and the registers within a boundary.
+-- Reads of registers after writes, and the registers within a boundary.
 use Rattle.std.proofs.Common.{◌≡◌, ◌≢◌, ℕ, zero, suc, ◌+◌, ◌-◌, ◌*◌, ◌<◌, List, length, refl, ap, ◌∙◌, arith, true, false, lit<}
 use Rattle.std.specs.Prelude.{slice_set}
 use Rattle.std.proofs.lemmas.List.{get_or-set_other}
-use Rattle.operator_code.proofs.Registers.{read_other, read_same, length-changed}
+use Rattle.operator_code.proofs.Public.{read_other, read_same, length-changed}
 use Rattle.ido_base.specs.Layout.{log_of}
 use Rattle.rv64_isa.specs.declared.instr.Operation.TheVariants.{Srl, Xor}
 use Rattle.rv64_isa.specs.Rows.{read}
 use Rattle.rv64_isa.specs.Arithmetic.{result_of}
-use Rattle.log_layout.specs.Roles.{is_temporary}
+use Rattle.memory_layout.specs.Roles.{is_temporary}
 
 pub not_temporary : (r t : ℕ) → is_temporary t ≡ true → is_temporary r ≡ false → r ≢ t
 not_temporary r t is_one is_none e = let same : is_temporary r ≡ is_temporary t = ap (λ (n : ℕ). is_temporary n) e in cc (same, is_one, is_none)

@@ -6,9 +6,9 @@ use Rattle.rv64_isa.specs.declared.instr.Instr.TheVariants.{Lui, OpImmediate}
 use Rattle.rv64_isa.specs.declared.instr.ImmediateOperation.TheVariants.{Addi}
 use Rattle.rv64_isa.specs.Rows.{Stores, Cleans, Fences, row, read}
 use Rattle.rv64_isa.specs.Arithmetic.{result_of}
-use Rattle.operator_code.specs.Straight.{effects, registers_after}
+use Rattle.operator_code.specs.StraightLineCode.{effects, registers_after}
 use Rattle.boundary_code.specs.Boundaries.{Boundary, boundary_effects, lines_in_use}
-use Rattle.boundary_code.specs.links.Listing.{boundary_list, last_list}
+use Rattle.boundary_code.specs.links.InstructionLists.{boundary_list, last_list}
 
 first : Boundary
 first = record { thread = 0; mask = 1; live = []; resume = pos 0 }
@@ -32,7 +32,7 @@ other_bank : read (registers_after code zeros 0x1_0000) 3 ≡ 256
 unfolding code zeros row result_of
 other_bank = refl
 
--- from the second bank it is the first's turn
+-- after a boundary that wrote the second bank, the next one writes the first
 back : effects code (slice_set zeros 3 256) 0x1_0000 ≡
     Stores 0x2000_0040 8 1 ∷ Cleans 0x2000_0040 ∷ Fences ∷ Stores 0x2000_0000 8 0x1_003C ∷ Cleans 0x2000_0000 ∷ Fences ∷ []
 unfolding code zeros row result_of

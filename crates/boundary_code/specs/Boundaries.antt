@@ -5,16 +5,16 @@ use Rattle.ido_base.specs.Layout.{point_at, slot_at, bank_bytes}
 use Rattle.rv64_isa.specs.declared.instr.Instr.{Instr}
 use Rattle.rv64_isa.specs.Rows.{Effect, Stores, Cleans, Fences, read}
 use Rattle.rv64_isa.specs.Signed.{twos_complement}
-use Rattle.log_layout.specs.Roles.{bank_offset, is_temporary}
-use Rattle.operator_code.specs.Straight.{effects, registers_after}
+use Rattle.memory_layout.specs.Roles.{bank_offset, is_temporary}
+use Rattle.operator_code.specs.StraightLineCode.{effects, registers_after}
 
 pub record Boundary : Type 0 where
   pub thread : ℕ
-  -- the locks held behind it, bit i for lock i; 0 ends a section
+  -- the locks held after the boundary, bit i for lock i; 0 ends a section
   pub mask : ℕ
-  -- the registers that are live behind it
+  -- the registers that are live after the boundary
   pub live : List ℕ
-  -- how far behind its end recovery resumes, in bytes
+  -- how far after the boundary's end recovery resumes, in bytes
   pub resume : ℤ
 
 -- the lines of a bank that have one of these slots
@@ -53,7 +53,7 @@ pub record AtBank (bank : ℕ) (x : List ℕ) : Type 0 where
 pub record HasEffects (b : Boundary) (code : List Instr) : Type 0 where
   pub does : (x : List ℕ) (pc bank : ℕ) → AtBank bank x → effects code x pc ≡ boundary_effects b (1 - bank) (resume_address b code pc) x
 
--- the other bank's offset is in x3 behind it, but the same bank's where no bank was written
+-- after a boundary's code x3 has the other bank's offset, but the same bank's where no bank was written
 pub record HasOffset (mask : ℕ) (code : List Instr) : Type 0 where
   pub leaves : (x : List ℕ) (pc bank : ℕ) → AtBank bank x → read (registers_after code x pc) bank_offset ≡ bank_bytes * (if mask == 0 then bank else 1 - bank)
 

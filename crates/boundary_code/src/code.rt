@@ -3,19 +3,19 @@ ghost use Rattle.std.specs.Prelude.{◌≡◌, ◌<◌, ◌≤◌, ◌+◌, ◌*
 ghost use Rattle.std.specs.List.{list_all, list_any};
 ghost use Rattle.ido_base.specs.declared.limits.TheConstants.{MOST_THREADS};
 ghost use Rattle.rv64_isa.specs.Signed.{twos_complement};
-ghost use Rattle.log_layout.specs.Roles.{is_kept};
+ghost use Rattle.memory_layout.specs.Roles.{is_kept};
 ghost use Rattle.boundary_code.specs.Boundaries.{HasEffects, HasOffset, KeepsRegisters, lines_in_use};
-ghost use Rattle.boundary_code.specs.links.Listing.{keep_slots, clean_lines, clean_where, point, commit, bank_part, boundary_list, last_list};
+ghost use Rattle.boundary_code.specs.links.InstructionLists.{keep_slots, clean_lines, clean_where, point, commit, bank_part, boundary_list, last_list};
 
 use ido_base::memory::OutOfMemory;
-use log_layout::log::{BANK_BYTES, FIRST_BANK, LINE_SLOTS, SLOT_BYTES, log_of};
+use memory_layout::log::{BANK_BYTES, FIRST_BANK, LINE_SLOTS, SLOT_BYTES, log_of};
 use operator_code::constant::constant;
 use operator_code::instructions::{add, auipc, immediate, sd, shift};
 use rv64_isa::field::Register;
 use rv64_isa::instr::{ImmediateOperation, Instr, ShiftOperation};
 use std::alloc::Global;
 
-/// How far the bank in use lies behind the first: x3 from one boundary to the next.
+/// How far the bank in use lies after the first: x3 from one boundary to the next.
 const BANK_OFFSET: Register = Register::X3;
 
 /// The address of the thread's log, within a boundary.
@@ -92,7 +92,7 @@ fn emit_cleans(code: &mut Vec<Instr>, live: &[Register]) -> Result<(), OutOfMemo
     Ok(())
 }
 
-/// The point's new value: the address so far behind the boundary's end, and the number of the bank.
+/// The point's new value: the address so many bytes after the boundary's end, and the number of the bank.
 fn point(resume: i32) -> [Instr; 4]
     requires low { negsuc 262143 ≤ℤ resume }
     requires high { resume ≤ℤ pos 262144 }
@@ -165,11 +165,11 @@ fn emit_last_boundary(alloc: Global, log: &[Instr]) -> Result<Vec<Instr>, OutOfM
     Ok(code)
 }
 
-/// The code of a boundary: the other bank gets the mask of the locks held behind it and the live registers, its
+/// The code of a boundary: the other bank gets the mask of the locks held after it and the live registers, its
 /// lines in use are cleaned, and a FENCE makes them durable, with what was cleaned before; then the point gets the
-/// address that lies `resume` bytes behind the boundary's end, and the bank, is cleaned, and a FENCE makes it durable.
+/// address that lies `resume` bytes after the boundary's end, and the bank, is cleaned, and a FENCE makes it durable.
 /// Where the mask is 0, which ends a section, no bank is written and the point gets 0. It leaves all registers but
-/// x3 and the temporaries as they were.
+/// x3 and the temporaries as they were; x3 has the offset of the bank written, and with mask 0 the same as before.
 pub fn boundary(
     alloc: Global,
     thread: u32,

@@ -1,4 +1,4 @@
-//! The code of boundaries: what a thread's log is given so that recovery may resume behind them.
+//! The code of boundaries: what a thread's log is given so that recovery may resume after them.
 #![tactic(auto)]
 
 mod code;

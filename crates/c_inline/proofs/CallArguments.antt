@@ -6,7 +6,7 @@ use Rattle.std.proofs.lemmas.Option.{slice_get_within}
 use Rattle.ido_base.specs.declared.place.Place.{Place}
 use Rattle.ido_ints.specs.declared.kinds.Kind.{Kind}
 use Rattle.ido_ints.specs.declared.kinds.Kind.TheVariants.{Int}
-use Rattle.ido_ints.specs.Typed.{Typed, typed, converted}
+use Rattle.ido_ints.specs.TypedNumbers.{Typed, typed, converted}
 use Rattle.ido_ints.specs.Operators.{is_zero, unary_of, binary_of}
 use Rattle.ido_ints.specs.Reduction.{reduced}
 use Rattle.c_tree.specs.Exprs as e
@@ -16,8 +16,8 @@ use Rattle.c_tree.specs.Source as m
 use Rattle.c_tree.specs.Source.{source_step}
 use Rattle.c_tree.specs.Values.{value, element_number, element_at}
 use Rattle.c_inline.specs.CallLaws.{read, ExprReads, ListUses, AreAllBelow, local_of}
-use Rattle.c_inline.proofs.Known.{get_set_same}
-use Rattle.c_inline.proofs.Making.{passed_more}
+use Rattle.c_inline.proofs.WeightUpdates.{get_set_same}
+use Rattle.c_inline.proofs.InlinedStatements.{passed_more}
 use Rattle.c_inline.proofs.CallRuns.{step_is, after_by, index_other, local_by}
 
 -- a value depends on the locals that are read
@@ -72,7 +72,7 @@ one_step s t thread place local kind x more found free is =
     step_is s t (Some thread) found ∙ ap (pending_step s t thread) free ∙ ap (m.left_step s t thread) is
 
 module _ (place : Place) (ks : List Kind) (t : ℕ) (rest : List f.Statement) where
-  -- of the thread behind the passing: locals that were there before are kept, and the others hold arguments
+  -- of the thread after the passing: locals that were there before are kept, and the others hold arguments
   record Passed (s : m.State) (thread : m.Thread) (n j : ℕ) (xs : List e.Placed) : Type 0 where
     final : m.Thread
     found : slice_get (m.after_from s (replicate (length xs) t)).threads t ≡ Some final

@@ -9,32 +9,32 @@ use Rattle.std.proofs.lemmas.Option.{slice_get_within}
 use Rattle.ido_ints.specs.declared.kinds.Kind.{Kind}
 use Rattle.c_tree.specs.Programs as p
 use Rattle.c_tree.specs.Inlining as i
-use Rattle.c_tree.specs.Checking.{HasNoBack}
-use Rattle.c_inline.specs.links.Weighing.{Low}
+use Rattle.c_tree.specs.AcceptedTexts.{HasNoBack}
+use Rattle.c_inline.specs.links.KnownWeights.{Low}
 use Rattle.c_inline.proofs.Cycle.{leads_on, found_in, any_below, first_or, only, IsDistinct-nil}
-use Rattle.c_inline.proofs.Deep.{stable_bodies, bodies_past, fixed_bodies}
+use Rattle.c_inline.proofs.WeightsByDepth.{stable_bodies, bodies_past, fixed_bodies}
 
 module _ (fs : List p.Function) (none : (c : i.Call) → ¬ (i.LeadsBack fs c)) where
   -- functions that lead to this one are all different, so there are no more than functions
-  low_behind : (d g : ℕ) (path : List ℕ) → IsDistinct eqb (g ∷ path) → ((h : ℕ) → Contains (g ∷ path) h → h < length fs) →
-      ((h : ℕ) → Contains (g ∷ path) h → i.Leads fs g h) →
+  low_past : (d g : ℕ) (path : List ℕ) → IsDistinct eqb (g ∷ path) → ((h : ℕ) → Contains (g ∷ path) h → h < length fs) →
+      ((h : ℕ) → Contains (g ∷ path) h → i.CallsReach fs g h) →
       length fs < length (g ∷ path) + d → Low fs d g
-  low_behind zero g path distinct below lead long =
+  low_past zero g path distinct below lead long =
       absurd (let m = length-le_from_distinct_below (g ∷ path) (length fs) distinct (any_below (length fs) (g ∷ path) below) in omega (arith, m))
-  low_behind (suc d) g path distinct below lead long = λ c k l.
+  low_past (suc d) g path distinct below lead long = λ c k l.
       ⊎_elim
       (λ m. absurd (none c (record { caller = g; made = k; back = lead c.function m })))
-      (λ all. low_behind d c.function (g ∷ path) (IsDistinct-cons eqb c.function (g ∷ path) all distinct)
+      (λ all. low_past d c.function (g ∷ path) (IsDistinct-cons eqb c.function (g ∷ path) all distinct)
       (λ h m. first_or c.function (g ∷ path) h m (λ (x : ℕ). x < length fs) l below)
-      (λ h m. first_or c.function (g ∷ path) h m (i.Leads fs c.function) i.there (λ j n. leads_on fs g j c k (lead j n)))
+      (λ h m. first_or c.function (g ∷ path) h m (i.CallsReach fs c.function) i.there (λ j n. leads_on fs g j c k (lead j n)))
       (omega arith))
       (found_in c.function (g ∷ path))
 
   pub low_all : (g : ℕ) → g < length fs → Low fs (length fs) g
   low_all g l =
-      low_behind (length fs) g [] (IsDistinct-cons eqb g [] tt IsDistinct-nil)
+      low_past (length fs) g [] (IsDistinct-cons eqb g [] tt IsDistinct-nil)
       (λ h k. subst (λ (x : ℕ). x < length fs) (only g h k) l)
-      (λ h k. subst (λ (x : ℕ). i.Leads fs g x) (only g h k) i.there)
+      (λ h k. subst (λ (x : ℕ). i.CallsReach fs g x) (only g h k) i.there)
       (omega arith)
 
 pub deeper : (x : p.Program) (deep function : ℕ) (ks : List Kind) → HasNoBack x → length x.functions ≤ deep →

@@ -12,12 +12,12 @@ use Rattle.c_tree.specs.Programs as p
 use Rattle.c_tree.specs.Flats as f
 use Rattle.c_tree.specs.Inlining as i
 use Rattle.c_tree.specs.Inlining.{bodies_of}
-use Rattle.c_tree.specs.Checking.{HasNoBack}
-use Rattle.c_inline.specs.CallLaws.{Use, read, assigned, ExprReads, Uses, ListUses, TargetUses, ResultUses, StatementsUse, ArmsUse, AreBelow, Takes}
+use Rattle.c_tree.specs.AcceptedTexts.{HasNoBack}
+use Rattle.c_inline.specs.CallLaws.{Use, read, assigned, ExprReads, Uses, ListUses, TargetUses, ResultUses, StatementsUse, ArmsUse, AreBelow, TakesArguments}
 use Rattle.c_inline.specs.CallLaws.{IsScoped, AreScoped, AreScopedArms, IsReturnedBelow, AreFunctionsScoped, Site, call_made, IsNew, IsPassed}
-use Rattle.c_inline.specs.links.Weighing.{Low}
-use Rattle.c_inline.proofs.Near.{alone}
-use Rattle.c_inline.proofs.Deep.{calls_of_some}
+use Rattle.c_inline.specs.links.KnownWeights.{Low}
+use Rattle.c_inline.proofs.CallCongruence.{alone}
+use Rattle.c_inline.proofs.WeightsByDepth.{calls_of_some}
 use Rattle.c_inline.proofs.CallDepth.{low_all}
 
 -- ---- Renumbered locals
@@ -141,15 +141,15 @@ same_kinds ks = ([], sym (append-nil ks))
 grown_on : (ks js ls : List Kind) → Grown ks js → Grown js ls → Grown ks ls
 grown_on ks js ls a b = (a.0 ++ b.0, b.1 ∙ ap (λ xs. xs ++ b.0) a.1 ∙ append_assoc ks a.0 b.0)
 
-behind_grown : (m : f.Statements) (ks js : List Kind) → Grown ks js → Grown ks (i.kinds_behind m ks js)
-behind_grown f.no_statement ks js h = same_kinds ks
-behind_grown (f.statement_and x m) ks js h = h
+following_grown : (m : f.Statements) (ks js : List Kind) → Grown ks js → Grown ks (i.kinds_after m ks js)
+following_grown f.no_statement ks js h = same_kinds ks
+following_grown (f.statement_and x m) ks js h = h
 
 longer : (ks js : List Kind) → Grown ks js → length ks ≤ length js
 longer ks js h = let a = ap length h.1 in let b = length-append ks h.0 in omega (arith, a, b)
 
--- the kinds behind a call of which something is left
-used_kinds : (u : Use) (m : f.Statements) (before after : List Kind) (l : ℕ) → StatementsUse u m l → i.kinds_behind m before after ≡ after
+-- the kinds after a call of which something is left
+used_kinds : (u : Use) (m : f.Statements) (before after : List Kind) (l : ℕ) → StatementsUse u m l → i.kinds_after m before after ≡ after
 used_kinds u f.no_statement before after l h = absurd h
 used_kinds u (f.statement_and x m) before after l h = refl
 
@@ -163,7 +163,7 @@ module _ (fs : List p.Function) (F : i.Bodies) where
   module _ (grow : (g : ℕ) (js : List Kind) → Grown js (F g js).kinds) where
     call_grown : (by : ℕ) (ks : List Kind) (x : Site) (o : Option p.Function) → Grown ks (called_by by ks x o).kinds
     call_grown by ks x None = same_kinds ks
-    call_grown by ks x (Some g) = behind_grown (made fs F by ks x g).made ks (F x.function ks).kinds (grow x.function ks)
+    call_grown by ks x (Some g) = following_grown (made fs F by ks x g).made ks (F x.function ks).kinds (grow x.function ks)
 
     mutual
       grown_statement : (by : ℕ) (ks : List Kind) (x : p.Statement) → Grown ks (i.statement fs F by ks x).kinds
@@ -284,9 +284,9 @@ module _ (fs : List p.Function) (deep by : ℕ) (ks : List Kind) (x : Site) (u :
   pub not_shared : StatementsUse u (call_made fs deep by ks x).made local → (length ks ≤ local) ⊎ IsPassed u by x local
   not_shared h = not_shared_by (slice_get fs x.function) h
 
--- ---- No higher than the kinds behind
+-- ---- No higher than the kinds after a call
 
--- where calls are known to end, their bodies stay below the kinds behind them
+-- where calls are known to end, their bodies stay below the kinds after them
 record IsRoomy (F : i.Bodies) (g : ℕ) (js : List Kind) (x : p.Function) : Type 0 where
   room : length js + length x.locals ≤ length (F g js).kinds
   below : (u : Use) (l : ℕ) → StatementsUse u (F g js).made l → l < length (F g js).kinds
@@ -308,7 +308,7 @@ returned_below count (Some x) h u k y = uses_below count (e.Converted x.kind x.v
 
 module _ (fs : List p.Function) (F : i.Bodies) (scoped : AreFunctionsScoped fs) (grow : (g : ℕ) (js : List Kind) → Grown js (F g js).kinds)
     (Good : ℕ → Type 0) (roomy : (g : ℕ) (js : List Kind) (x : p.Function) → Good g → slice_get fs g ≡ Some x → IsRoomy F g js x) where
-  -- what is the call's own is below the kinds behind it
+  -- what is the call's own is below the kinds after it
   own_below : (by : ℕ) (ks : List Kind) (x : Site) (g : p.Function) → slice_get fs x.function ≡ Some g → (length x.arguments ≤ length g.locals) →
       Good x.function →
       (u : Use) (l : ℕ) → IsOwn fs F by ks x g u l → l < length (F x.function ks).kinds
@@ -411,7 +411,7 @@ module _ (fs : List p.Function) (scoped : AreFunctionsScoped fs) where
       record { room = r.room; below = r.below }
 
 module _ (program : p.Program) (by : ℕ) (ks : List Kind) (x : Site) (u : Use) (local : ℕ) (ends : HasNoBack program)
-    (scoped : AreFunctionsScoped program.functions) (takes : Takes program.functions x.function (length x.arguments)) where
+    (scoped : AreFunctionsScoped program.functions) (takes : TakesArguments program.functions x.function (length x.arguments)) where
   abbrev functions : List p.Function
   functions = program.functions
 

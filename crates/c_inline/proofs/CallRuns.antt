@@ -15,7 +15,7 @@ use Rattle.c_tree.specs.Source as m
 use Rattle.c_tree.specs.Source.{source_step}
 use Rattle.c_inline.specs.CallLaws.{Use, assigned, ListUses, ResultUses, StatementUses, StatementsUse}
 use Rattle.c_inline.specs.CallLaws.{LeftUses, Site, call_made, left_of, local_of, IsBefore, IsKept}
-use Rattle.c_inline.proofs.Known.{get_set_same, get_set_other}
+use Rattle.c_inline.proofs.WeightUpdates.{get_set_same, get_set_other}
 use Rattle.c_inline.proofs.CallLocals.{not_shared}
 
 -- ---- Lists
@@ -61,17 +61,17 @@ Keeps x y = (local : ℕ) (first rest : List f.Statement) → x.left ≡ first +
     (more : List f.Statement) × (y.left ≡ more ++ rest) × (LeftUses assigned more local → ⊥) ×
     (slice_index_or y.locals local (pos 0) ≡ slice_index_or x.locals local (pos 0))
 
-first_is : (x : f.Statement) (behind : List f.Statement) (first rest : List f.Statement) → x ∷ behind ≡ first ++ rest → (x ∷ behind ≡ rest → ⊥) →
-    (more : List f.Statement) × (first ≡ x ∷ more) × (behind ≡ more ++ rest)
-first_is x behind [] rest h n = absurd (n h)
-first_is x behind (y ∷ more) rest h n = let same : x ≡ y = cc in let same_behind : behind ≡ more ++ rest = cc in
-    (more, ap (λ z. z ∷ more) (sym same), same_behind)
+first_is : (x : f.Statement) (following : List f.Statement) (first rest : List f.Statement) → x ∷ following ≡ first ++ rest → (x ∷ following ≡ rest → ⊥) →
+    (more : List f.Statement) × (first ≡ x ∷ more) × (following ≡ more ++ rest)
+first_is x following [] rest h n = absurd (n h)
+first_is x following (y ∷ more) rest h n = let same : x ≡ y = cc in let same_following : following ≡ more ++ rest = cc in
+    (more, ap (λ z. z ∷ more) (sym same), same_following)
 
-keeps_by : (before after : m.Thread) (x : f.Statement) (behind news : List f.Statement) → before.left ≡ x ∷ behind → after.left ≡ news ++ behind →
+keeps_by : (before after : m.Thread) (x : f.Statement) (following news : List f.Statement) → before.left ≡ x ∷ following → after.left ≡ news ++ following →
     ((l : ℕ) → LeftUses assigned news l → StatementUses assigned x l) →
     ((l : ℕ) → (StatementUses assigned x l → ⊥) → slice_index_or after.locals l (pos 0) ≡ slice_index_or before.locals l (pos 0)) → Keeps before after
-keeps_by before after x behind news is goes uses same local first rest h n unused =
-    let prefix = first_is x behind first rest (sym is ∙ h) (λ z. n (is ∙ z)) in
+keeps_by before after x following news is goes uses same local first rest h n unused =
+    let prefix = first_is x following first rest (sym is ∙ h) (λ z. n (is ∙ z)) in
     let more = prefix.0 in
     let unused_prefix : LeftUses assigned (x ∷ more) local → ⊥ = subst (λ (ys : List f.Statement). LeftUses assigned ys local → ⊥) prefix.1 unused in (
       news ++ more,
@@ -114,19 +114,19 @@ module _ (s next : m.State) (t : ℕ) (thread : m.Thread) (found : slice_get s.t
       ⊎_elim (λ a. ⊎_elim (λ x. inl (inr (inr x))) (λ y. inr y) a) (λ n. absurd n) h
 
   abbrev while_left : Place → e.Placed → f.Statements → List f.Statement → Bool → List f.Statement
-  while_left place condition body behind holds = if holds then m.opened_all body ++ (f.While place condition body ∷ behind) else behind
+  while_left place condition body following holds = if holds then m.opened_all body ++ (f.While place condition body ∷ following) else following
 
-  while_keeps : (place : Place) (condition : e.Placed) (body : f.Statements) (behind : List f.Statement) →
-      thread.left ≡ f.While place condition body ∷ behind → (holds : Bool) →
-      Keeps thread (record thread { left = while_left place condition body behind holds })
-  while_keeps place condition body behind is true =
-      keeps_by thread (record thread { left = while_left place condition body behind true }) (f.While place condition body) behind
+  while_keeps : (place : Place) (condition : e.Placed) (body : f.Statements) (following : List f.Statement) →
+      thread.left ≡ f.While place condition body ∷ following → (holds : Bool) →
+      Keeps thread (record thread { left = while_left place condition body following holds })
+  while_keeps place condition body following is true =
+      keeps_by thread (record thread { left = while_left place condition body following true }) (f.While place condition body) following
       (m.opened_all body ++ (f.While place condition body ∷ [])) is
-      (sym (append_assoc (m.opened_all body) (f.While place condition body ∷ []) behind))
+      (sym (append_assoc (m.opened_all body) (f.While place condition body ∷ []) following))
       (λ l h. ⊎_elim (λ a. inr (opened_all_uses assigned body l a)) (λ b. ⊎_elim (λ c. c) (λ n. absurd n) b)
       (left_append assigned (m.opened_all body) (f.While place condition body ∷ []) l h))
       (λ l n. refl)
-  while_keeps place condition body behind is false = keeps_by thread (record thread { left = behind }) (f.While place condition body) behind [] is refl
+  while_keeps place condition body following is false = keeps_by thread (record thread { left = following }) (f.While place condition body) following [] is refl
       (λ l h. absurd h) (λ l n. refl)
 
   abbrev lock_by : (mutex : ℕ) (rest : List f.Statement) → Option (Option ℕ) → Option m.State

@@ -9,9 +9,9 @@ use Rattle.std.proofs.lemmas.Map.Keys.{IsDistinct-cons}
 use Rattle.std.proofs.lemmas.Option.{slice_get_within}
 use Rattle.c_tree.specs.Programs as p
 use Rattle.c_tree.specs.Inlining as i
-use Rattle.c_inline.specs.links.Weighing.{IsUnknown, IsClosed}
+use Rattle.c_inline.specs.links.KnownWeights.{IsUnknown, IsClosed}
 
-pub leads_on : (fs : List p.Function) (to from : ℕ) (c : i.Call) → Contains (i.calls_in fs to) c → i.Leads fs to from → i.Leads fs c.function from
+pub leads_on : (fs : List p.Function) (to from : ℕ) (c : i.Call) → Contains (i.calls_in fs to) c → i.CallsReach fs to from → i.CallsReach fs c.function from
 leads_on fs to from c k i.there = i.by_call from c k i.there
 leads_on fs to from c k (i.by_call _ d m rest) = i.by_call _ d m (leads_on fs to d.function c k rest)
 
@@ -45,7 +45,7 @@ only x h (suc k, l, e) = absurd (omega arith)
 module _ (fs : List p.Function) (known : List (Option ℕ)) (closed : IsClosed fs known) where
   -- functions that are not known, each of which leads to the first
   walk : (fuel : ℕ) (f : ℕ) (path : List ℕ) → IsDistinct eqb (f ∷ path) → ((g : ℕ) → Contains (f ∷ path) g → IsUnknown known g) →
-      ((g : ℕ) → Contains (f ∷ path) g → i.Leads fs f g) →
+      ((g : ℕ) → Contains (f ∷ path) g → i.CallsReach fs f g) →
       length known < length (f ∷ path) + fuel → (c : i.Call) × i.LeadsBack fs c
   walk zero f path distinct unknown lead long =
       absurd (let m = length-le_from_distinct_below (f ∷ path) (length known) distinct
@@ -56,7 +56,7 @@ module _ (fs : List p.Function) (known : List (Option ℕ)) (closed : IsClosed f
       (λ k. (next.0, record { caller = f; made = next.1; back = lead next.0.function k }))
       (λ all. walk fuel next.0.function (f ∷ path) (IsDistinct-cons eqb next.0.function (f ∷ path) all distinct)
       (λ g k. first_or next.0.function (f ∷ path) g k (IsUnknown known) next.2 unknown)
-      (λ g k. first_or next.0.function (f ∷ path) g k (i.Leads fs next.0.function) i.there (λ h m. leads_on fs f h next.0 next.1 (lead h m)))
+      (λ g k. first_or next.0.function (f ∷ path) g k (i.CallsReach fs next.0.function) i.there (λ h m. leads_on fs f h next.0 next.1 (lead h m)))
       (omega arith))
       (found_in next.0.function (f ∷ path))
 
@@ -64,4 +64,4 @@ module _ (fs : List p.Function) (known : List (Option ℕ)) (closed : IsClosed f
   pub call_back : (g : ℕ) → IsUnknown known g → (c : i.Call) × i.LeadsBack fs c
   call_back g u =
       walk (length known) g [] (IsDistinct-cons eqb g [] tt IsDistinct-nil) (λ h k. subst (λ (x : ℕ). IsUnknown known x) (only g h k) u)
-      (λ h k. subst (λ (x : ℕ). i.Leads fs g x) (only g h k) i.there) (omega arith)
+      (λ h k. subst (λ (x : ℕ). i.CallsReach fs g x) (only g h k) i.there) (omega arith)

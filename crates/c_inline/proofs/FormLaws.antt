@@ -10,7 +10,7 @@ use Rattle.std.proofs.lemmas.Option.{none-some, same_Some, slice_get_within}
 use Rattle.ido_base.specs.declared.place.Place.{Place}
 use Rattle.ido_ints.specs.declared.kinds.Kind.{Kind}
 use Rattle.ido_ints.specs.Operators.{unary_kind, binary_kind}
-use Rattle.c_tree.specs.Checking.{HasNoBack}
+use Rattle.c_tree.specs.AcceptedTexts.{HasNoBack}
 use Rattle.c_tree.specs.Exprs as e
 use Rattle.c_tree.specs.Programs as p
 use Rattle.c_tree.specs.Flats as f
@@ -18,14 +18,14 @@ use Rattle.c_tree.specs.Inlining as i
 use Rattle.c_tree.specs.Inlining.{shifted, shifted_placed, shifted_target}
 use Rattle.c_tree.specs.Ranges as r
 use Rattle.c_tree.specs.Ranges.{Index, Interval, AllFit, index_fits, range_of, lies_in, interval, elements_of}
-use Rattle.c_tree.specs.Typing.{kind_of}
+use Rattle.c_tree.specs.Elaboration.{kind_of}
 use Rattle.c_tree.specs.WellFormed.{IsExpr, IsPlaced, IsTarget, Fits, TargetFits, IndexFits, IsResult, IsStatement, AreStatements, AreArms, HasProgramArm}
 use Rattle.c_tree.specs.WellFormed.{IsReturned, IsFunction, IsProgram, HasArm, IsFlatPlaced, IsFlatTarget, AreFlatStatements, AreFlatArms, IsWellFormed}
-use Rattle.c_inline.specs.links.Weighing.{Low}
+use Rattle.c_inline.specs.links.KnownWeights.{Low}
 use Rattle.c_inline.proofs.CallDepth.{low_all}
-use Rattle.c_inline.proofs.Deep.{calls_of_some}
-use Rattle.c_inline.proofs.Ends.{flat_is}
-use Rattle.c_inline.proofs.Near.{alone}
+use Rattle.c_inline.proofs.WeightsByDepth.{calls_of_some}
+use Rattle.c_inline.proofs.InliningAnswers.{flat_is}
+use Rattle.c_inline.proofs.CallCongruence.{alone}
 
 -- ---- Lists
 
@@ -178,7 +178,7 @@ module _ (x : p.Program) (prog : IsProgram x) (fit : AllFit x) where
   abbrev z : f.Flat
   z = record { mutexes = x.mutexes; variables = x.variables; threads = [] }
 
-  -- what is made in front of these locals has these behind it, and is well formed wherever they stand
+  -- what is made in front of these locals has these after it, and is well formed wherever they stand
   record Good (ks : List Kind) (m : i.Made f.Statements) : Type 0 where
     grows : Into ks m.kinds
     formed : (final : List Kind) → Into m.kinds final → AreFlatStatements z final m.made
@@ -230,7 +230,7 @@ module _ (x : p.Program) (prog : IsProgram x) (fit : AllFit x) where
       ((t w refl, (expr_shifted x.variables m js final at y.value.expr h, fits_shifted x.variables m y.value.expr k)), tt)
 
   good_call : (made : f.Statements) (ks after : List Kind) → Into ks after → ((final : List Kind) → Into after final → AreFlatStatements z final made) →
-      Good ks (record { made = made; kinds = i.kinds_behind made ks after })
+      Good ks (record { made = made; kinds = i.kinds_after made ks after })
   good_call f.no_statement ks after grows formed = record { grows = into_self ks; formed = λ final into. tt }
   good_call (f.statement_and y rest) ks after grows formed = record { grows = grows; formed = formed }
 
@@ -239,7 +239,7 @@ module _ (x : p.Program) (prog : IsProgram x) (fit : AllFit x) where
   result_formed n js ks at None h k y g = absurd (none-some y g)
   result_formed n js ks at (Some w) h k y g = subst (IsFlatTarget z ks) (same_Some (shifted_target n w) y g) (target_formed n js ks at w h k)
 
-  -- what a function's body becomes, with its locals behind these
+  -- what a function's body becomes, with its locals after these
   record IsBody (bodies : i.Bodies) (function : ℕ) (callee : p.Function) (ks : List Kind) : Type 0 where
     good : Good ks (bodies function ks)
     locals : At (length ks) callee.locals (bodies function ks).kinds

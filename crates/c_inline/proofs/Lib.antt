@@ -1,17 +1,17 @@
-pub mod Near
-pub mod Deep
-pub mod CallLists
-pub mod Known
-pub mod Passes
-pub mod Ranks
-pub mod Reach
-pub mod Cycle
-pub mod Backs
-pub mod Weighed
-pub mod Making
-pub mod Ends
-pub mod FormLaws
-pub mod CallDepth
-pub mod CallLocals
-pub mod CallRuns
-pub mod CallArguments
+mod CallCongruence
+mod WeightsByDepth
+mod CallLists
+mod WeightUpdates
+mod Passes
+mod Ranks
+mod CallReachability
+mod Cycle
+mod FirstRecursiveCall
+mod InlinedWeights
+mod InlinedStatements
+mod InliningAnswers
+mod FormLaws
+mod CallDepth
+mod CallLocals
+mod CallRuns
+mod CallArguments

@@ -4,7 +4,7 @@ use Rattle.std.specs.Prelude.{is_some}
 use Rattle.std.proofs.lemmas.Bool.{cases_lt, MatchBool-at_true, MatchBool-at_false, false≢true}
 use Rattle.std.proofs.lemmas.Option.{get_or_from_slice_get, slice_get_within}
 use Rattle.c_tree.specs.Programs as p
-use Rattle.c_inline.specs.links.Weighing.{IsUnknown, CallsUnknown, IsClosed, found}
+use Rattle.c_inline.specs.links.KnownWeights.{IsUnknown, CallsUnknown, IsClosed, found}
 
 pub unknown_is_none : (known : List (Option ℕ)) (g : ℕ) (x : Option ℕ) → x ≡ get_or known g x → is_some x ≡ true → IsUnknown known g → ⊥
 unknown_is_none known g x is some unknown =
@@ -40,14 +40,6 @@ module _ (fs : List p.Function) (k0 k1 k2 : List (Option ℕ)) where
       let m = same_known n r e b in
       subst (λ (k : List (Option ℕ)). MatchBool f2 (found k0 < found k) ((g : ℕ) → g < n + 1 → IsUnknown k g → CallsUnknown fs k g)) (sym m.0)
       (subst (λ (f : Bool). MatchBool f (found k0 < found k1) ((g : ℕ) → g < n + 1 → IsUnknown k1 g → CallsUnknown fs k1 g)) (sym is) (at_next n f1 a m.1))
-
-  pub closed_same : (n : ℕ) (f1 f2 r : Bool) → MatchBool f1 (found k0 < found k1) (IsClosed fs k1) →
-      r ≡ false → MatchBool r (found k2 ≡ found k1 + 1) ((k2 ≡ k1) × (IsUnknown k1 n → CallsUnknown fs k1 n)) → f2 ≡ f1 →
-      MatchBool f2 (found k0 < found k2) (IsClosed fs k2)
-  closed_same n f1 f2 r a e b is =
-      let m = same_known n r e b in
-      subst (λ (k : List (Option ℕ)). MatchBool f2 (found k0 < found k) (IsClosed fs k)) (sym m.0)
-      (subst (λ (f : Bool). MatchBool f (found k0 < found k1) (IsClosed fs k1)) (sym is) a)
 
   pub closed_all : (n : ℕ) (f : Bool) → length k1 ≤ n → MatchBool f (found k0 < found k1) ((g : ℕ) → g < n → IsUnknown k1 g → CallsUnknown fs k1 g) →
       MatchBool f (found k0 < found k1) (IsClosed fs k1)

@@ -11,7 +11,7 @@ use Rattle.c_tree.specs.Flats as f
 use Rattle.c_tree.specs.Inlining as i
 use Rattle.c_tree.specs.Inlining.{bodies_of}
 use Rattle.c_tree.specs.Source.{State, Thread, after_from, opened_all, value_in}
-use Rattle.c_tree.specs.Checking.{HasNoBack}
+use Rattle.c_tree.specs.AcceptedTexts.{HasNoBack}
 
 -- ---- Locals that are named
 
@@ -83,14 +83,14 @@ abbrev pub IsResultBelow : (count : ℕ) → Option e.Lvalue → Type 0
 IsResultBelow count x = (u : Use) (local : ℕ) → ResultUses u x local → local < count
 
 -- the function takes so many arguments
-abbrev pub Takes : List p.Function → (function arguments : ℕ) → Type 0
-Takes fs function arguments = (x : p.Function) → slice_get fs function ≡ Some x → arguments ≤ length x.locals
+abbrev pub TakesArguments : List p.Function → (function arguments : ℕ) → Type 0
+TakesArguments fs function arguments = (x : p.Function) → slice_get fs function ≡ Some x → arguments ≤ length x.locals
 
 -- all locals that are named are among the first ones, and calls pass no more arguments than there are locals for
 abbrev mutual
   pub IsScoped : List p.Function → (count : ℕ) → p.Statement → Type 0
   IsScoped fs count (p.Assign place target value) = IsBelow count target × AreBelow count value.expr
-  IsScoped fs count (p.Call place name function arguments result) = Takes fs function
+  IsScoped fs count (p.Call place name function arguments result) = TakesArguments fs function
       (length arguments) × AreAllBelow count arguments × IsResultBelow count result
   IsScoped fs count (p.If place arms otherwise) = AreScopedArms fs count arms × AreScoped fs count otherwise
   IsScoped fs count (p.While place condition body) = AreBelow count condition.expr × AreScoped fs count body
@@ -119,12 +119,12 @@ AreFunctionsScoped fs = (function : ℕ) (x : p.Function) → slice_get fs funct
 
 -- ---- Calls are no deeper than there are functions
 
--- with calls allowed deeper than that, the bodies are the same
+-- with calls allowed deeper than there are functions, the bodies are the same
 abbrev pub DepthIsEnough : Type 0
 DepthIsEnough = (x : p.Program) (deep function : ℕ) (ks : List Kind) → HasNoBack x → length x.functions ≤ deep →
     bodies_of x.functions deep function ks ≡ bodies_of x.functions (length x.functions) function ks
 
--- so each is that of its function, where each call is again such a body
+-- the body made of a function is that of its own statements, where each call in them is again such a body
 abbrev pub BodiesAreBodies : Type 0
 BodiesAreBodies = (x : p.Program) (function : ℕ) (g : p.Function) (ks : List Kind) → HasNoBack x → slice_get x.functions function ≡ Some g →
     bodies_of x.functions (length x.functions) function ks
@@ -144,12 +144,12 @@ pub record Site : Type 0 where
 abbrev pub call_made : List p.Function → (deep by : ℕ) → List Kind → Site → i.Made f.Statements
 call_made fs deep by ks x = i.statement fs (bodies_of fs deep) by ks (p.Call x.place x.name x.function x.arguments x.result)
 
--- locals that there are keep their numbers and kinds: new ones come behind them
+-- locals that there are keep their numbers and kinds: new ones come after them
 abbrev pub KindsGrow : Type 0
 KindsGrow = (fs : List p.Function) (deep by : ℕ) (ks : List Kind) (xs : p.Statements) →
     (more : List Kind) × ((i.statements fs (bodies_of fs deep) by ks xs).kinds ≡ ks ++ more)
 
--- the local is one of those that came behind the ones before: so it is new, and that of no other call
+-- the local is one of those that came after the ones before: new, and that of no other call
 abbrev pub IsNew : (before after : List Kind) → (local : ℕ) → Type 0
 IsNew before after local = (length before ≤ local) × (local < length after)
 
@@ -162,10 +162,10 @@ abbrev pub NoneIsShared : Type 0
 NoneIsShared = (fs : List p.Function) (deep by : ℕ) (ks : List Kind) (x : Site) (u : Use) (local : ℕ) →
     StatementsUse u (call_made fs deep by ks x).made local → (length ks ≤ local) ⊎ IsPassed u by x local
 
--- and none that only comes behind it
+-- a call names what it is passed, its arguments to read and its target to assign, and else only locals that are new with it
 abbrev pub LocalsAreNew : Type 0
 LocalsAreNew = (program : p.Program) (by : ℕ) (ks : List Kind) (x : Site) (u : Use) (local : ℕ) →
-    HasNoBack program → AreFunctionsScoped program.functions → Takes program.functions x.function (length x.arguments) →
+    HasNoBack program → AreFunctionsScoped program.functions → TakesArguments program.functions x.function (length x.arguments) →
     (let m = call_made program.functions (length program.functions) by ks x in
     StatementsUse u m.made local → IsNew ks m.kinds local ⊎ IsPassed u by x local)
 
@@ -196,7 +196,7 @@ abbrev pub UnassignedAreKept : Type 0
 UnassignedAreKept = (s : State) (schedule : List ℕ) (thread local : ℕ) (first rest : List f.Statement) → left_of s thread ≡ first ++ rest →
     IsBefore s schedule thread rest → ¬ (LeftUses assigned first local) → IsKept s (after_from s schedule) thread local rest
 
--- so until a call is done, at every moment of any run, its caller's locals are what they were, but for the call's target
+-- until a call is done, at every moment of any run, its caller's locals are what they were, but for the call's target
 abbrev pub CallersAreKept : Type 0
 CallersAreKept = (fs : List p.Function) (deep by : ℕ) (ks : List Kind) (x : Site) (s : State) (schedule : List ℕ) (thread local : ℕ) (rest : List f.Statement) →
     left_of s thread ≡ opened_all (call_made fs deep by ks x).made ++ rest → IsBefore s schedule thread rest →

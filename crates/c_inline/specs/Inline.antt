@@ -2,7 +2,7 @@
 use Rattle.std.specs.Prelude.{◌≡◌, Some, None, Result, Ok, Err}
 use Rattle.c_tree.specs.Programs.{Program}
 use Rattle.c_tree.specs.Inlining.{IsFirstBack, flat_form}
-use Rattle.c_tree.specs.Checking.{HasNoBack}
+use Rattle.c_tree.specs.AcceptedTexts.{HasNoBack}
 use Rattle.c_tree.specs.Flats.{flat_of}
 use Rattle.c_tree.specs.Temporaries.{price_fault}
 use Rattle.c_tree.specs.declared.flat.Flat.{Flat}

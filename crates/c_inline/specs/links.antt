@@ -1,7 +1,7 @@
 pub mod Calls
-pub mod Making
-pub mod Ranking
-pub mod Reaching
-pub mod Weighing
+pub mod InlinedBodies
+pub mod CallRanks
+pub mod ReachedFunctions
+pub mod KnownWeights
 pub mod Weights
 pub mod Faults

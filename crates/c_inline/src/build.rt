@@ -8,8 +8,8 @@ ghost use Rattle.c_tree.specs.Programs.{function_of, returned_of};
 ghost use Rattle.c_tree.specs.Flats as f;
 ghost use Rattle.c_tree.specs.Inlining as i;
 ghost use Rattle.c_inline.specs.links.Weights as v;
-ghost use Rattle.c_inline.specs.links.Making.{AreSized, IsTaken, whole, after, behind_of, begun_made, begun_if_any};
-ghost use Rattle.c_inline.specs.links.Making.{all_made, and_any, work_if_any, all_work, function_work};
+ghost use Rattle.c_inline.specs.links.InlinedBodies.{AreSized, IsTaken, whole, after, following_of, begun_made, begun_if_any};
+ghost use Rattle.c_inline.specs.links.InlinedBodies.{all_made, and_any, work_if_any, all_work, function_work};
 
 use crate::shift::{shift, shift_placed, shift_target};
 use crate::weight::{SIZE, call_weight};
@@ -28,13 +28,13 @@ pub struct Bodies<'a> {
 }
 
 /// A body that has been begun: its function, how many of its statements are done, where its locals begin, and what
-/// stands behind it.
+/// stands after it.
 #[derive(Drop)]
 struct Begun {
     function: u32,
     done: usize,
     by: u32,
-    behind: Option<flat::Statement>,
+    following: Option<flat::Statement>,
 }
 
 /// How many locals there are; beyond 2^32 - 1 there is no memory for so many.
@@ -92,7 +92,7 @@ fn assign(
     by: u32,
     target: &Option<Lvalue>,
 ) -> Result<Option<flat::Statement>, AllocError>
-    ensures { IfOk result (λ behind. behind_of behind
+    ensures { IfOk result (λ following. following_of following
         ≡ i.assigned place first (option_map returned_of returned.now) (option_map (i.shifted_target by) (option_map lvalue_of target.now))) }
 {
     match (returned, target) {
@@ -152,14 +152,14 @@ fn begin(
         return Ok(None);
     };
     let first = local_count(kinds)?;
-    let behind = assign(alloc, place, first, &called.result, by, target)?;
+    let following = assign(alloc, place, first, &called.result, by, target)?;
     pass(alloc, place, first, &called.locals, by, arguments, made)?;
     kinds.extend_from_slice(&called.locals)?;
     Ok(Some(Begun {
         function,
         done: 0,
         by: first,
-        behind,
+        following,
     }))
 }
 
@@ -183,20 +183,20 @@ fn push_begun(waiting: &mut Vec<Begun>, begun: Option<Begun>) -> Result<(), Allo
     Ok(())
 }
 
-/// Appends what stands behind a body, if there is something.
-fn push_behind(
+/// Appends what stands after a body, if there is something.
+fn push_following(
     made: &mut Vec<flat::Statement>,
-    behind: Option<flat::Statement>,
+    following: Option<flat::Statement>,
 ) -> Result<(), AllocError>
-    ensures { OnOk result (f.statements_of made.new.items ≡ i.statements_and (f.statements_of made.old.items) (behind_of behind)) }
+    ensures { OnOk result (f.statements_of made.new.items ≡ i.statements_and (f.statements_of made.old.items) (following_of following)) }
 {
-    if let Some(behind) = behind {
-        made.push(behind)?;
+    if let Some(following) = following {
+        made.push(following)?;
     }
     Ok(())
 }
 
-/// One step of a body that has been begun: its next statement, or what stands behind it. What is left waits.
+/// One step of a body that has been begun: its next statement, or what stands after it. What is left waits.
 #[cycle(build)]
 fn make_step(
     alloc: Global,
@@ -218,7 +218,7 @@ fn make_step(
             waiting.push(begun)?;
             push_begun(waiting, inner)
         }
-        None => push_behind(made, begun.behind),
+        None => push_following(made, begun.following),
     }
 }
 

@@ -1,12 +1,12 @@
-//! From a program to its flat form.
+//! Inlining: a program becomes its flat form.
 ghost use Rattle.std.specs.Prelude.{◌≡◌, ℕ, map, min, IfOk};
 ghost use Rattle.c_tree.specs.Programs.{program_of, function_of, thread_of};
 ghost use Rattle.c_tree.specs.Flats as f;
 ghost use Rattle.c_tree.specs.Inlining.{flat_thread};
 ghost use Rattle.c_tree.specs.Prices.{thread_price};
 ghost use Rattle.c_inline.specs.links.Weights.{price};
-ghost use Rattle.c_inline.specs.links.Weighing.{AreRight, IsUnknown};
-ghost use Rattle.c_inline.specs.links.Making.{AreSized};
+ghost use Rattle.c_inline.specs.links.KnownWeights.{AreRight, IsUnknown};
+ghost use Rattle.c_inline.specs.links.InlinedBodies.{AreSized};
 ghost use Rattle.c_inline.specs.Inline.{IsInlining};
 ghost use Rattle.c_inline.specs.links.Faults.{fault_among};
 

@@ -10,7 +10,7 @@ pub fn depth_is_enough()
     ensures whole { BodiesAreBodies }
 {}
 
-/// What a call becomes has locals of its own: they come behind those that there are, and no other call
+/// What a call becomes has locals of its own: they come after those that there are, and no other call
 /// has them. Of the caller's it reads those of the arguments and of the target's index, and assigns the
 /// target.
 pub fn calls_have_their_own_locals()

@@ -2,7 +2,7 @@
 ghost use Rattle.std.specs.Prelude.{◌≡◌, ◌<◌, ◌≤◌, IfOk, MatchBool, Contains};
 ghost use Rattle.c_tree.specs.Inlining as i;
 ghost use Rattle.c_inline.specs.links.Calls.{calls_of, lists_of};
-ghost use Rattle.c_inline.specs.links.Ranking.{AreRanks, rank_at};
+ghost use Rattle.c_inline.specs.links.CallRanks.{AreRanks, rank_at};
 
 use crate::calls::Call;
 use std::alloc::{AllocError, Global};
@@ -68,7 +68,7 @@ struct Walk {
     ranks: Vec<Option<u32>>,
     // The functions that were visited and have no rank yet, in the order of their visits.
     open: Vec<usize>,
-    // Of these the ones that are not known to lead back to an earlier one.
+    // Of the open functions the ones that are not known to lead back to an earlier one.
     roots: Vec<usize>,
     // The visits that are under way, the innermost last.
     visits: Vec<Visit>,
@@ -118,7 +118,7 @@ impl Walk {
         Ok(())
     }
 
-    /// A call leads back to the visit of this number: what was visited behind it is no root.
+    /// A call leads back to the visit of this number: what was visited after it is no root.
     fn lead_back(&mut self, number: u32) -> Result<(), AllocError> {
         while let Some(root) = self.roots.pop() {
             if matches!(self.visit_of(root), Some(earlier) if earlier <= number) {
@@ -141,7 +141,7 @@ impl Walk {
         }
     }
 
-    /// Gives the next rank to a root and all that was visited behind it and has none.
+    /// Gives the next rank to a root and all that was visited after it and has none.
     fn close(&mut self, root: usize) -> Result<(), AllocError> {
         while let Some(function) = self.open.pop() {
             if function < self.ranks.len() {
@@ -156,7 +156,7 @@ impl Walk {
         Ok(())
     }
 
-    /// Behind the last call of a function: it is given its rank, if it is a root.
+    /// After the last call of a function: it is given its rank, if it is a root.
     fn leave(&mut self, function: usize) -> Result<(), AllocError> {
         match self.roots.pop() {
             Some(root) if root == function => self.close(root),

@@ -2,9 +2,9 @@
 ghost use Rattle.std.specs.Prelude.{◌≡◌, ◌<◌, ◌≤◌, ◌+◌, ℕ, List, ◌++◌, ◌∷◌, [], ◌⊎◌, ◌↔◌, IsTrue, true, false, length};
 ghost use Rattle.std.specs.Prelude.{IfOk, OnOk, MatchBool, MatchOption, IfSome, Contains, slice_get, slice_set, Some};
 ghost use Rattle.c_tree.specs.Inlining as i;
-ghost use Rattle.c_inline.specs.links.Calls.{call_of, lists_of, calls_at, Leads, LeadsBack, IsFirstBack};
-ghost use Rattle.c_inline.specs.links.Ranking.{AreRanks};
-ghost use Rattle.c_inline.specs.links.Reaching.{IsReached, IsBackBelow, IsBetter};
+ghost use Rattle.c_inline.specs.links.Calls.{call_of, lists_of, calls_at, CallsLead, LeadsBack, IsFirstBack};
+ghost use Rattle.c_inline.specs.links.CallRanks.{AreRanks};
+ghost use Rattle.c_inline.specs.links.ReachedFunctions.{IsReachedFunction, IsBackBelow, IsBetter};
 
 use crate::calls::Call;
 use crate::rank::rank_of;
@@ -14,7 +14,7 @@ use std::alloc::{AllocError, Global};
 /// Whether calls lead from the one function to the other, or they are one.
 fn leads(alloc: Global, calls: &[Vec<Call>], from: u32, to: usize) -> Result<bool, AllocError>
     requires { to < length calls.now }
-    ensures { IfOk result (λ b. MatchBool b (Leads (lists_of calls.now) to from) (¬ (Leads (lists_of calls.now) to from))) }
+    ensures { IfOk result (λ b. MatchBool b (CallsLead (lists_of calls.now) to from) (¬ (CallsLead (lists_of calls.now) to from))) }
 {
     let mut reached = vec![in alloc; false; calls.len()]?;
     let mut waiting = Vec::new(alloc);
@@ -32,7 +32,7 @@ fn leads(alloc: Global, calls: &[Vec<Call>], from: u32, to: usize) -> Result<boo
 
 /// A function that exists and wasn't reached yet is reached, and waits for its own calls to be followed.
 fn reach(reached: &mut Vec<bool>, waiting: &mut Vec<u32>, function: u32) -> Result<(), AllocError>
-    ensures { OnOk result (IsReached reached.old.items waiting.old.items function reached.new.items waiting.new.items) }
+    ensures { OnOk result (IsReachedFunction reached.old.items waiting.old.items function reached.new.items waiting.new.items) }
 {
     let number = function as usize;
     if number < reached.len() && !reached[number] {

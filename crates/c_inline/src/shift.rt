@@ -102,7 +102,7 @@ pub fn shift(alloc: Global, by: u32, expr: &Expr) -> Result<Expr, AllocError>
     }
 }
 
-/// The same in a box of its own.
+/// The shifted expression, in a box of its own.
 #[cycle(shifts)]
 fn shift_boxed(alloc: Global, by: u32, expr: &Expr) -> Result<Box<Expr>, AllocError>
     ensures { IfOk result (λ x. expr_of x.value ≡ shifted by (expr_of expr.now)) }

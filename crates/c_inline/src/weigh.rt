@@ -3,7 +3,7 @@ ghost use Rattle.std.specs.Prelude.{◌≡◌, ◌<◌, ◌+◌, ℕ, map, lengt
 ghost use Rattle.c_tree.specs.Inlining as i;
 ghost use Rattle.c_tree.specs.Programs.{function_of};
 ghost use Rattle.c_inline.specs.links.Calls.{calls_of, function_calls, lists_of};
-ghost use Rattle.c_inline.specs.links.Weighing.{AreRight, IsUnknown, CallsUnknown, IsClosed, found};
+ghost use Rattle.c_inline.specs.links.KnownWeights.{AreRight, IsUnknown, CallsUnknown, IsClosed, found};
 
 use crate::calls::Call;
 use crate::weight::{Weights, statements_weight};

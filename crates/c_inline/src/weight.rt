@@ -29,7 +29,7 @@ pub const PRICE: Weights = Weights {
     branch: 0,
 };
 
-/// By these a part weighs nothing only where it makes no statement.
+/// Weights by which a part weighs nothing only where it makes no statement.
 pub const SIZE: Weights = Weights {
     node: 1,
     expression: 0,

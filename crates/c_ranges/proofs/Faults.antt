@@ -5,7 +5,7 @@ use Rattle.std.proofs.lemmas.List.{append-nil, take_more}
 use Rattle.std.proofs.lemmas.Bool.{cases_lt}
 use Rattle.c_tree.specs.Programs as p
 use Rattle.c_tree.specs.Ranges.{Index}
-use Rattle.c_ranges.specs.links.Firsts.{earlier, fault_of, first_fault}
+use Rattle.c_ranges.specs.links.FirstUnfitIndex.{earlier, fault_of, first_fault}
 use Rattle.c_ranges.specs.declared.indexes.IndexError.{IndexError}
 
 -- ---- Of two answers
@@ -42,10 +42,6 @@ earlier_assoc (Some a) (Some b) None = earlier_none (earlier (Some a) (Some b))
 earlier_assoc (Some a) (Some b) (Some c) = earlier_some a b c
 
 -- ---- Of a list
-
-pub first_fault_none : (vs : List p.Variable) → first_fault vs [] ≡ None
-unfolding first_fault
-first_fault_none vs = refl
 
 pub first_fault_more : (vs : List p.Variable) (i : Index) (rest : List Index) → first_fault vs (i ∷ rest) ≡ earlier (fault_of vs i) (first_fault vs rest)
 unfolding first_fault

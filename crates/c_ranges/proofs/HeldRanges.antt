@@ -8,19 +8,19 @@ use Rattle.std.proofs.lemmas.Nat.{le-div, pow_pos}
 use Rattle.ido_ints.specs.declared.kinds.Kind.{Kind}
 use Rattle.ido_ints.specs.declared.kinds.Kind.TheVariants.{Char, UnsignedChar, SignedChar, Short, UnsignedShort, Int, UnsignedInt, Long, UnsignedLong}
 use Rattle.ido_ints.specs.Kinds.{least_of, greatest_of}
-use Rattle.ido_ints.proofs.Reduced.{Bounded, Holds-Bounded, Holds-zero}
+use Rattle.ido_ints.proofs.Public.{Bounded, Holds-Bounded, Holds-zero}
 use Rattle.c_tree.specs.Ranges.{lesser}
-use Rattle.c_ranges.proofs.Fitting.{lesser_by}
+use Rattle.c_ranges.proofs.IntervalsOfKinds.{lesser_by}
 use Rattle.c_ranges.specs.Bounds.{HeldBy}
 use Rattle.c_ranges.specs.declared.interval.Interval.{Interval as Range}
 
 -- the ends of every range that a kind holds
-pub record Ends (r : Range) : Type 0 where
+pub record HasEnds (r : Range) : Type 0 where
   pub lo : Bounded r.lo
   pub ordered : r.lo ≤ℤ r.hi
   pub hi : Bounded r.hi
 
-pub HeldBy-Ends : (k : Kind) (r : Range) → HeldBy k r → Ends r
+pub HeldBy-Ends : (k : Kind) (r : Range) → HeldBy k r → HasEnds r
 HeldBy-Ends k r h = record {
   lo = Holds-Bounded k r.lo (record { from_least = h.from_least; to_greatest = omega (arith, ints, h.ordered, h.to_greatest) });
   ordered = h.ordered;

@@ -1,14 +1,15 @@
-pub mod Exact
-pub mod Faults
-pub mod Firsts
-pub mod Fitting
-pub mod Foreseen
-pub mod HeldRanges
-pub mod Kept
-pub mod Keeping
-pub mod Steps
-pub mod Multiples
-pub mod Operations
-pub mod Products
-pub mod Reductions
-pub mod Within
+pub mod Public
+mod ExactArithmetic
+mod Faults
+mod FirstUnfitIndexLaws
+mod IntervalsOfKinds
+mod ValuesInRanges
+mod HeldRanges
+mod HeldNumberLists
+mod RunsKeepInvariants
+mod StepEvaluations
+mod Multiples
+mod Operations
+mod Products
+mod Reductions
+mod IntervalHulls

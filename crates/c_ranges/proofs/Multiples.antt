@@ -3,8 +3,8 @@ use Rattle.std.proofs.Common.{◌≡◌, subst, ap, ℕ, suc, ◌*◌, arith}
 use Rattle.std.specs.Prelude.{ℤ, pos, negsuc, ◌+ℤ◌, ◌-ℤ◌, ◌*ℤ◌, ◌≤ℤ◌, unsigned_abs}
 use Rattle.std.proofs.lemmas.Int.{ints}
 use Rattle.c_tree.specs.Ranges.{Interval, Within, only, hull, lesser, greater, product}
-use Rattle.c_ranges.proofs.Fitting.{lesser_by, greater_by}
-use Rattle.c_ranges.proofs.Within.{le_trans, Within_hull_left, Within_hull_right}
+use Rattle.c_ranges.proofs.IntervalsOfKinds.{lesser_by, greater_by}
+use Rattle.c_ranges.proofs.IntervalHulls.{le_trans, Within_hull_left, Within_hull_right}
 use borrow.Author.Differences.{sum_is_lem}
 
 pub mul_comm : (x y : ℤ) → x *ℤ y ≡ y *ℤ x

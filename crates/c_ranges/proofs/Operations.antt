@@ -11,13 +11,13 @@ use Rattle.ido_ints.specs.declared.kinds.Kind.{Kind}
 use Rattle.ido_ints.specs.Kinds.{bits_of, least_of, greatest_of}
 use Rattle.ido_ints.specs.Operators.{is_zero, quotient, remainder, bitwise, places}
 use Rattle.ido_ints.specs.Reduction.{residue, reduced}
-use Rattle.ido_ints.proofs.Reduced.{Holds-zero}
+use Rattle.ido_ints.proofs.Public.{Holds-zero}
 use Rattle.c_tree.specs.Ranges.{Interval, interval, Within, full, lesser, from_zero_up, is_positive_value}
 use Rattle.c_tree.specs.Ranges.{sum, difference, and_range, quotient_range, remainder_range, shifted_range}
-use Rattle.c_ranges.proofs.Fitting.{Inside, lesser_by, from_zero_up-true, from_zero_up-false, is_positive_value-true}
+use Rattle.c_ranges.proofs.IntervalsOfKinds.{Inside, lesser_by, from_zero_up-true, from_zero_up-false, is_positive_value-true}
 use Rattle.c_ranges.proofs.HeldRanges.{div_le_div, int_div_range, int_shr_range, lesser_range, symmetric_range}
 use Rattle.c_ranges.proofs.Reductions.{cond_by, Within_kept, Within_full, Inside_HeldBy}
-use Rattle.c_ranges.proofs.Within.{le_trans}
+use Rattle.c_ranges.proofs.IntervalHulls.{le_trans}
 
 pub Within_sum : (i j : Interval) (a b : ℤ) → Within i a → Within j b → Within (sum i j) (a +ℤ b)
 Within_sum i j a b h k = record { from_low = omega (arith, ints, h.from_low, k.from_low); to_high = omega (arith, ints, h.to_high, k.to_high) }
@@ -156,7 +156,7 @@ and_le_left k a b h = omega (arith, ints, residue_le (bits_of k) a h, and_le_l (
 and_le_right : (k : Kind) (a b : ℤ) → pos 0 ≤ℤ b → bitwise bit_and k a b ≤ℤ b
 and_le_right k a b h = omega (arith, ints, residue_le (bits_of k) b h, and_le_r (residue (bits_of k) a) (residue (bits_of k) b))
 
--- from 0 to an end that bounds it
+-- a number from 0 to an end that the kind holds stays between them where it is reduced
 and_kept : (k : Kind) (h z : ℤ) → pos 0 ≤ℤ z → z ≤ℤ h → h ≤ℤ greatest_of k → Within (interval (pos 0) h) (reduced k z)
 and_kept k h z low high most =
     let zero = Holds-zero k in

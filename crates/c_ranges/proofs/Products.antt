@@ -2,14 +2,13 @@
 use Rattle.std.proofs.Common.{◌≡◌, refl, sym, subst, ⊎_elim}
 use Rattle.std.specs.Prelude.{ℤ, ◌*ℤ◌, ◌≤ℤ◌}
 use Rattle.ido_ints.specs.declared.kinds.Kind.{Kind}
-use Rattle.ido_ints.proofs.Exact.{Bounded-fits}
-use Rattle.ido_ints.proofs.Reduced.{Holds-Bounded}
+use Rattle.ido_ints.proofs.Public.{Bounded-fits, Holds-Bounded}
 use Rattle.c_tree.specs.Ranges.{Interval, Within, only, full, fitted, hull, product}
 use Rattle.c_ranges.specs.Bounds.{interval_of}
 use Rattle.c_ranges.specs.links.Corners.{IsWide, HasWideCorner}
 use Rattle.c_ranges.specs.declared.interval.Interval.{Interval as Range}
-use Rattle.c_ranges.proofs.Fitting.{Inside, fitted_by}
-use Rattle.c_ranges.proofs.Within.{le_trans, Within_only, Within_hull_left, Within_hull_right}
+use Rattle.c_ranges.proofs.IntervalsOfKinds.{Inside, fitted_by}
+use Rattle.c_ranges.proofs.IntervalHulls.{le_trans, Within_only, Within_hull_left, Within_hull_right}
 
 pub record Corners (i j : Interval) : Type 0 where
   pub low_low : Within (product i j) (i.lo *ℤ j.lo)

@@ -6,12 +6,12 @@ use Rattle.ido_ints.specs.declared.kinds.Kind.{Kind}
 use Rattle.ido_ints.specs.Kinds.{Holds, least_of, greatest_of}
 use Rattle.ido_ints.specs.Operators.{truth}
 use Rattle.ido_ints.specs.Reduction.{reduced}
-use Rattle.ido_ints.proofs.Reduced.{Holds-reduced, reduced_held}
+use Rattle.ido_ints.proofs.Public.{Holds-reduced, reduced_held}
 use Rattle.c_tree.specs.Ranges.{Interval, interval, Within, full, fitted, truth_range}
 use Rattle.c_ranges.specs.Bounds.{HeldBy}
-use Rattle.c_ranges.proofs.Fitting.{Inside, fitted_by}
+use Rattle.c_ranges.proofs.IntervalsOfKinds.{Inside, fitted_by}
 use Rattle.c_ranges.proofs.HeldRanges.{range}
-use Rattle.c_ranges.proofs.Within.{le_trans, le_refl}
+use Rattle.c_ranges.proofs.IntervalHulls.{le_trans, le_refl}
 
 -- what holds in both cases of a test
 pub cond_by : (P : Interval → Type 0) (b : Bool) (i j : Interval) → (true ≡ b → P i) → (false ≡ b → P j) → P (cond b i j)

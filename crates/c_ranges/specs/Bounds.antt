@@ -1,4 +1,4 @@
--- What the code's `Interval` stands for, and the bounds that it keeps.
+-- What the code's `Interval` represents, and the bounds that it keeps.
 use Rattle.std.specs.Prelude.{◌≤ℤ◌}
 use Rattle.ido_ints.specs.declared.kinds.Kind.{Kind}
 use Rattle.ido_ints.specs.Kinds.{least_of, greatest_of}

@@ -6,7 +6,7 @@ use Rattle.c_tree.specs.Ranges.{Index, range_of, elements_of, IsFirstUnfit}
 use Rattle.c_ranges.specs.Bounds.{interval_of}
 use Rattle.c_ranges.specs.declared.indexes.IndexError.{IndexError}
 
--- it tells of the first index that doesn't fit: its place, its range and the length of its array
+-- the error tells of the first index that doesn't fit: its place, its range and the length of its array
 pub record IsFaultOf (x : p.Program) (e : IndexError) : Type 0 where
   pub index : Index
   pub first : IsFirstUnfit x index

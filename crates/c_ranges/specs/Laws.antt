@@ -4,7 +4,7 @@ use Rattle.ido_ints.specs.Kinds.{Holds}
 use Rattle.c_tree.specs.Exprs as e
 use Rattle.c_tree.specs.Programs as p
 use Rattle.c_tree.specs.Values.{value, element_number, element_at}
-use Rattle.c_tree.specs.Typing.{kind_of}
+use Rattle.c_tree.specs.Elaboration.{kind_of}
 use Rattle.c_tree.specs.Ranges.{Within, Index, range_of, program_indexes, elements_of, AllFit}
 
 -- each local, variable and element that the expression names has a number that its kind holds

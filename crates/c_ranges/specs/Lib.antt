@@ -1,5 +1,5 @@
 pub mod Bounds
 pub mod Faults
 pub mod Laws
-pub mod Keeping
+pub mod RunInvariants
 pub mod links

@@ -1,2 +1,2 @@
 pub mod Corners
-pub mod Firsts
+pub mod FirstUnfitIndex

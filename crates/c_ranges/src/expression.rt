@@ -2,7 +2,7 @@
 ghost use Rattle.std.specs.Prelude.{◌≡◌, ◌^◌, pos, neg_ℤ, ◌≤ℤ◌, ◌<ℤ◌};
 ghost use Rattle.c_tree.specs.Exprs.{expr_of};
 ghost use Rattle.c_tree.specs.Ranges.{full, fitted, hull, range_of};
-ghost use Rattle.c_tree.specs.Typing.{kind_of};
+ghost use Rattle.c_tree.specs.Elaboration.{kind_of};
 ghost use Rattle.c_ranges.specs.Bounds.{interval_of, HeldBy};
 
 use crate::interval::Interval;

@@ -6,7 +6,7 @@ ghost use Rattle.c_tree.specs.Programs.{program_of, statement_of, statements_of,
 ghost use Rattle.c_tree.specs.Ranges.{elements_of, expr_indexes, placed_indexes, target_indexes, statement_indexes};
 ghost use Rattle.c_tree.specs.Ranges.{statements_indexes, arms_indexes, result_indexes, returned_indexes, AllFit};
 ghost use Rattle.c_ranges.specs.Faults.{IsFaultOf};
-ghost use Rattle.c_ranges.specs.links.Firsts.{functions_indexes, threads_indexes, variables_of, index_of, fault_of, earlier, first_fault};
+ghost use Rattle.c_ranges.specs.links.FirstUnfitIndex.{functions_indexes, threads_indexes, variables_of, index_of, fault_of, earlier, first_fault};
 
 use crate::expression::range;
 use crate::interval::Interval;

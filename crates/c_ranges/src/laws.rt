@@ -1,5 +1,5 @@
 //! What ranges are for, as laws over the definitions. The calls do nothing.
-ghost use Rattle.c_ranges.specs.Keeping.{BeginsSo, IndexesInRange, IsSoInEveryRun, StaysSo, StopsForReason, ValuesForeseen};
+ghost use Rattle.c_ranges.specs.RunInvariants.{BeginsSo, IndexesInRange, IsSoInEveryRun, StaysSo, StopsForReason, ValuesForeseen};
 ghost use Rattle.c_ranges.specs.Laws.{IndexesNameElements, RangesHold};
 
 /// Every value of an expression lies in its range, and is of its kind, where the numbers of locals
@@ -21,7 +21,7 @@ pub fn values_keep_to_their_kinds()
     ensures runs { IsSoInEveryRun }
 {}
 
-/// So each value that a step evaluates lies in its range, and no index is out of range.
+/// In each state whose values keep to their kinds each value that a step evaluates lies in its range, and no index is out of range.
 pub fn indexes_stay_in_range()
     ensures values { ValuesForeseen }
     ensures indexes { IndexesInRange }

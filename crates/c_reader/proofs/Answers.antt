@@ -5,9 +5,9 @@ use Rattle.c_tree.specs.Tokens as t
 use Rattle.c_tree.specs.Trees.{Item}
 use Rattle.c_reader.specs.declared.token.Token.{Token}
 use Rattle.c_reader.specs.links.Tokens.{token_of, tokens_of}
-use Rattle.c_reader.specs.links.Parsing.{Read, Wrong, parse_program}
-use Rattle.c_reader.specs.links.Steps.{all_items}
-use Rattle.c_reader.proofs.Whole.{program_read, program_wrong}
+use Rattle.c_reader.specs.links.ParserFunctions.{Read, Wrong, parse_program}
+use Rattle.c_reader.specs.links.ParserSteps.{all_items}
+use Rattle.c_reader.proofs.WholePrograms.{program_read, program_wrong}
 
 program_is : (xs : List Token) → parse_program (tokens_of xs) ≡ all_items (length xs + 1) (tokens_of xs)
 unfolding parse_program all_items

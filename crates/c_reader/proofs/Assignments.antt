@@ -8,8 +8,8 @@ use Rattle.c_tree.specs.declared.token.Punctuator.TheVariants as p
 use Rattle.c_tree.specs.Trees as t
 use Rattle.c_tree.specs.Languages.{mark, ◌⋅◌, first_place}
 use Rattle.c_tree.specs.Grammar.{expression, index, target, changed, assignment}
-use Rattle.c_reader.specs.links.Parsing.{head_of, update_in, parse_target, change_by, parse_change, assignment_by, parse_assignment}
-use Rattle.c_reader.proofs.Good.{Language, Good, ◌▷◌, ◌▹◌, found_in, Anything, good_to, good_map, good_head, good_then, good_taking}
+use Rattle.c_reader.specs.links.ParserFunctions.{head_of, update_in, parse_target, change_by, parse_change, assignment_by, parse_assignment}
+use Rattle.c_reader.proofs.CorrectParsers.{Language, Good, ◌▷◌, ◌▹◌, found_in, Anything, good_to, good_map, good_head, good_then, good_taking}
 use Rattle.c_reader.proofs.Tokens.{some_same, marked, named, good_mark, good_name}
 use Rattle.c_reader.proofs.Expressions.{OperandEnd, not_mark}
 use Rattle.c_reader.proofs.Operands.{ExpressionEnd, good_index, good_expression}
@@ -30,7 +30,7 @@ good_target fuel fuel' b h h' =
 
 -- ---- Changes
 
--- what stands behind a target
+-- what stands after a target
 abbrev pub ChangeLanguage : Language t.Change
 ChangeLanguage (t.Set value) = mark p.Assign ⋅ expression value
 ChangeLanguage (t.Update operator value) = mark (p.Update operator) ⋅ expression value

@@ -10,15 +10,15 @@ use Rattle.c_tree.specs.Trees as t
 use Rattle.c_tree.specs.Views as v
 use Rattle.c_tree.specs.declared.tree.Statement as s
 use Rattle.c_tree.specs.declared.tree.Arm as arm
-use Rattle.c_reader.specs.links.Parsing.{Parsed, Parser, Read, Wrong, give, follow, ◌>>=◌, ◌>>◌, head_of, by_head, where_head}
-use Rattle.c_reader.specs.links.Parsing.{head_is, is_word, begins_statement, parse_word, parse_condition}
-use Rattle.c_reader.specs.links.Parsing.{parse_statement, parse_statements, parse_block, statements_over}
-use Rattle.c_reader.specs.links.Parsing.{statement_by, statement_over, arms_after, with_arm, if_of}
-use Rattle.c_reader.specs.links.Steps.{statement_by_word, statement_by_mark, parse_named_statement, parse_declaration_statement}
-use Rattle.c_reader.specs.links.Steps.{parse_assignment_statement, parse_lock}
-use Rattle.c_reader.specs.links.Steps.{parse_unlock, parse_if, parse_while, parse_do, parse_for}
-use Rattle.c_reader.specs.links.Steps.{parse_arm, then_statements, then_arms, more_statements, more_arms}
-use Rattle.c_reader.proofs.Steps.{where_followed}
+use Rattle.c_reader.specs.links.ParserFunctions.{Parsed, Parser, Read, Wrong, give, follow, ◌>>=◌, ◌>>◌, head_of, by_head, where_head}
+use Rattle.c_reader.specs.links.ParserFunctions.{head_is, is_word, begins_statement, parse_word, parse_condition}
+use Rattle.c_reader.specs.links.ParserFunctions.{parse_statement, parse_statements, parse_block, statements_over}
+use Rattle.c_reader.specs.links.ParserFunctions.{statement_by, statement_over, arms_after, with_arm, if_of}
+use Rattle.c_reader.specs.links.ParserSteps.{statement_by_word, statement_by_mark, parse_named_statement, parse_declaration_statement}
+use Rattle.c_reader.specs.links.ParserSteps.{parse_assignment_statement, parse_lock}
+use Rattle.c_reader.specs.links.ParserSteps.{parse_unlock, parse_if, parse_while, parse_do, parse_for}
+use Rattle.c_reader.specs.links.ParserSteps.{parse_arm, then_statements, then_arms, more_statements, more_arms}
+use Rattle.c_reader.proofs.ParserStepEquations.{where_followed}
 
 -- ---- Ways to go on
 
@@ -167,24 +167,24 @@ last_block b = (t.no_arm, t.Else b)
 abbrev no_block : t.Arms × t.Otherwise
 no_block = (t.no_arm, t.Nothing)
 
-behind_block : (place : Place) (found : t.Arms) (x : t.Expression) (b : t.Block) (r : Parsed (t.Arms × t.Otherwise))
+after_block : (place : Place) (found : t.Arms) (x : t.Expression) (b : t.Block) (r : Parsed (t.Arms × t.Otherwise))
     → follow (follow r (λ rest. give (with_arm x b rest))) (λ rest. give (t.If place (then_arms found rest.0) rest.1))
     ≡ follow r (λ rest. give (t.If place (then_arms (then_arms found (t.arm_and x b t.no_arm)) rest.0) rest.1))
-behind_block place found x b (Read rest ts) = ap (λ (l : t.Arms). Read (t.If place l rest.1) ts) (then_one_arm found x b rest.0)
-behind_block place found x b (Wrong ts) = refl
+after_block place found x b (Read rest ts) = ap (λ (l : t.Arms). Read (t.If place l rest.1) ts) (then_one_arm found x b rest.0)
+after_block place found x b (Wrong ts) = refl
 
-behind_if : (fuel count : ℕ) (place : Place) (found : t.Arms) (ts : List Token)
+after_if : (fuel count : ℕ) (place : Place) (found : t.Arms) (ts : List Token)
     → follow ((do x ← parse_condition (suc count); b ← parse_block fuel; rest ← arms_after (parse_block fuel) count; give (with_arm x b rest)) ts)
     (λ rest. give (t.If place (then_arms found rest.0) rest.1))
     ≡ (do a ← parse_arm (suc count) fuel; more_arms fuel count place (then_arms found (t.arm_and a.0 a.1 t.no_arm))) ts
 unfolding more_arms
-behind_if fuel count place found ts = at_condition (parse_condition (suc count) ts)
+after_if fuel count place found ts = at_condition (parse_condition (suc count) ts)
   where
     at_block : (x : t.Expression) (r : Parsed t.Block)
         → follow (follow r (λ b. arms_after (parse_block fuel) count >>= λ rest. give (with_arm x b rest)))
         (λ rest. give (t.If place (then_arms found rest.0) rest.1))
         ≡ follow (follow r (λ b. give (in_arm x b))) (λ a. more_arms fuel count place (then_arms found (t.arm_and a.0 a.1 t.no_arm)))
-    at_block x (Read b rest) = behind_block place found x b (arms_after (parse_block fuel) count rest)
+    at_block x (Read b rest) = after_block place found x b (arms_after (parse_block fuel) count rest)
     at_block x (Wrong rest) = refl
 
     at_condition : (r : Parsed t.Expression)
@@ -194,10 +194,10 @@ behind_if fuel count place found ts = at_condition (parse_condition (suc count) 
     at_condition (Read x rest) = at_block x (parse_block fuel rest)
     at_condition (Wrong rest) = refl
 
-behind_else : (fuel : ℕ) (place : Place) (found : t.Arms) (ts : List Token)
+after_else : (fuel : ℕ) (place : Place) (found : t.Arms) (ts : List Token)
     → follow ((do b ← parse_block fuel; give (last_block b)) ts) (λ rest. give (t.If place (then_arms found rest.0) rest.1))
     ≡ (do b ← parse_block fuel; give (t.If place found (t.Else b))) ts
-behind_else fuel place found ts = go (parse_block fuel ts)
+after_else fuel place found ts = go (parse_block fuel ts)
   where
     go : (r : Parsed t.Block) → follow (follow r (λ b. give (last_block b))) (λ rest. give (t.If place (then_arms found rest.0) rest.1))
         ≡ follow r (λ b. give (t.If place found (t.Else b)))
@@ -235,8 +235,8 @@ arms_suc fuel count place found ts =
     (λ rest. give (t.If place (then_arms found rest.0) rest.1))
     (do parse_word k.If; a ← parse_arm (suc count) fuel; more_arms fuel count place (then_arms found (t.arm_and a.0 a.1 t.no_arm)))
     (do b ← parse_block fuel; give (t.If place found (t.Else b))) us
-    (through (parse_word k.If us) _ _ _ (λ x rest. behind_if fuel count place found rest))
-    (behind_else fuel place found us)))
+    (through (parse_word k.If us) _ _ _ (λ x rest. after_if fuel count place found rest))
+    (after_else fuel place found us)))
     (ap (λ (l : t.Arms). Read (t.If place l t.Nothing) ts) (then_no_arm found))
 
 pub arms_end : (fuel total at : ℕ) (place : Place) (found : t.Arms) (ts : List Token) → total ≤ at → more_arms fuel (total - at) place found ts ≡ Wrong ts

@@ -1,7 +1,7 @@
 -- The parsers of calls and right sides keep their languages.
 use Rattle.std.proofs.Common.{◌≡◌, ℕ, ◌≤◌, List, [], ◌∷◌, ◌++◌, Option, Some, None, Bool, true, false, refl, ap, ◌∙◌, subst, inl, inr, append_assoc, arith}
 use Rattle.std.specs.Prelude.{◌⊎◌}
-use Rattle.ido_ints.specs.Typed.{Typed}
+use Rattle.ido_ints.specs.TypedNumbers.{Typed}
 use Rattle.ido_ints.specs.declared.operators.Unary.{Unary}
 use Rattle.ido_ints.specs.declared.operators.Unary.TheVariants as unary
 use Rattle.c_tree.specs.Tokens.{Token, Lexeme, Name, Number, Punctuator}
@@ -9,11 +9,11 @@ use Rattle.c_tree.specs.declared.token.Punctuator.TheVariants as p
 use Rattle.c_tree.specs.Trees as t
 use Rattle.c_tree.specs.Languages.{mark, ◌⋅◌, name, list_of, some_of}
 use Rattle.c_tree.specs.Grammar.{expression, index, call, unary_mark, precedence}
-use Rattle.c_reader.specs.links.Parsing.{give, head_of, head_is, is_mark, where_head, parse_some_of, parse_arguments, call_after, right_after_name}
-use Rattle.c_reader.specs.links.Parsing.{right_by, parse_right, parse_expression, parse_operand, expression_after_name}
-use Rattle.c_reader.proofs.Good.{Language, Good, ◌▷◌, ◌▹◌, just, Anything, good_give, good_to, good_map, good_where, good_head, good_then}
+use Rattle.c_reader.specs.links.ParserFunctions.{give, head_of, head_is, is_mark, where_head, parse_some_of, parse_arguments, call_after, right_after_name}
+use Rattle.c_reader.specs.links.ParserFunctions.{right_by, parse_right, parse_expression, parse_operand, expression_after_name}
+use Rattle.c_reader.proofs.CorrectParsers.{Language, Good, ◌▷◌, ◌▹◌, just, Anything, good_give, good_to, good_map, good_where, good_head, good_then}
 use Rattle.c_reader.proofs.Tokens.{marked, named, good_mark, good_name}
-use Rattle.c_reader.proofs.Parts.{Unless, Where, good_some_of}
+use Rattle.c_reader.proofs.OptionalParts.{Unless, Where, good_some_of}
 use Rattle.c_reader.proofs.Expressions.{OperandEnd, from, not_mark, ladder_ends, ladder_head, precedence_high}
 use Rattle.c_reader.proofs.Operands.{ExpressionEnd, NamedLanguage, AfterLanguage, ConditionalLanguage, good_expression, good_operand}
 use Rattle.c_reader.proofs.Operands.{named_good, expression_after_good, after_up, after_down, named_up, conditional_ends}
@@ -94,7 +94,7 @@ arguments_good fuel fuel' b h h' =
     (λ ys us (us₁, us₂, e, l, (c, m)). (ys, us₁, us₂, e, l, (c, m, refl)))
     (λ h f. f)
 
--- a call of this name, behind it
+-- a call of this name, read from after the name
 abbrev pub CallLanguage : t.Name → Language t.Call
 CallLanguage n c us = (n ≡ c.function) × (mark p.OpenParenthesis ⋅ ArgumentsLanguage c.arguments) us
 
@@ -128,15 +128,15 @@ RightLanguage t.Absent = λ us. ⊥
 abbrev pub RightEnd : Option Lexeme → Type 0
 RightEnd h = ExpressionEnd h × (head_is (is_mark p.OpenParenthesis) h ≡ false)
 
--- the expression that begins with this name, behind it
+-- the expression that begins with this name, read from after the name
 abbrev pub NamedExpression : t.Name → Language t.Expression
 NamedExpression n = NamedLanguage n ▷ AfterLanguage
 
--- a right side that begins with this name, behind it
-abbrev BehindName : t.Name → Language t.Initial
-BehindName n (t.Value x) = NamedExpression n x
-BehindName n (t.Result c) = CallLanguage n c
-BehindName n t.Absent = λ us. ⊥
+-- a right side that begins with this name, read from after the name
+abbrev AfterName : t.Name → Language t.Initial
+AfterName n (t.Value x) = NamedExpression n x
+AfterName n (t.Result c) = CallLanguage n c
+AfterName n t.Absent = λ us. ⊥
 
 after_ends : (x y : t.Expression) (us rest : List Token) → AfterLanguage x y us → ExpressionEnd (head_of rest) → OperandEnd (head_of (us ++ rest))
 after_ends x y us rest (z, us₁, us₂, e, l, c) f =
@@ -166,17 +166,17 @@ named_head n x us rest (left, us₁, us₂, e, (i, m, q), (y, us₃, us₄, e', 
     on None m g = rw m g
     on (Some i) (vs₁, vs₂, e, (o, l), m) g = rw (e, l) refl
 
-behind_name_good : (fuel fuel' b : ℕ) → b ≤ fuel → b ≤ fuel' → (n : t.Name)
-    → Good b (BehindName n) (BehindName n) RightEnd (right_after_name fuel n) (right_after_name fuel' n)
-behind_name_good fuel fuel' b h h' n =
+after_name_good : (fuel fuel' b : ℕ) → b ≤ fuel → b ≤ fuel' → (n : t.Name)
+    → Good b (AfterName n) (AfterName n) RightEnd (right_after_name fuel n) (right_after_name fuel' n)
+after_name_good fuel fuel' b h h' n =
     good_where {K₁ = CallLanguage n ▹ t.Result} {K₂ = NamedExpression n ▹ t.Value} (head_is (is_mark p.OpenParenthesis))
-    (good_to {U' = BehindName n} {K' = CallLanguage n ▹ t.Result} (good_map t.Result (call_good fuel fuel' b h h' n))
-    (λ y us (c, m, q). subst (λ y. BehindName n y us) q m) (λ y us u. u) (λ h f. tt))
-    (good_to {U' = BehindName n} {K' = NamedExpression n ▹ t.Value} (good_map t.Value (named_expression_good fuel fuel' b h h' n))
-    (λ y us (c, m, q). subst (λ y. BehindName n y us) q m) (λ y us u. u) (λ h f. f.0))
+    (good_to {U' = AfterName n} {K' = CallLanguage n ▹ t.Result} (good_map t.Result (call_good fuel fuel' b h h' n))
+    (λ y us (c, m, q). subst (λ y. AfterName n y us) q m) (λ y us u. u) (λ h f. tt))
+    (good_to {U' = AfterName n} {K' = NamedExpression n ▹ t.Value} (good_map t.Value (named_expression_good fuel fuel' b h h' n))
+    (λ y us (c, m, q). subst (λ y. AfterName n y us) q m) (λ y us u. u) (λ h f. f.0))
     out
   where
-    out : (y : t.Initial) (us rest : List Token) → BehindName n y us → RightEnd (head_of rest) →
+    out : (y : t.Initial) (us rest : List Token) → AfterName n y us → RightEnd (head_of rest) →
         ((CallLanguage n ▹ t.Result) y us × (head_is (is_mark p.OpenParenthesis) (head_of (us ++ rest)) ≡ true))
         ⊎ ((NamedExpression n ▹ t.Value) y us × (head_is (is_mark p.OpenParenthesis) (head_of (us ++ rest)) ≡ false))
     out (t.Value x) us rest u f = inr ((x, u, refl), named_head n x us rest u f.1)
@@ -184,22 +184,22 @@ behind_name_good fuel fuel' b h h' n =
     out t.Absent us rest u f = absurd u
 
 abbrev right_language : Option Lexeme → Language t.Initial
-right_language (Some (Name bytes)) = named ▷ BehindName
+right_language (Some (Name bytes)) = named ▷ AfterName
 right_language _ = expression ▹ t.Value
 
-behind_up : (y : t.Initial) (us : List Token) → (named ▷ BehindName) y us → RightLanguage y us
-behind_up (t.Value x) us (n, us₁, us₂, e, l, (left, us₃, us₄, e', m, a)) =
+past_up : (y : t.Initial) (us : List Token) → (named ▷ AfterName) y us → RightLanguage y us
+past_up (t.Value x) us (n, us₁, us₂, e, l, (left, us₃, us₄, e', m, a)) =
     rw (e, e', ← (append_assoc us₁ us₃ us₄)) (after_up x ((us₁ ++ us₃) ++ us₄)
     (left, us₁ ++ us₃, us₄, refl, named_up left (us₁ ++ us₃) (n, us₁, us₃, refl, l, m), a))
-behind_up (t.Result c) us (n, us₁, us₂, e, l, m) = rw e (call_up n c us₁ us₂ l m)
-behind_up t.Absent us (n, us₁, us₂, e, l, m) = absurd m
+past_up (t.Result c) us (n, us₁, us₂, e, l, m) = rw e (call_up n c us₁ us₂ l m)
+past_up t.Absent us (n, us₁, us₂, e, l, m) = absurd m
 
 right_good : (fuel fuel' b : ℕ) → b ≤ fuel → b ≤ fuel' → (h : Option Lexeme)
     → Good b RightLanguage (right_language h) RightEnd (right_by fuel h) (right_by fuel' h)
 right_good fuel fuel' b h h' (Some (Name bytes)) =
-    good_to {U = named ▷ BehindName} {K = named ▷ BehindName} {F = RightEnd}
-    (good_then {M = BehindName} {F = Anything} {G = RightEnd} good_name (behind_name_good fuel fuel' b h h') (λ x y us rest m f. tt))
-    behind_up (λ y us u. u) (λ h f. f)
+    good_to {U = named ▷ AfterName} {K = named ▷ AfterName} {F = RightEnd}
+    (good_then {M = AfterName} {F = Anything} {G = RightEnd} good_name (after_name_good fuel fuel' b h h') (λ x y us rest m f. tt))
+    past_up (λ y us u. u) (λ h f. f)
 right_good fuel fuel' b h h' _ =
     good_to {U' = RightLanguage} {K' = expression ▹ t.Value} (good_map t.Value (good_expression fuel fuel' b h h'))
     (λ y us (x, m, q). subst (λ y. RightLanguage y us) q m) (λ y us u. u) (λ h f. f.0)

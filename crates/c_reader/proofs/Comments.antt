@@ -1,12 +1,11 @@
 -- The end of a comment, byte after byte.
-use Rattle.std.proofs.Common.{◌≡◌, ℕ, ◌+◌, ◌<◌, ◌≤◌, Bool, true, false, ◌&&◌, cond, Option, Some}
-use Rattle.std.proofs.Common.{None, List, [], ◌∷◌, length, drop, get_or, refl, ap, sym, ◌∙◌, arith}
+use Rattle.std.proofs.Common.{◌≡◌, ℕ, ◌+◌, Bool, true, false, ◌&&◌, cond, Option, Some}
+use Rattle.std.proofs.Common.{None, List, [], ◌∷◌, refl, ap, sym, ◌∙◌, arith}
 use Rattle.std.specs.Prelude.{◌==◌, if◌then◌else◌}
 use Rattle.std.specs.Option.{option_map}
-use Rattle.std.proofs.lemmas.List.{at_drop_more, at_drop_all}
-use Rattle.c_tree.specs.Scanning.{through_comment}
+use Rattle.c_tree.specs.LexicalScan.{through_comment}
 
--- the same from the byte of this number on, behind a byte that may be `*`
+-- where a comment ends, looked for from the byte of this number on, after a byte that may be `*`
 abbrev pub through_at : (i : ℕ) → (star : Bool) → List ℕ → Option ℕ
 through_at i star [] = None
 through_at i star (c ∷ cs) = if star && c == 47 then Some (i + 1) else through_at (i + 1) (c == 42) cs
@@ -32,13 +31,3 @@ through_from i (c ∷ d ∷ ds) =
 
 pub through_start : (text : List ℕ) → through_at 0 false text ≡ through_comment text
 through_start text = sym (through_from 0 text) ∙ shift_none (through_comment text)
-
-pub through_stop : (i : ℕ) (star : Bool) (text : List ℕ) → i < length text → star ≡ true → get_or text i 0 ≡ 47 → through_at i star (drop i text) ≡ Some (i + 1)
-through_stop i star text within s e = at_drop_more (through_at i star) text i 0 within ∙ rw (s, e) refl
-
-pub through_more : (i : ℕ) (star : Bool) (text : List ℕ) → i < length text → (star && get_or text i 0 == 47) ≡ false
-    → through_at i star (drop i text) ≡ through_at (i + 1) (get_or text i 0 == 42) (drop (i + 1) text)
-through_more i star text within e = at_drop_more (through_at i star) text i 0 within ∙ rw e refl
-
-pub through_end : (i : ℕ) (star : Bool) (text : List ℕ) → length text ≤ i → through_at i star (drop i text) ≡ None
-through_end i star text past = at_drop_all (through_at i star) text i past

@@ -14,16 +14,16 @@ use Rattle.c_tree.specs.declared.token.Punctuator.TheVariants as p
 use Rattle.c_tree.specs.Trees as t
 use Rattle.c_tree.specs.Languages.{empty, provided, ◌⋅◌, ◌or◌, starting_at, lexeme, lexeme_at, words, all_of, more_of, some_of, list_of, maybe}
 use Rattle.c_tree.specs.Grammar as g
-use Rattle.c_tree.specs.Scanning.{Scanned, scanned}
+use Rattle.c_tree.specs.LexicalScan.{Scanned, scanned}
 use Rattle.c_tree.specs.Views.{items_of}
 use Rattle.c_tree.specs.declared.tree.Tree.{Tree}
 use Rattle.c_tree.specs.declared.refusal.SourceError.{SourceError}
-use Rattle.c_tree.specs.Reading.{Nesting, outside, within_lexeme, within_mark, is_high, is_high_from, nests_high, IsRead}
+use Rattle.c_tree.specs.TextReadings.{Nesting, outside, within_lexeme, within_mark, is_high, is_high_from, nests_high, IsRead}
 use Rattle.c_reader.specs.Depths.{height, IsLow, IsLowIf, IsLowChange, IsLowAssignment, IsLowLast, IsLowCall, IsLowInitial, IsLowFirst, IsFlat}
 use Rattle.c_reader.specs.Depths.{IsFlatBlock, AreFlat, AreFlatArms, IsFlatOtherwise, IsLowReturn, IsFlatBody, IsFlatItem, IsShallow}
 use Rattle.c_reader.proofs.Nestings.{nesting_after, is_high_from-prefix}
 
--- ---- Nesting behind two lists of tokens
+-- ---- Nesting after two lists of tokens
 
 after_both : (n : Nesting) (us vs : List Token) → nesting_after n (us ++ vs) ≡ nesting_after (nesting_after n us) vs
 after_both n [] vs = refl
@@ -33,11 +33,11 @@ or_parts : (a b : Bool) → (a || b) ≡ false → (a ≡ false) × (b ≡ false
 or_parts true b e = cc
 or_parts false b e = (refl, e)
 
-low_behind : (n : Nesting) (us vs : List Token) → is_high_from n (us ++ vs) ≡ false → is_high_from (nesting_after n us) vs ≡ false
-low_behind n [] vs e = e
-low_behind n (x ∷ us) vs e =
+low_past : (n : Nesting) (us vs : List Token) → is_high_from n (us ++ vs) ≡ false → is_high_from (nesting_after n us) vs ≡ false
+low_past n [] vs e = e
+low_past n (x ∷ us) vs e =
     let m : Nesting = within_lexeme x.lexeme n in
-    low_behind m us vs (or_parts (is_high m) (is_high_from m (us ++ vs)) e).1
+    low_past m us vs (or_parts (is_high m) (is_high_from m (us ++ vs)) e).1
 
 not_more : (k : ℕ) → nat_lt 128 k ≡ false → k ≤ 128
 not_more k e = grind (arith, nat_tests)
@@ -45,7 +45,7 @@ not_more k e = grind (arith, nat_tests)
 low_parts : (n : Nesting) → is_high n ≡ false → (n.braces ≤ 128) × (n.others ≤ 128)
 low_parts n e = let parts = or_parts (nat_lt 128 n.braces) (nat_lt 128 n.others) e in (not_more n.braces parts.0, not_more n.others parts.1)
 
--- the nesting behind some tokens that don't nest too high
+-- the nesting after some tokens that don't nest too high
 low_after : (n : Nesting) (x : Token) (ts : List Token) → is_high_from n (x ∷ ts) ≡ false → (nesting_after n (x ∷ ts)).others ≤ 128
 low_after n x [] e = (low_parts (within_lexeme x.lexeme n) (or_parts (is_high (within_lexeme x.lexeme n)) false e).0).1
 low_after n x (y ∷ ts) e = low_after (within_lexeme x.lexeme n) y ts
@@ -190,7 +190,7 @@ record Holds (A : ℕ → Type 0) (P : List Token → Type 0) : Type 0 where
   go : (ts : List Token) → P ts → (n : Nesting) (room : ℕ) → n.braces + room ≡ 128 → is_high_from n ts ≡ false →
       ((nesting_after n ts).braces ≡ n.braces) × A room
 
--- the same of tokens that close a brace
+-- tokens that close a brace and don't nest too high leave one brace fewer open, and what is said holds where so many more may be free
 record Closes (A : ℕ → Type 0) (P : List Token → Type 0) : Type 0 where
   go : (ts : List Token) → P ts → (n : Nesting) (braces room : ℕ) → n.braces ≡ braces + 1 → n.braces + room ≡ 128 → is_high_from n ts ≡ false →
       ((nesting_after n ts).braces ≡ braces) × A room
@@ -219,7 +219,7 @@ module _ (A B : ℕ → Type 0) (P Q : List Token → Type 0) where
     go = λ ts (us, vs, e, x, y) n room free low.
         let all : is_high_from n (us ++ vs) ≡ false = subst (λ (zs : List Token). is_high_from n zs ≡ false) e low in
         let f = a.go us x n room free (is_high_from-prefix n us vs all) in
-        let s = b.go vs y (nesting_after n us) room (ap (λ m. m + room) f.0 ∙ free) (low_behind n us vs all) in
+        let s = b.go vs y (nesting_after n us) room (ap (λ m. m + room) f.0 ∙ free) (low_past n us vs all) in
         (ap (λ (zs : List Token). (nesting_after n zs).braces) e ∙ ap (λ (m : Nesting). m.braces) (after_both n us vs) ∙ s.0 ∙ f.0, (f.1, s.1));
   }
 
@@ -228,7 +228,7 @@ module _ (A B : ℕ → Type 0) (P Q : List Token → Type 0) where
     go = λ ts (us, vs, e, x, y) n braces room one free low.
         let all : is_high_from n (us ++ vs) ≡ false = subst (λ (zs : List Token). is_high_from n zs ≡ false) e low in
         let f = a.go us x n room free (is_high_from-prefix n us vs all) in
-        let s = b.go vs y (nesting_after n us) braces room (f.0 ∙ one) (ap (λ m. m + room) f.0 ∙ free) (low_behind n us vs all) in
+        let s = b.go vs y (nesting_after n us) braces room (f.0 ∙ one) (ap (λ m. m + room) f.0 ∙ free) (low_past n us vs all) in
         (ap (λ (zs : List Token). (nesting_after n zs).braces) e ∙ ap (λ (m : Nesting). m.braces) (after_both n us vs) ∙ s.0, (f.1, s.1));
   }
 

@@ -9,10 +9,10 @@ use Rattle.c_tree.specs.Tokens.{Token, Lexeme, Punctuator}
 use Rattle.c_tree.specs.declared.token.Punctuator.TheVariants as p
 use Rattle.c_tree.specs.Trees as t
 use Rattle.c_tree.specs.Grammar.{expression_from, precedence}
-use Rattle.c_reader.specs.links.Parsing.{Parser, head_of, head_is, is_mark, operator_at, operator_in}
-use Rattle.c_reader.specs.links.Parsing.{is_operator_at, operators_at, operators_after, ◌>>=◌, taking}
-use Rattle.c_reader.proofs.Good.{Language, Good, ◌▷◌, just, found_in, Anything, Strict, good_give, good_to}
-use Rattle.c_reader.proofs.Good.{good_less, good_where, good_then, good_then_less, good_small, good_taking}
+use Rattle.c_reader.specs.links.ParserFunctions.{Parser, head_of, head_is, is_mark, operator_at, operator_in}
+use Rattle.c_reader.specs.links.ParserFunctions.{is_operator_at, operators_at, operators_after, ◌>>=◌, taking}
+use Rattle.c_reader.proofs.CorrectParsers.{Language, Good, ◌▷◌, just, found_in, Anything, Strict, good_give, good_to}
+use Rattle.c_reader.proofs.CorrectParsers.{good_less, good_where, good_then, good_then_less, good_small, good_taking}
 use Rattle.c_reader.proofs.Tokens.{is_mark-true, some_same}
 
 -- ---- What may follow
@@ -61,7 +61,7 @@ operator_ends n o h = (not_mark p.OpenBracket (Punctuator (p.Binary o)) (λ q. c
 abbrev operator_in_language : ℕ → Language bo.Binary
 operator_in_language n = found_in (operator_in n)
 
--- so many operators that follow on a left operand
+-- a left operand, and `many` operators of precedence n that follow it with their right operands
 abbrev chain : (n : ℕ) → (many : ℕ) → (left : t.Expression) → Language t.Expression
 chain n zero left = just left
 chain n (suc many) left = operator_in_language n ▷ (λ o. from (n + 1) ▷ (λ r. chain n many (t.Binary o left r)))
@@ -180,7 +180,7 @@ ladder_ends zero left y us rest (q, e) f = rw e f
 ladder_ends (suc levels) left y us rest (x, us₁, us₂, e, l, c) f =
     rw (e, append_assoc us₁ us₂ rest) (ladder_ends levels left x us₁ (us₂ ++ rest) l (chain_ends' (10 - levels) x y us₂ rest c f))
 
--- the same by a test that no operator passes
+-- what follows a left operand fails a test that every operator fails, where what follows its ladder does
 pub ladder_head : (test : Option Lexeme → Bool) → ((o : bo.Binary) → test (Some (Punctuator (p.Binary o))) ≡ false)
     → (levels : ℕ) (left y : t.Expression) (us rest : List Token) →
     Ladder levels left y us → test (head_of rest) ≡ false → test (head_of (us ++ rest)) ≡ false
@@ -230,7 +230,7 @@ chain_join n (suc many) left y us vs h u (o, us₁, us₂, e, (a, e', e''), (r, 
     (omega (arith, q.1), (us, us₁ ++ us₃, refl, rw q.1 u, (us₁, us₃, refl, (a.place, e' ∙ ap (λ x. x ∷ []) one), rw q.1 h₂))) in
     rw (e, e₂) (rw (append_assoc us (us₁ ++ us₃) us₄, append_assoc us₁ us₃ us₄) at (chain_join n many (t.Binary o left r) y (us ++ (us₁ ++ us₃)) us₄ h mine c))
 
--- an operand and a ladder behind it are an expression
+-- an operand and a ladder after it are an expression
 pub ladder_join : (levels : ℕ) (left y : t.Expression) (us vs : List Token) → levels ≤ 10 → from 11 left us → Ladder levels left y vs
     → from (11 - levels) y (us ++ vs)
 ladder_join zero left y us vs h u (q, e) = rw (← q, e, append-nil us) u
@@ -281,7 +281,7 @@ precedence_high binary.Mul = lit≤ tt
 precedence_high binary.Div = lit≤ tt
 precedence_high binary.Rem = lit≤ tt
 
--- an expression without `?` outside brackets is an operand and a ladder behind it
+-- an expression without `?` outside brackets is an operand and a ladder after it
 pub ladder_split : (levels : ℕ) (y : t.Expression) (us : List Token) → levels ≤ 10 → from (11 - levels) y us → (from 11 ▷ Ladder levels) y us
 ladder_split levels (t.Number place value) us h u = (t.Number place value, us, [], sym (append-nil us), u, ladder_none levels (t.Number place value))
 ladder_split levels (t.Named x) us h u = (t.Named x, us, [], sym (append-nil us), u, ladder_none levels (t.Named x))

@@ -5,20 +5,20 @@ use Rattle.c_tree.specs.Tokens.{Token, Lexeme, Keyword}
 use Rattle.c_tree.specs.declared.token.Keyword.TheVariants as k
 use Rattle.c_tree.specs.declared.token.Punctuator.TheVariants as p
 use Rattle.c_tree.specs.Trees as t
-use Rattle.c_reader.specs.links.Parsing.{Parsed, Parser, Read, Wrong, give, follow, ◌>>=◌, ◌>>◌, by_head, where_head, head_is}
-use Rattle.c_reader.specs.links.Parsing.{is_mark, parse_mark, parse_signed, parse_numbers_to_end, parse_initialiser, items_over}
-use Rattle.c_reader.specs.links.Steps.{parse_numbers, parse_mutex_item, parse_persistent_item, parse_thread_item}
-use Rattle.c_reader.specs.links.Steps.{parse_function_item, one_item, all_items, at_end, more_numbers, more_items}
-use Rattle.c_reader.proofs.Steps.{one_more}
+use Rattle.c_reader.specs.links.ParserFunctions.{Parsed, Parser, Read, Wrong, give, follow, ◌>>=◌, ◌>>◌, by_head, where_head, head_is}
+use Rattle.c_reader.specs.links.ParserFunctions.{is_mark, parse_mark, parse_signed, parse_numbers_to_end, parse_initialiser, items_over}
+use Rattle.c_reader.specs.links.ParserSteps.{parse_numbers, parse_mutex_item, parse_persistent_item, parse_thread_item}
+use Rattle.c_reader.specs.links.ParserSteps.{parse_function_item, one_item, all_items, at_end, more_numbers, more_items}
+use Rattle.c_reader.proofs.ParserStepEquations.{one_more}
 use Rattle.c_reader.proofs.Blocks.{through, through_where, by_same}
 
 -- ---- Numbers of an initialiser
 
-behind_number : (count : ℕ) (found : List t.Signed) (ts : List Token)
+after_number : (count : ℕ) (found : List t.Signed) (ts : List Token)
     → follow ((do x ← parse_signed; xs ← parse_numbers_to_end count; give (x ∷ xs)) ts) (λ xs. give (found ++ xs))
     ≡ (do x ← parse_signed; more_numbers count (found ++ x ∷ [])) ts
 unfolding more_numbers
-behind_number count found ts = go (parse_signed ts)
+after_number count found ts = go (parse_signed ts)
   where
     go : (r : Parsed t.Signed) → follow (follow r (λ x. parse_numbers_to_end count >>= λ xs. give (x ∷ xs))) (λ xs. give (found ++ xs))
         ≡ follow r (λ x. more_numbers count (found ++ x ∷ []))
@@ -68,7 +68,7 @@ numbers_suc count found ts =
     (do parse_mark p.CloseBrace; give found)
     (do x ← parse_signed; more_numbers count (found ++ x ∷ [])) us
     (closed found us)
-    (behind_number count found us)))
+    (after_number count found us)))
     (closed found ts)
 
 pub numbers_end : (fuel at : ℕ) (found : List t.Signed) (ts : List Token) → fuel ≤ at → more_numbers (fuel - at) found ts ≡ Wrong ts

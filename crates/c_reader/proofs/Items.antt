@@ -3,7 +3,7 @@ use Rattle.std.proofs.Common.{◌≡◌, ℕ, zero, suc, ◌+◌, ◌-◌, ◌<�
 use Rattle.std.proofs.Common.{Bool, true, false, sym, refl, ap, ◌∙◌, subst, inl, inr, append_assoc, arith, true≢false, zero-lt-suc}
 use Rattle.std.specs.Prelude.{◌⊎◌, pos}
 use Rattle.ido_base.specs.declared.place.Place.{Place}
-use Rattle.ido_ints.specs.Typed.{Typed, typed}
+use Rattle.ido_ints.specs.TypedNumbers.{Typed, typed}
 use Rattle.ido_ints.specs.declared.kinds.Kind.{Kind}
 use Rattle.ido_ints.specs.declared.kinds.Kind.TheVariants as kind
 use Rattle.ido_ints.specs.declared.operators.Binary.TheVariants as binary
@@ -14,18 +14,18 @@ use Rattle.c_tree.specs.Trees as t
 use Rattle.c_tree.specs.Languages.{maybe, mark, word, ◌⋅◌, ◌or◌, empty, name, all_of, more_of, some_of}
 use Rattle.c_tree.specs.Grammar.{expression, type, statements, block, returned, body, parameter, parameters, result}
 use Rattle.c_tree.specs.Grammar.{function, sign, signed, initialiser, length_of, assigned, persistent, item, program}
-use Rattle.c_reader.specs.links.Parsing.{Parser, give, head_of, head_is, is_mark, is_word, begins_type, where_head, parse_mark, parse_word}
-use Rattle.c_reader.specs.links.Parsing.{parse_some_of, parse_return, parse_body, parse_parameter, parse_parameters, parse_result}
-use Rattle.c_reader.specs.links.Parsing.{parse_function, parse_sign, parse_signed, parse_numbers_to_end, parse_initialiser, parse_length}
-use Rattle.c_reader.specs.links.Parsing.{parse_persistent, item_by, parse_item, items_over, parse_items, ◌>>=◌, ◌>>◌}
-use Rattle.c_reader.proofs.Good.{Language, Good, ◌▷◌, ◌▹◌, just, Anything, Strict, good_give, good_to, good_less}
-use Rattle.c_reader.proofs.Good.{good_map, good_where, good_head, good_then, good_then_less, good_small}
+use Rattle.c_reader.specs.links.ParserFunctions.{Parser, give, head_of, head_is, is_mark, is_word, begins_type, where_head, parse_mark, parse_word}
+use Rattle.c_reader.specs.links.ParserFunctions.{parse_some_of, parse_return, parse_body, parse_parameter, parse_parameters, parse_result}
+use Rattle.c_reader.specs.links.ParserFunctions.{parse_function, parse_sign, parse_signed, parse_numbers_to_end, parse_initialiser, parse_length}
+use Rattle.c_reader.specs.links.ParserFunctions.{parse_persistent, item_by, parse_item, items_over, parse_items, ◌>>=◌, ◌>>◌}
+use Rattle.c_reader.proofs.CorrectParsers.{Language, Good, ◌▷◌, ◌▹◌, just, Anything, Strict, good_give, good_to, good_less}
+use Rattle.c_reader.proofs.CorrectParsers.{good_map, good_where, good_head, good_then, good_then_less, good_small}
 use Rattle.c_reader.proofs.Tokens.{marked, worded, named, numbered, good_mark, good_word, good_name, good_number, marked-strict, numbered-strict}
-use Rattle.c_reader.proofs.Parts.{Unless, Where, good_maybe, good_some_of}
+use Rattle.c_reader.proofs.OptionalParts.{Unless, Where, good_maybe, good_some_of}
 use Rattle.c_reader.proofs.Types.{TypeEnd, good_type, type_begins}
-use Rattle.c_reader.proofs.Here.{At, good_here}
+use Rattle.c_reader.proofs.TokenPlaces.{At, good_here}
 use Rattle.c_reader.proofs.Operands.{ExpressionEnd}
-use Rattle.c_reader.proofs.Simple.{NameInside, good_name_inside, type_first}
+use Rattle.c_reader.proofs.SimpleStatements.{NameInside, good_name_inside, type_first}
 use Rattle.c_reader.proofs.Statements.{StatementsEnd, good_statements, good_block, maybe_expression_good}
 
 -- ---- Bodies
@@ -256,7 +256,7 @@ signed_head x us rest (f, (us₁, us₂, e, s, (place, m))) = go x.negative s
     go true (o, l) = rw (e, l) (refl, refl)
     go false l = rw (e, l, m) (refl, refl)
 
--- the numbers behind the first one, and the closing brace
+-- the numbers after the first one, and the closing brace
 abbrev NumbersEnd : Language (List t.Signed)
 NumbersEnd xs = more_of signed xs ⋅ (empty or mark p.Comma) ⋅ mark p.CloseBrace
 
@@ -266,11 +266,11 @@ CloseNow = marked p.CloseBrace ▹ (λ c. [])
 abbrev OneMore : Language (List t.Signed)
 OneMore = signed ▷ (λ x. NumbersEnd ▹ (λ xs. x ∷ xs))
 
-abbrev BehindComma : Language (List t.Signed)
-BehindComma y us = CloseNow y us ⊎ OneMore y us
+abbrev AfterComma : Language (List t.Signed)
+AfterComma y us = CloseNow y us ⊎ OneMore y us
 
 abbrev WithComma : Language (List t.Signed)
-WithComma = marked p.Comma ▷ (λ c. BehindComma)
+WithComma = marked p.Comma ▷ (λ c. AfterComma)
 
 with_comma_up : (y : List t.Signed) (us : List Token) → WithComma y us → NumbersEnd y us
 with_comma_up y us (o, us₁, us₂, e, l, inl (c, m, q)) = subst (λ y. NumbersEnd y us) q ([], us, refl, refl, (us₁, us₂, e, inr (o, l), (c, m)))
@@ -298,8 +298,8 @@ numbers_step : {b c : ℕ} → b ≤ suc c → (fuel fuel' : ℕ) → Good c Num
 numbers_step {b = b} {c = c} bc fuel fuel' r =
     good_where {K₁ = WithComma} {K₂ = CloseNow} (head_is (is_mark p.Comma))
     (good_to {U = WithComma} {K = WithComma} {F = Anything}
-    (good_then_less {M = λ o. BehindComma} {F = Anything} {G = Anything} bc (marked-strict p.Comma) (good_mark p.Comma)
-    (λ o. good_where {U = BehindComma} {K₁ = CloseNow} {K₂ = OneMore} (head_is (is_mark p.CloseBrace))
+    (good_then_less {M = λ o. AfterComma} {F = Anything} {G = Anything} bc (marked-strict p.Comma) (good_mark p.Comma)
+    (λ o. good_where {U = AfterComma} {K₁ = CloseNow} {K₂ = OneMore} (head_is (is_mark p.CloseBrace))
     (good_to (good_map (λ c. []) (good_mark p.CloseBrace)) (λ y us u. inl u) (λ y us u. u) (λ h f. tt))
     (good_to {U = OneMore} {K = OneMore} {F = Anything} (good_then {M = λ x. NumbersEnd ▹ (λ xs. x ∷ xs)} {F = Anything} {G = Anything} good_signed
     (λ x. good_map (λ xs. x ∷ xs) r) (λ x y us rest m f. tt)) (λ y us u. inr u) (λ y us u. u) (λ h f. tt))
@@ -309,7 +309,7 @@ numbers_step {b = b} {c = c} bc fuel fuel' r =
     (good_to {U' = NumbersEnd} {K' = CloseNow} (good_map (λ c. []) (good_mark p.CloseBrace)) close_up (λ y us u. u) (λ h f. tt))
     (λ y us rest u f. numbers_out y us rest u)
   where
-    inner : (y : List t.Signed) (us rest : List Token) → BehindComma y us → Anything (head_of rest) →
+    inner : (y : List t.Signed) (us rest : List Token) → AfterComma y us → Anything (head_of rest) →
         (CloseNow y us × (head_is (is_mark p.CloseBrace) (head_of (us ++ rest)) ≡ true))
         ⊎ (OneMore y us × (head_is (is_mark p.CloseBrace) (head_of (us ++ rest)) ≡ false))
     inner y us rest (inl (c, m, q)) f = inl ((c, m, q), rw m refl)

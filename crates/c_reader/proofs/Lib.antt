@@ -1,29 +1,28 @@
-mod Good
+mod CorrectParsers
 mod Tokens
-mod Parts
+mod OptionalParts
 mod Types
 mod Expressions
 mod Operands
 mod Assignments
 mod Calls
-mod Here
-mod Simple
+mod TokenPlaces
+mod SimpleStatements
 mod Statements
 mod Items
-pub mod Whole
-pub mod Steady
-pub mod Refusals
-pub mod Single
+mod WholePrograms
+mod Refusals
+mod UniqueReadings
 mod Worked
-pub mod Blocks
-pub mod Comments
-pub mod Prefixes
-pub mod Answers
-pub mod ItemSteps
-pub mod Nestings
-pub mod Numbers
-pub mod Scans
-pub mod Sizes
-pub mod Steps
+mod Blocks
+mod Comments
+mod Prefixes
+mod Answers
+mod ItemSteps
+mod Nestings
+mod Numbers
+mod Scans
+mod Sizes
+mod ParserStepEquations
 mod WorkedTokens
-pub mod Depths
+mod Depths

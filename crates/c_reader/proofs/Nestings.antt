@@ -1,12 +1,12 @@
--- Nesting behind tokens, one after another.
+-- Nesting after tokens, one after another.
 use Rattle.std.proofs.Common.{◌≡◌, ℕ, ◌+◌, ◌<◌, Bool, true, false, ◌||◌, List, [], ◌∷◌, ◌++◌, length, take, get_or, refl, ap, sym, ◌∙◌}
 use Rattle.std.proofs.lemmas.List.{take_more, map-append}
 use Rattle.c_tree.specs.Tokens as t
-use Rattle.c_tree.specs.Reading.{Nesting, outside, within_lexeme, is_high, is_high_from, nests_high}
+use Rattle.c_tree.specs.TextReadings.{Nesting, outside, within_lexeme, is_high, is_high_from, nests_high}
 use Rattle.c_reader.specs.declared.token.Token.{Token}
 use Rattle.c_reader.specs.links.Tokens.{lexeme_of, token_of, tokens_of}
 
--- the nesting behind tokens
+-- the nesting after tokens
 abbrev pub nesting_after : Nesting → List t.Token → Nesting
 nesting_after n [] = n
 nesting_after n (x ∷ xs) = nesting_after (within_lexeme x.lexeme n) xs
@@ -47,7 +47,7 @@ nests_high_more xs i d within low =
     ∙ ap (λ b. b || is_high (within_lexeme (token_of (get_or xs i d)).lexeme (nesting_after outside (tokens_of (take i xs))))) low
     ∙ ap is_high (sym (nesting_after_more xs i d within))
 
--- the nesting behind the first i tokens, none of which nests too high
+-- the nesting after the first i tokens, none of which nests too high
 pub record IsNesting (xs : List Token) (i : ℕ) (n : Nesting) : Type 0 where
   pub nesting : n ≡ nesting_after outside (tokens_of (take i xs))
   pub low : nests_high (tokens_of (take i xs)) ≡ false
@@ -65,7 +65,7 @@ pub nests_high_none : nests_high [] ≡ false
 unfolding nests_high
 nests_high_none = refl
 
--- ---- Fronts of tokens
+-- ---- Prefixes of tokens
 
 or_prefix : (b r s : Bool) → (r ≡ false → s ≡ false) → (b || r) ≡ false → (b || s) ≡ false
 or_prefix true r s f e = e
@@ -77,7 +77,7 @@ is_high_from-prefix n (x ∷ xs) ys e =
     let m : Nesting = within_lexeme x.lexeme n in
     or_prefix (is_high m) (is_high_from m (xs ++ ys)) (is_high_from m xs) (is_high_from-prefix m xs ys) e
 
--- tokens that don't nest too high have no front that does
+-- tokens that don't nest too high have no prefix that does
 pub nests_high-prefix : (xs ys : List t.Token) → nests_high (xs ++ ys) ≡ false → nests_high xs ≡ false
 unfolding nests_high
 nests_high-prefix xs ys e = is_high_from-prefix outside xs ys e

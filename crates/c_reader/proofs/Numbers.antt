@@ -1,21 +1,19 @@
 -- Numbers, as literals have them.
-use Rattle.std.proofs.Common.{◌≡◌, ℕ, ◌+◌, ◌*◌, ◌^◌, ◌<◌, ◌≤◌, Option, Some, None, List, length, take, drop, get_or, refl, ap, sym, ◌∙◌, arith, pos}
+use Rattle.std.proofs.Common.{◌≡◌, ℕ, ◌+◌, ◌*◌, ◌<◌, ◌≤◌, Option, Some, None, List, length, take, drop, get_or, ap, sym, ◌∙◌, arith, pos}
 use Rattle.std.specs.Option.{option_map}
 use Rattle.std.specs.Char.{digit_value, is_digit}
 use Rattle.std.specs.List.{prefix_len}
 use Rattle.std.specs.Str.Parse.{digits_value}
-use Rattle.std.proofs.lemmas.Int.{ints}
 use Rattle.std.proofs.lemmas.Int.Digits.{digits_value_more}
 use Rattle.std.proofs.lemmas.Str.Parse.{digits_value-take-le}
 use Rattle.std.proofs.lemmas.List.Folds.{length-prefix_len}
 use Rattle.ido_ints.specs.declared.kinds.Kind.{Kind}
 use Rattle.ido_ints.specs.declared.literals.Base.{Base}
 use Rattle.ido_ints.specs.declared.literals.Suffix.{Suffix}
-use Rattle.ido_ints.specs.Typed.{Typed, typed}
+use Rattle.ido_ints.specs.TypedNumbers.{Typed, typed}
 use Rattle.ido_ints.specs.Literals.{literal_kind_of, literal_of}
-use Rattle.ido_ints.proofs.LiteralKinds.{literal_kind_of-Holds}
-use Rattle.ido_ints.proofs.Reduced.{reduced_held, Holds-Bounded}
-use Rattle.c_tree.specs.Scanning.{suffix_of, literal_in}
+use Rattle.ido_ints.proofs.Public.{literal_kind_of-Holds, reduced_held}
+use Rattle.c_tree.specs.LexicalScan.{suffix_of, literal_in}
 use Rattle.c_reader.specs.links.Tokens.{value_of}
 
 -- where one more digit passes a limit, so does the whole number
@@ -24,18 +22,6 @@ pub limit-le-digits_value : (radix : ℕ) (digits : List ℕ) (limit n i : ℕ) 
 limit-le-digits_value radix digits limit n i positive within so_far passes =
     let more : digits_value radix (take (i + 1) digits) ≡ n * radix + digit_value (get_or digits i 0) = rw so_far (digits_value_more radix digits i within) in
     omega (arith, more, digits_value-take-le radix digits (i + 1) positive)
-
--- a literal's kind holds its number, which lies below 2 ^ 64
-pub literal_below : (base : Base) (suffix : Suffix) (n : ℕ) (k : Kind) → literal_kind_of base suffix n ≡ Some k → n < 2 ^ 64
-literal_below base suffix n k e = let bound = Holds-Bounded k _ (literal_kind_of-Holds base suffix n k e) in omega (arith, ints, bound.below)
-
--- a number past all kinds is no literal's
-pub literal_of_large : (base : Base) (suffix : Suffix) (n : ℕ) → 2 ^ 64 ≤ n → None ≡ literal_of base suffix n
-literal_of_large base suffix n large = by (literal_kind_of base suffix n) refl
-  where
-    by : (o : Option Kind) → literal_kind_of base suffix n ≡ o → None ≡ option_map (λ k. typed k (pos n)) o
-    by (Some k) e = absurd (omega (arith, literal_below base suffix n k e))
-    by None e = refl
 
 -- a literal of a kind has the value that the kind gives it
 pub literal_of_kind : (base : Base) (suffix : Suffix) (n : ℕ) (k : Kind) → literal_kind_of base suffix n ≡ Some k
@@ -61,9 +47,4 @@ literal_in_at base radix bytes m e =
 pub literal_in-suffix : (base : Base) (radix : ℕ) (bytes : List ℕ) (m : ℕ) (suffix : Suffix) → m ≡ digits_at radix bytes
     → suffix_of (drop m bytes) ≡ Some suffix → literal_of base suffix (digits_value radix (take m bytes)) ≡ literal_in base radix bytes
 literal_in-suffix base radix bytes m suffix e h =
-    ap (literal_by base radix (take m bytes)) (sym h) ∙ literal_in_at base radix bytes m e
-
-pub literal_in-no_suffix : (base : Base) (radix : ℕ) (bytes : List ℕ) (m : ℕ) → m ≡ digits_at radix bytes → suffix_of (drop m bytes) ≡ None
-    → None ≡ literal_in base radix bytes
-literal_in-no_suffix base radix bytes m e h =
     ap (literal_by base radix (take m bytes)) (sym h) ∙ literal_in_at base radix bytes m e

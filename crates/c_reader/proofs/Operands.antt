@@ -4,7 +4,7 @@ use Rattle.std.proofs.Common.{sym, refl, ap, ◌∙◌, subst, inl, inr, append_
 use Rattle.std.specs.Prelude.{◌⊎◌}
 use Rattle.std.specs.Option.{option_map}
 use Rattle.ido_base.specs.declared.place.Place.{Place}
-use Rattle.ido_ints.specs.Typed.{typed}
+use Rattle.ido_ints.specs.TypedNumbers.{typed}
 use Rattle.std.specs.Prelude.{pos}
 use Rattle.ido_ints.specs.declared.kinds.Kind.TheVariants as kind
 use Rattle.ido_ints.specs.declared.operators.Unary.{Unary}
@@ -15,14 +15,14 @@ use Rattle.c_tree.specs.declared.token.Punctuator.TheVariants as p
 use Rattle.c_tree.specs.Trees as t
 use Rattle.c_tree.specs.Languages.{maybe, mark_at}
 use Rattle.c_tree.specs.Grammar.{expression, index, precedence, type, unary_mark}
-use Rattle.c_reader.specs.links.Parsing.{Parser, give, head_of, head_is, is_mark, taking, unary_of, unary_in, parse_mark}
-use Rattle.c_reader.specs.links.Parsing.{parse_type, parse_index, element, operand_after_name, operand_after_opening}
-use Rattle.c_reader.specs.links.Parsing.{operand_by, operand_over, conditional_after, expression_after}
-use Rattle.c_reader.specs.links.Parsing.{parse_operand, parse_expression, begins_type, ◌>>=◌, ◌>>◌}
-use Rattle.c_reader.proofs.Good.{Language, Good, ◌▷◌, ◌▹◌, just, found_in, Anything, Strict, good_give, good_to, good_map}
-use Rattle.c_reader.proofs.Good.{good_where, good_head, good_then, good_then_less, good_small, good_taking}
+use Rattle.c_reader.specs.links.ParserFunctions.{Parser, give, head_of, head_is, is_mark, taking, unary_of, unary_in, parse_mark}
+use Rattle.c_reader.specs.links.ParserFunctions.{parse_type, parse_index, element, operand_after_name, operand_after_opening}
+use Rattle.c_reader.specs.links.ParserFunctions.{operand_by, operand_over, conditional_after, expression_after}
+use Rattle.c_reader.specs.links.ParserFunctions.{parse_operand, parse_expression, begins_type, ◌>>=◌, ◌>>◌}
+use Rattle.c_reader.proofs.CorrectParsers.{Language, Good, ◌▷◌, ◌▹◌, just, found_in, Anything, Strict, good_give, good_to, good_map}
+use Rattle.c_reader.proofs.CorrectParsers.{good_where, good_head, good_then, good_then_less, good_small, good_taking}
 use Rattle.c_reader.proofs.Tokens.{some_same, marked, named, numbered, good_mark, good_name, good_number, marked-strict, named-strict}
-use Rattle.c_reader.proofs.Parts.{good_maybe}
+use Rattle.c_reader.proofs.OptionalParts.{good_maybe}
 use Rattle.c_reader.proofs.Types.{TypeEnd, good_type, type_begins}
 use Rattle.c_reader.proofs.Expressions.{OperandEnd, End, from, Ladder, precedence_low, precedence_high, ladder_join}
 use Rattle.c_reader.proofs.Expressions.{ladder_split, ladder_ends, from_weaker, AfterGood, operators_after_good}
@@ -61,13 +61,9 @@ pub good_index : {b c : ℕ} → b ≤ suc c → {e e' : Parser t.Expression} �
 good_index bc g =
     good_to (good_maybe (is_mark p.OpenBracket) (bracketed_good bc g) (λ x us rest (o, us₁, us₂, e, l, m). rw (e, l) refl)) index_up index_down (λ h f. (tt, f))
 
-pub index_ends : (x : Option t.Expression) (us rest : List Token) → index x us → (us ≡ []) ⊎ (head_of (us ++ rest) ≡ Some (Punctuator p.OpenBracket))
-index_ends None us rest u = inl u
-index_ends (Some x) us rest (us₁, us₂, e, (o, l), m) = inr (rw (e, l) refl)
-
 -- ---- Operands
 
--- behind a name
+-- after a name
 abbrev pub NamedLanguage : t.Name → Language t.Expression
 NamedLanguage x = index ▹ element x
 
@@ -283,7 +279,7 @@ pub conditional_ends : (x y : t.Expression) (us rest : List Token) → Condition
 conditional_ends x y us rest (inl (q, us₁, us₂, e, l, m)) f = rw (e, l) (refl, λ n h. refl)
 conditional_ends x y us rest (inr (q, e)) f = rw e f.0
 
--- behind the first operand
+-- after the first operand
 abbrev pub AfterLanguage : t.Expression → Language t.Expression
 AfterLanguage left = Ladder 10 left ▷ ConditionalLanguage
 
@@ -295,7 +291,7 @@ expression_after_good {b = b} bc fuel fuel' h h' o o' g g₀ k left =
     let a : AfterGood b o o' fuel fuel' 10 = (operators_after_good fuel fuel' b h h' o o' g g₀ 10 (lit≤ tt)).0 in
     good_then {M = ConditionalLanguage} {F = End 1} {G = ExpressionEnd} (a left) (λ x. conditional_good bc k x) conditional_ends
 
--- an expression is an operand and what stands behind it
+-- an expression is an operand and what stands after it
 pub after_up : (y : t.Expression) (us : List Token) → (from 11 ▷ AfterLanguage) y us → expression y us
 after_up y us (left, us₁, us₂, e, u, (x, us₃, us₄, e', l, c)) = rw (e, e', ← (append_assoc us₁ us₃ us₄)) (go c (ladder_join 10 left x us₁ us₃ (lit≤ tt) u l))
   where

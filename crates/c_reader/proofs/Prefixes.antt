@@ -5,14 +5,13 @@ use Rattle.std.specs.List.{prefix_len, starts_with}
 use Rattle.std.specs.Option.{option_map}
 use Rattle.std.proofs.lemmas.List.Folds.{length-prefix_len}
 use Rattle.std.proofs.lemmas.Option.{some_pair_parts}
-use Rattle.ido_ints.specs.Typed.{Typed}
 use Rattle.c_tree.specs.declared.token.Keyword as kw
 use Rattle.c_tree.specs.declared.token.Punctuator as pn
 use Rattle.c_tree.specs.declared.rule.Rule.TheVariants as rule
 use Rattle.c_reader.specs.links.Prefixes.{keyword_in, punctuator_in}
-use Rattle.c_tree.specs.Tokens.{Lexeme, Name, Keyword, Number, Punctuator}
-use Rattle.c_tree.specs.Scanning.{Prefix, Lexed, Broken, End, prefix, prefix_from, is_word_byte, same, reserved, word_lexeme}
-use Rattle.c_tree.specs.Scanning.{word_prefix, number_of, number_prefix, punctuators, punctuator_prefix}
+use Rattle.c_tree.specs.Tokens.{Lexeme, Name, Keyword, Punctuator}
+use Rattle.c_tree.specs.LexicalScan.{Prefix, Lexed, Broken, End, prefix, prefix_from, is_word_byte, same, reserved, word_lexeme}
+use Rattle.c_tree.specs.LexicalScan.{word_prefix, punctuators, punctuator_prefix}
 
 -- ---- Words
 
@@ -41,24 +40,6 @@ pub word_prefix-Name : (text : List ℕ) (n : ℕ) → n ≡ prefix_len is_word_
     → Lexed (Name (take n text)) n ≡ word_prefix text
 word_prefix-Name text n e h =
     word_prefix_is text n (Name (take n text)) e (by_name (take n text) (find (λ e. same e.0 (take n text)) reserved) h)
-
--- ---- Numbers
-
-abbrev number_by : Option Typed → ℕ → Prefix
-number_by o n = elim o [ Some value ↦ Lexed (Number value) n | None ↦ Broken rule.Number ]
-
-number_prefix_is : (text : List ℕ) (n : ℕ) (o : Option Typed) → n ≡ prefix_len is_word_byte text → o ≡ number_of (take n text)
-    → number_by o n ≡ number_prefix text
-number_prefix_is text n o e h =
-    ap (λ x. number_by x n) (h ∙ ap (λ k. number_of (take k text)) e)
-    ∙ ap (number_by (number_of (take (prefix_len is_word_byte text) text))) (e ∙ sym (length-prefix_len is_word_byte text))
-
-pub number_prefix-Number : (text : List ℕ) (n : ℕ) (v : Typed) → n ≡ prefix_len is_word_byte text → Some v ≡ number_of (take n text)
-    → Lexed (Number v) n ≡ number_prefix text
-number_prefix-Number text n v e h = number_prefix_is text n (Some v) e h
-
-pub number_prefix-Broken : (text : List ℕ) (n : ℕ) → n ≡ prefix_len is_word_byte text → None ≡ number_of (take n text) → Broken rule.Number ≡ number_prefix text
-number_prefix-Broken text n e h = number_prefix_is text n None e h
 
 -- ---- Punctuators
 

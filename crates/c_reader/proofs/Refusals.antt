@@ -9,11 +9,11 @@ use Rattle.c_tree.specs.declared.rule.Rule.TheVariants as rule
 use Rattle.c_tree.specs.Trees.{Item}
 use Rattle.c_tree.specs.Tokens.{Token}
 use Rattle.c_tree.specs.Grammar.{program}
-use Rattle.c_tree.specs.Scanning.{Fault, Scanned, scanned}
-use Rattle.c_tree.specs.Reading.{Begins, IsWhole, IsWrong, IsRefused, no_token, wrong_token, too_high, wrong_end, IsRead, nests_high}
-use Rattle.c_reader.specs.links.Parsing.{Read, Wrong, parse_program}
+use Rattle.c_tree.specs.LexicalScan.{Fault, Scanned, scanned}
+use Rattle.c_tree.specs.TextReadings.{BeginsProgram, IsWhole, IsWrong, IsRefused, no_token, wrong_token, too_high, wrong_end, IsRead, nests_high}
+use Rattle.c_reader.specs.links.ParserFunctions.{Read, Wrong, parse_program}
 use Rattle.c_tree.specs.Refusals.{fault_in}
-use Rattle.c_reader.specs.links.Readings.{IsFirstHigh, IsParsed, Parses, reach, behind_of}
+use Rattle.c_reader.specs.links.ParserOutcomes.{IsFirstHigh, IsParsed, Parses, reach, after_of}
 use Rattle.c_reader.specs.declared.parser.Outcome.TheVariants as outcome
 use Rattle.c_tree.specs.declared.tree.Tree.{Tree}
 use Rattle.c_reader.specs.links.Tokens.{token_of, tokens_of}
@@ -22,7 +22,7 @@ use Rattle.c_reader.specs.declared.parser.Outcome.{Outcome}
 use Rattle.c_tree.specs.declared.refusal.SourceError.{SourceError}
 use Rattle.c_tree.specs.declared.refusal.SourceError.TheVariants as error
 use Rattle.c_reader.proofs.Nestings.{nests_high-prefix}
-use Rattle.c_reader.proofs.Whole.{program_read, program_begins, program_wrong, program_ends}
+use Rattle.c_reader.proofs.WholePrograms.{program_read, program_begins, program_wrong, program_ends}
 
 -- ---- Tokens that are looked at
 
@@ -39,85 +39,85 @@ abbrev fault_or : Option Fault → Fault → Fault
 fault_or None d = d
 fault_or (Some f) d = f
 
--- ---- What stands behind them
+-- ---- What stands after them
 
-behind_no_token : (text : List ℕ) (s : Scanned) (f : Fault) → s ≡ scanned text → nests_high s.tokens ≡ false → Begins (take (length s.tokens) s.tokens)
+after_no_token : (text : List ℕ) (s : Scanned) (f : Fault) → s ≡ scanned text → nests_high s.tokens ≡ false → BeginsProgram (take (length s.tokens) s.tokens)
     → s.fault ≡ Some f → IsRefused text f.rule f.place
-behind_no_token text s f e low begun fault =
+after_no_token text s f e low begun fault =
     let all : take (length s.tokens) s.tokens ≡ s.tokens = take_all (length s.tokens) s.tokens (omega arith) in
-    let P : List Token → Type 0 = Begins in
-    let Q : Scanned → Type 0 = λ x. (x.fault ≡ Some f) × Begins x.tokens × (nests_high x.tokens ≡ false) in
+    let P : List Token → Type 0 = BeginsProgram in
+    let Q : Scanned → Type 0 = λ x. (x.fault ≡ Some f) × BeginsProgram x.tokens × (nests_high x.tokens ≡ false) in
     let parts : Q (scanned text) = subst Q e (fault, subst P all begun, low) in
     no_token parts.0 parts.1 parts.2
 
-behind_high : (text : List ℕ) (s : Scanned) (i : ℕ) (d : Token) → s ≡ scanned text → IsFirstHigh s.tokens (Some i) → Begins (take (i + 1) s.tokens)
+after_high : (text : List ℕ) (s : Scanned) (i : ℕ) (d : Token) → s ≡ scanned text → IsFirstHigh s.tokens (Some i) → BeginsProgram (take (i + 1) s.tokens)
     → IsRefused text rule.High (get_or s.tokens i d).place
-behind_high text s i d e high begun =
+after_high text s i d e high begun =
     let ts = s.tokens in
     let t = get_or ts i d in
     let more : take (i + 1) ts ≡ take i ts ++ t ∷ [] = one_more ts i d high.0 in
-    let P : List Token → Type 0 = Begins in
+    let P : List Token → Type 0 = BeginsProgram in
     too_high (take i ts) t (drop (i + 1) ts) (sym (ap (λ (x : Scanned). x.tokens) e) ∙ cut_at ts i d high.0) high.1 (subst P more begun)
     (sym (ap nests_high more) ∙ high.2) refl refl
 
-pub refused_behind : (text : List ℕ) (s : Scanned) (high : Option ℕ) (f : Fault) → s ≡ scanned text → IsFirstHigh s.tokens high
-    → Begins (take (reach high (length s.tokens)) s.tokens) → behind_of s high ≡ Some f → IsRefused text f.rule f.place
-refused_behind text s None f e high begun behind = behind_no_token text s f e high begun behind
-refused_behind text s (Some i) f e high begun behind = by_tokens s.tokens refl
+pub refused_after : (text : List ℕ) (s : Scanned) (high : Option ℕ) (f : Fault) → s ≡ scanned text → IsFirstHigh s.tokens high
+    → BeginsProgram (take (reach high (length s.tokens)) s.tokens) → after_of s high ≡ Some f → IsRefused text f.rule f.place
+refused_after text s None f e high begun after = after_no_token text s f e high begun after
+refused_after text s (Some i) f e high begun after = by_tokens s.tokens refl
   where
     by_tokens : (ts : List Token) → s.tokens ≡ ts → IsRefused text f.rule f.place
     by_tokens [] none = absurd (omega (arith, high.0, ap length none))
     by_tokens (d ∷ ds) some =
         let there = get_there s.tokens i d high.0 in
         let told : record { rule = rule.High; place = (get_or s.tokens i d).place } ≡ f =
-        ap (λ o. fault_or o f) (sym (ap (option_map (λ (t : Token). record { rule = rule.High; place = t.place })) there) ∙ behind) in
+        ap (λ o. fault_or o f) (sym (ap (option_map (λ (t : Token). record { rule = rule.High; place = t.place })) there) ∙ after) in
         let P : Fault → Type 0 = λ x. IsRefused text x.rule x.place in
-        subst P told (behind_high text s i d e high begun)
+        subst P told (after_high text s i d e high begun)
 
-none_behind : (s : Scanned) (high : Option ℕ) → IsFirstHigh s.tokens high → behind_of s high ≡ None → (high ≡ None) × (s.fault ≡ None)
-none_behind s None high behind = (refl, behind)
-none_behind s (Some i) high behind = by_tokens s.tokens refl
+none_after : (s : Scanned) (high : Option ℕ) → IsFirstHigh s.tokens high → after_of s high ≡ None → (high ≡ None) × (s.fault ≡ None)
+none_after s None high after = (refl, after)
+none_after s (Some i) high after = by_tokens s.tokens refl
   where
     by_tokens : (ts : List Token) → s.tokens ≡ ts → (Some i ≡ None) × (s.fault ≡ None)
     by_tokens [] none = absurd (omega (arith, high.0, ap length none))
     by_tokens (d ∷ ds) some =
         let wrong : Some (record { rule = rule.High; place = (get_or s.tokens i d).place }) ≡ None =
-        sym (ap (option_map (λ (t : Token). record { rule = rule.High; place = t.place })) (get_there s.tokens i d high.0)) ∙ behind in
+        sym (ap (option_map (λ (t : Token). record { rule = rule.High; place = t.place })) (get_there s.tokens i d high.0)) ∙ after in
         absurd (cc wrong)
 
 -- ---- The tokens that are looked at are whole, or too few
 
 pub whole_read : (text : List ℕ) (s : Scanned) (high : Option ℕ) (xs : List Item) → s ≡ scanned text → IsFirstHigh s.tokens high
-    → parse_program (take (reach high (length s.tokens)) s.tokens) ≡ Read xs [] → behind_of s high ≡ None → IsRead text xs
-whole_read text s None xs e high parsed behind =
+    → parse_program (take (reach high (length s.tokens)) s.tokens) ≡ Read xs [] → after_of s high ≡ None → IsRead text xs
+whole_read text s None xs e high parsed after =
     let all : take (length s.tokens) s.tokens ≡ s.tokens = take_all (length s.tokens) s.tokens (omega arith) in
     let P : List Token → Type 0 = program xs in
     let Q : Scanned → Type 0 = λ x. (x.fault ≡ None) × (nests_high x.tokens ≡ false) × program xs x.tokens in
     let spelled = (program_read (take (length s.tokens) s.tokens) xs [] parsed).1 in
-    let parts : Q (scanned text) = subst Q e (behind, high, subst P all spelled) in
+    let parts : Q (scanned text) = subst Q e (after, high, subst P all spelled) in
     record { scanned_whole = parts.0; low = parts.1; spelled = parts.2 }
-whole_read text s (Some i) xs e high parsed behind = let parts = none_behind s (Some i) high behind in absurd (cc (parts.0))
+whole_read text s (Some i) xs e high parsed after = let parts = none_after s (Some i) high after in absurd (cc (parts.0))
 
 pub whole_begins : (s : Scanned) (high : Option ℕ) (xs : List Item) → parse_program (take (reach high (length s.tokens)) s.tokens) ≡ Read xs []
-    → Begins (take (reach high (length s.tokens)) s.tokens)
+    → BeginsProgram (take (reach high (length s.tokens)) s.tokens)
 whole_begins s high xs parsed = let ts = take (reach high (length s.tokens)) s.tokens in program_begins xs ts (program_read ts xs [] parsed).1
 
 pub short_begins : (s : Scanned) (high : Option ℕ) → parse_program (take (reach high (length s.tokens)) s.tokens) ≡ Wrong []
-    → Begins (take (reach high (length s.tokens)) s.tokens)
+    → BeginsProgram (take (reach high (length s.tokens)) s.tokens)
 short_begins s high parsed = (program_ends (take (reach high (length s.tokens)) s.tokens) parsed).0
 
 pub short_end : (text : List ℕ) (s : Scanned) (high : Option ℕ) (end : ℕ) → s ≡ scanned text → IsFirstHigh s.tokens high
-    → parse_program (take (reach high (length s.tokens)) s.tokens) ≡ Wrong [] → behind_of s high ≡ None → end ≡ length text
+    → parse_program (take (reach high (length s.tokens)) s.tokens) ≡ Wrong [] → after_of s high ≡ None → end ≡ length text
     → IsRefused text rule.Syntax (record { 0 = end })
-short_end text s None end e high parsed behind at =
+short_end text s None end e high parsed after at =
     let all : take (length s.tokens) s.tokens ≡ s.tokens = take_all (length s.tokens) s.tokens (omega arith) in
     let ends = program_ends (take (length s.tokens) s.tokens) parsed in
-    let P : List Token → Type 0 = λ ts. Begins ts × (IsWhole ts → ⊥) in
-    let Q : Scanned → Type 0 = λ x. (x.fault ≡ None) × (nests_high x.tokens ≡ false) × Begins x.tokens × (IsWhole x.tokens → ⊥) in
+    let P : List Token → Type 0 = λ ts. BeginsProgram ts × (IsWhole ts → ⊥) in
+    let Q : Scanned → Type 0 = λ x. (x.fault ≡ None) × (nests_high x.tokens ≡ false) × BeginsProgram x.tokens × (IsWhole x.tokens → ⊥) in
     let own = subst P all ends in
-    let parts : Q (scanned text) = subst Q e (behind, high, own.0, own.1) in
+    let parts : Q (scanned text) = subst Q e (after, high, own.0, own.1) in
     wrong_end parts.0 parts.1 parts.2 parts.3 (ap (λ n. record { 0 = n }) at) refl
-short_end text s (Some i) end e high parsed behind at = let parts = none_behind s (Some i) high behind in absurd (cc (parts.0))
+short_end text s (Some i) end e high parsed after at = let parts = none_after s (Some i) high after in absurd (cc (parts.0))
 
 -- ---- One of them is wrong
 
@@ -181,11 +181,11 @@ wrong_at text s high i d e first within parsed =
 
 -- ---- As the reader tells it
 
-pub told_behind : (s : Scanned) (high : Option ℕ) (end : ℕ) (o : Option Fault) → IsFirstHigh s.tokens high
-    → Begins (take (reach high (length s.tokens)) s.tokens) → behind_of s high ≡ o
+pub told_after : (s : Scanned) (high : Option ℕ) (end : ℕ) (o : Option Fault) → IsFirstHigh s.tokens high
+    → BeginsProgram (take (reach high (length s.tokens)) s.tokens) → after_of s high ≡ o
     → IfSome o (λ f. (text : List ℕ) → s ≡ scanned text → end ≡ length text → IsRefused text f.rule f.place)
-told_behind s high end (Some f) first begun behind = λ text e at. refused_behind text s high f e first begun behind
-told_behind s high end None first begun behind = tt
+told_after s high end (Some f) first begun after = λ text e at. refused_after text s high f e first begun after
+told_after s high end None first begun after = tt
 
 pub told_wrong : (text : List ℕ) (s : Scanned) (high : Option ℕ) (i : ℕ) (t : Token) → s ≡ scanned text → IsFirstHigh s.tokens high
     → IsParsed s high (outcome.WrongAt i) → get_or s.tokens i t ≡ t → IsRefused text rule.Syntax t.place

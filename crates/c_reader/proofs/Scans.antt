@@ -2,13 +2,13 @@
 use Rattle.std.proofs.Common.{◌≡◌, ℕ, ◌+◌, ◌<◌, ◌≤◌, zero, suc, Some, None, List, [], ◌∷◌, ◌++◌, length}
 use Rattle.std.proofs.Common.{drop, refl, ap, sym, subst, ◌∙◌, arith, length-drop, append_assoc}
 use Rattle.c_tree.specs.Tokens.{Lexeme, Token}
-use Rattle.c_tree.specs.Scanning.{Prefix, Blank, Lexed, Broken, End, prefix, Scanned, scanned_from, scanned}
+use Rattle.c_tree.specs.LexicalScan.{Prefix, Blank, Lexed, Broken, End, prefix, Scanned, scanned_from, scanned}
 use Rattle.c_reader.proofs.Sizes.{IsPart, prefix-IsPart}
 
 abbrev token_at : (place : ℕ) → Lexeme → Token
 token_at place lexeme = record { place = record { 0 = place }; lexeme = lexeme }
 
--- what stands at a place and behind it, by what stands there
+-- what stands at a place and after it, by what stands there
 abbrev after_prefix : (more place : ℕ) → List ℕ → Prefix → Scanned
 after_prefix more place text f = elim f [
   | Blank bytes ↦ scanned_from more (place + bytes) (drop bytes text)
@@ -18,8 +18,8 @@ after_prefix more place text f = elim f [
   | End ↦ record { tokens = []; fault = None }
 ]
 
--- so much of a text is left behind the tokens that were found
-pub record IsLeft (text rest : List ℕ) (found : List Token) : Type 0 where
+-- the rest of a text that is left after the tokens that were found
+pub record IsTextLeft (text rest : List ℕ) (found : List Token) : Type 0 where
   pub place : ℕ
   pub at : place + length rest ≡ length text
   -- more than the bytes that are left
@@ -28,7 +28,7 @@ pub record IsLeft (text rest : List ℕ) (found : List Token) : Type 0 where
   pub tokens : found ++ (scanned_from (suc more) place rest).tokens ≡ (scanned text).tokens
   pub fault : (scanned_from (suc more) place rest).fault ≡ (scanned text).fault
 
-pub IsLeft-start : (text : List ℕ) → IsLeft text text []
+pub IsLeft-start : (text : List ℕ) → IsTextLeft text text []
 unfolding scanned
 IsLeft-start text = record {
   place = 0;
@@ -43,14 +43,14 @@ IsLeft-start text = record {
 pub some_of : (rest : List ℕ) (f : Prefix) → f ≡ prefix rest → IsPart rest f
 some_of rest f e = let P : Prefix → Type 0 = IsPart rest in subst P (sym e) (prefix-IsPart rest)
 
-pub IsLeft-Blank : (text rest : List ℕ) (found : List Token) (n : ℕ) → IsLeft text rest found → Blank n ≡ prefix rest → IsLeft text (drop n rest) found
+pub IsLeft-Blank : (text rest : List ℕ) (found : List Token) (n : ℕ) → IsTextLeft text rest found → Blank n ≡ prefix rest → IsTextLeft text (drop n rest) found
 IsLeft-Blank text rest found n l e = by l.more l.enough l.tokens l.fault
   where
     some : (0 < n) × (n ≤ length rest)
     some = some_of rest (Blank n) e
 
     by : (more : ℕ) → length rest ≤ more → found ++ (scanned_from (suc more) l.place rest).tokens ≡ (scanned text).tokens
-        → (scanned_from (suc more) l.place rest).fault ≡ (scanned text).fault → IsLeft text (drop n rest) found
+        → (scanned_from (suc more) l.place rest).fault ≡ (scanned text).fault → IsTextLeft text (drop n rest) found
     by zero enough t f = absurd (omega (arith, some.0, some.1))
     by (suc m) enough t f = record {
       place = l.place + n;
@@ -61,8 +61,8 @@ IsLeft-Blank text rest found n l e = by l.more l.enough l.tokens l.fault
       fault = ap (λ x. (after_prefix (suc m) l.place rest x).fault) e ∙ f;
     }
 
-pub IsLeft-Lexed : (text rest : List ℕ) (found : List Token) (place : ℕ) (lexeme : Lexeme) (n : ℕ) → IsLeft text rest found → Lexed lexeme n ≡ prefix rest
-    → place + length rest ≡ length text → IsLeft text (drop n rest) (found ++ token_at place lexeme ∷ [])
+pub IsLeft-Lexed : (text rest : List ℕ) (found : List Token) (place : ℕ) (lexeme : Lexeme) (n : ℕ) → IsTextLeft text rest found → Lexed lexeme n ≡ prefix rest
+    → place + length rest ≡ length text → IsTextLeft text (drop n rest) (found ++ token_at place lexeme ∷ [])
 IsLeft-Lexed text rest found place lexeme n l e at = by l.more l.enough l.tokens l.fault
   where
     some : (0 < n) × (n ≤ length rest)
@@ -72,7 +72,7 @@ IsLeft-Lexed text rest found place lexeme n l e at = by l.more l.enough l.tokens
     same = omega (arith, l.at, at)
 
     by : (more : ℕ) → length rest ≤ more → found ++ (scanned_from (suc more) l.place rest).tokens ≡ (scanned text).tokens
-        → (scanned_from (suc more) l.place rest).fault ≡ (scanned text).fault → IsLeft text (drop n rest) (found ++ token_at place lexeme ∷ [])
+        → (scanned_from (suc more) l.place rest).fault ≡ (scanned text).fault → IsTextLeft text (drop n rest) (found ++ token_at place lexeme ∷ [])
     by zero enough t f = absurd (omega (arith, some.0, some.1))
     by (suc m) enough t f = record {
       place = place + n;

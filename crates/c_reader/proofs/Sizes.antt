@@ -8,12 +8,12 @@ use Rattle.std.proofs.lemmas.Bool.{and_parts}
 use Rattle.std.proofs.lemmas.Bool.Decides.{nat_tests}
 use Rattle.std.proofs.lemmas.List.Sums.{prefix_len-le-length}
 use Rattle.std.proofs.lemmas.List.Folds.{length-prefix_len}
-use Rattle.ido_ints.specs.Typed.{Typed}
+use Rattle.ido_ints.specs.TypedNumbers.{Typed}
 use Rattle.c_tree.specs.declared.token.Punctuator as pn
 use Rattle.c_tree.specs.declared.rule.Rule.TheVariants as rule
 use Rattle.c_tree.specs.Tokens.{Number, Punctuator}
-use Rattle.c_tree.specs.Scanning.{Prefix, Blank, Lexed, Broken, End, prefix, prefix_from, is_blank, is_letter, is_decimal, is_word_byte, through_comment}
-use Rattle.c_tree.specs.Scanning.{line_comment, closed_comment, word_prefix, number_of, number_prefix, punctuators, punctuator_prefix}
+use Rattle.c_tree.specs.LexicalScan.{Prefix, Blank, Lexed, Broken, End, prefix, prefix_from, is_blank, is_letter, is_decimal, is_word_byte, through_comment}
+use Rattle.c_tree.specs.LexicalScan.{line_comment, closed_comment, word_prefix, number_of, number_prefix, punctuators, punctuator_prefix}
 
 -- as many bytes as are told stand in the text, at least one
 abbrev pub IsPart : (text : List ℕ) → Prefix → Type 0

@@ -12,20 +12,20 @@ use Rattle.c_tree.specs.Trees as t
 use Rattle.c_tree.specs.Languages.{maybe, mark, ◌⋅◌, first_place}
 use Rattle.c_tree.specs.Grammar.{expression, call, initial, first, condition, assignment, changed, target}
 use Rattle.c_tree.specs.Grammar.{statement, block, statements, more_arms_of, otherwise_of, unary_mark}
-use Rattle.c_reader.specs.links.Parsing.{Parser, give, head_of, head_is, is_mark, is_word, begins_type, begins_statement, parse_word}
-use Rattle.c_reader.specs.links.Parsing.{parse_expression, parse_assignment, parse_initial, declaration_over, parse_unless}
-use Rattle.c_reader.specs.links.Parsing.{ended, statements_over, block_over, with_arm, arms_after, if_of, statement_by}
-use Rattle.c_reader.specs.links.Parsing.{statement_over, parse_statement, parse_statements, parse_block, ◌>>=◌, ◌>>◌}
-use Rattle.c_reader.proofs.Good.{Language, Good, ◌▷◌, ◌▹◌, just, Anything, Strict, good_give, good_to, good_less}
-use Rattle.c_reader.proofs.Good.{good_map, good_where, good_head, good_then, good_then_less, good_small}
+use Rattle.c_reader.specs.links.ParserFunctions.{Parser, give, head_of, head_is, is_mark, is_word, begins_type, begins_statement, parse_word}
+use Rattle.c_reader.specs.links.ParserFunctions.{parse_expression, parse_assignment, parse_initial, declaration_over, parse_unless}
+use Rattle.c_reader.specs.links.ParserFunctions.{ended, statements_over, block_over, with_arm, arms_after, if_of, statement_by}
+use Rattle.c_reader.specs.links.ParserFunctions.{statement_over, parse_statement, parse_statements, parse_block, ◌>>=◌, ◌>>◌}
+use Rattle.c_reader.proofs.CorrectParsers.{Language, Good, ◌▷◌, ◌▹◌, just, Anything, Strict, good_give, good_to, good_less}
+use Rattle.c_reader.proofs.CorrectParsers.{good_map, good_where, good_head, good_then, good_then_less, good_small}
 use Rattle.c_reader.proofs.Tokens.{some_same, marked, worded, named, good_mark, good_word, good_name, marked-strict, worded-strict}
-use Rattle.c_reader.proofs.Parts.{Where, good_unless}
+use Rattle.c_reader.proofs.OptionalParts.{Where, good_unless}
 use Rattle.c_reader.proofs.Types.{type_begins}
 use Rattle.c_reader.proofs.Operands.{ExpressionEnd, good_expression}
 use Rattle.c_reader.proofs.Assignments.{good_assignment, plain_up}
 use Rattle.c_reader.proofs.Calls.{RightEnd, call_up, Foreign, expression_foreign}
-use Rattle.c_reader.proofs.Simple.{InitialEnd, good_initial, DeclarationLanguage, good_declaration, good_condition, NameInside, good_name_inside}
-use Rattle.c_reader.proofs.Simple.{FirstEnd, good_first, assignment_first, type_first, BehindTarget, BehindName, behind_name_good}
+use Rattle.c_reader.proofs.SimpleStatements.{InitialEnd, good_initial, DeclarationLanguage, good_declaration, good_condition, NameInside, good_name_inside}
+use Rattle.c_reader.proofs.SimpleStatements.{FirstEnd, good_first, assignment_first, type_first, AfterTarget, AfterName, after_name_good}
 
 -- ---- Statements that a semicolon ends
 
@@ -51,7 +51,7 @@ Prefix (t.CallOnly c) us = call c us
 Prefix _ us = ⊥
 
 target_prefix : (n : t.Name) (i : Option t.Expression) (y : t.Statement) (us us₁ us₂ : List Token) → us ≡ us₁ ++ us₂
-    → target (record { name = n; index = i }) us₁ → BehindTarget (record { name = n; index = i }) y us₂ → Prefix y us
+    → target (record { name = n; index = i }) us₁ → AfterTarget (record { name = n; index = i }) y us₂ → Prefix y us
 target_prefix n i y us us₁ us₂ e u (inl (o, vs₁, vs₂, e', l, (t.Value x, m, q))) =
     subst (λ y. Prefix y us) q (plain_up _ us (record { name = n; index = i }, us₁, us₂, e, u, (t.Set x, (vs₁, vs₂, e', (o, l), m), refl)))
 target_prefix n i y us us₁ us₂ e u (inl (o, vs₁, vs₂, e', l, (t.Result c, m, q))) =
@@ -60,7 +60,7 @@ target_prefix n i y us us₁ us₂ e u (inl (o, vs₁, vs₂, e', l, (t.Absent, 
 target_prefix n i y us us₁ us₂ e u (inr (c, o, m, q)) =
     subst (λ y. Prefix y us) q (plain_up _ us (record { name = n; index = i }, us₁, us₂, e, u, (c, m, refl)))
 
-prefix_up : (y : t.Statement) (us : List Token) → (named ▷ BehindName) y us → Prefix y us
+prefix_up : (y : t.Statement) (us : List Token) → (named ▷ AfterName) y us → Prefix y us
 prefix_up y us (n, us₁, us₂, e, l, inl (c, m, q)) = subst (λ y. Prefix y us) q (rw e (call_up n c us₁ us₂ l m))
 prefix_up y us (n, us₁, us₂, e, l, inr (i, us₃, us₄, e', m, b)) =
     target_prefix n i y us (us₁ ++ us₃) us₄ (e ∙ ap (λ l. us₁ ++ l) e' ∙ sym (append_assoc us₁ us₃ us₄)) (us₁, us₃, refl, l, m) b
@@ -80,7 +80,7 @@ ended_up y us (x, us₁, us₂, e, u, (c, m, q)) = subst (λ y. statement y us) 
     go (t.CallOnly r) u = (us₁, us₂, e, u, (c, m))
     go _ u = absurd u
 
-named_ended_up : (y : t.Statement) (us : List Token) → Ended (named ▷ BehindName) y us → statement y us
+named_ended_up : (y : t.Statement) (us : List Token) → Ended (named ▷ AfterName) y us → statement y us
 named_ended_up y us (x, us₁, us₂, e, u, m) = ended_up y us (x, us₁, us₂, e, prefix_up x us₁ u, m)
 
 assign_ended_up : (y : t.Statement) (us : List Token) → Ended (assignment ▹ t.Assign) y us → statement y us
@@ -91,7 +91,7 @@ declare_ended_up y us (x, us₁, us₂, e, (a, u, q), (c, m, q')) = subst (λ y.
 
 -- ---- Arms
 
--- what stands behind the block of an `if`
+-- what stands after the block of an `if`
 abbrev pub ArmsLanguage : Language (t.Arms × t.Otherwise)
 ArmsLanguage x = more_arms_of x.0 ⋅ otherwise_of x.1
 
@@ -105,11 +105,11 @@ ElseIf = worded k.If ▷ (λ i. condition ▷ (λ x. block ▷ (λ b. ArmsLangua
 abbrev ElseBlock : Language (t.Arms × t.Otherwise)
 ElseBlock = block ▹ (λ b. (t.no_arm, t.Else b))
 
-abbrev BehindElse : Language (t.Arms × t.Otherwise)
-BehindElse y us = ElseIf y us ⊎ ElseBlock y us
+abbrev AfterElse : Language (t.Arms × t.Otherwise)
+AfterElse y us = ElseIf y us ⊎ ElseBlock y us
 
 abbrev WithElse : Language (t.Arms × t.Otherwise)
-WithElse = worded k.Else ▷ (λ e. BehindElse)
+WithElse = worded k.Else ▷ (λ e. AfterElse)
 
 else_up : (y : t.Arms × t.Otherwise) (us : List Token) → WithElse y us → ArmsLanguage y us
 else_up y us (w, us₁, us₂, e, l, inr (b, m, q)) = subst (λ y. ArmsLanguage y us) q ([], us, refl, refl, (us₁, us₂, e, (w, l), m))
@@ -137,10 +137,10 @@ no_more = (t.no_arm, t.Nothing)
 block_head : (b : t.Block) (us rest : List Token) → block b us → head_of (us ++ rest) ≡ Some (Punctuator p.OpenBrace)
 block_head (t.Braced opening inside closing) us rest (us₁, us₂, e, l, m) = rw (e, l) refl
 
-behind_else_out : (y : t.Arms × t.Otherwise) (us rest : List Token) → BehindElse y us
+after_else_out : (y : t.Arms × t.Otherwise) (us rest : List Token) → AfterElse y us
     → (ElseIf y us × (head_is (is_word k.If) (head_of (us ++ rest)) ≡ true)) ⊎ (ElseBlock y us × (head_is (is_word k.If) (head_of (us ++ rest)) ≡ false))
-behind_else_out y us rest (inl (i, us₁, us₂, e, l, m)) = inl ((i, us₁, us₂, e, l, m), rw (e, l) refl)
-behind_else_out y us rest (inr (b, m, q)) = inr ((b, m, q), rw (block_head b us rest m) refl)
+after_else_out y us rest (inl (i, us₁, us₂, e, l, m)) = inl ((i, us₁, us₂, e, l, m), rw (e, l) refl)
+after_else_out y us rest (inr (b, m, q)) = inr ((b, m, q), rw (block_head b us rest m) refl)
 
 else_out : (y : t.Arms × t.Otherwise) (us rest : List Token) → ArmsLanguage y us → StatementEnd (head_of rest) →
     (WithElse y us × (head_is (is_word k.Else) (head_of (us ++ rest)) ≡ true)) ⊎ (just no_more y us × (head_is (is_word k.Else) (head_of (us ++ rest)) ≡ false))
@@ -191,11 +191,11 @@ arms_step : {b c : ℕ} → b ≤ suc c → c ≤ b → {B B' : Parser t.Block} 
 arms_step {b = b} {c = c} bc cb g fuel fuel' h h' r =
     good_where {K₁ = WithElse} {K₂ = just no_more} (head_is (is_word k.Else))
     (good_to {U = WithElse} {K = WithElse} {F = StatementEnd}
-    (good_then_less {M = λ e. BehindElse} {F = Anything} {G = StatementEnd} bc (worded-strict k.Else) (good_word k.Else)
-    (λ e. good_where {U = BehindElse} {K₁ = ElseIf} {K₂ = ElseBlock} (head_is (is_word k.If))
+    (good_then_less {M = λ e. AfterElse} {F = Anything} {G = StatementEnd} bc (worded-strict k.Else) (good_word k.Else)
+    (λ e. good_where {U = AfterElse} {K₁ = ElseIf} {K₂ = ElseBlock} (head_is (is_word k.If))
     (good_to (else_if_good (good_less g cb) (good_less (good_condition (suc fuel) (suc fuel') b h h') cb) r) (λ y us u. inl u) (λ y us u. u) (λ h f. f))
     (good_to (good_map (λ b. (t.no_arm, t.Else b)) (good_less g cb)) (λ y us u. inr u) (λ y us u. u) (λ h f. tt))
-    (λ y us rest u f. behind_else_out y us rest u))
+    (λ y us rest u f. after_else_out y us rest u))
     (λ x y us rest m f. tt))
     else_up (λ y us u. u) (λ h f. f))
     (good_to {U' = ArmsLanguage} {K' = just no_more} (good_give no_more) (λ y us (q, e). subst (λ y. ArmsLanguage y us) q ([], [], e, refl, refl)) (λ y us u. u)
@@ -239,7 +239,7 @@ abbrev UnlockLanguage : Language t.Statement
 UnlockLanguage = worded k.Unlock ▷ (λ place. NameInside ▷ (λ x. marked p.Semicolon ▹ (λ c. t.Unlock place x)))
 
 abbrev statement_language : Option Lexeme → Language t.Statement
-statement_language (Some (Name bytes)) = Ended (named ▷ BehindName)
+statement_language (Some (Name bytes)) = Ended (named ▷ AfterName)
 statement_language (Some (Punctuator p.OpenBrace)) = block ▹ t.BlockOf
 statement_language (Some (Punctuator p.Semicolon)) = marked p.Semicolon ▹ t.Empty
 statement_language (Some (Punctuator p.Increment)) = Ended (assignment ▹ t.Assign)
@@ -457,8 +457,8 @@ declared_good fuel fuel' b h h' =
 statement_good : (fuel fuel' b : ℕ) → b ≤ fuel → b ≤ fuel' → (B B' : Parser t.Block) → Good b block block Anything B B' → Good 0 block block Anything B B →
     (h : Option Lexeme) → Good b statement (statement_language h) StatementEnd (statement_by B fuel h) (statement_by B' fuel' h)
 statement_good fuel fuel' b h h' B B' g g₀ (Some (Name bytes)) =
-    good_to (good_ended (named ▷ BehindName) RightEnd Anything right_semicolon
-    (good_then {M = BehindName} {F = Anything} {G = RightEnd} good_name (behind_name_good fuel fuel' b h h') (λ x y us rest m f. tt))) named_ended_up
+    good_to (good_ended (named ▷ AfterName) RightEnd Anything right_semicolon
+    (good_then {M = AfterName} {F = Anything} {G = RightEnd} good_name (after_name_good fuel fuel' b h h') (λ x y us rest m f. tt))) named_ended_up
     (λ y us u. u) (λ h f. tt)
 statement_good fuel fuel' b h h' B B' g g₀ (Some (Punctuator p.OpenBrace)) =
     good_to (good_map t.BlockOf g) (λ y us (x, m, q). subst (λ y. statement y us) q m) (λ y us u. u) (λ h f. tt)
@@ -480,7 +480,7 @@ statement_good fuel fuel' b h h' B B' g g₀ _ = declared_good fuel fuel' b h h'
 
 -- ---- Each statement is found by its first token
 
-target_down : (x : t.Lvalue) (y : t.Statement) (us us₁ us₂ : List Token) → us ≡ us₁ ++ us₂ → target x us₁ → BehindTarget x y us₂ → (named ▷ BehindName) y us
+target_down : (x : t.Lvalue) (y : t.Statement) (us us₁ us₂ : List Token) → us ≡ us₁ ++ us₂ → target x us₁ → AfterTarget x y us₂ → (named ▷ AfterName) y us
 target_down x y us us₁ us₂ e (vs₁, vs₂, e', n, i) b =
     (x.name, vs₁, vs₂ ++ us₂, e ∙ ap (λ l. l ++ us₂) e' ∙ append_assoc vs₁ vs₂ us₂, n, inr (x.index, vs₂, us₂, refl, i, b))
 
@@ -489,14 +489,14 @@ target_name x us us₁ us₂ rest e (vs₁, vs₂, e', n, i) = rw (e, e', n) ref
 
 -- an assignment begins with its target, or with `++` or `--`
 assign_cases : (x : t.Assignment) (us : List Token) → assignment x us →
-    ((named ▷ BehindName) (t.Assign x) us × ((rest : List Token) → head_of (us ++ rest) ≡ Some (Name x.target.name.text))) ⊎
+    ((named ▷ AfterName) (t.Assign x) us × ((rest : List Token) → head_of (us ++ rest) ≡ Some (Name x.target.name.text))) ⊎
     (((rest : List Token) → head_of (us ++ rest) ≡ Some (Punctuator p.Increment))
     ⊎ ((rest : List Token) → head_of (us ++ rest) ≡ Some (Punctuator p.Decrement)))
 assign_cases x us (f, u) = go x.change u
   where
     Cases : t.Change → Type 0
     Cases c =
-        ((named ▷ BehindName) (t.Assign (record { place = x.place; target = x.target; change = c })) us
+        ((named ▷ AfterName) (t.Assign (record { place = x.place; target = x.target; change = c })) us
         × ((rest : List Token) → head_of (us ++ rest) ≡ Some (Name x.target.name.text))) ⊎
         (((rest : List Token) → head_of (us ++ rest) ≡ Some (Punctuator p.Increment))
         ⊎ ((rest : List Token) → head_of (us ++ rest) ≡ Some (Punctuator p.Decrement)))
@@ -506,10 +506,10 @@ assign_cases x us (f, u) = go x.change u
         some_same x.target.name.place x.place (sym (ap first_place (e ∙ ap (λ l. l ++ us₂) (e' ∙ ap (λ l. l ++ vs₂) n))) ∙ f)
 
     other : (c : t.Change) (us₁ us₂ : List Token) → us ≡ us₁ ++ us₂ → target x.target us₁
-        → BehindTarget x.target (t.Assign (record { place = x.target.name.place; target = x.target; change = c })) us₂ → Cases c
+        → AfterTarget x.target (t.Assign (record { place = x.target.name.place; target = x.target; change = c })) us₂ → Cases c
     other c us₁ us₂ e u b =
         inl (
-          target_down x.target _ us us₁ us₂ e u (subst (λ place. BehindTarget x.target (t.Assign (record { place = place; target = x.target; change = c })) us₂)
+          target_down x.target _ us us₁ us₂ e u (subst (λ place. AfterTarget x.target (t.Assign (record { place = place; target = x.target; change = c })) us₂)
               (same_place us₁ us₂ e u) b),
           λ rest. target_name x.target us us₁ us₂ rest e u,
         )
@@ -547,7 +547,7 @@ statement_out (t.Declare x) us rest (us₁, us₂, e, (f, (us₃, us₄, e', l, 
     (t.Declare x, us₁, us₂, e, (x, (f, (us₃, us₄, e', l, m)), refl), (c, n, refl))
 statement_out (t.Assign x) us rest (us₁, us₂, e, a, (c, n)) = go (assign_cases x us₁ a)
   where
-    go : ((named ▷ BehindName) (t.Assign x) us₁ × ((rest : List Token) → head_of (us₁ ++ rest) ≡ Some (Name x.target.name.text))) ⊎
+    go : ((named ▷ AfterName) (t.Assign x) us₁ × ((rest : List Token) → head_of (us₁ ++ rest) ≡ Some (Name x.target.name.text))) ⊎
         (((rest : List Token) → head_of (us₁ ++ rest) ≡ Some (Punctuator p.Increment))
         ⊎ ((rest : List Token) → head_of (us₁ ++ rest) ≡ Some (Punctuator p.Decrement))) →
         statement_language (head_of (us ++ rest)) (t.Assign x) us

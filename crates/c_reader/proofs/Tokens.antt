@@ -2,7 +2,7 @@
 use Rattle.std.proofs.Common.{◌≡◌, ℕ, zero, suc, ◌+◌, List, [], ◌∷◌, Option, Some, None, Bool, true, false, sym, refl, ap, ◌∙◌, zero-lt-suc}
 use Rattle.std.proofs.lemmas.Bool.{eqb-true, eq-eqb}
 use Rattle.ido_base.specs.declared.place.Place.{Place}
-use Rattle.ido_ints.specs.Typed.{Typed}
+use Rattle.ido_ints.specs.TypedNumbers.{Typed}
 use Rattle.ido_ints.specs.declared.operators.Binary as bo
 use Rattle.ido_ints.specs.declared.operators.Binary.TheVariants as binary
 use Rattle.c_tree.specs.Tokens.{Token, Lexeme, Name, Keyword, Number, Punctuator}
@@ -12,11 +12,11 @@ use Rattle.c_tree.specs.declared.token.Punctuator as pn
 use Rattle.c_tree.specs.declared.token.Punctuator.TheVariants as p
 use Rattle.c_tree.specs.Trees as t
 use Rattle.c_tree.specs.Languages.{word_at, mark_at, number_at, name}
-use Rattle.c_reader.specs.links.Parsing.{is_mark, is_word, number_of_mark, number_of_word, number_of_operator, parse_mark}
-use Rattle.c_reader.specs.links.Parsing.{parse_word, parse_name, parse_number, parse_lexeme, name_in, number_in}
-use Rattle.c_reader.proofs.Good.{Language, Good, found_in, Anything, Strict, good_taking, good_to}
+use Rattle.c_reader.specs.links.ParserFunctions.{is_mark, is_word, number_of_mark, number_of_word, number_of_operator, parse_mark}
+use Rattle.c_reader.specs.links.ParserFunctions.{parse_word, parse_name, parse_number, parse_lexeme, name_in, number_in}
+use Rattle.c_reader.proofs.CorrectParsers.{Language, Good, found_in, Anything, Strict, good_taking, good_to}
 
--- ---- Numbers of marks and words stand for them
+-- ---- Numbers of marks and words represent them
 
 nth : {A : Type 0} → List A → ℕ → Option A
 nth [] n = None

@@ -10,11 +10,11 @@ use Rattle.c_tree.specs.declared.token.Keyword as kw
 use Rattle.c_tree.specs.declared.token.Keyword.TheVariants as k
 use Rattle.c_tree.specs.Languages.{maybe, words}
 use Rattle.c_tree.specs.Grammar.{type, spellings}
-use Rattle.c_reader.specs.links.Parsing.{give, by_head, head_of, head_is, is_word, parse_word, parse_int}
-use Rattle.c_reader.specs.links.Parsing.{signed_by, unsigned_by, type_by, parse_type, begins_type, ◌>>◌}
-use Rattle.c_reader.proofs.Good.{Language, Good, ◌▷◌, ◌▹◌, just, nothing, Anything, good_give, good_to, good_map, good_head, good_then, good_wrong}
+use Rattle.c_reader.specs.links.ParserFunctions.{give, by_head, head_of, head_is, is_word, parse_word, parse_int}
+use Rattle.c_reader.specs.links.ParserFunctions.{signed_by, unsigned_by, type_by, parse_type, begins_type, ◌>>◌}
+use Rattle.c_reader.proofs.CorrectParsers.{Language, Good, ◌▷◌, ◌▹◌, just, nothing, Anything, good_give, good_to, good_map, good_head, good_then, good_wrong}
 use Rattle.c_reader.proofs.Tokens.{worded, good_word}
-use Rattle.c_reader.proofs.Parts.{Unless, good_maybe}
+use Rattle.c_reader.proofs.OptionalParts.{Unless, good_maybe}
 
 -- ---- Spellings, one token at a time
 
@@ -78,11 +78,11 @@ with_int : {b : ℕ} {U : Language Kind} (w : kw.Keyword) (x : Kind) → ((y : K
 with_int w x up = good_to {F = Unless (is_word k.Int) Anything} (good_then (good_word w) (λ p. good_map (λ i. x) int_part) (λ p y us rest m f. tt)) up
     (λ y us u. u) (λ h f. (tt, f.2))
 
--- ---- Behind `signed`, and behind `unsigned`
+-- ---- After `signed`, and after `unsigned`
 
 -- what makes the kind when this word stands before it
-abbrev Behind : kw.Keyword → Language Kind
-Behind w x us = (place : Place) → type x (token place w ∷ us)
+abbrev After : kw.Keyword → Language Kind
+After w x us = (place : Place) → type x (token place w ∷ us)
 
 abbrev signed_language : Option Lexeme → Language Kind
 signed_language (Some (Keyword k.Char)) = Alone k.Char kind.SignedChar
@@ -111,26 +111,26 @@ int_up : (w : kw.Keyword) (x : Kind) → Contains (spellings x) (w ∷ []) → C
 int_up w x c d y us (p, us', vs, e, l, (None, m, q)) = rw (e, l, m, ← q) (one_word x w c p)
 int_up w x c d y us (p, us', vs, e, l, (Some i, m, q)) = rw (e, l, m, ← q) (two_words x w k.Int d p i)
 
-behind_alone_up : (v w : kw.Keyword) (x : Kind) → Contains (spellings x) (v ∷ w ∷ []) → (y : Kind) (us : List Token) → Alone w x y us → Behind v y us
-behind_alone_up v w x c y us (p, e, q) place = rw (e, ← q) (two_words x v w c place p)
+after_alone_up : (v w : kw.Keyword) (x : Kind) → Contains (spellings x) (v ∷ w ∷ []) → (y : Kind) (us : List Token) → Alone w x y us → After v y us
+after_alone_up v w x c y us (p, e, q) place = rw (e, ← q) (two_words x v w c place p)
 
-behind_int_up : (v w : kw.Keyword) (x : Kind) → Contains (spellings x) (v ∷ w ∷ []) → Contains (spellings x) (v ∷ w ∷ k.Int ∷ []) → (y : Kind) (us : List Token)
-    → WithInt w x y us → Behind v y us
-behind_int_up v w x c d y us (p, us', vs, e, l, (None, m, q)) place = rw (e, l, m, ← q) (two_words x v w c place p)
-behind_int_up v w x c d y us (p, us', vs, e, l, (Some i, m, q)) place = rw (e, l, m, ← q) (three_words x v w k.Int d place p i)
+after_int_up : (v w : kw.Keyword) (x : Kind) → Contains (spellings x) (v ∷ w ∷ []) → Contains (spellings x) (v ∷ w ∷ k.Int ∷ []) → (y : Kind) (us : List Token)
+    → WithInt w x y us → After v y us
+after_int_up v w x c d y us (p, us', vs, e, l, (None, m, q)) place = rw (e, l, m, ← q) (two_words x v w c place p)
+after_int_up v w x c d y us (p, us', vs, e, l, (Some i, m, q)) place = rw (e, l, m, ← q) (three_words x v w k.Int d place p i)
 
-behind_none_up : (v : kw.Keyword) (x : Kind) → Contains (spellings x) (v ∷ []) → (y : Kind) (us : List Token) → just x y us → Behind v y us
-behind_none_up v x c y us (q, e) place = rw (e, ← q) (one_word x v c place)
+after_none_up : (v : kw.Keyword) (x : Kind) → Contains (spellings x) (v ∷ []) → (y : Kind) (us : List Token) → just x y us → After v y us
+after_none_up v x c y us (q, e) place = rw (e, ← q) (one_word x v c place)
 
-behind_none : {b : ℕ} (v : kw.Keyword) (x : Kind) → Contains (spellings x) (v ∷ []) → Good b (Behind v) (just x) TypeEnd (give x) (give x)
-behind_none v x c = good_to (good_give x) (behind_none_up v x c) (λ y us u. u) (λ h f. tt)
+after_none : {b : ℕ} (v : kw.Keyword) (x : Kind) → Contains (spellings x) (v ∷ []) → Good b (After v) (just x) TypeEnd (give x) (give x)
+after_none v x c = good_to (good_give x) (after_none_up v x c) (λ y us u. u) (λ h f. tt)
 
-signed_good : {b : ℕ} (h : Option Lexeme) → Good b (Behind k.Signed) (signed_language h) TypeEnd (signed_by h) (signed_by h)
-signed_good (Some (Keyword k.Char)) = alone k.Char kind.SignedChar (behind_alone_up k.Signed k.Char kind.SignedChar (0, lit< tt, refl))
-signed_good (Some (Keyword k.Short)) = with_int k.Short kind.Short (behind_int_up k.Signed k.Short kind.Short (2, lit< tt, refl) (3, lit< tt, refl))
-signed_good (Some (Keyword k.Int)) = alone k.Int kind.Int (behind_alone_up k.Signed k.Int kind.Int (2, lit< tt, refl))
-signed_good (Some (Keyword k.Long)) = with_int k.Long kind.Long (behind_int_up k.Signed k.Long kind.Long (2, lit< tt, refl) (3, lit< tt, refl))
-signed_good _ = behind_none k.Signed kind.Int (1, lit< tt, refl)
+signed_good : {b : ℕ} (h : Option Lexeme) → Good b (After k.Signed) (signed_language h) TypeEnd (signed_by h) (signed_by h)
+signed_good (Some (Keyword k.Char)) = alone k.Char kind.SignedChar (after_alone_up k.Signed k.Char kind.SignedChar (0, lit< tt, refl))
+signed_good (Some (Keyword k.Short)) = with_int k.Short kind.Short (after_int_up k.Signed k.Short kind.Short (2, lit< tt, refl) (3, lit< tt, refl))
+signed_good (Some (Keyword k.Int)) = alone k.Int kind.Int (after_alone_up k.Signed k.Int kind.Int (2, lit< tt, refl))
+signed_good (Some (Keyword k.Long)) = with_int k.Long kind.Long (after_int_up k.Signed k.Long kind.Long (2, lit< tt, refl) (3, lit< tt, refl))
+signed_good _ = after_none k.Signed kind.Int (1, lit< tt, refl)
 
 at_0 : Place
 at_0 = record { 0 = 0 }
@@ -195,14 +195,14 @@ unsigned_language (Some (Keyword k.Int)) = Alone k.Int kind.UnsignedInt
 unsigned_language (Some (Keyword k.Long)) = WithInt k.Long kind.UnsignedLong
 unsigned_language _ = just kind.UnsignedInt
 
-unsigned_good : {b : ℕ} (h : Option Lexeme) → Good b (Behind k.Unsigned) (unsigned_language h) TypeEnd (unsigned_by h) (unsigned_by h)
-unsigned_good (Some (Keyword k.Char)) = alone k.Char kind.UnsignedChar (behind_alone_up k.Unsigned k.Char kind.UnsignedChar (0, lit< tt, refl))
+unsigned_good : {b : ℕ} (h : Option Lexeme) → Good b (After k.Unsigned) (unsigned_language h) TypeEnd (unsigned_by h) (unsigned_by h)
+unsigned_good (Some (Keyword k.Char)) = alone k.Char kind.UnsignedChar (after_alone_up k.Unsigned k.Char kind.UnsignedChar (0, lit< tt, refl))
 unsigned_good (Some (Keyword k.Short)) =
-    with_int k.Short kind.UnsignedShort (behind_int_up k.Unsigned k.Short kind.UnsignedShort (0, lit< tt, refl) (1, lit< tt, refl))
-unsigned_good (Some (Keyword k.Int)) = alone k.Int kind.UnsignedInt (behind_alone_up k.Unsigned k.Int kind.UnsignedInt (1, lit< tt, refl))
+    with_int k.Short kind.UnsignedShort (after_int_up k.Unsigned k.Short kind.UnsignedShort (0, lit< tt, refl) (1, lit< tt, refl))
+unsigned_good (Some (Keyword k.Int)) = alone k.Int kind.UnsignedInt (after_alone_up k.Unsigned k.Int kind.UnsignedInt (1, lit< tt, refl))
 unsigned_good (Some (Keyword k.Long)) =
-    with_int k.Long kind.UnsignedLong (behind_int_up k.Unsigned k.Long kind.UnsignedLong (0, lit< tt, refl) (1, lit< tt, refl))
-unsigned_good _ = behind_none k.Unsigned kind.UnsignedInt (0, lit< tt, refl)
+    with_int k.Long kind.UnsignedLong (after_int_up k.Unsigned k.Long kind.UnsignedLong (0, lit< tt, refl) (1, lit< tt, refl))
+unsigned_good _ = after_none k.Unsigned kind.UnsignedInt (0, lit< tt, refl)
 
 unsigned_other : (h : Option Lexeme) → TypeEnd h → unsigned_language h kind.UnsignedInt []
 unsigned_other (Some (Keyword k.Char)) f = absurd (true≢false f.0)
@@ -259,18 +259,18 @@ type_language (Some (Keyword k.Char)) = Alone k.Char kind.Char
 type_language (Some (Keyword k.Short)) = WithInt k.Short kind.Short
 type_language (Some (Keyword k.Int)) = Alone k.Int kind.Int
 type_language (Some (Keyword k.Long)) = WithInt k.Long kind.Long
-type_language (Some (Keyword k.Signed)) = worded k.Signed ▷ (λ p. Behind k.Signed)
-type_language (Some (Keyword k.Unsigned)) = worded k.Unsigned ▷ (λ p. Behind k.Unsigned)
+type_language (Some (Keyword k.Signed)) = worded k.Signed ▷ (λ p. After k.Signed)
+type_language (Some (Keyword k.Unsigned)) = worded k.Unsigned ▷ (λ p. After k.Unsigned)
 type_language _ = nothing
 
-behind_up : (w : kw.Keyword) (y : Kind) (us : List Token) → (worded w ▷ (λ p. Behind w)) y us → type y us
-behind_up w y us (p, us', vs, e, l, m) = rw (e, l) (m p)
+past_up : (w : kw.Keyword) (y : Kind) (us : List Token) → (worded w ▷ (λ p. After w)) y us → type y us
+past_up w y us (p, us', vs, e, l, m) = rw (e, l) (m p)
 
-behind_signed : {b : ℕ} → Good b (Behind k.Signed) (Behind k.Signed) TypeEnd (by_head signed_by) (by_head signed_by)
-behind_signed = good_head {K = signed_language} signed_good (λ x us rest u f. signed_out x us rest (type-one_of x (token at_0 k.Signed ∷ us) (u at_0)) f)
+after_signed : {b : ℕ} → Good b (After k.Signed) (After k.Signed) TypeEnd (by_head signed_by) (by_head signed_by)
+after_signed = good_head {K = signed_language} signed_good (λ x us rest u f. signed_out x us rest (type-one_of x (token at_0 k.Signed ∷ us) (u at_0)) f)
 
-behind_unsigned : {b : ℕ} → Good b (Behind k.Unsigned) (Behind k.Unsigned) TypeEnd (by_head unsigned_by) (by_head unsigned_by)
-behind_unsigned =
+after_unsigned : {b : ℕ} → Good b (After k.Unsigned) (After k.Unsigned) TypeEnd (by_head unsigned_by) (by_head unsigned_by)
+after_unsigned =
     good_head {K = unsigned_language} unsigned_good (λ x us rest u f. unsigned_out x us rest (type-one_of x (token at_0 k.Unsigned ∷ us) (u at_0)) f)
 
 type_good : {b : ℕ} (h : Option Lexeme) → Good b type (type_language h) TypeEnd (type_by h) (type_by h)
@@ -279,9 +279,9 @@ type_good (Some (Keyword k.Short)) = with_int k.Short kind.Short (int_up k.Short
 type_good (Some (Keyword k.Int)) = alone k.Int kind.Int (alone_up k.Int kind.Int (0, lit< tt, refl))
 type_good (Some (Keyword k.Long)) = with_int k.Long kind.Long (int_up k.Long kind.Long (0, lit< tt, refl) (1, lit< tt, refl))
 type_good (Some (Keyword k.Signed)) =
-    good_to (good_then (good_word k.Signed) (λ p. behind_signed) (λ p y us rest m f. tt)) (behind_up k.Signed) (λ y us u. u) (λ h f. f)
+    good_to (good_then (good_word k.Signed) (λ p. after_signed) (λ p y us rest m f. tt)) (past_up k.Signed) (λ y us u. u) (λ h f. f)
 type_good (Some (Keyword k.Unsigned)) =
-    good_to (good_then (good_word k.Unsigned) (λ p. behind_unsigned) (λ p y us rest m f. tt)) (behind_up k.Unsigned) (λ y us u. u) (λ h f. f)
+    good_to (good_then (good_word k.Unsigned) (λ p. after_unsigned) (λ p y us rest m f. tt)) (past_up k.Unsigned) (λ y us u. u) (λ h f. f)
 type_good _ = good_wrong kind.Int (token at_0 k.Int ∷ []) (one_word kind.Int k.Int (0, lit< tt, refl) at_0)
 
 type_out : (x : Kind) (us rest : List Token) → OneOf (spellings x) us → type_language (head_of (us ++ rest)) x us

@@ -1,7 +1,7 @@
 -- Worked rows of the parser. Each token stands at the place of its number.
 use Rattle.std.specs.Prelude.{◌≡◌, ℕ, ◌+◌, List, [], ◌∷◌, refl, pos}
 use Rattle.ido_base.specs.declared.place.Place.{Place}
-use Rattle.ido_ints.specs.Typed.{Typed, typed}
+use Rattle.ido_ints.specs.TypedNumbers.{Typed, typed}
 use Rattle.ido_ints.specs.declared.kinds.Kind.TheVariants as kind
 use Rattle.ido_ints.specs.declared.operators.Unary.TheVariants as unary
 use Rattle.ido_ints.specs.declared.operators.Binary.TheVariants as b
@@ -9,7 +9,7 @@ use Rattle.c_tree.specs.Tokens.{Token, Lexeme, Name, Keyword, Number, Punctuator
 use Rattle.c_tree.specs.declared.token.Keyword.TheVariants as k
 use Rattle.c_tree.specs.declared.token.Punctuator.TheVariants as p
 use Rattle.c_tree.specs.Trees as t
-use Rattle.c_reader.specs.links.Parsing.{Read, Wrong, parse_expression, parse_statement, parse_program}
+use Rattle.c_reader.specs.links.ParserFunctions.{Read, Wrong, parse_expression, parse_statement, parse_program}
 
 abbrev at : ℕ → Place
 at n = record { 0 = n }
@@ -72,7 +72,7 @@ parenthesised :
 unfolding parse_expression
 parenthesised = refl
 
--- `if (a) { if (b) {} else ;`: behind `else` the `;` is wrong
+-- `if (a) { if (b) {} else ;`: after `else` the `;` is wrong
 else_needs_block :
     parse_statement 14 (tokens_from 0 (Keyword k.If ∷ Punctuator p.OpenParenthesis ∷ letter 97 ∷ Punctuator p.CloseParenthesis ∷ Punctuator p.OpenBrace ∷
     Keyword k.If ∷ Punctuator p.OpenParenthesis ∷ letter 98 ∷ Punctuator p.CloseParenthesis ∷ Punctuator p.OpenBrace ∷ Punctuator p.CloseBrace ∷
@@ -91,7 +91,7 @@ else_if :
 unfolding parse_expression parse_statement
 else_if = refl
 
--- `x = f (;`: the token behind the parenthesis is wrong
+-- `x = f (;`: the token after the parenthesis is wrong
 wrong_argument : parse_statement 6 (tokens_from 0 (letter 120 ∷ Punctuator p.Assign ∷ letter 102 ∷ Punctuator p.OpenParenthesis ∷ Punctuator p.Semicolon ∷ []))
     ≡ Wrong (tokens_from 4 (Punctuator p.Semicolon ∷ []))
 unfolding parse_expression parse_statement

@@ -3,13 +3,13 @@ use Rattle.std.proofs.Common.{◌≡◌, ℕ, ◌^◌, Some, None, List, [], ◌
 use Rattle.std.specs.Prelude.{codes}
 use Rattle.ido_ints.specs.declared.kinds.Kind.TheVariants.{Int, UnsignedInt, Long, UnsignedLong}
 use Rattle.ido_ints.specs.declared.operators.Binary.TheVariants as b
-use Rattle.ido_ints.specs.Typed.{typed}
+use Rattle.ido_ints.specs.TypedNumbers.{typed}
 use Rattle.c_tree.specs.declared.rule.Rule as r
 use Rattle.c_tree.specs.declared.rule.Rule.TheVariants as rule
 use Rattle.c_tree.specs.declared.token.Keyword.TheVariants as k
 use Rattle.c_tree.specs.declared.token.Punctuator.TheVariants as p
 use Rattle.c_tree.specs.Tokens.{Lexeme, Name, Keyword, Number, Punctuator, Token}
-use Rattle.c_tree.specs.Scanning.{Scanned, prefix, scanned}
+use Rattle.c_tree.specs.LexicalScan.{Scanned, prefix, scanned}
 
 -- a token at a place
 abbrev at : (place : ℕ) → Lexeme → Token
@@ -19,7 +19,7 @@ at place lexeme = record { place = record { 0 = place }; lexeme = lexeme }
 abbrev all : List Token → Scanned
 all tokens = record { tokens = tokens; fault = None }
 
--- behind these tokens, a rule is broken at a place
+-- after these tokens, a rule is broken at a place
 abbrev up_to : List Token → r.Rule → (place : ℕ) → Scanned
 up_to tokens broken place = record { tokens = tokens; fault = Some (record { rule = broken; place = record { 0 = place } }) }
 
@@ -38,9 +38,9 @@ line_comment_at_the_end : scanned (codes "a//b") ≡ all (at 0 (Name (codes "a")
 unfolding scanned prefix
 line_comment_at_the_end = refl
 
-behind_a_line_comment : scanned (codes "//a*/" ++ 10 ∷ codes "b") ≡ all (at 6 (Name (codes "b")) ∷ [])
+after_a_line_comment : scanned (codes "//a*/" ++ 10 ∷ codes "b") ≡ all (at 6 (Name (codes "b")) ∷ [])
 unfolding scanned prefix
-behind_a_line_comment = refl
+after_a_line_comment = refl
 
 closed_comment : scanned (codes "a/*/**/b") ≡ all (at 0 (Name (codes "a")) ∷ at 7 (Name (codes "b")) ∷ [])
 unfolding scanned prefix
@@ -109,9 +109,9 @@ past_long_in_hexadecimal : scanned (codes "0x8000000000000000") ≡ all (at 0 (N
 unfolding scanned prefix
 past_long_in_hexadecimal = refl
 
-two_suffixes_alike : scanned (codes "1uu") ≡ up_to [] rule.Number 0
+two_suffixes_lockstep : scanned (codes "1uu") ≡ up_to [] rule.Number 0
 unfolding scanned prefix
-two_suffixes_alike = refl
+two_suffixes_lockstep = refl
 
 no_digit_in_hexadecimal : scanned (codes "a 0x") ≡ up_to (at 0 (Name (codes "a")) ∷ []) rule.Number 2
 unfolding scanned prefix

@@ -49,7 +49,7 @@ module _ (high : ℕ) where
   IsLowFirst (t.Declared x) = IsLowInitial x.initial
   IsLowFirst (t.Assigned x) = IsLowAssignment x
 
-  -- and blocks at most so deep, each block one deeper than what stands in it
+  -- blocks are nested at most so deep, each block one deeper than what stands in it, and their expressions are at most so high
   abbrev mutual
     pub IsFlat : (deep : ℕ) → t.Statement → Type 0
     IsFlat deep (t.BlockOf x) = IsFlatBlock deep x

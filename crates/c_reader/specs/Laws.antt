@@ -2,7 +2,7 @@
 use Rattle.std.specs.Prelude.{◌≡◌, ℕ, ◌+◌, List}
 use Rattle.ido_base.specs.declared.place.Place.{Place}
 use Rattle.ido_base.specs.declared.limits.TheConstants.{MOST_NESTING}
-use Rattle.c_tree.specs.Reading.{IsRead, IsRefused}
+use Rattle.c_tree.specs.TextReadings.{IsRead, IsRefused}
 use Rattle.c_tree.specs.Trees.{Item}
 use Rattle.c_tree.specs.declared.rule.Rule.{Rule}
 use Rattle.c_reader.specs.Depths.{IsShallow}
@@ -11,12 +11,12 @@ use Rattle.c_reader.specs.Depths.{IsShallow}
 abbrev pub OneTree : Type 0
 OneTree = (text : List ℕ) (xs ys : List Item) → IsRead text xs → IsRead text ys → xs ≡ ys
 
--- it is refused by one rule at one place at most
+-- a text is refused by one rule at one place at most
 abbrev pub OneRefusal : Type 0
 OneRefusal = (text : List ℕ) (found other : Rule) (place elsewhere : Place) → IsRefused text found place → IsRefused text other elsewhere
     → (found ≡ other) × (place ≡ elsewhere)
 
--- and what is refused has no tree
+-- a text that is refused has no tree
 abbrev pub NotBoth : Type 0
 NotBoth = (text : List ℕ) (xs : List Item) (found : Rule) (place : Place) → IsRead text xs → ¬ (IsRefused text found place)
 

@@ -1,8 +1,8 @@
 pub mod Prefixes
 pub mod Nestings
-pub mod Parsing
-pub mod Reads
+pub mod ParserFunctions
+pub mod ParserContracts
 pub mod Rows
-pub mod Steps
+pub mod ParserSteps
 pub mod Tokens
-pub mod Readings
+pub mod ParserOutcomes

@@ -1,10 +1,10 @@
 //! Assignments and calls.
 ghost use Rattle.std.specs.Prelude.{map};
 ghost use Rattle.c_tree.specs.Views.{assignment_of, call_of, change_of, expression_of, name_of, lvalue_of};
-ghost use Rattle.c_reader.specs.links.Parsing as spec;
-ghost use Rattle.c_reader.specs.links.Reads.{Reads};
+ghost use Rattle.c_reader.specs.links.ParserFunctions as spec;
+ghost use Rattle.c_reader.specs.links.ParserContracts.{Reads};
 ghost use Rattle.c_reader.specs.links.Rows.{right_of};
-ghost use Rattle.c_reader.specs.links.Steps.{right_behind_name, right_side};
+ghost use Rattle.c_reader.specs.links.ParserSteps.{right_past_name, right_side};
 
 use crate::cursor::Cursor;
 use crate::expression::{expression, expression_after_name, index};
@@ -30,7 +30,7 @@ pub fn target(alloc: Global, tokens: &mut Cursor<'_>, fuel: usize) -> Result<Lva
     Ok(Lvalue { name, index })
 }
 
-/// What stands behind a target.
+/// What stands after a target.
 pub fn change(alloc: Global, tokens: &mut Cursor<'_>, fuel: usize) -> Result<Change, Halt>
     ensures { Reads change_of (spec.parse_change fuel tokens.old) result tokens.new }
 {
@@ -107,7 +107,7 @@ fn expressions(alloc: Global, tokens: &mut Cursor<'_>, fuel: usize) -> Result<Ve
     Err(Halt::Wrong)
 }
 
-/// The arguments of a call and their closing parenthesis, behind the opening one.
+/// The arguments of a call and their closing parenthesis, after the opening one.
 fn arguments(alloc: Global, tokens: &mut Cursor<'_>, fuel: usize) -> Result<Vec<Expression>, Halt>
     ensures { Reads (λ xs. map expression_of xs.items) (spec.parse_arguments fuel tokens.old) result tokens.new }
 {
@@ -120,7 +120,7 @@ fn arguments(alloc: Global, tokens: &mut Cursor<'_>, fuel: usize) -> Result<Vec<
     Ok(found)
 }
 
-/// The call of this name, behind it.
+/// The call of this name, read from after the name.
 pub fn call_after(
     alloc: Global,
     tokens: &mut Cursor<'_>,
@@ -137,15 +137,15 @@ pub fn call_after(
     })
 }
 
-/// A call of this name, or the expression that begins with it, behind it.
-#[tactic(auto, using(crate::proofs::Steps::right_behind_name_is))]
+/// A call of this name, or the expression that begins with it, read from after the name.
+#[tactic(auto, using(crate::proofs::ParserStepEquations::right_after_name_is))]
 fn right_after_name(
     alloc: Global,
     tokens: &mut Cursor<'_>,
     fuel: usize,
     name: Name,
 ) -> Result<RightSide, Halt>
-    ensures { Reads right_of (right_behind_name fuel (name_of name) tokens.old) result tokens.new }
+    ensures { Reads right_of (right_past_name fuel (name_of name) tokens.old) result tokens.new }
 {
     if tokens.sees(Punctuator::OpenParenthesis) {
         Ok(RightSide::Call(call_after(alloc, tokens, fuel, name)?))
@@ -155,7 +155,7 @@ fn right_after_name(
 }
 
 /// An expression or a call.
-#[tactic(auto, using(crate::proofs::Steps::right_side_is))]
+#[tactic(auto, using(crate::proofs::ParserStepEquations::right_side_is))]
 pub fn right(alloc: Global, tokens: &mut Cursor<'_>, fuel: usize) -> Result<RightSide, Halt>
     ensures { Reads right_of (right_side fuel tokens.old) result tokens.new }
 {

@@ -3,10 +3,10 @@ ghost use Rattle.std.specs.Prelude.{◌≡◌, ◌<◌, ◌≤◌, IfOk};
 ghost use Rattle.std.specs.Option.{option_map};
 ghost use Rattle.c_tree.specs.Trees as t;
 ghost use Rattle.c_tree.specs.Views.{arms_list_of, assignment_of, block_of, expression_of, first_of, otherwise_of, statement_of, statements_of};
-ghost use Rattle.c_reader.specs.links.Parsing as spec;
-ghost use Rattle.c_reader.specs.links.Reads.{Reads};
+ghost use Rattle.c_reader.specs.links.ParserFunctions as spec;
+ghost use Rattle.c_reader.specs.links.ParserContracts.{Reads};
 ghost use Rattle.c_reader.specs.links.Rows.{arm_of};
-ghost use Rattle.c_reader.specs.links.Steps.{parse_arm, parse_do, parse_for, parse_if, parse_while, statement_by_mark, statement_by_word};
+ghost use Rattle.c_reader.specs.links.ParserSteps.{parse_arm, parse_do, parse_for, parse_if, parse_while, statement_by_mark, statement_by_word};
 
 use crate::cursor::Cursor;
 use crate::halt::Halt;

@@ -1,7 +1,7 @@
 //! Sorts of bytes.
 ghost use Rattle.std.specs.Prelude.{◌≡◌};
 ghost use Rattle.std.specs.Char.{digit_value};
-ghost use Rattle.c_tree.specs.Scanning.{is_blank, is_letter, is_decimal, is_word_byte};
+ghost use Rattle.c_tree.specs.LexicalScan.{is_blank, is_letter, is_decimal, is_word_byte};
 
 /// Space, tab, CR or LF.
 pub fn is_blank(byte: u8) -> bool

@@ -3,9 +3,9 @@ ghost use Rattle.std.specs.Prelude.{◌≡◌, length};
 ghost use Rattle.std.specs.Option.{option_map};
 ghost use Rattle.c_tree.specs.Views.{name_of};
 ghost use Rattle.c_reader.specs.links.Tokens.{lexeme_of, tokens_of};
-ghost use Rattle.c_reader.specs.links.Parsing as spec;
-ghost use Rattle.c_reader.specs.links.Reads.{Reads, Gives};
-ghost use Rattle.c_reader.specs.links.Steps.{at_end, parse_unary, parse_update};
+ghost use Rattle.c_reader.specs.links.ParserFunctions as spec;
+ghost use Rattle.c_reader.specs.links.ParserContracts.{Reads, Gives};
+ghost use Rattle.c_reader.specs.links.ParserSteps.{at_end, parse_unary, parse_update};
 ghost use Rattle.c_tree.specs.Grammar.{precedence};
 
 use crate::halt::Halt;

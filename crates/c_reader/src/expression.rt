@@ -3,9 +3,9 @@ ghost use Rattle.std.specs.Prelude.{◌≡◌, ◌≤◌, IfOk};
 ghost use Rattle.std.specs.Option.{option_map};
 ghost use Rattle.c_tree.specs.Trees as t;
 ghost use Rattle.c_tree.specs.Views.{expression_of, name_of};
-ghost use Rattle.c_reader.specs.links.Parsing as spec;
-ghost use Rattle.c_reader.specs.links.Reads.{Reads};
-ghost use Rattle.c_reader.specs.links.Steps.{expression_behind_name, operators_behind};
+ghost use Rattle.c_reader.specs.links.ParserFunctions as spec;
+ghost use Rattle.c_reader.specs.links.ParserContracts.{Reads};
+ghost use Rattle.c_reader.specs.links.ParserSteps.{expression_past_name, operators_past};
 
 use crate::cursor::Cursor;
 use crate::halt::Halt;
@@ -33,7 +33,7 @@ pub fn expression(alloc: Global, tokens: &mut Cursor<'_>, fuel: usize) -> Result
     conditional(alloc, tokens, fuel - 1, condition)
 }
 
-/// `?` and what follows, where it stands behind a condition.
+/// `?` and what follows, where it stands after a condition.
 #[cycle(expression)]
 pub fn conditional(
     alloc: Global,
@@ -63,7 +63,7 @@ pub fn operators(
     first: Expression,
 ) -> Result<Expression, Halt>
     requires { precedences ≤ 10 }
-    ensures { Reads expression_of (operators_behind fuel precedences (expression_of first) tokens.old) result tokens.new }
+    ensures { Reads expression_of (operators_past fuel precedences (expression_of first) tokens.old) result tokens.new }
 {
     if precedences == 0 {
         return Ok(first);
@@ -111,7 +111,7 @@ pub fn operand(alloc: Global, tokens: &mut Cursor<'_>, fuel: usize) -> Result<Ex
     }
 }
 
-/// A cast, or an expression in parentheses, behind the opening one.
+/// A cast, or an expression in parentheses, after the opening one.
 #[cycle(expression)]
 fn operand_after_opening(
     alloc: Global,
@@ -133,7 +133,7 @@ fn operand_after_opening(
     }
 }
 
-/// The operand that begins with this name, behind it.
+/// The operand that begins with this name, read from after the name.
 #[cycle(expression)]
 pub fn operand_after_name(
     alloc: Global,
@@ -149,7 +149,7 @@ pub fn operand_after_name(
     }
 }
 
-/// The index behind a name, where there is one.
+/// The index after a name, where there is one.
 #[cycle(expression)]
 pub fn index(
     alloc: Global,
@@ -167,15 +167,15 @@ pub fn index(
     Ok(Some(inside))
 }
 
-/// The expression that begins with this name, behind it.
-#[tactic(auto, using(crate::proofs::Steps::behind_name_is))]
+/// The expression that begins with this name, read from after the name.
+#[tactic(auto, using(crate::proofs::ParserStepEquations::after_name_is))]
 pub fn expression_after_name(
     alloc: Global,
     tokens: &mut Cursor<'_>,
     fuel: usize,
     name: Name,
 ) -> Result<Expression, Halt>
-    ensures { Reads expression_of (expression_behind_name fuel (name_of name) tokens.old) result tokens.new }
+    ensures { Reads expression_of (expression_past_name fuel (name_of name) tokens.old) result tokens.new }
 {
     let first = operand_after_name(alloc, tokens, fuel, name)?;
     let condition = operators(alloc, tokens, fuel, PRECEDENCES, first)?;

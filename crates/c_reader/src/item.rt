@@ -2,10 +2,10 @@
 ghost use Rattle.std.specs.Prelude.{map};
 ghost use Rattle.std.specs.Option.{option_map};
 ghost use Rattle.c_tree.specs.Views.{body_of, function_of, initialiser_of, item_of, length_of, parameter_of, persistent_of, return_of, signed_of};
-ghost use Rattle.c_reader.specs.links.Parsing as spec;
-ghost use Rattle.c_reader.specs.links.Reads.{Gives, Reads};
-ghost use Rattle.c_reader.specs.links.Steps.{all_items, one_item, parse_assigned, parse_function_item, parse_mutex_item};
-ghost use Rattle.c_reader.specs.links.Steps.{parse_numbers, parse_persistent_item, parse_thread_item};
+ghost use Rattle.c_reader.specs.links.ParserFunctions as spec;
+ghost use Rattle.c_reader.specs.links.ParserContracts.{Gives, Reads};
+ghost use Rattle.c_reader.specs.links.ParserSteps.{all_items, one_item, parse_assigned, parse_function_item, parse_mutex_item};
+ghost use Rattle.c_reader.specs.links.ParserSteps.{parse_numbers, parse_persistent_item, parse_thread_item};
 
 use crate::block::{block, statements};
 use crate::cursor::Cursor;
@@ -167,7 +167,7 @@ fn signed(tokens: &mut Cursor<'_>) -> Result<Signed, Halt>
     })
 }
 
-/// Numbers with commas between them, one at least and perhaps a comma behind the last, and the closing brace.
+/// Numbers with commas between them, one at least and perhaps a comma after the last, and the closing brace.
 fn numbers(alloc: Global, tokens: &mut Cursor<'_>, fuel: usize) -> Result<Vec<Signed>, Halt>
     ensures { Reads (λ xs. map signed_of xs.items) (parse_numbers fuel tokens.old) result tokens.new }
 {
@@ -225,7 +225,7 @@ fn maybe_length(tokens: &mut Cursor<'_>) -> Result<Option<Length>, Halt>
 }
 
 /// `=` and what a persistent variable begins with, where it is written.
-#[tactic(auto, unfolding(crate::specs::links::Steps::parse_assigned))]
+#[tactic(auto, unfolding(crate::specs::links::ParserSteps::parse_assigned))]
 fn maybe_initialiser(
     alloc: Global,
     tokens: &mut Cursor<'_>,
@@ -241,7 +241,7 @@ fn maybe_initialiser(
 }
 
 /// A persistent variable.
-#[tactic(auto, unfolding(crate::specs::links::Steps::parse_assigned))]
+#[tactic(auto, unfolding(crate::specs::links::ParserSteps::parse_assigned))]
 fn persistent(alloc: Global, tokens: &mut Cursor<'_>, fuel: usize) -> Result<Persistent, Halt>
     ensures { Reads persistent_of (spec.parse_persistent fuel tokens.old) result tokens.new }
 {
@@ -262,7 +262,7 @@ fn persistent(alloc: Global, tokens: &mut Cursor<'_>, fuel: usize) -> Result<Per
 }
 
 /// An item that is a persistent variable.
-#[tactic(auto, unfolding(crate::specs::links::Steps::parse_persistent_item))]
+#[tactic(auto, unfolding(crate::specs::links::ParserSteps::parse_persistent_item))]
 fn persistent_item(alloc: Global, tokens: &mut Cursor<'_>, fuel: usize) -> Result<Item, Halt>
     ensures { Reads item_of (parse_persistent_item fuel tokens.old) result tokens.new }
 {
@@ -270,7 +270,7 @@ fn persistent_item(alloc: Global, tokens: &mut Cursor<'_>, fuel: usize) -> Resul
 }
 
 /// An item that is a function.
-#[tactic(auto, unfolding(crate::specs::links::Steps::parse_function_item))]
+#[tactic(auto, unfolding(crate::specs::links::ParserSteps::parse_function_item))]
 fn function_item(alloc: Global, tokens: &mut Cursor<'_>, fuel: usize) -> Result<Item, Halt>
     ensures { Reads item_of (parse_function_item fuel tokens.old) result tokens.new }
 {
@@ -278,7 +278,7 @@ fn function_item(alloc: Global, tokens: &mut Cursor<'_>, fuel: usize) -> Result<
 }
 
 /// A mutex.
-#[tactic(auto, unfolding(crate::specs::links::Steps::parse_mutex_item))]
+#[tactic(auto, unfolding(crate::specs::links::ParserSteps::parse_mutex_item))]
 fn mutex(alloc: Global, tokens: &mut Cursor<'_>) -> Result<Item, Halt>
     ensures { Reads item_of (parse_mutex_item tokens.old) result tokens.new }
 {
@@ -289,7 +289,7 @@ fn mutex(alloc: Global, tokens: &mut Cursor<'_>) -> Result<Item, Halt>
 }
 
 /// A thread.
-#[tactic(auto, unfolding(crate::specs::links::Steps::parse_thread_item))]
+#[tactic(auto, unfolding(crate::specs::links::ParserSteps::parse_thread_item))]
 fn thread(alloc: Global, tokens: &mut Cursor<'_>, fuel: usize) -> Result<Item, Halt>
     ensures { Reads item_of (parse_thread_item fuel tokens.old) result tokens.new }
 {

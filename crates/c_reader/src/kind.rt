@@ -1,6 +1,6 @@
 //! Types.
-ghost use Rattle.c_reader.specs.links.Parsing as spec;
-ghost use Rattle.c_reader.specs.links.Reads.{Gives};
+ghost use Rattle.c_reader.specs.links.ParserFunctions as spec;
+ghost use Rattle.c_reader.specs.links.ParserContracts.{Gives};
 
 use crate::cursor::Cursor;
 use crate::halt::Halt;
@@ -58,7 +58,7 @@ fn maybe_int(tokens: &mut Cursor<'_>) -> Result<Option<Place>, Halt>
     }
 }
 
-/// What stands behind `signed`.
+/// What stands after `signed`.
 fn signed(tokens: &mut Cursor<'_>) -> Result<Kind, Halt>
     ensures { Gives (spec.by_head spec.signed_by tokens.old) result tokens.new }
 {
@@ -88,7 +88,7 @@ fn signed(tokens: &mut Cursor<'_>) -> Result<Kind, Halt>
     }
 }
 
-/// What stands behind `unsigned`.
+/// What stands after `unsigned`.
 fn unsigned(tokens: &mut Cursor<'_>) -> Result<Kind, Halt>
     ensures { Gives (spec.by_head spec.unsigned_by tokens.old) result tokens.new }
 {

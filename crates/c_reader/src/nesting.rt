@@ -1,6 +1,6 @@
 //! How high the tokens of a text nest.
 ghost use Rattle.std.specs.Prelude.{◌≡◌, ◌<◌, ◌+◌, length, take, true, false, IfNone, IfSome};
-ghost use Rattle.c_tree.specs.Reading.{is_high, nests_high, outside, within_lexeme, within_mark};
+ghost use Rattle.c_tree.specs.TextReadings.{is_high, nests_high, outside, within_lexeme, within_mark};
 ghost use Rattle.c_reader.specs.links.Nestings.{nesting_of};
 ghost use Rattle.c_reader.specs.links.Tokens.{lexeme_of, tokens_of};
 
@@ -27,14 +27,14 @@ impl Nesting {
         }
     }
 
-    /// It is past the greatest.
+    /// Whether the nesting is past the greatest that is allowed.
     fn is_high(self) -> bool
         ensures { result ≡ is_high (nesting_of self) }
     {
         self.braces > MOST_NESTING || self.others > MOST_NESTING
     }
 
-    /// Nesting behind a punctuator.
+    /// Nesting after a punctuator.
     fn within_mark(self, mark: Punctuator) -> Nesting
         requires low { is_high (nesting_of self) ≡ false }
         ensures { nesting_of result ≡ within_mark mark (nesting_of self) }
@@ -71,7 +71,7 @@ impl Nesting {
         }
     }
 
-    /// Nesting behind a token.
+    /// Nesting after a token.
     fn within_lexeme(self, lexeme: Lexeme<'_>) -> Nesting
         requires low { is_high (nesting_of self) ≡ false }
         ensures { nesting_of result ≡ within_lexeme (lexeme_of lexeme.entry) (nesting_of self) }

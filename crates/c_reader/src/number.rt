@@ -4,7 +4,7 @@ ghost use Rattle.std.specs.Char.{digit_value, is_digit};
 ghost use Rattle.std.specs.List.{prefix_len};
 ghost use Rattle.std.specs.Option.{option_map};
 ghost use Rattle.std.specs.Str.Parse.{digits_value};
-ghost use Rattle.c_tree.specs.Scanning.{suffix_of, literal_in, hexadecimal, number_of};
+ghost use Rattle.c_tree.specs.LexicalScan.{suffix_of, literal_in, hexadecimal, number_of};
 ghost use Rattle.c_reader.specs.links.Tokens.{value_of};
 
 use crate::byte::digit_value;
@@ -35,7 +35,7 @@ fn digit_prefix(bytes: &[u8], radix: u64) -> usize
         .count()
 }
 
-/// The number with this digit behind its own; none where that is 2^64 or more.
+/// The number with this digit after its own; none where that is 2^64 or more.
 fn with_digit(number: u64, digit: u8, radix: u64) -> Option<u64>
     ensures none { IfNone result (2 ^ 64 ≤ number * radix + digit_value digit) }
     ensures value { IfSome result (λ n. n ≡ number * radix + digit_value digit) }
@@ -56,19 +56,19 @@ fn digits_value(digits: &[u8], radix: u64) -> Option<u64>
     Some(number)
 }
 
-/// The number that digits of the radix and a suffix behind them spell.
+/// The number that digits of the radix and a suffix after them spell.
 fn literal_in(base: Base, radix: u64, bytes: &[u8]) -> Option<Literal>
     requires { 0 < radix }
     ensures { option_map value_of result ≡ literal_in base radix bytes.now }
 {
-    let (digits, behind) = bytes.split_at(digit_prefix(bytes, radix));
-    let suffix = suffix_of(behind)?;
+    let (digits, after) = bytes.split_at(digit_prefix(bytes, radix));
+    let suffix = suffix_of(after)?;
     let number = digits_value(digits, radix)?;
     let kind = literal_kind(base, suffix, u128::from(number))?;
     Some(Literal { kind, number })
 }
 
-/// The number that stands behind `0x`, with at least one digit.
+/// The number that stands after `0x`, with at least one digit.
 fn hexadecimal(bytes: &[u8]) -> Option<Literal>
     ensures { option_map value_of result ≡ hexadecimal bytes.now }
 {

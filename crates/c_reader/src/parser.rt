@@ -1,6 +1,6 @@
-//! From tokens to a tree.
+//! The parser: tokens become a tree.
 ghost use Rattle.std.specs.Prelude.{IfOk};
-ghost use Rattle.c_reader.specs.links.Readings.{Parses};
+ghost use Rattle.c_reader.specs.links.ParserOutcomes.{Parses};
 ghost use Rattle.c_reader.specs.links.Tokens.{tokens_of};
 
 use crate::cursor::Cursor;
@@ -18,7 +18,7 @@ pub enum Outcome {
     Whole(Tree),
     /// The token at this index is wrong.
     WrongAt(usize),
-    /// They end too early.
+    /// The tokens end too early.
     TooShort,
 }
 

@@ -2,8 +2,8 @@
 ghost use Rattle.std.specs.Prelude.{◌≡◌, ◌≤◌, length, map, not, ◌==◌, IfSome};
 ghost use Rattle.std.specs.List.{prefix_len};
 ghost use Rattle.ido_base.specs.Places.{line_feed};
-ghost use Rattle.c_tree.specs.Scanning.{is_word_byte, reserved, punctuators, through_comment, line_comment, closed_comment};
-ghost use Rattle.c_tree.specs.Scanning.{word_prefix, number_prefix, punctuator_prefix, prefix_from, prefix};
+ghost use Rattle.c_tree.specs.LexicalScan.{is_word_byte, reserved, punctuators, through_comment, line_comment, closed_comment};
+ghost use Rattle.c_tree.specs.LexicalScan.{word_prefix, number_prefix, punctuator_prefix, prefix_from, prefix};
 ghost use Rattle.c_reader.specs.links.Prefixes.{prefix_of, keyword_in, punctuator_in};
 
 use crate::byte::{is_blank, is_decimal, is_letter, is_word_byte};
@@ -16,7 +16,7 @@ use ido_ints::Binary;
 /// What stands at the front of a text.
 #[derive(Clone, Copy, Drop)]
 pub enum Prefix<'a> {
-    /// So many bytes between tokens.
+    /// Bytes between tokens, as many as the number says.
     Blank(usize),
     /// A token of so many bytes.
     Lexed(Lexeme<'a>, usize),
@@ -48,7 +48,7 @@ static RESERVED: [(&[u8], Keyword); 18] = [
     (b"return", Keyword::Return),
 ];
 
-/// The punctuators, a longer one before each of its fronts.
+/// The punctuators, a longer one before each of its prefixes.
 static PUNCTUATORS: [(&[u8], Punctuator); 43] = [
     (b"<<=", Punctuator::Update(Binary::ShiftLeft)),
     (b">>=", Punctuator::Update(Binary::ShiftRight)),

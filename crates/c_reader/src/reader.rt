@@ -1,13 +1,13 @@
 //! The reader.
 ghost use Rattle.std.specs.Prelude.{◌≡◌, ◌+◌, ◌<◌, ◌≤◌, length, take, IfOk, IfErr, List, ℕ, IfSome, option_map};
 ghost use Rattle.ido_base.specs.declared.limits.TheConstants.{MOST_SOURCE_BYTES, MOST_NESTING};
-ghost use Rattle.c_tree.specs.Reading.{IsRead, IsRefused};
+ghost use Rattle.c_tree.specs.TextReadings.{IsRead, IsRefused};
 ghost use Rattle.c_tree.specs.Refusals.{fault_of, fault_in};
-ghost use Rattle.c_tree.specs.Scanning.{scanned};
+ghost use Rattle.c_tree.specs.LexicalScan.{scanned};
 ghost use Rattle.c_tree.specs.Views.{items_of};
 ghost use Rattle.c_reader.specs.Depths.{IsShallow};
 ghost use Rattle.c_reader.specs.links.Prefixes.{scanned_of};
-ghost use Rattle.c_reader.specs.links.Readings.{behind_of, reach, IsFirstHigh, IsParsed};
+ghost use Rattle.c_reader.specs.links.ParserOutcomes.{after_of, reach, IsFirstHigh, IsParsed};
 
 use crate::nesting::first_high;
 use crate::parser::{Outcome, parse};
@@ -30,10 +30,10 @@ fn looked_at<'a, 'b>(tokens: &'b [Token<'a>], high: Option<usize>) -> &'b [Token
     }
 }
 
-/// What is refused behind these tokens: the last of them, or what stands where no token begins.
-fn behind(found: &Scanned<'_>, high: Option<usize>) -> Option<Refusal>
+/// What is refused after these tokens: the last of them, or what stands where no token begins.
+fn after(found: &Scanned<'_>, high: Option<usize>) -> Option<Refusal>
     requires { IfSome high (λ i. i < length found.now.tokens.items) }
-    ensures { behind_of (scanned_of found.now) high ≡ option_map fault_of result }
+    ensures { after_of (scanned_of found.now) high ≡ option_map fault_of result }
 {
     match high {
         Some(index) => Some(Refusal {
@@ -63,14 +63,14 @@ fn judge(
             rule: Rule::Syntax,
             place: found.tokens[index].place,
         })),
-        Outcome::TooShort => match behind(found, high) {
+        Outcome::TooShort => match after(found, high) {
             Some(refusal) => Err(SourceError::Refused(refusal)),
             None => Err(SourceError::Refused(Refusal {
                 rule: Rule::Syntax,
                 place: Place(end),
             })),
         },
-        Outcome::Whole(tree) => match behind(found, high) {
+        Outcome::Whole(tree) => match after(found, high) {
             Some(refusal) => Err(SourceError::Refused(refusal)),
             None => Ok(tree),
         },

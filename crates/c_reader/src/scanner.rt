@@ -1,6 +1,6 @@
 //! The tokens of a text.
 ghost use Rattle.std.specs.Prelude.{◌≡◌, ◌<◌, ◌≤◌, ◌^◌, length, drop, IfOk};
-ghost use Rattle.c_tree.specs.Scanning.{scanned};
+ghost use Rattle.c_tree.specs.LexicalScan.{scanned};
 ghost use Rattle.c_reader.specs.links.Prefixes.{scanned_of};
 
 use crate::prefix::{Prefix, read_prefix};
@@ -17,8 +17,8 @@ pub struct Scanned<'a> {
     pub fault: Option<Refusal>,
 }
 
-/// What stands behind so many bytes.
-fn behind<'a>(text: &'a [u8], bytes: usize) -> &'a [u8]
+/// What stands after so many bytes.
+fn after<'a>(text: &'a [u8], bytes: usize) -> &'a [u8]
     requires { bytes ≤ length text.now }
     ensures { result.now ≡ drop bytes text.entry.now }
 {
@@ -36,10 +36,10 @@ pub fn scan<'a>(alloc: Global, text: &'a [u8]) -> Result<Scanned<'a>, AllocError
     loop {
         let place = Place((text.len() - rest.len()) as u32);
         match read_prefix(rest) {
-            Prefix::Blank(bytes) => rest = behind(rest, bytes),
+            Prefix::Blank(bytes) => rest = after(rest, bytes),
             Prefix::Lexed(lexeme, bytes) => {
                 tokens.push(Token { place, lexeme })?;
-                rest = behind(rest, bytes);
+                rest = after(rest, bytes);
             }
             Prefix::Broken(rule) => {
                 let fault = Some(Refusal { rule, place });

@@ -3,10 +3,10 @@ ghost use Rattle.std.specs.Prelude.{◌≡◌, IfOk};
 ghost use Rattle.std.specs.Option.{option_map};
 ghost use Rattle.c_tree.specs.Trees as t;
 ghost use Rattle.c_tree.specs.Views.{assignment_of, call_of, declaration_of, expression_of, first_of, initial_of, name_of, statement_of, lvalue_of};
-ghost use Rattle.c_reader.specs.links.Parsing as spec;
-ghost use Rattle.c_reader.specs.links.Reads.{Reads};
-ghost use Rattle.c_reader.specs.links.Steps.{maybe_initial, parse_assignment_statement, parse_declaration_statement, parse_lock};
-ghost use Rattle.c_reader.specs.links.Steps.{parse_named_statement, parse_unlock, statement_behind_name, statement_behind_target};
+ghost use Rattle.c_reader.specs.links.ParserFunctions as spec;
+ghost use Rattle.c_reader.specs.links.ParserContracts.{Reads};
+ghost use Rattle.c_reader.specs.links.ParserSteps.{maybe_initial, parse_assignment_statement, parse_declaration_statement, parse_lock};
+ghost use Rattle.c_reader.specs.links.ParserSteps.{parse_named_statement, parse_unlock, statement_past_name, statement_past_target};
 
 use crate::assignment::{RightSide, assignment, call_after, change, right};
 use crate::cursor::Cursor;
@@ -20,7 +20,7 @@ use c_tree::tree::{
 use std::alloc::{AllocError, Global};
 
 /// What a local begins with, where it is written.
-#[tactic(auto, using(crate::proofs::Steps::maybe_initial_is))]
+#[tactic(auto, using(crate::proofs::ParserStepEquations::maybe_initial_is))]
 fn initial(alloc: Global, tokens: &mut Cursor<'_>, fuel: usize) -> Result<Initial, Halt>
     ensures { Reads initial_of (maybe_initial fuel tokens.old) result tokens.new }
 {
@@ -34,7 +34,7 @@ fn initial(alloc: Global, tokens: &mut Cursor<'_>, fuel: usize) -> Result<Initia
     }
 }
 
-/// The same without a call.
+/// What a local begins with, where it is written: an expression, and not a call.
 fn initial_of_first(alloc: Global, tokens: &mut Cursor<'_>, fuel: usize) -> Result<Initial, Halt>
     ensures { Reads initial_of (spec.parse_initial_of_first fuel tokens.old) result tokens.new }
 {
@@ -175,15 +175,15 @@ fn called_of(alloc: Global, call: Call) -> Result<Statement, AllocError>
     Ok(Statement::Call(call))
 }
 
-/// What stands behind the target of a statement, before its semicolon.
-#[tactic(auto, using(crate::proofs::Steps::statement_behind_target_is))]
+/// What stands after the target of a statement, before its semicolon.
+#[tactic(auto, using(crate::proofs::ParserStepEquations::statement_after_target_is))]
 fn statement_after_target(
     alloc: Global,
     tokens: &mut Cursor<'_>,
     fuel: usize,
     target: Lvalue,
 ) -> Result<Statement, Halt>
-    ensures { Reads statement_of (statement_behind_target fuel (lvalue_of target) tokens.old) result tokens.new }
+    ensures { Reads statement_of (statement_past_target fuel (lvalue_of target) tokens.old) result tokens.new }
 {
     let place = target.name.place;
     if !tokens.sees(Punctuator::Assign) {
@@ -209,15 +209,15 @@ fn statement_after_target(
     }
 }
 
-/// What stands behind the name that a statement begins with, before its semicolon.
-#[tactic(auto, using(crate::proofs::Steps::statement_behind_name_is))]
+/// What stands after the name that a statement begins with, before its semicolon.
+#[tactic(auto, using(crate::proofs::ParserStepEquations::statement_after_name_is))]
 fn statement_after_name(
     alloc: Global,
     tokens: &mut Cursor<'_>,
     fuel: usize,
     name: Name,
 ) -> Result<Statement, Halt>
-    ensures { Reads statement_of (statement_behind_name fuel (name_of name) tokens.old) result tokens.new }
+    ensures { Reads statement_of (statement_past_name fuel (name_of name) tokens.old) result tokens.new }
 {
     if tokens.sees(Punctuator::OpenParenthesis) {
         let call = call_after(alloc, tokens, fuel, name)?;
@@ -228,7 +228,7 @@ fn statement_after_name(
 }
 
 /// A statement that begins with a name.
-#[tactic(auto, using(crate::proofs::Steps::named_statement_is))]
+#[tactic(auto, using(crate::proofs::ParserStepEquations::named_statement_is))]
 pub fn named_statement(
     alloc: Global,
     tokens: &mut Cursor<'_>,
@@ -243,7 +243,7 @@ pub fn named_statement(
 }
 
 /// A statement that is a declaration.
-#[tactic(auto, using(crate::proofs::Steps::declaration_statement_is))]
+#[tactic(auto, using(crate::proofs::ParserStepEquations::declaration_statement_is))]
 pub fn declaration_statement(
     alloc: Global,
     tokens: &mut Cursor<'_>,
@@ -257,7 +257,7 @@ pub fn declaration_statement(
 }
 
 /// A statement that is an assignment without a call.
-#[tactic(auto, unfolding(crate::specs::links::Steps::parse_assignment_statement))]
+#[tactic(auto, unfolding(crate::specs::links::ParserSteps::parse_assignment_statement))]
 pub fn assignment_statement(
     alloc: Global,
     tokens: &mut Cursor<'_>,
@@ -271,7 +271,7 @@ pub fn assignment_statement(
 }
 
 /// `lock(mutex);`
-#[tactic(auto, unfolding(crate::specs::links::Steps::parse_lock))]
+#[tactic(auto, unfolding(crate::specs::links::ParserSteps::parse_lock))]
 pub fn lock(alloc: Global, tokens: &mut Cursor<'_>) -> Result<Statement, Halt>
     ensures { Reads statement_of (parse_lock tokens.old) result tokens.new }
 {
@@ -282,7 +282,7 @@ pub fn lock(alloc: Global, tokens: &mut Cursor<'_>) -> Result<Statement, Halt>
 }
 
 /// `unlock(mutex);`
-#[tactic(auto, unfolding(crate::specs::links::Steps::parse_unlock))]
+#[tactic(auto, unfolding(crate::specs::links::ParserSteps::parse_unlock))]
 pub fn unlock(alloc: Global, tokens: &mut Cursor<'_>) -> Result<Statement, Halt>
     ensures { Reads statement_of (parse_unlock tokens.old) result tokens.new }
 {

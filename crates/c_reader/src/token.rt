@@ -1,7 +1,7 @@
 //! Tokens of a text.
 ghost use Rattle.std.specs.Prelude.{◌≡◌};
 ghost use Rattle.c_reader.specs.links.Tokens.{value_of, lexeme_of};
-ghost use Rattle.c_reader.specs.links.Parsing as spec;
+ghost use Rattle.c_reader.specs.links.ParserFunctions as spec;
 
 use c_tree::token::{Keyword, Punctuator};
 use ido_base::place::Place;
@@ -15,7 +15,7 @@ pub struct Literal {
 }
 
 impl Literal {
-    /// Its value: a number that the kind holds is kept.
+    /// The literal's value: a number that the kind holds is kept.
     pub fn value(self) -> Value
         ensures { result ≡ value_of self }
     {

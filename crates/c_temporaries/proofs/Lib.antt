@@ -1,1 +1,1 @@
-pub mod Firsts
+mod FirstDeepExpressionLaws

@@ -3,7 +3,7 @@ ghost use Rattle.std.specs.Prelude.{◌≡◌, ◌∷◌, [], map, MatchResult, 
 ghost use Rattle.c_tree.specs.Exprs.{placed_of, lvalue_of};
 ghost use Rattle.c_tree.specs.Flats.{flat_of, thread_of, statement_of, statements_of, arms_list_of};
 ghost use Rattle.c_tree.specs.Temporaries.{assign_exprs, statement_exprs, statements_exprs, arms_exprs, temporaries_fault};
-ghost use Rattle.c_temporaries.specs.links.Firsts.{first_deep, threads_exprs};
+ghost use Rattle.c_temporaries.specs.links.FirstDeepExpression.{first_deep, threads_exprs};
 
 use c_tree::expr::{Lvalue, Placed};
 use c_tree::flat::{Arm, Flat, Statement, Thread};
@@ -42,7 +42,7 @@ fn of_placed(placed: &Placed) -> Option<Place>
     }
 }
 
-/// The first one of an assignment.
+/// The place of the first expression of an assignment that needs too many temporaries.
 fn of_assigned(target: &Lvalue, value: &Placed) -> Option<Place>
     ensures { result ≡ first_deep (assign_exprs (lvalue_of target.now) (placed_of value.now)) }
 {
@@ -52,7 +52,7 @@ fn of_assigned(target: &Lvalue, value: &Placed) -> Option<Place>
     }
 }
 
-/// The first one of a condition and of what is done where it holds.
+/// The place of the first expression that needs too many temporaries, of a condition and of what is done where it holds.
 #[cycle(statements)]
 fn of_tested(condition: &Placed, body: &[Statement]) -> Option<Place>
     ensures { result ≡ first_deep (placed_of condition.now ∷ statements_exprs (statements_of body.now)) }
@@ -60,7 +60,7 @@ fn of_tested(condition: &Placed, body: &[Statement]) -> Option<Place>
     of_placed(condition).or(of_statements(body))
 }
 
-/// The first one of a statement.
+/// The place of the first expression of a statement that needs too many temporaries.
 #[cycle(statements)]
 fn of_statement(statement: &Statement) -> Option<Place>
     ensures { result ≡ first_deep (statement_exprs (statement_of statement.now)) }
@@ -86,7 +86,7 @@ fn of_statement(statement: &Statement) -> Option<Place>
     }
 }
 
-/// The first one of statements.
+/// The place of the first expression of statements that needs too many temporaries.
 #[cycle(statements)]
 fn of_statements(statements: &[Statement]) -> Option<Place>
     ensures { result ≡ first_deep (statements_exprs (statements_of statements.now)) }
@@ -98,7 +98,7 @@ fn of_statements(statements: &[Statement]) -> Option<Place>
     first
 }
 
-/// The first one of arms.
+/// The place of the first expression of arms that needs too many temporaries.
 #[cycle(statements)]
 fn of_arms(arms: &[Arm]) -> Option<Place>
     ensures { result ≡ first_deep (arms_exprs (arms_list_of arms.now)) }
@@ -110,7 +110,7 @@ fn of_arms(arms: &[Arm]) -> Option<Place>
     first
 }
 
-/// The first one of threads.
+/// The place of the first expression of threads that needs too many temporaries.
 fn of_threads(threads: &[Thread]) -> Option<Place>
     ensures { result ≡ first_deep (threads_exprs (map thread_of threads.now)) }
 {

@@ -1,6 +1,7 @@
-pub mod TreeRows
-pub mod ProgramRows
-pub mod FlatRows
+pub mod Public
+mod TreeRows
+mod ProgramRows
+mod FlatRows
 mod Samples
 mod WorkedReading
 mod WorkedValues

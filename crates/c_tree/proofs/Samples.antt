@@ -6,7 +6,7 @@ use Rattle.ido_ints.specs.declared.kinds.Kind.{Kind}
 use Rattle.ido_ints.specs.declared.kinds.Kind.TheVariants as kind
 use Rattle.ido_ints.specs.declared.operators.Unary.TheVariants as u
 use Rattle.ido_ints.specs.declared.operators.Binary.TheVariants as b
-use Rattle.ido_ints.specs.Typed.{Typed, typed}
+use Rattle.ido_ints.specs.TypedNumbers.{Typed, typed}
 use Rattle.c_tree.specs.Trees as t
 
 abbrev pub at : ℕ → Place

@@ -7,7 +7,7 @@ use Rattle.ido_ints.specs.Reduction as reduction
 use Rattle.c_tree.specs.Trees as t
 use Rattle.c_tree.specs.Exprs as e
 use Rattle.c_tree.specs.Flats as f
-use Rattle.c_tree.specs.Typing.{typed_program}
+use Rattle.c_tree.specs.Elaboration.{typed_program}
 use Rattle.c_tree.specs.Inlining.{Call, calls_in, LeadsBack, there, by_call, flat_form}
 use Rattle.c_tree.proofs.Samples.{at, int, calls, fresh, recursive}
 

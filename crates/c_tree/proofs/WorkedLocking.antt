@@ -4,9 +4,9 @@ use Rattle.ido_ints.specs.Reduction as reduction
 use Rattle.c_tree.specs.declared.rule.Rule as r
 use Rattle.c_tree.specs.declared.rule.Rule.TheVariants as rule
 use Rattle.c_tree.specs.Trees as t
-use Rattle.c_tree.specs.Typing.{typed_program}
+use Rattle.c_tree.specs.Elaboration.{typed_program}
 use Rattle.c_tree.specs.Inlining.{flat_form}
-use Rattle.c_tree.specs.Locking.{Fault, lock_fault}
+use Rattle.c_tree.specs.LockDiscipline.{Fault, lock_fault}
 use Rattle.c_tree.proofs.Samples.{at, operators, calls, unheld, unheld_element, again, not_held, join, least_join, loop_join, end_held}
 
 abbrev fault_of : List t.Item → Option Fault

@@ -4,10 +4,10 @@ use Rattle.std.specs.Prelude.{pos, negsuc}
 use Rattle.ido_ints.specs.declared.kinds.Kind.TheVariants as kind
 use Rattle.ido_ints.specs.declared.operators.Unary.TheVariants as u
 use Rattle.ido_ints.specs.declared.operators.Binary.TheVariants as b
-use Rattle.ido_ints.specs.Typed.{typed}
+use Rattle.ido_ints.specs.TypedNumbers.{typed}
 use Rattle.c_tree.specs.Trees as t
 use Rattle.c_tree.specs.Exprs as e
-use Rattle.c_tree.specs.Typing.{typed_program}
+use Rattle.c_tree.specs.Elaboration.{typed_program}
 use Rattle.c_tree.specs.Ranges.{Index, interval, full, range_of, program_indexes, index_fits}
 use Rattle.c_tree.proofs.Samples.{int, bytes, index_of_nine, index_modulo_int, index_masked, index_modulo_long}
 

@@ -8,7 +8,7 @@ use Rattle.c_tree.specs.declared.token.Punctuator.TheVariants as p
 use Rattle.c_tree.specs.Trees as t
 use Rattle.c_tree.specs.Tokens.{Token, Lexeme, Name, Keyword, Punctuator}
 use Rattle.c_tree.specs.Grammar.{program}
-use Rattle.c_tree.specs.Reading.{IsWhole, nests_high}
+use Rattle.c_tree.specs.TextReadings.{IsWhole, nests_high}
 use Rattle.c_tree.proofs.Samples.{at, name}
 
 abbrev token : ℕ → Lexeme → Token

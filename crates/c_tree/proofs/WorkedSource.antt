@@ -4,13 +4,13 @@ use Rattle.std.specs.Prelude.{pos, negsuc, ℤ, codes}
 use Rattle.ido_ints.specs.declared.kinds.Kind.TheVariants as kind
 use Rattle.ido_ints.specs.declared.operators.Unary.TheVariants as u
 use Rattle.ido_ints.specs.declared.operators.Binary.TheVariants as b
-use Rattle.ido_ints.specs.Typed.{typed}
+use Rattle.ido_ints.specs.TypedNumbers.{typed}
 use Rattle.ido_ints.specs.Reduction as reduction
 use Rattle.c_tree.specs.Trees as t
 use Rattle.c_tree.specs.Exprs as e
 use Rattle.c_tree.specs.Programs as p
 use Rattle.c_tree.specs.Flats as f
-use Rattle.c_tree.specs.Typing.{typed_program}
+use Rattle.c_tree.specs.Elaboration.{typed_program}
 use Rattle.c_tree.specs.Inlining.{flat_form}
 use Rattle.c_tree.specs.Source.{State, start, source_step, after_from, runs_from, ended_from}
 use Rattle.c_tree.proofs.Samples.{at, int, name, operators, bytes, two_threads, calls, loops}
@@ -139,7 +139,7 @@ calls_run : (after_from (started calls) (replicate 20 0)).variables ≡ (pos 2 �
 unfolding typed_program flat_form source_step reduction.from_least_on reduction.residue
 calls_run = refl
 
--- the store is a step of its own, behind that of the value
+-- the store is a step of its own, after that of the value
 calls_pending : (after_from (started calls) (replicate 14 0)).variables ≡ (pos 0 ∷ []) ∷ []
 unfolding typed_program flat_form source_step reduction.from_least_on reduction.residue
 calls_pending = refl

@@ -5,14 +5,14 @@ use Rattle.ido_base.specs.declared.limits.TheConstants.{MOST_THREADS}
 use Rattle.ido_ints.specs.declared.kinds.Kind.{Kind}
 use Rattle.ido_ints.specs.declared.kinds.Kind.TheVariants as kind
 use Rattle.ido_ints.specs.declared.operators.Binary.TheVariants as b
-use Rattle.ido_ints.specs.Typed.{typed}
+use Rattle.ido_ints.specs.TypedNumbers.{typed}
 use Rattle.ido_ints.specs.Reduction as reduction
 use Rattle.c_tree.specs.declared.rule.Rule as r
 use Rattle.c_tree.specs.declared.rule.Rule.TheVariants as rule
-use Rattle.c_tree.specs.Scanning.{Fault}
+use Rattle.c_tree.specs.LexicalScan.{Fault}
 use Rattle.c_tree.specs.Exprs as e
 use Rattle.c_tree.specs.Programs as p
-use Rattle.c_tree.specs.Typing.{typed_program}
+use Rattle.c_tree.specs.Elaboration.{typed_program}
 use Rattle.c_tree.specs.TypeRules.{past, type_faults}
 use Rattle.c_tree.proofs.Samples.{at, int, name, operators, calls, scopes, too_long, unknown, declared_twice, wrong_sorts, wrong_counts, wrong_returns}
 
@@ -72,7 +72,7 @@ placed place x = record { place = at place; expr = x }
 abbrev set : ℕ → ℕ → Kind → e.Placed → p.Statements → p.Statements
 set place number kind value more = p.statement_and (p.Assign (at place) (e.ToLocal number kind) value) more
 
--- an inner name is known behind its own declaration; a `for`'s own local is known to the end of the `for`; a missing condition is 1
+-- an inner name is known after its own declaration; a `for`'s own local is known to the end of the `for`; a missing condition is 1
 scopes_typed : map (λ (x : p.Thread). x.body) (typed_program scopes).threads ≡
     set 11 0 kind.Int (placed 19 (e.Constant (int 1))) (
     set 24 1 kind.Long (placed 33 (e.Local 0 kind.Int)) (

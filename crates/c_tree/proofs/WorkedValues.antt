@@ -4,13 +4,13 @@ use Rattle.std.specs.Prelude.{pos, negsuc}
 use Rattle.ido_ints.specs.declared.kinds.Kind.TheVariants as kind
 use Rattle.ido_ints.specs.declared.operators.Unary.TheVariants as u
 use Rattle.ido_ints.specs.declared.operators.Binary.TheVariants as b
-use Rattle.ido_ints.specs.Typed.{Typed, typed}
+use Rattle.ido_ints.specs.TypedNumbers.{Typed, typed}
 use Rattle.ido_ints.specs.Reduction as reduction
 use Rattle.c_tree.specs.Trees as t
 use Rattle.c_tree.specs.Exprs as e
 use Rattle.c_tree.specs.Values.{value}
 use Rattle.c_tree.specs.Prices.{nodes_of, need_of, thread_price}
-use Rattle.c_tree.specs.Typing.{typed_program, conditional}
+use Rattle.c_tree.specs.Elaboration.{typed_program, conditional}
 use Rattle.c_tree.specs.Inlining.{flat_form}
 use Rattle.c_tree.specs.Temporaries.{temporaries_fault, price_fault}
 use Rattle.c_tree.proofs.Samples.{at, int, operators, bytes, calls}

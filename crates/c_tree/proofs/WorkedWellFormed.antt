@@ -3,10 +3,10 @@ use Rattle.std.proofs.Common.{refl, arith}
 use Rattle.ido_ints.specs.declared.kinds.Kind.TheVariants.{Long}
 use Rattle.ido_ints.specs.Kinds.{Holds}
 use Rattle.ido_ints.specs.Reduction as reduction
-use Rattle.ido_ints.proofs.Reduced.{Holds-zero}
+use Rattle.ido_ints.proofs.Public.{Holds-zero}
 use Rattle.std.specs.Prelude.{pos}
 use Rattle.c_tree.specs.Inlining.{flat_form}
-use Rattle.c_tree.specs.Typing.{typed_program}
+use Rattle.c_tree.specs.Elaboration.{typed_program}
 use Rattle.c_tree.specs.WellFormed.{IsWellFormed}
 use Rattle.c_tree.proofs.Samples.{index_of_nine, index_masked}
 

@@ -4,7 +4,7 @@ use Rattle.ido_base.specs.declared.place.Place.{Place}
 use Rattle.ido_ints.specs.declared.kinds.Kind.{Kind}
 use Rattle.ido_ints.specs.declared.operators.Unary as u
 use Rattle.ido_ints.specs.declared.operators.Binary as b
-use Rattle.ido_ints.specs.Typed.{Typed}
+use Rattle.ido_ints.specs.TypedNumbers.{Typed}
 use Rattle.c_tree.specs.declared.expr.Expr as e
 use Rattle.c_tree.specs.declared.expr.Placed as placed
 use Rattle.c_tree.specs.declared.expr.Lvalue as target
@@ -36,7 +36,7 @@ pub data Lvalue : Type 0 where
   ToVariable : (place : Place) → (variable : ℕ) → Kind → Lvalue
   ToElement : (place : Place) → (variable : ℕ) → Kind → (index : Placed) → Lvalue
 
--- ---- What the types of `expr` stand for
+-- ---- What the types of `expr` represent
 
 abbrev pub expr_of : e.Expr → Expr
 expr_of (e.Constant value) = Constant value

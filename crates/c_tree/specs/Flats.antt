@@ -42,7 +42,8 @@ pub record Flat : Type 0 where
   pub variables : List Variable
   pub threads : List Thread
 
--- ---- What the types of `flat` stand for
+-- ---- What the types of `flat` represent
+-- `row_of` and `arms_of` need not be believed: `proofs/FlatRows` proves that they agree with `statements_of` and `arms_list_of`.
 
 abbrev mutual
   pub statement_of : f.Statement → Statement

@@ -175,7 +175,7 @@ body x = mark_at x.opening p.OpenBrace ⋅ statements x.statements ⋅ maybe ret
 abbrev pub parameter : t.Parameter → List Token → Type 0
 parameter x = type x.kind ⋅ name x.name
 
--- none at all may be written as `void`
+-- the parameters of a function; none at all may be written as `void`
 abbrev pub parameters : List t.Parameter → List Token → Type 0
 parameters [] = empty or word k.Void
 parameters (x ∷ xs) = some_of parameter (x ∷ xs)

@@ -41,15 +41,15 @@ calls_in fs function = elim (slice_get fs function) [
 ]
 
 -- calls lead from the one function to the other, or they are one
-pub data Leads (fs : List p.Function) (to : ℕ) : (from : ℕ) → Type 0 where
-  there : Leads fs to to
-  by_call : (from : ℕ) (c : Call) → Contains (calls_in fs from) c → Leads fs to c.function → Leads fs to from
+pub data CallsReach (fs : List p.Function) (to : ℕ) : (from : ℕ) → Type 0 where
+  there : CallsReach fs to to
+  by_call : (from : ℕ) (c : Call) → Contains (calls_in fs from) c → CallsReach fs to c.function → CallsReach fs to from
 
 -- a call in a function of one from which calls lead to it
 pub record LeadsBack (fs : List p.Function) (c : Call) : Type 0 where
   pub caller : ℕ
   pub made : Contains (calls_in fs caller) c
-  pub back : Leads fs caller c.function
+  pub back : CallsReach fs caller c.function
 
 pub record IsFirstBack (fs : List p.Function) (place : Place) : Type 0 where
   pub call : Call
@@ -87,7 +87,7 @@ statements_and (f.statement_and x xs) more = f.statement_and x (statements_and x
 abbrev pub one : f.Statement → f.Statements
 one x = f.statement_and x f.no_statement
 
--- what is made of a part, and the kinds of all locals of the thread behind it
+-- what is made of a part, and the kinds of all locals of the thread after it
 pub record Made (A : Type 0) : Type 0 where
   pub made : A
   pub kinds : List Kind
@@ -108,11 +108,11 @@ assigned place n (Some x) None = f.no_statement
 assigned place n None target = f.no_statement
 
 -- a call of which nothing is left has no locals
-abbrev pub kinds_behind : f.Statements → (before after : List Kind) → List Kind
-kinds_behind f.no_statement before after = before
-kinds_behind (f.statement_and x xs) before after = after
+abbrev pub kinds_after : f.Statements → (before after : List Kind) → List Kind
+kinds_after f.no_statement before after = before
+kinds_after (f.statement_and x xs) before after = after
 
--- a call's function with its locals behind those of the kinds
+-- a call's function with its locals after those of the kinds
 abbrev pub Bodies : Type 0
 Bodies = (function : ℕ) → List Kind → Made f.Statements
 
@@ -122,7 +122,7 @@ module _ (fs : List p.Function) (bodies : Bodies) where
   called place n ks x body arguments result =
       let made = statements_and (passed place (length ks) x.locals (map (shifted_placed n) arguments))
       (statements_and body.made (assigned place (length ks) x.result (option_map (shifted_target n) result))) in
-      record { made = made; kinds = kinds_behind made ks body.kinds }
+      record { made = made; kinds = kinds_after made ks body.kinds }
 
   abbrev mutual
     pub statement : (by : ℕ) → List Kind → p.Statement → Made f.Statements
@@ -156,7 +156,7 @@ module _ (fs : List p.Function) (bodies : Bodies) where
         let r = arms_of n m.kinds rest in
         record { made = f.arm_and (shifted_placed n condition) m.made r.made; kinds = r.kinds }
 
--- with calls at most so deep: where no call leads back, they are no deeper than there are functions
+-- the bodies of functions, with calls at most so deep: where no call leads back, they are no deeper than there are functions
 abbrev pub bodies_of : List p.Function → (deep : ℕ) → Bodies
 bodies_of fs zero function ks = record { made = f.no_statement; kinds = ks }
 bodies_of fs (suc deep) function ks = elim (slice_get fs function) [

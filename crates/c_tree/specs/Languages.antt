@@ -1,7 +1,7 @@
 -- Languages of tokens: which lists of tokens belong to a part of a text.
 use Rattle.std.specs.Prelude.{◌≡◌, ◌⊎◌, List, [], ◌∷◌, ◌++◌, map, Option, Some, None}
 use Rattle.ido_base.specs.declared.place.Place.{Place}
-use Rattle.ido_ints.specs.Typed.{Typed}
+use Rattle.ido_ints.specs.TypedNumbers.{Typed}
 use Rattle.c_tree.specs.Tokens.{Token, Lexeme, Name, Keyword, Number, Punctuator}
 use Rattle.c_tree.specs.declared.token.Keyword as k
 use Rattle.c_tree.specs.declared.token.Punctuator as p
@@ -14,7 +14,7 @@ use Rattle.c_tree.specs.Trees as t
 abbrev pub empty : List Token → Type 0
 empty ts = ts ≡ []
 
--- concatenation: a list of the one and behind it a list of the other
+-- concatenation: a list of the one and after it a list of the other
 infixr 6 ◌⋅◌
 abbrev pub ◌⋅◌ : (List Token → Type 0) → (List Token → Type 0) → List Token → Type 0
 (P ⋅ Q) ts = (us : List Token) × (vs : List Token) × (ts ≡ us ++ vs) × P us × Q vs
@@ -46,7 +46,7 @@ starting_at place P ts = (first_place ts ≡ Some place) × P ts
 abbrev pub lexeme : Lexeme → List Token → Type 0
 lexeme x ts = (place : Place) × (ts ≡ record { place = place; lexeme = x } ∷ [])
 
--- the same, at this place
+-- one token of this kind, at this place
 abbrev pub lexeme_at : Place → Lexeme → List Token → Type 0
 lexeme_at place x ts = ts ≡ record { place = place; lexeme = x } ∷ []
 
@@ -71,13 +71,13 @@ number_at place value = lexeme_at place (Number value)
 abbrev pub name : t.Name → List Token → Type 0
 name x = lexeme_at x.place (Name x.text)
 
--- these words, one behind the other
+-- these reserved words, one after the other
 abbrev pub words : List k.Keyword → List Token → Type 0
 words ks ts = map (λ t. t.lexeme) ts ≡ map Keyword ks
 
 -- ---- Lists
 
--- each thing's tokens, one behind the other
+-- each thing's tokens, one after the other
 abbrev pub all_of : {A : Type 0} → (A → List Token → Type 0) → List A → List Token → Type 0
 all_of P [] = empty
 all_of P (x ∷ xs) = P x ⋅ all_of P xs

@@ -2,8 +2,8 @@ pub mod Trees
 pub mod Tokens
 pub mod Languages
 pub mod Grammar
-pub mod Scanning
-pub mod Reading
+pub mod LexicalScan
+pub mod TextReadings
 pub mod Views
 pub mod Exprs
 pub mod Values
@@ -12,12 +12,12 @@ pub mod Flats
 pub mod Source
 pub mod Prices
 pub mod Names
-pub mod Typing
+pub mod Elaboration
 pub mod TypeRules
 pub mod Ranges
 pub mod Inlining
 pub mod WellFormed
-pub mod Locking
+pub mod LockDiscipline
 pub mod Temporaries
-pub mod Checking
+pub mod AcceptedTexts
 pub mod Refusals

@@ -45,7 +45,7 @@ abbrev pub globals_from : Counts → List t.Item → List Global
 globals_from n [] = []
 globals_from n (x ∷ xs) = global_of n x ∷ globals_from (counted n x) xs
 
--- in order of declaration
+-- the globals of a program, in order of declaration
 abbrev pub globals_of : List t.Item → List Global
 globals_of xs = globals_from none_yet xs
 
@@ -74,7 +74,7 @@ declared s name kind =
 abbrev pub entered : Scope → Scope
 entered s = record s { own = [] }
 
--- the scope again, behind one that stood inside it
+-- the scope again, after one that stood inside it
 abbrev pub left : Scope → (inside : Scope) → Scope
 left s inside = record s { kinds = inside.kinds }
 

@@ -20,7 +20,7 @@ nodes_of (e.Conditional kind condition chosen otherwise) = 1 + nodes_of conditio
 
 -- ---- Temporaries that an expression needs
 
--- of two operands that are held at once
+-- the need of two operands that are held at once
 abbrev pub need_of_both : ℕ → ℕ → ℕ
 need_of_both left right = if left == right then left + 1 else max left right
 
@@ -43,7 +43,7 @@ need_of (e.Conditional kind condition chosen otherwise) = max (need_of condition
 
 -- ---- The price of a thread
 
--- of a node with so many nodes of expressions
+-- the price of a node with so many nodes of expressions
 abbrev pub node_price : ℕ → ℕ
 node_price nodes = 96 + 16 * nodes
 
@@ -70,6 +70,6 @@ abbrev mutual
   arms_price f.no_arm = 0
   arms_price (f.arm_and condition body rest) = (node_price (nodes_of condition.expr) + statements_price body) + arms_price rest
 
--- with the node of its end
+-- the price of a thread, with the node of its end
 abbrev pub thread_price : f.Thread → ℕ
 thread_price x = statements_price x.body + node_price 0

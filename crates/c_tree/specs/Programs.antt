@@ -70,7 +70,8 @@ pub record Program : Type 0 where
   pub functions : List Function
   pub threads : List Thread
 
--- ---- What the types of `program` stand for
+-- ---- What the types of `program` represent
+-- `row_of` and `arms_of` need not be believed: `proofs/ProgramRows` proves that they agree with `statements_of` and `arms_list_of`.
 
 abbrev pub variable_of : variable.Variable → Variable
 variable_of x = record { name = name_of x.name; guard = x.guard; kind = x.kind; length = x.length; initial = x.initial.items }

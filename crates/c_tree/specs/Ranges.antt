@@ -13,7 +13,7 @@ use Rattle.ido_ints.specs.Kinds.{least_of, greatest_of, promoted, common_of}
 use Rattle.ido_ints.specs.Operators.{places}
 use Rattle.c_tree.specs.Exprs as e
 use Rattle.c_tree.specs.Programs as p
-use Rattle.c_tree.specs.Typing.{kind_of}
+use Rattle.c_tree.specs.Elaboration.{kind_of}
 
 -- the whole numbers from the one to the other
 pub record Interval : Type 0 where
@@ -55,11 +55,11 @@ hull i j = interval (lesser i.lo j.lo) (greater i.hi j.hi)
 abbrev pub truth_range : Interval
 truth_range = interval (pos 0) (pos 1)
 
--- there is no negative number in it
+-- the interval has no negative number
 abbrev pub from_zero_up : Interval → Bool
 from_zero_up i = int_le (pos 0) i.lo
 
--- one value, and a positive one
+-- the interval has one value, and a positive one
 abbrev pub is_positive_value : Interval → Bool
 is_positive_value i = int_eq i.lo i.hi && int_lt (pos 0) i.lo
 
@@ -89,7 +89,7 @@ remainder_range k i j =
     then (if from_zero_up i then interval (pos 0) (lesser i.hi (j.lo -ℤ pos 1)) else interval (neg_ℤ (j.lo -ℤ pos 1)) (j.lo -ℤ pos 1))
     else full k
 
--- by a count that is one value, modulo the width
+-- the interval shifted by a count that is one value, modulo the width
 abbrev pub shifted_range : Kind → Interval → (count : Interval) → Interval
 shifted_range k i count =
     if int_eq count.lo count.hi && from_zero_up i then interval (int_shr i.lo (places k count.lo)) (int_shr i.hi (places k count.lo)) else full k

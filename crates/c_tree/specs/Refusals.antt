@@ -1,6 +1,6 @@
 -- The faults that refusals and errors tell.
 use Rattle.std.specs.Prelude.{Option, Some, None}
-use Rattle.c_tree.specs.Scanning.{Fault}
+use Rattle.c_tree.specs.LexicalScan.{Fault}
 use Rattle.c_tree.specs.declared.refusal.Refusal.{Refusal}
 use Rattle.c_tree.specs.declared.refusal.SourceError.{SourceError}
 use Rattle.c_tree.specs.declared.refusal.SourceError.TheVariants.{Refused, Memory}
@@ -8,7 +8,7 @@ use Rattle.c_tree.specs.declared.refusal.SourceError.TheVariants.{Refused, Memor
 abbrev pub fault_of : Refusal → Fault
 fault_of x = record { rule = x.rule; place = x.place }
 
--- none for want of memory
+-- the fault that an error tells; none for want of memory
 abbrev pub fault_in : SourceError → Option Fault
 fault_in (Refused x) = Some (fault_of x)
 fault_in Memory = None

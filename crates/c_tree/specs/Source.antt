@@ -3,7 +3,7 @@
 use Rattle.std.specs.Prelude.{ℕ, ◌+◌, List, [], ◌∷◌, ◌++◌, length, map, replicate, slice_index_or, slice_get, slice_set}
 use Rattle.std.specs.Prelude.{Option, Some, None, Bool, true, false, not, ◌&&◌, if◌then◌else◌, ℤ, pos}
 use Rattle.ido_base.specs.Locks.{holds_none}
-use Rattle.ido_ints.specs.Typed.{Typed}
+use Rattle.ido_ints.specs.TypedNumbers.{Typed}
 use Rattle.ido_ints.specs.Operators.{is_zero}
 use Rattle.ido_ints.specs.Reduction.{reduced}
 use Rattle.c_tree.specs.Exprs.{Expr, Placed, Lvalue, ToLocal, ToVariable, ToElement}
@@ -24,7 +24,7 @@ pub record Thread : Type 0 where
   pub left : List f.Statement
   pub locals : List ℤ
   pub pending : Option Pending
-  -- its last step is done
+  -- the thread's last step is done
   pub ended : Bool
 
 pub record State : Type 0 where
@@ -100,7 +100,7 @@ tested holds body more otherwise arms = if holds then body else elim arms [
   | f.arm_and condition next rest ↦ more
 ]
 
--- a step of thread t by the statement at its front, with the others behind it; none where it can't be made now
+-- a step of thread t by the statement at its front, with the others after it; none where it can't be made now
 abbrev pub statement_step : State → ℕ → Thread → f.Statement → (rest : List f.Statement) → Option State
 statement_step s t thread (f.Assign place target x) rest = Some (with_thread s t (record (evaluated s thread target x.expr) { left = rest }))
 statement_step s t thread (f.If place f.no_arm otherwise) rest = None
@@ -117,7 +117,7 @@ statement_step s t thread (f.Lock place mutex) rest = elim (slice_get s.holders 
 ]
 statement_step s t thread (f.Unlock place mutex) rest = Some (with_thread (with_holder s mutex None) t (record thread { left = rest }))
 
--- behind the last statement stands one more step, the end
+-- after the last statement stands one more step, the end
 abbrev pub left_step : State → ℕ → Thread → List f.Statement → Option State
 left_step s t thread [] = if thread.ended then None else Some (with_thread s t (record thread { ended = true }))
 left_step s t thread (x ∷ rest) = statement_step s t thread x rest
@@ -138,7 +138,7 @@ source_step s t = elim (slice_get s.threads t) [
 
 -- ---- Runs
 
--- the state after the longest front of a schedule that can be stepped
+-- the state after the longest prefix of a schedule that can be stepped
 abbrev pub after_from : State → (schedule : List ℕ) → State
 after_from s [] = s
 after_from s (t ∷ ts) = elim (source_step s t) [
@@ -162,7 +162,7 @@ is_between s thread = holds_none s.holders thread
 abbrev pub ends_section : State → State → (thread : ℕ) → ℕ
 ends_section before after thread = if not (is_between before thread) && is_between after thread then 1 else 0
 
--- how many sections of the thread end in the longest front of a schedule that can be stepped
+-- how many sections of the thread end in the longest prefix of a schedule that can be stepped
 abbrev pub ended_from : State → (schedule : List ℕ) → (thread : ℕ) → ℕ
 ended_from s [] thread = 0
 ended_from s (t ∷ ts) thread = elim (source_step s t) [

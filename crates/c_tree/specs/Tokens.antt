@@ -1,7 +1,7 @@
 -- Tokens.
 use Rattle.std.specs.Prelude.{ℕ, List}
 use Rattle.ido_base.specs.declared.place.Place.{Place}
-use Rattle.ido_ints.specs.Typed.{Typed}
+use Rattle.ido_ints.specs.TypedNumbers.{Typed}
 use Rattle.c_tree.specs.declared.token.Keyword as k
 use Rattle.c_tree.specs.declared.token.Punctuator as p
 

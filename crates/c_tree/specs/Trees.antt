@@ -4,7 +4,7 @@ use Rattle.ido_base.specs.declared.place.Place.{Place}
 use Rattle.ido_ints.specs.declared.kinds.Kind.{Kind}
 use Rattle.ido_ints.specs.declared.operators.Unary as u
 use Rattle.ido_ints.specs.declared.operators.Binary as b
-use Rattle.ido_ints.specs.Typed.{Typed}
+use Rattle.ido_ints.specs.TypedNumbers.{Typed}
 
 pub record Name : Type 0 where
   pub text : List ℕ
@@ -103,7 +103,7 @@ mutual
     no_arm : Arms
     arm_and : (condition : Expression) → Block → Arms → Arms
 
-  -- what stands behind the last `else`
+  -- what stands after the last `else`
   pub data Otherwise : Type 0 where
     Nothing : Otherwise
     Else : Block → Otherwise

@@ -8,10 +8,10 @@ use Rattle.ido_base.specs.declared.limits.TheConstants.{MOST_THREADS, MOST_MUTEX
 use Rattle.ido_ints.specs.Kinds.{bytes_of}
 use Rattle.c_tree.specs.declared.rule.Rule as r
 use Rattle.c_tree.specs.declared.rule.Rule.TheVariants as rule
-use Rattle.c_tree.specs.Scanning.{Fault}
+use Rattle.c_tree.specs.LexicalScan.{Fault}
 use Rattle.c_tree.specs.Trees as t
 use Rattle.c_tree.specs.Names as n
-use Rattle.c_tree.specs.Typing as made
+use Rattle.c_tree.specs.Elaboration as made
 
 abbrev pub broken : r.Rule → Place → List Fault
 broken found place = record { rule = found; place = place } ∷ []
@@ -29,7 +29,7 @@ abbrev pub twice_from : (before : List (List ℕ)) → List n.Global → List Fa
 twice_from before [] = []
 twice_from before (g ∷ gs) = twice before g.name ++ twice_from (g.name.text ∷ before) gs
 
--- the names behind the first so many
+-- the names after the first so many
 abbrev pub past : r.Rule → (most : ℕ) → List t.Name → List Fault
 past found most [] = []
 past found zero (x ∷ xs) = broken found x.place
@@ -42,14 +42,14 @@ abbrev pub mutex_names : List t.Item → List t.Name
 mutex_names xs = flat_map (λ x. elim x [ t.MutexItem y ↦ y ∷ [] | _ ↦ [] ]) xs
 
 -- where a variable ends, if the one before it ends at n
-abbrev pub end_behind : (n : ℕ) → t.Persistent → ℕ
-end_behind n x = aligned_up n (bytes_of x.kind) + bytes_of x.kind * made.element_count x.length
+abbrev pub end_after : (n : ℕ) → t.Persistent → ℕ
+end_after n x = aligned_up n (bytes_of x.kind) + bytes_of x.kind * made.element_count x.length
 
 -- the first variable that ends too late
 abbrev pub too_many_bytes : (n : ℕ) → List t.Item → List Fault
 too_many_bytes n [] = []
 too_many_bytes n (t.PersistentItem x ∷ xs) =
-    if nat_lt MOST_VARIABLE_BYTES (end_behind n x) then broken rule.Bytes x.name.place else too_many_bytes (end_behind n x) xs
+    if nat_lt MOST_VARIABLE_BYTES (end_after n x) then broken rule.Bytes x.name.place else too_many_bytes (end_after n x) xs
 too_many_bytes n (t.MutexItem x ∷ xs) = too_many_bytes n xs
 too_many_bytes n (t.ThreadItem x ∷ xs) = too_many_bytes n xs
 too_many_bytes n (t.FunctionItem x ∷ xs) = too_many_bytes n xs
@@ -60,7 +60,7 @@ abbrev pub length_faults : Option t.Length → List Fault
 length_faults None = []
 length_faults (Some x) = let elements = made.length_number x in broken_if (elements == 0 || nat_lt MOST_ELEMENTS elements) rule.Length x.place
 
--- the first number behind so many
+-- the first number after so many
 abbrev pub numbers_past : (count : ℕ) → List t.Signed → List Fault
 numbers_past count [] = []
 numbers_past zero (x ∷ xs) = broken rule.Count x.place
@@ -148,9 +148,9 @@ module _ (gs : List n.Global) where
   last_faults s None = []
   last_faults s (Some x) = assignment_faults s x
 
-  -- the scope behind a statement
-  abbrev pub behind : n.Scope → t.Statement → n.Scope
-  behind s x = (made.statement gs s x).scope
+  -- the scope after a statement
+  abbrev pub after : n.Scope → t.Statement → n.Scope
+  after s x = (made.statement gs s x).scope
 
   abbrev mutual
     pub statement_faults : n.Scope → t.Statement → List Fault
@@ -174,7 +174,7 @@ module _ (gs : List n.Global) where
 
     pub statements_faults : n.Scope → t.Statements → List Fault
     statements_faults s t.no_statement = []
-    statements_faults s (t.statement_and x xs) = statement_faults s x ++ statements_faults (behind s x) xs
+    statements_faults s (t.statement_and x xs) = statement_faults s x ++ statements_faults (after s x) xs
 
     pub arms_faults : n.Scope → t.Arms → List Fault
     arms_faults s t.no_arm = []

@@ -1,4 +1,4 @@
--- The trees that the types of `tree` stand for: the same, with lists for vectors and no boxes.
+-- The trees that the types of `tree` represent: the same, with lists for vectors and no boxes.
 use Rattle.std.specs.Prelude.{List, [], ◌∷◌, map, Option, Some, None}
 use Rattle.std.specs.Box.{box_value}
 use Rattle.std.specs.Option.{option_map}

@@ -1,5 +1,5 @@
 -- Well formed programs and flat forms: each number names what it is used as, and every element has an initial number of its kind.
-use Rattle.std.specs.Prelude.{◌≡◌, ℕ, ◌<◌, ◌≤◌, List, length, map, slice_get, Option, Some, None, Bool, true, false, is_some}
+use Rattle.std.specs.Prelude.{◌≡◌, ℕ, ◌<◌, ◌≤◌, List, length, map, slice_get, Option, Some, None, Bool, true, false, is_some, ℤ}
 use Rattle.std.specs.List.{AllByRecursion}
 use Rattle.ido_base.specs.declared.place.Place.{Place}
 use Rattle.ido_base.specs.declared.location.Shape.{Shape}
@@ -30,6 +30,10 @@ pub record IsVariable (mutexes : ℕ) (v : p.Variable) : Type 0 where
 
 abbrev pub shape_of : p.Variable → Shape
 shape_of v = record { bytes = bytes_of v.kind; length = elements_in v.length }
+
+-- the numbers that its elements begin with
+abbrev pub initial_numbers : p.Variable → List ℤ
+initial_numbers v = v.initial
 
 -- what the threads share
 pub record AreShared (mutex_count thread_count : ℕ) (vs : List p.Variable) : Type 0 where

@@ -1,7 +1,7 @@
 //! Expressions whose names are resolved and whose kinds are fixed.
 ghost use Rattle.std.specs.Prelude.{◌≡◌};
 ghost use Rattle.c_tree.specs.Exprs.{expr_of};
-ghost use Rattle.c_tree.specs.Typing.{kind_of};
+ghost use Rattle.c_tree.specs.Elaboration.{kind_of};
 
 use ido_base::place::Place;
 use ido_ints::{Binary, Kind, Unary, Value};

@@ -7,5 +7,6 @@ pub mod price;
 pub mod program;
 pub mod refusal;
 pub mod rule;
+pub mod shapes;
 pub mod token;
 pub mod tree;

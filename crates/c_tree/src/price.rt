@@ -50,7 +50,7 @@ fn is_logical(operator: Binary) -> bool
     matches!(operator, Binary::LogicalAnd | Binary::LogicalOr)
 }
 
-/// Of two operands that are held at once.
+/// The need of two operands that are held at once.
 fn need_of_both(left: u32, right: u32) -> u32
     ensures { result ≡ min (need_of_both left right) u32.MAX }
 {

@@ -55,7 +55,7 @@ pub enum Punctuator {
     Binary(Binary),
     /// `=`
     Assign,
-    /// An operator with `=` behind it: one of `+= -= *= /= %= &= |= ^= <<= >>=`.
+    /// An operator with `=` after it: one of `+= -= *= /= %= &= |= ^= <<= >>=`.
     Update(Binary),
     /// `++`
     Increment,

@@ -5,9 +5,9 @@ use ido_ints::{Binary, Kind, Unary, Value};
 /// A name as it stands somewhere.
 #[derive(Drop)]
 pub struct Name {
-    /// Its bytes.
+    /// The name's bytes.
     pub text: Vec<u8>,
-    /// Where it begins.
+    /// Where the name begins.
     pub place: Place,
 }
 
@@ -133,7 +133,7 @@ pub struct Block {
     pub closing: Place,
 }
 
-/// `if (condition) block`, also behind an `else`.
+/// `if (condition) block`, also after an `else`.
 #[cycle(statements)]
 #[derive(Drop)]
 pub struct Arm {

@@ -1,11 +1,11 @@
--- Counts of elements, and the numbers behind as many.
+-- Counts of elements, and the numbers after as many.
 use Rattle.std.proofs.Common.{◌≡◌, ◌<◌, ◌≤◌, ℕ, zero, suc, List, [], ◌∷◌, length, get_or, map, Option, Some, None}
 use Rattle.std.proofs.Common.{Bool, true, false, ◌==◌, ◌||◌, nat_lt, if◌then◌else◌, refl, sym, ap, arith}
 use Rattle.std.proofs.lemmas.Bool.Decides.{nat_tests}
 use Rattle.ido_base.specs.declared.limits.TheConstants.{MOST_ELEMENTS}
 use Rattle.c_tree.specs.Trees as t
 use Rattle.c_tree.specs.TypeRules.{numbers_past, broken, length_faults}
-use Rattle.c_tree.specs.Typing.{element_count, length_number}
+use Rattle.c_tree.specs.Elaboration.{element_count, length_number}
 use Rattle.c_tree.specs.Views.{signed_of}
 use Rattle.c_tree.specs.declared.rule.Rule.TheVariants as rule
 use Rattle.c_tree.specs.declared.tree.Signed.{Signed}

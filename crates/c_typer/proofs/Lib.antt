@@ -1,12 +1,12 @@
-pub mod Noted
-pub mod Lookups
-pub mod Counts
-pub mod Rows
-pub mod Uses
-pub mod Whole
-pub mod Stays
-pub mod Steps
-pub mod Firsts
-pub mod Growing
-pub mod Formed
-pub mod FormedItems
+mod FirstFaultLaws
+mod Lookups
+mod Counts
+mod Rows
+mod Uses
+mod ItemRows
+mod NestedScopes
+mod RowSteps
+mod UniqueFirstFault
+mod LocalKindsGrow
+mod WellFormedStatements
+mod WellFormedItems

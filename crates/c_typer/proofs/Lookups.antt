@@ -23,7 +23,7 @@ use Rattle.c_typer.specs.declared.globals.Declared.{Declared}
 use Rattle.c_typer.specs.declared.names.Places.{Places}
 use Rattle.c_typer.specs.declared.scope.Local.{Local}
 
--- what a scope stands for that has these locals, this mark and these kinds
+-- what a scope represents that has these locals, this mark and these kinds
 abbrev pub scope_made : List Local → ℕ → List Kind → n.Scope
 scope_made xs mark ks = record { known = known_of xs; own = own_of (drop mark xs); kinds = ks }
 
@@ -72,27 +72,16 @@ put_at_first f name other place none = by (same_name name other) (λ same. ap f 
         same None = refl
         same (Some x) = refl
 
--- a name that has a place keeps it
-pub kept_at_first : (f : List ℕ → Option ℕ) (name other : List ℕ) (place : ℕ) → is_some (f name) ≡ true
-    → f other ≡ option_or (f other) (cond (same_name name other) (Some place) None)
-kept_at_first f name other place some =
-    by (same_name name other) (f other) (λ same. ap (λ (q : List ℕ). is_some (f q)) (sym ((bytes_decides name other).0 same)) ∙ some)
-  where
-    by : (b : Bool) (o : Option ℕ) → (b ≡ true → is_some o ≡ true) → o ≡ option_or o (cond b (Some place) None)
-    by b (Some x) h = refl
-    by true None h = absurd (true≢false (sym (h refl)))
-    by false None h = refl
-
 -- ---- First places
 
 abbrev text_of : Declared → List ℕ
 text_of x = x.name.text.items
 
-first_behind : (name x : List ℕ) (xs : List (List ℕ)) → first_place name (xs ++ x ∷ [])
+first_after : (name x : List ℕ) (xs : List (List ℕ)) → first_place name (xs ++ x ∷ [])
     ≡ option_or (first_place name xs) (cond (same_name x name) (Some (length xs)) None)
-first_behind name x [] = refl
-first_behind name x (y ∷ ys) =
-    ap (λ (o : Option ℕ). cond (same_name y name) (Some 0) (option_map suc o)) (first_behind name x ys)
+first_after name x [] = refl
+first_after name x (y ∷ ys) =
+    ap (λ (o : Option ℕ). cond (same_name y name) (Some 0) (option_map suc o)) (first_after name x ys)
     ∙ by (same_name y name) (same_name x name) (first_place name ys)
   where
     by : (a b : Bool) (o : Option ℕ) → cond a (Some 0) (option_map suc (option_or o (cond b (Some (length ys)) None)))
@@ -107,7 +96,7 @@ pub first_push : (name : List ℕ) (xs : List Declared) (x : Declared)
     (cond (same_name x.name.text.items name) (Some (length xs)) None)
 first_push name xs x =
     ap (first_place name) (map-append text_of xs (x ∷ []))
-    ∙ first_behind name (text_of x) (names_declared xs)
+    ∙ first_after name (text_of x) (names_declared xs)
     ∙ ap (λ (i : ℕ). option_or (first_place name (names_declared xs)) (cond (same_name (text_of x) name) (Some i) None)) (length-map xs text_of)
 
 pub first_within : (name : List ℕ) (xs : List Declared) (i : ℕ) → first_place name (names_declared xs) ≡ Some i → i < length xs
@@ -255,32 +244,32 @@ pub last_missing : (name : List ℕ) (xs : List Local) → last_place name (name
 last_missing name [] h = refl
 last_missing name (x ∷ xs) h = sym (ap (option_map (λ (i : ℕ). local_of (get_or (x ∷ xs) i x))) h) ∙ last_found name (x ∷ xs) x
 
--- whether a place is at a mark or behind it
-abbrev pub is_behind : ℕ → Option ℕ → Bool
-is_behind mark None = false
-is_behind mark (Some i) = nat_le mark i
+-- whether a place is at a mark or after it
+abbrev pub is_after : ℕ → Option ℕ → Bool
+is_after mark None = false
+is_after mark (Some i) = nat_le mark i
 
-behind : (name : List ℕ) (xs ys : List (List ℕ)) → list_any (same_name name) xs ≡ is_behind (length ys) (last_place name (xs ++ ys))
-behind name [] ys = none (last_place name ys) (last_within name ys)
+after : (name : List ℕ) (xs ys : List (List ℕ)) → list_any (same_name name) xs ≡ is_after (length ys) (last_place name (xs ++ ys))
+after name [] ys = none (last_place name ys) (last_within name ys)
   where
-    none : (o : Option ℕ) → ((i : ℕ) → o ≡ Some i → i < length ys) → false ≡ is_behind (length ys) o
+    none : (o : Option ℕ) → ((i : ℕ) → o ≡ Some i → i < length ys) → false ≡ is_after (length ys) o
     none None h = refl
     none (Some i) h = sym (lt-leb (length ys) i (h i refl))
-behind name (x ∷ xs) ys =
-    (λ i. nat_list_eq_equiv.symm name x i || behind name xs ys i)
+after name (x ∷ xs) ys =
+    (λ i. nat_list_eq_equiv.symm name x i || after name xs ys i)
     ∙ by (same_name x name) (last_place name (xs ++ ys))
   where
-    by : (b : Bool) (o : Option ℕ) → (b || is_behind (length ys) o) ≡ is_behind (length ys) (cond b (Some (length (xs ++ ys))) o)
+    by : (b : Bool) (o : Option ℕ) → (b || is_after (length ys) o) ≡ is_after (length ys) (cond b (Some (length (xs ++ ys))) o)
     by true o = sym (le-leb (length ys) (length (xs ++ ys)) (let long = length-append xs ys in omega arith))
     by false o = refl
 
-pub last_behind : (name : List ℕ) (mark : ℕ) (xs : List Local) → mark ≤ length xs
-    → list_any (same_name name) (own_of (drop mark xs)) ≡ is_behind mark (last_place name (names_in xs))
-last_behind name mark xs within =
-    behind name (own_of (drop mark xs)) (own_of (take mark xs))
-    ∙ ap (λ (i : ℕ). is_behind i (last_place name (own_of (drop mark xs) ++ own_of (take mark xs))))
+pub last_after : (name : List ℕ) (mark : ℕ) (xs : List Local) → mark ≤ length xs
+    → list_any (same_name name) (own_of (drop mark xs)) ≡ is_after mark (last_place name (names_in xs))
+last_after name mark xs within =
+    after name (own_of (drop mark xs)) (own_of (take mark xs))
+    ∙ ap (λ (i : ℕ). is_after i (last_place name (own_of (drop mark xs) ++ own_of (take mark xs))))
     (length-map (reverse (take mark xs)) name_in ∙ length-reverse (take mark xs) ∙ length-take-le mark xs within)
-    ∙ ap (λ (ys : List (List ℕ)). is_behind mark (last_place name ys)) both
+    ∙ ap (λ (ys : List (List ℕ)). is_after mark (last_place name ys)) both
   where
     both : own_of (drop mark xs) ++ own_of (take mark xs) ≡ own_of xs
     both =

@@ -1,9 +1,9 @@
--- Rows of statements that are made one behind the other.
+-- Rows of statements that are made one after the other.
 use Rattle.std.proofs.Common.{◌≡◌, List, [], ◌∷◌, ◌++◌, Result, Ok, Err, OnOk, refl, ap, ◌∙◌}
 use Rattle.std.proofs.lemmas.Result.{IfOk-equal}
 use Rattle.c_tree.specs.Exprs.{placed_of}
 use Rattle.c_tree.specs.Programs as p
-use Rattle.c_tree.specs.Typing.{one, statements_and}
+use Rattle.c_tree.specs.Elaboration.{one, statements_and}
 use Rattle.c_tree.specs.declared.program.Statement.{Statement}
 use Rattle.c_tree.specs.declared.program.Arm.{Arm}
 
@@ -34,7 +34,7 @@ pub and_no_arm : (xs : p.Arms) → arms_and xs p.no_arm ≡ xs
 and_no_arm p.no_arm = refl
 and_no_arm (p.arm_and x body xs) = ap (p.arm_and x body) (and_no_arm xs)
 
--- ---- What holds behind a call that may fail
+-- ---- What holds after a call that may fail
 
 pub always : {T E : Type 0} (r : Result T E) {P : Type 0} → P → OnOk r P
 always (Ok x) h = h
@@ -46,7 +46,7 @@ pub one_more : {T E : Type 0} (r : Result T E) (new old : p.Statements) (x : p.S
     → OnOk r (new ≡ statements_and old m)
 one_more r new old x m h e = IfOk-equal r new (statements_and old (one x)) (statements_and old m) h (ap (statements_and old) e)
 
--- a statement behind others
+-- a statement after others
 pub two_more : {T E : Type 0} (r : Result T E) (new mid old first : p.Statements) (x y : p.Statement) → OnOk r (new ≡ statements_and mid (one x))
     → mid ≡ statements_and old first → x ≡ y
     → OnOk r (new ≡ statements_and old (statements_and first (one y)))

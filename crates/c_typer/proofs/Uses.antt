@@ -4,7 +4,7 @@ use Rattle.ido_base.specs.declared.place.Place.{Place}
 use Rattle.c_tree.specs.declared.rule.Rule.{Rule}
 use Rattle.c_tree.specs.declared.rule.Rule.TheVariants as rule
 use Rattle.c_tree.specs.Names as n
-use Rattle.c_tree.specs.Scanning.{Fault}
+use Rattle.c_tree.specs.LexicalScan.{Fault}
 use Rattle.c_tree.specs.Trees as t
 use Rattle.c_tree.specs.TypeRules as rules
 use Rattle.c_tree.specs.TypeRules.{broken, broken_if}

@@ -3,7 +3,7 @@ use Rattle.std.specs.Prelude.{◌≡◌, List, [], Result, Ok, Err}
 use Rattle.c_tree.specs.Trees as t
 use Rattle.c_tree.specs.Programs.{program_of}
 use Rattle.c_tree.specs.TypeRules.{IsFirst, type_faults}
-use Rattle.c_tree.specs.Typing.{typed_program}
+use Rattle.c_tree.specs.Elaboration.{typed_program}
 use Rattle.c_tree.specs.declared.program.Program.{Program}
 use Rattle.c_tree.specs.declared.refusal.SourceError.{SourceError}
 use Rattle.c_tree.specs.declared.refusal.SourceError.TheVariants as error

@@ -1,6 +1,6 @@
 -- At most one rule is the first that a tree breaks.
 use Rattle.std.specs.Prelude.{◌≡◌, List}
-use Rattle.c_tree.specs.Scanning.{Fault}
+use Rattle.c_tree.specs.LexicalScan.{Fault}
 use Rattle.c_tree.specs.Trees.{Item}
 use Rattle.c_tree.specs.TypeRules.{IsFirst, type_faults}
 

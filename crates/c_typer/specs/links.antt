@@ -1,8 +1,8 @@
 pub mod Declarations
 pub mod Locals
 pub mod Meanings
-pub mod Noted
+pub mod FirstFaults
 pub mod Places
 pub mod Rows
 pub mod Scopes
-pub mod Whole
+pub mod JoinedPrograms

@@ -4,9 +4,9 @@ ghost use Rattle.std.specs.Option.{option_map};
 ghost use Rattle.c_tree.specs.Exprs.{expr_of, placed_of, lvalue_of};
 ghost use Rattle.c_tree.specs.Programs as p;
 ghost use Rattle.c_tree.specs.TypeRules as rules;
-ghost use Rattle.c_tree.specs.Typing as typing;
+ghost use Rattle.c_tree.specs.Elaboration as typing;
 ghost use Rattle.c_tree.specs.Views as v;
-ghost use Rattle.c_typer.specs.links.Noted.{first_of, noted};
+ghost use Rattle.c_typer.specs.links.FirstFaults.{first_of, noted};
 ghost use Rattle.c_typer.specs.links.Meanings.{updated_as};
 ghost use Rattle.c_typer.specs.links.Scopes.{globals_of, scope_of};
 
@@ -25,7 +25,7 @@ use ido_ints::Binary;
 use std::alloc::{AllocError, Global};
 
 /// What is assigned.
-#[tactic(auto, using(crate::proofs::Noted::noted_append))]
+#[tactic(auto, using(crate::proofs::FirstFaultLaws::noted_append))]
 pub fn target(
     alloc: Global,
     globals: &Globals,
@@ -116,7 +116,7 @@ fn changed(
 }
 
 /// An assignment, as a statement at a place.
-#[tactic(auto, using(crate::proofs::Noted::noted_append))]
+#[tactic(auto, using(crate::proofs::FirstFaultLaws::noted_append))]
 pub fn assignment(
     alloc: Global,
     globals: &Globals,
@@ -139,7 +139,7 @@ pub fn assignment(
 }
 
 /// The arguments of a call.
-#[tactic(auto, using(crate::proofs::Noted::noted_append))]
+#[tactic(auto, using(crate::proofs::FirstFaultLaws::noted_append))]
 fn arguments(
     alloc: Global,
     globals: &Globals,
@@ -160,7 +160,7 @@ fn arguments(
 }
 
 /// Notes the rules that the use of a name as a function breaks.
-#[tactic(auto, using(crate::proofs::Noted::noted_append))]
+#[tactic(auto, using(crate::proofs::FirstFaultLaws::noted_append))]
 fn note_call(
     globals: &Globals,
     scope: &Scope,
@@ -178,7 +178,7 @@ fn note_call(
 }
 
 /// A call, as a statement at a place, and the assignment of its result.
-#[tactic(auto, using(crate::proofs::Noted::noted_append))]
+#[tactic(auto, using(crate::proofs::FirstFaultLaws::noted_append))]
 pub fn call(
     alloc: Global,
     globals: &Globals,
@@ -213,7 +213,7 @@ pub fn call(
 }
 
 /// A declaration, as a statement at a place: the new local takes its value. The scope is the one before it.
-#[tactic(auto, using(crate::proofs::Noted::noted_append))]
+#[tactic(auto, using(crate::proofs::FirstFaultLaws::noted_append))]
 pub fn declaration(
     alloc: Global,
     globals: &Globals,

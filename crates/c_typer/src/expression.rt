@@ -3,9 +3,9 @@ ghost use Rattle.std.specs.Prelude.{◌≡◌, IfOk, OnOk};
 ghost use Rattle.c_tree.specs.Exprs as e;
 ghost use Rattle.c_tree.specs.Exprs.{expr_of, placed_of};
 ghost use Rattle.c_tree.specs.TypeRules as rules;
-ghost use Rattle.c_tree.specs.Typing as typing;
+ghost use Rattle.c_tree.specs.Elaboration as typing;
 ghost use Rattle.c_tree.specs.Views.{expression_of, name_of};
-ghost use Rattle.c_typer.specs.links.Noted.{first_of, noted};
+ghost use Rattle.c_typer.specs.links.FirstFaults.{first_of, noted};
 ghost use Rattle.c_typer.specs.links.Scopes.{globals_of, scope_of};
 
 use crate::faults::Faults;
@@ -63,7 +63,7 @@ pub fn note_use(globals: &Globals, scope: &Scope, faults: &mut Faults, name: &Na
 }
 
 /// An expression.
-#[tactic(auto, using(crate::proofs::Noted::noted_append))]
+#[tactic(auto, using(crate::proofs::FirstFaultLaws::noted_append))]
 pub fn value(
     alloc: Global,
     globals: &Globals,

@@ -3,7 +3,7 @@ ghost use Rattle.std.specs.Prelude.{◌≡◌, [], ◌∷◌};
 ghost use Rattle.c_tree.specs.Refusals.{fault_of};
 ghost use Rattle.c_tree.specs.TypeRules.{order_of};
 ghost use Rattle.c_typer.specs.links.Meanings.{fault_at};
-ghost use Rattle.c_typer.specs.links.Noted.{comes_before, first_of, noted};
+ghost use Rattle.c_typer.specs.links.FirstFaults.{comes_before, first_of, noted};
 
 use c_tree::refusal::Refusal;
 use c_tree::rule::Rule;

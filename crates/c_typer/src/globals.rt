@@ -166,7 +166,7 @@ fn next(number: u32) -> Result<u32, AllocError>
     number.checked_add(1).ok_or(AllocError)
 }
 
-/// The same name.
+/// A copy of the name.
 pub fn copied(name: &Name) -> Result<Name, AllocError>
     ensures { IfOk result (λ x. name_of x ≡ name_of name.now) }
 {

@@ -5,9 +5,9 @@ ghost use Rattle.c_tree.specs.Names as n;
 ghost use Rattle.c_tree.specs.Programs as p;
 ghost use Rattle.c_tree.specs.Trees as t;
 ghost use Rattle.c_tree.specs.TypeRules as rules;
-ghost use Rattle.c_tree.specs.Typing as typing;
+ghost use Rattle.c_tree.specs.Elaboration as typing;
 ghost use Rattle.c_tree.specs.Views as v;
-ghost use Rattle.c_typer.specs.links.Noted.{first_of, noted};
+ghost use Rattle.c_typer.specs.links.FirstFaults.{first_of, noted};
 ghost use Rattle.c_typer.specs.links.Scopes.{globals_of, scope_of};
 ghost use Rattle.ido_ints.specs.Reduction.{reduced};
 
@@ -26,7 +26,7 @@ use ido_ints::{Kind, Unary, Value, unary};
 use std::alloc::{AllocError, Global};
 
 /// The scope that a function's body stands in.
-#[tactic(auto, using(crate::proofs::Noted::noted_append))]
+#[tactic(auto, using(crate::proofs::FirstFaultLaws::noted_append))]
 fn with_parameters(
     alloc: Global,
     faults: &mut Faults,
@@ -89,7 +89,7 @@ fn note_return(faults: &mut Faults, read: &tree::Function)
 }
 
 /// A function.
-#[tactic(auto, using(crate::proofs::Noted::noted_append))]
+#[tactic(auto, using(crate::proofs::FirstFaultLaws::noted_append))]
 pub fn function(
     alloc: Global,
     globals: &Globals,
@@ -178,7 +178,7 @@ fn note_length(faults: &mut Faults, length: &Option<Length>)
     }
 }
 
-/// Notes the first number behind so many.
+/// Notes the first number after so many.
 fn note_count(faults: &mut Faults, count: u64, numbers: &[Signed])
     ensures { first_of faults.new ≡ noted (first_of faults.old) (rules.numbers_past count (map v.signed_of numbers.now)) }
 {
@@ -246,7 +246,7 @@ fn given_numbers(
     }
 }
 
-/// So many numbers: zeros behind the last one given.
+/// Takes the first `count` numbers, with zeros after the last one given.
 fn fill(numbers: &mut Vec<i128>, count: usize) -> Result<(), AllocError>
     ensures { OnOk result (numbers.new.items ≡ typing.filled count numbers.old.items) }
 {

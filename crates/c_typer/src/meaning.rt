@@ -1,7 +1,7 @@
 //! What a name means where it stands.
 ghost use Rattle.std.specs.Prelude.{◌≡◌, IfOk};
 ghost use Rattle.ido_ints.specs.Kinds.{Holds};
-ghost use Rattle.ido_ints.specs.Typed.{typed};
+ghost use Rattle.ido_ints.specs.TypedNumbers.{typed};
 ghost use Rattle.ido_ints.specs.declared.kinds.Kind.TheVariants.{Int};
 ghost use Rattle.c_tree.specs.Exprs as e;
 ghost use Rattle.c_tree.specs.Exprs.{expr_of, placed_of, lvalue_of};

@@ -2,12 +2,12 @@
 ghost use Rattle.std.specs.Prelude.{◌≡◌, flat_map, IfOk, OnOk};
 ghost use Rattle.c_tree.specs.Programs as p;
 ghost use Rattle.c_tree.specs.TypeRules as rules;
-ghost use Rattle.c_tree.specs.Typing as typing;
+ghost use Rattle.c_tree.specs.Elaboration as typing;
 ghost use Rattle.c_tree.specs.Views.{item_of, items_of};
-ghost use Rattle.c_typer.specs.links.Noted.{first_of, noted};
+ghost use Rattle.c_typer.specs.links.FirstFaults.{first_of, noted};
 ghost use Rattle.c_typer.specs.links.Scopes.{globals_of};
 ghost use Rattle.c_typer.specs.Answers.{Answers};
-ghost use Rattle.c_typer.specs.links.Whole.{and_item, nothing};
+ghost use Rattle.c_typer.specs.links.JoinedPrograms.{and_item, nothing};
 
 use crate::faults::Faults;
 use crate::globals::{Globals, copied};
@@ -29,7 +29,7 @@ fn empty(alloc: Global) -> Program
     }
 }
 
-/// One more item behind those that were made.
+/// One more item after those that were made.
 fn add(
     alloc: Global,
     globals: &Globals,
@@ -56,7 +56,7 @@ fn add(
 }
 
 /// The items of a tree.
-#[tactic(auto, using(crate::proofs::Whole::joins))]
+#[tactic(auto, using(crate::proofs::ItemRows::joins))]
 fn items(
     alloc: Global,
     globals: &Globals,
@@ -75,7 +75,8 @@ fn items(
 }
 
 /// The program that a tree is: its names resolved, its kinds fixed, its initialisers converted; or
-/// the first of its tokens where a rule of names and kinds is broken. `Memory` is answered also where
+/// the first of its tokens where a rule of names and kinds is broken; at one place the order of rules (`order_of`) decides.
+/// `Memory` is answered also where
 /// the mutexes, variables or functions of the text, the parameters of a function or the locals of a
 /// function or thread would be numbered past 2^32 - 1.
 pub fn type_tree(alloc: Global, tree: &Tree) -> Result<Program, SourceError>

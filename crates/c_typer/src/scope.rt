@@ -42,7 +42,7 @@ impl Scope {
     ghost use Rattle.std.specs.List.{list_any};
     ghost use Rattle.std.specs.Option.{option_map};
     ghost use Rattle.c_tree.specs.Names as n;
-    ghost use Rattle.c_typer.specs.links.Scopes.{Grows, local_of, scope_of};
+    ghost use Rattle.c_typer.specs.links.Scopes.{ScopeGrows, local_of, scope_of};
 
     /// No locals.
     pub fn new(alloc: Global) -> Scope
@@ -84,7 +84,7 @@ impl Scope {
     /// Declares a local.
     pub fn declare(&mut self, name: &Vec<u8>, kind: Kind) -> Result<(), AllocError>
         ensures declared { OnOk result (scope_of self.new ≡ n.declared (scope_of self.old) name.now.items kind) }
-        ensures grows { OnOk result (Grows self.old self.new) }
+        ensures grows { OnOk result (ScopeGrows self.old self.new) }
     {
         let number = self.next_number()?;
         let text = name.clone()?;

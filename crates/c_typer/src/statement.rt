@@ -1,4 +1,4 @@
-//! Statements. Each is made behind those that were made before, in the order of the text.
+//! Statements. Each is made after those that were made before, in the order of the text.
 ghost use Rattle.std.specs.Prelude.{◌≡◌, ◌++◌, ◌∷◌, [], OnOk, IfOk};
 ghost use Rattle.std.specs.Option.{option_map};
 ghost use Rattle.c_tree.specs.Exprs.{placed_of};
@@ -6,12 +6,12 @@ ghost use Rattle.c_tree.specs.Names as n;
 ghost use Rattle.c_tree.specs.Programs as p;
 ghost use Rattle.c_tree.specs.Trees as t;
 ghost use Rattle.c_tree.specs.TypeRules as rules;
-ghost use Rattle.c_tree.specs.Typing as typing;
-ghost use Rattle.c_tree.specs.Typing.{one, statements_and};
+ghost use Rattle.c_tree.specs.Elaboration as typing;
+ghost use Rattle.c_tree.specs.Elaboration.{one, statements_and};
 ghost use Rattle.c_tree.specs.Views as v;
-ghost use Rattle.c_typer.specs.links.Noted.{first_of, noted};
+ghost use Rattle.c_typer.specs.links.FirstFaults.{first_of, noted};
 ghost use Rattle.c_typer.specs.links.Rows.{loop_as, loop_faults, maybe_one};
-ghost use Rattle.c_typer.specs.links.Scopes.{globals_of, scope_of, Grows, Stays};
+ghost use Rattle.c_typer.specs.links.Scopes.{globals_of, scope_of, ScopeGrows, Stays};
 
 use crate::assignment::{assignment, call, declaration, target};
 use crate::expression::placed;
@@ -26,7 +26,7 @@ use c_tree::{program, tree};
 use ido_base::place::Place;
 use std::alloc::{AllocError, Global};
 
-/// Adds a statement behind those that were made.
+/// Adds a statement after those that were made.
 #[tactic(auto, using(crate::proofs::Rows::push))]
 fn add(made: &mut Vec<program::Statement>, next: program::Statement) -> Result<(), AllocError>
     ensures { OnOk result (p.statements_of made.new.items ≡ statements_and (p.statements_of made.old.items) (one (p.statement_of next))) }
@@ -101,7 +101,7 @@ fn declare(
     ensures noted { OnOk result (first_of faults.new ≡ noted (first_of faults.old)
         (rules.declaration_faults (globals_of globals.now) (scope_of scope.old) (v.declaration_of read.now))) }
     ensures scope { OnOk result (scope_of scope.new ≡ n.declared (scope_of scope.old) read.now.name.text.items read.now.kind) }
-    ensures grows { OnOk result (Grows scope.old scope.new) }
+    ensures grows { OnOk result (ScopeGrows scope.old scope.new) }
 {
     let made = declaration(alloc, globals, scope, faults, place, read)?;
     scope.declare(&read.name.text, read.kind)?;
@@ -123,7 +123,7 @@ fn start_of_for(
     ensures noted { OnOk result (first_of faults.new ≡ noted (first_of faults.old)
         (rules.first_faults (globals_of globals.now) (scope_of scope.old) (v.first_of read.now))) }
     ensures scope { OnOk result (scope_of scope.new ≡ (typing.first_at (globals_of globals.now) place (scope_of scope.old) (v.first_of read.now)).scope) }
-    ensures grows { OnOk result (Grows scope.old scope.new) }
+    ensures grows { OnOk result (ScopeGrows scope.old scope.new) }
 {
     match read {
         First::Absent => Ok(()),
@@ -196,7 +196,7 @@ fn statement(
     ensures noted { OnOk result (first_of faults.new ≡ noted (first_of faults.old)
         (rules.statement_faults (globals_of globals.now) (scope_of scope.old) (v.statement_of read.now))) }
     ensures scope { OnOk result (scope_of scope.new ≡ (typing.statement (globals_of globals.now) (scope_of scope.old) (v.statement_of read.now)).scope) }
-    ensures grows { OnOk result (Grows scope.old scope.new) }
+    ensures grows { OnOk result (ScopeGrows scope.old scope.new) }
 {
     match read {
         Statement::Block(read) => block(alloc, globals, scope, faults, read, made),
@@ -278,7 +278,7 @@ fn statement(
     }
 }
 
-/// What stands behind the last `else`.
+/// What stands after the last `else`.
 #[cycle(statements)]
 fn last_block(
     alloc: Global,
@@ -302,7 +302,7 @@ fn last_block(
 
 /// A `while`.
 #[cycle(statements)]
-#[tactic(auto, using(crate::proofs::Noted::noted_append))]
+#[tactic(auto, using(crate::proofs::FirstFaultLaws::noted_append))]
 fn while_statement(
     alloc: Global,
     globals: &Globals,
@@ -327,7 +327,7 @@ fn while_statement(
 
 /// A `do`.
 #[cycle(statements)]
-#[tactic(auto, using(crate::proofs::Noted::noted_append))]
+#[tactic(auto, using(crate::proofs::FirstFaultLaws::noted_append))]
 fn do_statement(
     alloc: Global,
     globals: &Globals,
@@ -352,7 +352,7 @@ fn do_statement(
 
 /// The loop that a `for` is, in the scope of its own local.
 #[cycle(statements)]
-#[tactic(auto, using(crate::proofs::Noted::noted_append))]
+#[tactic(auto, using(crate::proofs::FirstFaultLaws::noted_append))]
 fn loop_of_for(
     alloc: Global,
     globals: &Globals,
@@ -437,7 +437,7 @@ pub fn statements(
     ensures noted { OnOk result (first_of faults.new ≡ noted (first_of faults.old)
         (rules.statements_faults (globals_of globals.now) (scope_of scope.old) (v.statements_of read.now))) }
     ensures scope { OnOk result (scope_of scope.new ≡ (typing.statements (globals_of globals.now) (scope_of scope.old) (v.statements_of read.now)).scope) }
-    ensures grows { OnOk result (Grows scope.old scope.new) }
+    ensures grows { OnOk result (ScopeGrows scope.old scope.new) }
 {
     for next in read {
         statement(alloc, globals, scope, faults, next, made)?;

@@ -3,7 +3,7 @@ ghost use Rattle.std.specs.Prelude.{◌≡◌, ℕ, ◌+◌, ◌*◌, ◌≤◌,
 ghost use Rattle.c_tree.specs.TypeRules as rules;
 ghost use Rattle.c_tree.specs.Views.{items_of, persistent_of};
 ghost use Rattle.c_tree.specs.declared.rule.Rule.TheVariants as rule;
-ghost use Rattle.c_typer.specs.links.Noted.{first_of, noted};
+ghost use Rattle.c_typer.specs.links.FirstFaults.{first_of, noted};
 ghost use Rattle.c_typer.specs.links.Scopes.{globals_of};
 
 use crate::faults::Faults;
@@ -25,7 +25,7 @@ pub fn note_second_declarations(globals: &Globals, faults: &mut Faults)
 }
 
 /// Notes the first thread past the eighth.
-#[tactic(auto, using(crate::proofs::Whole::pasts))]
+#[tactic(auto, using(crate::proofs::ItemRows::pasts))]
 pub fn note_threads(tree: &Tree, faults: &mut Faults)
     ensures { first_of faults.new ≡ noted (first_of faults.old) (rules.past rule.Threads MOST_THREADS (rules.thread_names (items_of tree.now))) }
 {
@@ -42,7 +42,7 @@ pub fn note_threads(tree: &Tree, faults: &mut Faults)
 }
 
 /// Notes the first mutex past the 64th.
-#[tactic(auto, using(crate::proofs::Whole::pasts))]
+#[tactic(auto, using(crate::proofs::ItemRows::pasts))]
 pub fn note_mutexes(tree: &Tree, faults: &mut Faults)
     ensures { first_of faults.new ≡ noted (first_of faults.old) (rules.past rule.Mutexes MOST_MUTEXES (rules.mutex_names (items_of tree.now))) }
 {
@@ -59,9 +59,9 @@ pub fn note_mutexes(tree: &Tree, faults: &mut Faults)
 }
 
 /// Where a variable ends, if the one before it ends at `end`.
-fn end_behind(end: u128, variable: &Persistent) -> u128
+fn end_after(end: u128, variable: &Persistent) -> u128
     requires { end ≤ MOST_VARIABLE_BYTES }
-    ensures { result ≡ rules.end_behind end (persistent_of variable.now) }
+    ensures { result ≡ rules.end_after end (persistent_of variable.now) }
 {
     let bytes = u128::from(variable.kind.bytes());
     let start = (end + bytes - 1) / bytes * bytes;
@@ -75,7 +75,7 @@ pub fn note_bytes(tree: &Tree, faults: &mut Faults)
     let mut end = 0;
     for item in &tree.items {
         if let Item::Persistent(variable) = item {
-            end = end_behind(end, variable);
+            end = end_after(end, variable);
             if end > MOST_VARIABLE_BYTES as u128 {
                 faults.note(Rule::Bytes, variable.name.place);
                 return;

@@ -1,2 +1,2 @@
-pub mod Running
-pub mod Walks
+pub mod ComputingRuns
+pub mod CodeTraces

@@ -1,12 +1,12 @@
 //! What is true of runs.
-ghost use Rattle.code_runs.specs.Walks.{RunsCompose, RunsStay, ComputingIsUnseen, StraightIsSeen, ComputingIsUnseenFrom, StraightIsSeenFrom};
+ghost use Rattle.code_runs.specs.CodeTraces.{RunsCompose, RunsStay, ComputingIsUnseen, StraightIsSeen, ComputingIsUnseenFrom, StraightIsSeenFrom};
 
 /// Runs one after another are a run.
 pub fn runs_compose()
     ensures { RunsCompose }
 {}
 
-/// A run stays one wherever its loads are answered alike.
+/// A run stays one wherever its loads are answered with the same values.
 pub fn runs_stay()
     ensures { RunsStay }
 {}

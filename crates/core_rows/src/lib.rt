@@ -1,10 +1,12 @@
 //! A small core, which shows that what is asked of a core can be met.
+//! It is a crate of its own so that its contract is proved by each check, and a core that lies is refused by its edits; no program
+//! stands on it.
 #![tactic(auto)]
 
 ghost use Rattle.std.specs.Prelude.{◌≡◌, ◌-◌, ◌<◌, ◌≤◌, [], IfOk};
 ghost use Rattle.ido_base.specs.Layout.{line_count};
 ghost use Rattle.std.specs.Vec.{vec_capacity, vec_len};
-ghost use Rattle.core_rows.specs.Counting.{counting, is_step, next, reply};
+ghost use Rattle.core_rows.specs.CountingCore.{counting, is_step, next, reply};
 ghost use Rattle.ido_base.specs.Cores.{played, passed_count};
 
 use ido_base::event::{Event, Reply};
@@ -47,7 +49,7 @@ fn reply(steps: u32, event: Event) -> Reply
     }
 }
 
-/// The event is the step behind so many.
+/// The event is the step after so many.
 fn is_step(number: u32, steps: u32, event: Event) -> bool
     ensures { result ≡ is_step number steps event }
 {
@@ -79,7 +81,7 @@ impl Counter {
         steps
     }
 
-    /// How often the step behind so many was made.
+    /// How often the step after so many was made.
     fn times(&self, number: u32) -> u64
         ensures { result ≡ passed_count counting (is_step number) 0 self.now.journal.items }
     {

@@ -1,8 +1,9 @@
 -- What an image holds, without where it lies in memory, and its limits.
-use Rattle.std.specs.Prelude.{◌≡◌, ℕ, ◌*◌, ◌^◌, ◌<◌, List, length, flat_map, replicate}
+use Rattle.std.specs.Prelude.{◌≡◌, ℕ, ◌*◌, List, length}
 use Rattle.std.specs.List.{AllByRecursion}
-use Rattle.ido_base.specs.declared.limits.TheConstants.{LOG_WORDS, MOST_THREADS}
-use Rattle.run_scripts.specs.Reports.{Run, runs_of}
+use Rattle.ido_base.specs.declared.limits.TheConstants.{LOG_WORDS, MOST_THREADS, WORD_BYTES}
+use Rattle.file_fields.specs.Numbers.{IsNumber, IsWord}
+use Rattle.run_scripts.specs.Runs.{Run, runs_of}
 
 -- what a crash leaves of a run of a source
 pub record State : Type 0 where
@@ -22,10 +23,6 @@ pub record Contents : Type 0 where
 abbrev pub contents : (source variables logs schedule : List ℕ) → Contents
 contents source variables logs schedule = record { source = source; state = record { variables = variables; logs = logs; runs = runs_of schedule } }
 
--- the number of the thread of each step
-abbrev pub schedule_of : List Run → List ℕ
-schedule_of runs = flat_map (λ r. replicate r.steps r.thread) runs
-
 -- ---- Limits
 
 -- words of logs
@@ -33,24 +30,21 @@ abbrev pub most_logs : ℕ
 most_logs = LOG_WORDS * MOST_THREADS
 
 abbrev pub word_bytes : ℕ
-word_bytes = 8
+word_bytes = WORD_BYTES
 
 -- words of the log of a thread
 abbrev pub log_words : ℕ
 log_words = LOG_WORDS
 
-abbrev pub IsWord : ℕ → Type 0
-IsWord n = n < 2 ^ 64
-
 -- four bytes tell the thread, and how many steps it took
 abbrev pub IsRun : Run → Type 0
-IsRun r = (r.thread < 2 ^ 32) × (r.steps < 2 ^ 32)
+IsRun r = IsNumber r.thread × IsNumber r.steps
 
 -- of a source whose variables take so many bytes, and which has so many threads
 pub record IsState (size threads : ℕ) (s : State) : Type 0 where
   pub variables : word_bytes * length s.variables ≡ size
   pub logs : length s.logs ≡ log_words * threads
-  pub runs : length s.runs < 2 ^ 32
+  pub runs : IsNumber (length s.runs)
   pub variable_words : AllByRecursion IsWord s.variables
   pub log_words : AllByRecursion IsWord s.logs
   pub fields : AllByRecursion IsRun s.runs

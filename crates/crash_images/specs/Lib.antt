@@ -1,9 +1,7 @@
+pub use Rattle.file_fields.specs.Fields
+pub use Rattle.file_fields.specs.Numbers
+pub use Rattle.run_scripts.specs.Runs
 pub mod Contents
-pub mod Spelling
-pub mod Reading
-pub mod Schedules
-pub mod Logs
-pub mod Checks
-pub mod Images
-pub mod Laws
+pub mod ImageEncoder
+pub mod ImageDecoder
 pub mod links

@@ -1,108 +1,135 @@
 //! Bytes read as an image, in two calls: how many bytes the variables take, and how many threads there are,
 //! is known from the source.
-ghost use Rattle.std.specs.Prelude.{◌≡◌, ◌≤◌, ◌*◌, ◌%◌, ◌∷◌, ◌++◌, [], ℕ, List, length, map, IfOk, OnOk, Ok};
+ghost use Rattle.std.specs.Prelude.{◌≡◌, ◌≤◌, ◌*◌, ◌%◌, ◌++◌, ℕ, List, length, map, IfOk, Ok};
 ghost use Rattle.std.specs.Result.{IsOkAnd};
 ghost use Rattle.ido_base.specs.declared.limits.TheConstants.{MOST_INPUT_BYTES};
+ghost use Rattle.file_fields.specs.Fields.{repeated, word_at};
+ghost use Rattle.file_fields.specs.links.ReaderResults.{ViewsFault, Gives};
+ghost use Rattle.run_scripts.specs.Runs.{Run as SpelledRun};
+ghost use Rattle.run_scripts.specs.links.RunViews.{run_of};
 ghost use Rattle.crash_images.specs.Contents.{State as SpelledState, IsState, word_bytes};
-ghost use Rattle.crash_images.specs.Spelling.{source_text, state_text};
-ghost use Rattle.crash_images.specs.Reading.{repeated, word_at, run_at, size_at, source_at, state_at};
-ghost use Rattle.crash_images.specs.links.Gives.{Tells, Gives};
-ghost use Rattle.crash_images.specs.links.Views.{run_of, state_of};
+ghost use Rattle.crash_images.specs.ImageEncoder.{source_text, state_text};
+ghost use Rattle.crash_images.specs.ImageDecoder.{run_at, size_at, source_at, state_at};
+ghost use Rattle.crash_images.specs.links.Views.{state_of};
 
-use crate::fields::{
-    FieldError, bytes_at, magic_at, number_at, place_of, run_at, version_at, word_at,
+use crate::state::State;
+use file_fields::error::ReadError;
+use file_fields::reading::{
+    Reader, bytes_at, magic_at, number_at, number_within, place_of, repeated, version_at, word_at,
 };
-use crate::limits::WORD_BYTES;
-use crate::state::{Run, State};
-use ido_base::limits::{LOG_WORDS, MOST_SOURCE_BYTES};
-use ido_base::memory::OutOfMemory;
+use ido_base::limits::{LOG_WORDS, MOST_SOURCE_BYTES, WORD_BYTES};
+use run_scripts::runs::Run;
 use std::alloc::Global;
 
-/// Adds an element.
-fn push<T: Drop>(items: &mut Vec<T>, item: T) -> Result<(), OutOfMemory>
-    ensures { OnOk result (items.new.items ≡ items.old.items ++ item ∷ []) }
-{
-    items.push(item)?;
-    Ok(())
+/// Reads durable words.
+#[derive(Drop)]
+struct WordReader {
+    total: u32,
 }
 
-/// So many durable words.
+impl Reader for WordReader {
+    type Item = u64;
+
+    ghost Value = { ℕ };
+
+    ghost view = { λ word. word };
+
+    ghost reading = { λ reader. word_at reader.total };
+
+    fn read<'a>(&self, bytes: &'a [u8]) -> Result<(u64, &'a [u8]), ReadError> {
+        word_at(self.total, bytes)
+    }
+}
+
+/// The first `count` durable words, and the bytes after them.
 fn words_at(
     alloc: Global,
     total: u32,
     count: u64,
     bytes: &[u8],
-) -> Result<(Vec<u64>, &[u8]), FieldError>
+) -> Result<(Vec<u64>, &[u8]), ReadError>
     ensures { Gives (λ x. (x.0.items, x.1.now)) result (repeated (word_at total) count bytes.now) }
 {
-    let mut words = Vec::new(alloc);
-    let mut rest = bytes;
-    for _ in 0..count {
-        let (word, behind) = word_at(total, rest)?;
-        push(&mut words, word)?;
-        rest = behind;
-    }
-    Ok((words, rest))
+    repeated(alloc, &WordReader { total }, count, bytes)
 }
 
-/// So many runs.
+/// A run of the schedule.
+#[tactic(auto, unfolding(crate::specs::ImageDecoder::run_at))]
+fn run_at(total: u32, bytes: &[u8]) -> Result<(Run, &[u8]), ReadError>
+    ensures { ViewsFault (λ x. (run_of x.0, x.1.now)) result (run_at total bytes.now) }
+{
+    let (thread, rest) = number_at(total, bytes)?;
+    let (steps, rest) = number_at(total, rest)?;
+    let run = Run {
+        thread,
+        steps: u64::from(steps),
+    };
+    Ok((run, rest))
+}
+
+/// Reads runs.
+#[derive(Drop)]
+struct RunReader {
+    total: u32,
+}
+
+impl Reader for RunReader {
+    type Item = Run;
+
+    ghost Value = { SpelledRun };
+
+    ghost view = { run_of };
+
+    ghost reading = { λ reader. run_at reader.total };
+
+    fn read<'a>(&self, bytes: &'a [u8]) -> Result<(Run, &'a [u8]), ReadError> {
+        run_at(self.total, bytes)
+    }
+}
+
+/// The first `count` runs, and the bytes after them.
 fn runs_at(
     alloc: Global,
     total: u32,
     count: u32,
     bytes: &[u8],
-) -> Result<(Vec<Run>, &[u8]), FieldError>
+) -> Result<(Vec<Run>, &[u8]), ReadError>
     ensures { Gives (λ x. (map run_of x.0.items, x.1.now)) result (repeated (run_at total) count bytes.now) }
 {
-    let mut runs = Vec::new(alloc);
-    let mut rest = bytes;
-    for _ in 0..count {
-        let (run, behind) = run_at(total, rest)?;
-        push(&mut runs, run)?;
-        rest = behind;
-    }
-    Ok((runs, rest))
+    repeated(alloc, &RunReader { total }, u64::from(count), bytes)
 }
 
 /// How many bytes the variables take: so many.
-#[tactic(auto, unfolding(crate::specs::Reading::size_at))]
-fn size_at(total: u32, size: u32, bytes: &[u8]) -> Result<&[u8], FieldError>
-    ensures { Tells (λ x. x.now) result (size_at total size bytes.now) }
+#[tactic(auto, unfolding(crate::specs::ImageDecoder::size_at))]
+fn size_at(total: u32, size: u32, bytes: &[u8]) -> Result<&[u8], ReadError>
+    ensures { ViewsFault (λ x. x.now) result (size_at total size bytes.now) }
 {
-    let (found, rest) = number_at(total, bytes)?;
-    if found == size {
-        Ok(rest)
-    } else {
-        Err(FieldError::Source)
-    }
+    let (_, rest) = number_within(total, size, size, bytes)?;
+    Ok(rest)
 }
 
-/// The source of all bytes and what stands behind it, or their first fault.
-#[tactic(auto, unfolding(crate::specs::Reading::source_at))]
-fn source_at(bytes: &[u8]) -> Result<(&[u8], &[u8]), FieldError>
+/// The source of all bytes and what stands after it, or their first fault.
+#[tactic(auto, unfolding(crate::specs::ImageDecoder::source_at))]
+fn source_at(bytes: &[u8]) -> Result<(&[u8], &[u8]), ReadError>
     requires { length bytes.now ≤ MOST_INPUT_BYTES }
-    ensures { Tells (λ x. (x.0.now, x.1.now)) result (source_at bytes.now) }
+    ensures { ViewsFault (λ x. (x.0.now, x.1.now)) result (source_at bytes.now) }
 {
     let total = bytes.len() as u32;
-    let rest = magic_at(total, bytes)?;
-    let rest = version_at(total, rest)?;
-    let (size, rest) = number_at(total, rest)?;
-    if size as usize <= MOST_SOURCE_BYTES {
-        bytes_at(total, size as usize, rest)
-    } else {
-        Err(FieldError::Source)
-    }
+    let rest = magic_at(total, b"IDO-IMG\n", bytes)?;
+    let rest = version_at(total, 1, rest)?;
+    let (size, rest) = number_within(total, 0, MOST_SOURCE_BYTES as u32, rest)?;
+    bytes_at(total, size as usize, rest)
 }
 
-/// All that stands behind the source, or the first fault there.
-#[tactic(auto, unfolding(crate::specs::Reading::state_at))]
+/// All that stands after the source, or the first fault there.
+#[tactic(auto, unfolding(crate::specs::ImageDecoder::state_at))]
 fn state_at(
     alloc: Global,
     total: u32,
     rest: &[u8],
     size: u32,
     threads: u32,
-) -> Result<State, FieldError>
+) -> Result<State, ReadError>
     ensures { Gives state_of result (state_at total size threads rest.now) }
 {
     let rest = size_at(total, size, rest)?;
@@ -111,7 +138,7 @@ fn state_at(
     let (count, rest) = number_at(total, rest)?;
     let (runs, rest) = runs_at(alloc, total, count, rest)?;
     if !rest.is_empty() {
-        return Err(FieldError::Rest(place_of(total, rest)));
+        return Err(ReadError::Rest(place_of(total, rest)));
     }
     Ok(State {
         variables,
@@ -120,11 +147,11 @@ fn state_at(
     })
 }
 
-/// The source of the image that bytes spell, and the bytes behind it.
+/// The source of the image that bytes spell, and the bytes after it.
 ///
 /// Numbers are of four bytes, little-endian: 8 bytes `IDO-IMG` and LF, the version 1, the number of bytes of
 /// the source, at most 1,048,576, and these.
-pub(crate) fn read_source(bytes: &[u8]) -> Result<(&[u8], &[u8]), FieldError>
+pub fn read_source(bytes: &[u8]) -> Result<(&[u8], &[u8]), ReadError>
     requires short { length bytes.now ≤ MOST_INPUT_BYTES }
     // What is read is spelled so, and isn't too long.
     ensures found { IfOk result (λ x. (length x.0.now ≤ MOST_SOURCE_BYTES) × (bytes.now ≡ source_text x.0.now ++ x.1.now)) }
@@ -132,24 +159,24 @@ pub(crate) fn read_source(bytes: &[u8]) -> Result<(&[u8], &[u8]), FieldError>
     ensures only { (s rest : List ℕ) → length s ≤ MOST_SOURCE_BYTES → bytes.now ≡ source_text s ++ rest →
         IsOkAnd result (λ x. (x.0.now ≡ s) × (x.1.now ≡ rest)) }
     // Which fault it is: the first in the order of the bytes.
-    ensures exact { Tells (λ x. (x.0.now, x.1.now)) result (source_at bytes.now) }
+    ensures exact { ViewsFault (λ x. (x.0.now, x.1.now)) result (source_at bytes.now) }
 {
     source_at(bytes)
 }
 
-/// What stands behind the source, of an image of so many bytes in all, where the source's variables take
+/// What stands after the source, of an image of so many bytes in all, where the source's variables take
 /// `size` bytes and it has so many threads.
 ///
 /// Numbers are of four bytes, little-endian: the number of bytes of the variables, their durable words, the
 /// durable words of the logs, 128 for each thread, the number of runs, and of each run the thread and how many
 /// steps it took. Words are of eight bytes, little-endian.
-pub(crate) fn read_state(
+pub fn read_state(
     alloc: Global,
     total: u32,
     rest: &[u8],
     size: u32,
     threads: u32,
-) -> Result<State, FieldError>
+) -> Result<State, ReadError>
     requires whole { size % word_bytes ≡ 0 }
     // What is read is spelled so, and fits the source.
     ensures found { IfOk result (λ state. IsState size threads (state_of state) × (rest.now ≡ state_text (state_of state))) }

@@ -1,13 +1,7 @@
 //! What a crash leaves of a run.
+use run_scripts::runs::Run;
 
-/// So many steps of one thread.
-#[derive(Clone, Copy, Debug, PartialEq, Eq, Drop)]
-pub struct Run {
-    pub thread: u32,
-    pub steps: u32,
-}
-
-/// What stands behind the source.
+/// What stands after the source.
 #[derive(Debug, Drop)]
 pub struct State {
     /// The durable words of the variables.

@@ -1,61 +1,31 @@
 //! An image written as bytes.
-ghost use Rattle.std.specs.Prelude.{◌≡◌, ◌++◌, ◌<◌, ◌≤◌, ◌^◌, length, map, IfOk, OnOk, flat_map};
+ghost use Rattle.std.specs.Prelude.{◌≡◌, ◌++◌, ◌<◌, ◌≤◌, ◌^◌, length, map, All, IfOk, OnOk, flat_map};
 ghost use Rattle.ido_base.specs.declared.limits.TheConstants.{MOST_INPUT_BYTES, MOST_SOURCE_BYTES, VARIABLE_WORDS, MOST_STEPS};
-ghost use Rattle.run_scripts.specs.Reports.{runs_of};
-ghost use Rattle.crash_images.specs.Contents.{contents, schedule_of, most_logs};
-ghost use Rattle.crash_images.specs.Spelling.{number, word, run_text, source_text, state_text, spelling};
-ghost use Rattle.crash_images.specs.Reading.{IsReadAs};
-ghost use Rattle.crash_images.specs.Schedules.{AreMerged};
-ghost use Rattle.crash_images.specs.links.Views.{run_of};
+ghost use Rattle.file_fields.specs.Numbers.{IsNumber};
+ghost use Rattle.run_scripts.specs.Runs.{runs_of, schedule_of, AreMerged};
+ghost use Rattle.run_scripts.specs.links.RunViews.{run_of};
+ghost use Rattle.crash_images.specs.Contents.{contents, most_logs};
+ghost use Rattle.crash_images.specs.ImageEncoder.{run_text, source_text, state_text, spelling};
+ghost use Rattle.crash_images.specs.ImageDecoder.{IsReadAs};
 
-use crate::limits::WORD_BYTES;
-use crate::runs::runs_of;
-use crate::state::Run;
+use file_fields::writing::{put, put_number, put_words};
+use ido_base::limits::WORD_BYTES;
 use ido_base::memory::OutOfMemory;
+use run_scripts::runs::{Run, runs_of};
 use std::alloc::Global;
-
-/// Adds bytes.
-fn put(out: &mut Vec<u8>, bytes: &[u8]) -> Result<(), OutOfMemory>
-    ensures { OnOk result (out.new.items ≡ out.old.items ++ bytes.now) }
-{
-    out.extend_from_slice(bytes)?;
-    Ok(())
-}
-
-/// Adds a number.
-fn put_number(out: &mut Vec<u8>, n: u32) -> Result<(), OutOfMemory>
-    ensures { OnOk result (out.new.items ≡ out.old.items ++ number n) }
-{
-    put(out, &n.to_le_bytes())
-}
-
-/// Adds a durable word.
-fn put_word(out: &mut Vec<u8>, n: u64) -> Result<(), OutOfMemory>
-    ensures { OnOk result (out.new.items ≡ out.old.items ++ word n) }
-{
-    put(out, &n.to_le_bytes())
-}
-
-/// Adds durable words.
-fn put_words(out: &mut Vec<u8>, words: &[u64]) -> Result<(), OutOfMemory>
-    ensures { OnOk result (out.new.items ≡ out.old.items ++ flat_map word words.now) }
-{
-    for word in words {
-        put_word(out, *word)?;
-    }
-    Ok(())
-}
 
 /// Adds a run.
 fn put_run(out: &mut Vec<u8>, run: Run) -> Result<(), OutOfMemory>
+    requires { IsNumber run.steps }
     ensures { OnOk result (out.new.items ≡ out.old.items ++ run_text (run_of run)) }
 {
     put_number(out, run.thread)?;
-    put_number(out, run.steps)
+    put_number(out, run.steps as u32)
 }
 
 /// Adds runs.
 fn put_runs(out: &mut Vec<u8>, runs: &[Run]) -> Result<(), OutOfMemory>
+    requires { All (λ run. IsNumber run.steps) runs.now }
     ensures { OnOk result (out.new.items ≡ out.old.items ++ flat_map run_text (map run_of runs.now)) }
 {
     for run in runs {
@@ -75,7 +45,7 @@ fn put_source(out: &mut Vec<u8>, source: &[u8]) -> Result<(), OutOfMemory>
     put(out, source)
 }
 
-/// Adds what stands behind the source.
+/// Adds what stands after the source.
 fn put_state(
     out: &mut Vec<u8>,
     variables: &[u64],
@@ -84,6 +54,7 @@ fn put_state(
 ) -> Result<(), OutOfMemory>
     requires variables { length variables.now ≤ VARIABLE_WORDS }
     requires runs { length runs.now < 2 ^ 32 }
+    requires steps { All (λ run. IsNumber run.steps) runs.now }
     ensures { OnOk result (out.new.items ≡ out.old.items ++ state_text (record { variables = variables.now; logs = logs.now; runs = map run_of runs.now })) }
 {
     put_number(out, WORD_BYTES * variables.len() as u32)?;
@@ -129,7 +100,7 @@ pub fn write_image(
     ensures spelled { IfOk result (λ image. image.items ≡ spelling (contents source.now variables.now logs.now schedule.now)) }
     // What was written is read again.
     ensures again { IfOk result (λ image. IsReadAs (contents source.now variables.now logs.now schedule.now) image.items) }
-    // It isn't too long for that.
+    // What is written isn't too long to be read.
     ensures short { IfOk result (λ image. length image.items ≤ MOST_INPUT_BYTES) }
     // The runs tell each step.
     ensures steps { schedule_of (runs_of schedule.now) ≡ schedule.now }

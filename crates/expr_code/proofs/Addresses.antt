@@ -16,18 +16,16 @@ use Rattle.ido_ints.specs.Kinds.{Holds, bytes_of, bits_of}
 use Rattle.ido_ints.specs.Reduction.{residue, register_of}
 use Rattle.std.specs.Option.{option_map}
 use Rattle.std.proofs.lemmas.Option.{slice_get-map, slice_get_within, get_or_from_slice_get}
-use Rattle.ido_ints.proofs.Reduced.{reduced_held}
-use Rattle.ido_ints.proofs.Registers.{residue_below}
+use Rattle.ido_ints.proofs.Public.{reduced_held, residue_below}
 use Rattle.c_tree.specs.Programs as p
 use Rattle.c_tree.specs.WellFormed.{shape_of, IsDeclared}
 use Rattle.rv64_isa.specs.Rows.{displaced, upper, load_bytes, load_signed, load_result}
 use Rattle.rv64_isa.specs.Arithmetic.{sign_extended}
-use Rattle.log_layout.specs.Variables.{are_sizes}
-use Rattle.log_layout.proofs.Ends.{none, end_within, address, aligned_small}
-use Rattle.operator_code.proofs.Registers.{Signed12, signed12}
-use Rattle.operator_code.proofs.Residues.{residue_pos, residue_negsuc, word_of_residue}
-use Rattle.expr_code.specs.Evaluating.{Source, place_of}
-use Rattle.expr_code.specs.links.Loading.{loaded_by, upper_part}
+use Rattle.memory_layout.specs.Variables.{are_sizes}
+use Rattle.memory_layout.proofs.Public.{none, end_within, address, aligned_small}
+use Rattle.operator_code.proofs.Public.{Signed12, signed12, residue_pos, residue_negsuc, word_of_residue}
+use Rattle.expr_code.specs.EvaluationCode.{Source, place_of}
+use Rattle.expr_code.specs.links.ElementLoads.{loaded_by, upper_part}
 
 -- ---- The register form of what is loaded
 

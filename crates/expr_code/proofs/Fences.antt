@@ -6,23 +6,24 @@ use Rattle.ido_ints.specs.declared.kinds.Kind.{Kind}
 use Rattle.ido_ints.specs.declared.kinds.Kind.TheVariants.{Char, UnsignedChar, SignedChar, Short, UnsignedShort, Int, UnsignedInt, Long, UnsignedLong}
 use Rattle.ido_ints.specs.declared.operators.Unary.{Unary}
 use Rattle.ido_ints.specs.Reduction.{residue, from_least_on}
-use Rattle.ido_ints.specs.Typed.{typed, converted, register_form_of}
-use Rattle.ido_ints.proofs.Reduced.{Holds-zero}
+use Rattle.ido_ints.specs.TypedNumbers.{typed, converted, register_form_of}
+use Rattle.ido_ints.proofs.Public.{Holds-zero}
 use Rattle.rv64_isa.specs.declared.instr.Instr.{Instr}
 use Rattle.rv64_isa.specs.declared.instr.Instr.TheVariants.{Lui, Auipc, Jal, Jalr, Branch, Load, Store, OpImmediate}
 use Rattle.rv64_isa.specs.declared.instr.Instr.TheVariants.{ShiftImmediate, ShiftImmediateWord, Op, CboClean, Fence, Ecall}
 use Rattle.rv64_isa.specs.declared.object.CodeItem.TheVariants.{Instruction}
-use Rattle.rv64_isa.specs.Rows.{Effect, GoesOn, Fences, row, read}
+use Rattle.rv64_isa.specs.Rows.{Effect, Continues, Fences, row, read}
 use Rattle.rv64_link.specs.LabelledCode.{fences_of}
 use Rattle.operator_code.specs.declared.operation.BinaryOperation.{BinaryOperation}
 use Rattle.operator_code.specs.declared.immediates.ImmediateForm.{ImmediateForm}
 use Rattle.operator_code.specs.declared.immediates.ImmediateForm.TheVariants.{Number, Shift, ShiftWord}
 use Rattle.operator_code.specs.declared.branches.Test.{Test}
 use Rattle.operator_code.specs.Constants.{instruction_in}
-use Rattle.operator_code.specs.Computing.{AreRegisters, Carries, AreOperands, IsCopy, IsConversion, IsUnary, IsTruth, IsBinary, left_kind, right_kind, passes}
-use Rattle.operator_code.specs.Straight.{effects, seen, left_by, IsConstant}
-use Rattle.expr_code.specs.Evaluating.{fences_among}
-use Rattle.expr_code.specs.links.Skipping.{Skips, SkipsWhere}
+use Rattle.operator_code.specs.ComputingCode.{AreRegisters, Carries, AreOperands, IsCopy, IsConversion}
+use Rattle.operator_code.specs.ComputingCode.{IsUnary, IsTruth, IsBinary, left_kind, right_kind, passes}
+use Rattle.operator_code.specs.StraightLineCode.{effects, seen, left_by, IsConstant}
+use Rattle.expr_code.specs.EvaluationCode.{fences_among}
+use Rattle.expr_code.specs.links.ForwardJumps.{Skips, SkipsWhere}
 
 -- ---- Lists
 
@@ -37,7 +38,7 @@ among_append (x ∷ xs) ys =
     let c = among_append xs ys in
     omega (arith, a, b, c)
 
--- behind code stands more that has none
+-- after code stands more that has none
 pub none_more : (old more new : List Instr) → new ≡ old ++ more → fences_among more ≡ 0 → fences_among new ≡ fences_among old
 none_more old more new e none =
     let a : fences_among new ≡ fences_among (old ++ more) = ap fences_among e in
@@ -82,10 +83,10 @@ unseen_none (i ∷ is) x pc e =
     let sum = among_cons i is in
     omega (arith, here, rest, sum)
 
-fences_go : (x : List ℕ) (to : ℕ) → Fences ≡ GoesOn x to → ⊥
+fences_go : (x : List ℕ) (to : ℕ) → Fences ≡ Continues x to → ⊥
 fences_go x to e = cc e
 
-goes_none : (i : Instr) (x y : List ℕ) (pc to : ℕ) → row i x pc ≡ GoesOn y to → fences_of (Instruction i) ≡ 0
+goes_none : (i : Instr) (x y : List ℕ) (pc to : ℕ) → row i x pc ≡ Continues y to → fences_of (Instruction i) ≡ 0
 unfolding row
 goes_none (Lui rd immediate) x y pc to e = refl
 goes_none (Auipc rd immediate) x y pc to e = refl

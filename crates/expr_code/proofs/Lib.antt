@@ -1,13 +1,14 @@
-pub mod Running
-pub mod Held
-pub mod ValueKinds
-pub mod Ending
-pub mod Skips
-pub mod Operating
-pub mod Choosing
-pub mod Addresses
-pub mod Loading
-pub mod Needs
-pub mod Words
-pub mod Selecting
-pub mod Fences
+pub mod Public
+mod RunComposition
+mod PreservedRegisters
+mod ValueKinds
+mod CodeComposition
+mod ForwardBranches
+mod OperationCode
+mod ConditionalCode
+mod Addresses
+mod ElementLoadCode
+mod TemporaryNeeds
+mod Words
+mod WholeExpressionCode
+mod Fences

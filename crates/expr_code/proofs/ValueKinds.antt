@@ -5,7 +5,7 @@ use Rattle.ido_ints.specs.declared.kinds.Kind.{Kind}
 use Rattle.ido_ints.specs.Operators.{unary_kind, binary_kind}
 use Rattle.c_tree.specs.Exprs as e
 use Rattle.c_tree.specs.Values.{value}
-use Rattle.c_tree.specs.Typing.{kind_of}
+use Rattle.c_tree.specs.Elaboration.{kind_of}
 
 both : (f : Kind → Kind → Kind) (a b c d : Kind) → a ≡ b → c ≡ d → f a c ≡ f b d
 both f a b c d g h = cc

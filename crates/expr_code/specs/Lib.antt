@@ -1,3 +1,3 @@
-pub mod Evaluating
-pub mod Refusing
+pub mod EvaluationCode
+pub mod RefusedExpressions
 pub mod links

@@ -1,3 +1,3 @@
-pub mod Giving
-pub mod Skipping
-pub mod Loading
+pub mod OperandCode
+pub mod ForwardJumps
+pub mod ElementLoads

@@ -1,10 +1,10 @@
 //! Forward branches.
 ghost use Rattle.std.specs.Prelude.{◌≡◌, ◌<◌, ◌≤◌, ◌+◌, ◌*◌, ◌^◌, ℕ, List, length, ◌↔◌, IsSome, IfSome, IfOk};
-ghost use Rattle.ido_ints.specs.Typed.{Typed};
+ghost use Rattle.ido_ints.specs.TypedNumbers.{Typed};
 ghost use Rattle.c_tree.specs.Exprs as e;
-ghost use Rattle.expr_code.specs.Evaluating.{Homes, Gives, fences_among};
-ghost use Rattle.expr_code.specs.links.Giving.{IsTest, IsMade, IsChoice, Choice};
-ghost use Rattle.expr_code.specs.links.Skipping.{Skips, SkipsWhere, IsGuard};
+ghost use Rattle.expr_code.specs.EvaluationCode.{Homes, EvaluatesTo, fences_among};
+ghost use Rattle.expr_code.specs.links.OperandCode.{IsTest, IsMade, IsChoice, Choice};
+ghost use Rattle.expr_code.specs.links.ForwardJumps.{Skips, SkipsWhere, IsGuard};
 
 use crate::operators::append;
 use ido_base::memory::OutOfMemory;
@@ -13,10 +13,10 @@ use rv64_isa::field::{BranchOffset, JumpOffset, Register};
 use rv64_isa::instr::Instr;
 use std::alloc::Global;
 
-/// So many words and the branch itself are what a branch can skip.
+/// The most words that a branch can skip, besides itself.
 const MOST_BRANCHED: usize = (1 << 10) - 1;
 
-/// Skips so many words behind it.
+/// Skips so many words after it.
 fn jump(words: usize) -> Instr
     requires { words + 1 < 2 ^ 18 }
     ensures { Skips words result }
@@ -27,7 +27,7 @@ fn jump(words: usize) -> Instr
     }
 }
 
-/// Skips so many words behind it where the test is passed.
+/// Skips so many words after it where the test is passed.
 fn branch(test: Test, words: usize) -> Option<Instr>
     ensures some { IsSome result ↔ (words + 1 < 2 ^ 10) }
     ensures skips { IfSome result (λ i. SkipsWhere words test i) }
@@ -43,7 +43,7 @@ fn branch(test: Test, words: usize) -> Option<Instr>
     })
 }
 
-/// Goes on behind itself where the test is passed, else skips so many words: a branch, or one over a jump where it
+/// Goes on after itself where the test is passed, else skips so many words: a branch, or one over a jump where it
 /// doesn't reach.
 fn guard(alloc: Global, test: Test, words: usize) -> Result<Vec<Instr>, OutOfMemory>
     requires { words + 1 < 2 ^ 18 }
@@ -57,7 +57,7 @@ fn guard(alloc: Global, test: Test, words: usize) -> Result<Vec<Instr>, OutOfMem
     Ok(vec![in alloc; branch(test, 1).unwrap(), jump(words)]?)
 }
 
-/// What is chosen where the test is passed behind the code, else what is chosen otherwise.
+/// What is chosen where the test is passed after the code, else what is chosen otherwise.
 pub(crate) fn choose(
     alloc: Global,
     code: Vec<Instr>,

@@ -4,10 +4,10 @@ ghost use Rattle.ido_ints.specs.declared.kinds.Kind.{Kind};
 ghost use Rattle.ido_ints.specs.declared.operators.Unary.TheVariants.{Not};
 ghost use Rattle.ido_ints.specs.declared.operators.Binary.TheVariants.{LogicalAnd, LogicalOr};
 ghost use Rattle.c_tree.specs.Exprs as e;
-ghost use Rattle.c_tree.specs.Typing.{kind_of};
-ghost use Rattle.operator_code.specs.Computing.{left_kind, right_kind, is_comparison};
-ghost use Rattle.expr_code.specs.Evaluating.{Homes, fences_among};
-ghost use Rattle.expr_code.specs.links.Giving.{IsEvaluation, IsOperand, IsPair, IsTest, IsMade, truth_of};
+ghost use Rattle.c_tree.specs.Elaboration.{kind_of};
+ghost use Rattle.operator_code.specs.ComputingCode.{left_kind, right_kind, is_comparison};
+ghost use Rattle.expr_code.specs.EvaluationCode.{Homes, fences_among};
+ghost use Rattle.expr_code.specs.links.OperandCode.{IsEvaluation, IsOperand, IsPair, IsTest, IsMade, truth_of};
 
 use crate::branches::choose;
 use crate::operand::{Operand, Pair, TestCode};

@@ -5,9 +5,9 @@ ghost use Rattle.ido_base.specs.declared.limits.TheConstants.{MOST_TEMPORARIES};
 ghost use Rattle.ido_ints.specs.Kinds.{bytes_of};
 ghost use Rattle.c_tree.specs.Exprs as e;
 ghost use Rattle.rv64_isa.specs.declared.instr.Instr.{Instr};
-ghost use Rattle.expr_code.specs.Evaluating.{Homes, Gives, IsElementAddressCode, IsVariableAddressCode, fences_among};
-ghost use Rattle.expr_code.specs.links.Giving.{IsEvaluation, IsOperand, is_free};
-ghost use Rattle.expr_code.specs.links.Loading.{loaded_by, places_of, HasUpper};
+ghost use Rattle.expr_code.specs.EvaluationCode.{Homes, EvaluatesTo, IsElementAddressCode, IsVariableAddressCode, fences_among};
+ghost use Rattle.expr_code.specs.links.OperandCode.{IsEvaluation, IsOperand, is_free};
+ghost use Rattle.expr_code.specs.links.ElementLoads.{loaded_by, places_of, HasUpper};
 
 use crate::operand::Operand;
 use crate::temporaries::{ADDRESS, temporary};
@@ -71,7 +71,7 @@ fn element_upper(
     ensures short { IfOk result (λ code. length code.items ≤ length index.code.items + 3) }
     ensures fences { IfOk result (λ code. fences_among code.items ≡ fences_among index.code.items) }
     ensures code { IfOk result (λ code. (h : Homes) (x : e.Expr) → address + 2048 < 2 ^ 31 → IsOperand h x held index.register index.code.items →
-        Gives h x code.items (is_free held) (λ v y. HasUpper address (bytes_of kind) v y)) }
+        EvaluatesTo h x code.items (is_free held) (λ v y. HasUpper address (bytes_of kind) v y)) }
 {
     let mut code = index.code;
     let count = scale(kind);

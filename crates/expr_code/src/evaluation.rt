@@ -5,10 +5,10 @@ ghost use Rattle.ido_ints.specs.Kinds.{rank_of};
 ghost use Rattle.c_tree.specs.Exprs as e;
 ghost use Rattle.c_tree.specs.Exprs.{expr_of};
 ghost use Rattle.c_tree.specs.Prices.{need_of, need_of_both, nodes_of, node_price};
-ghost use Rattle.c_tree.specs.Typing.{kind_of};
-ghost use Rattle.operator_code.specs.Computing.{is_comparison};
-ghost use Rattle.expr_code.specs.Evaluating.{AreAtHome, homes_of, fences_among};
-ghost use Rattle.expr_code.specs.links.Giving.{IsEvaluation, IsOperand, IsTest, IsMade, truth_of, conversion_words};
+ghost use Rattle.c_tree.specs.Elaboration.{kind_of};
+ghost use Rattle.operator_code.specs.ComputingCode.{is_comparison};
+ghost use Rattle.expr_code.specs.EvaluationCode.{AreAtHome, homes_of, fences_among};
+ghost use Rattle.expr_code.specs.links.OperandCode.{IsEvaluation, IsOperand, IsTest, IsMade, truth_of, conversion_words};
 
 use crate::conditions::{compared, conditional, conjunction, disjunction, negated, tested};
 use crate::elements::{element_code, variable_code};

@@ -3,14 +3,14 @@ use operator_code::Test;
 use rv64_isa::field::Register;
 use rv64_isa::instr::Instr;
 
-/// Code behind which a register has a value.
+/// Code after which a register has a value.
 #[derive(Drop)]
 pub(crate) struct Operand {
     pub code: Vec<Instr>,
     pub register: Register,
 }
 
-/// Code behind which two registers have values.
+/// Code after which two registers have values.
 #[derive(Drop)]
 pub(crate) struct Pair {
     pub code: Vec<Instr>,
@@ -18,7 +18,7 @@ pub(crate) struct Pair {
     pub right: Register,
 }
 
-/// Code and a test that is passed behind it exactly where the condition isn't 0.
+/// Code and a test that is passed after it exactly where the condition isn't 0.
 #[derive(Drop)]
 pub struct TestCode {
     pub code: Vec<Instr>,

@@ -2,16 +2,16 @@
 ghost use Rattle.std.specs.Prelude.{◌≡◌, ◌++◌, ◌<◌, ◌≤◌, ◌+◌, ◌^◌, ℕ, [], true, length, slice_index, IfOk, IfSome, OnOk};
 ghost use Rattle.ido_base.specs.declared.limits.TheConstants.{MOST_TEMPORARIES};
 ghost use Rattle.ido_ints.specs.declared.kinds.Kind.{Kind};
-ghost use Rattle.ido_ints.specs.Typed.{register_form_of};
+ghost use Rattle.ido_ints.specs.TypedNumbers.{register_form_of};
 ghost use Rattle.c_tree.specs.Exprs as e;
 ghost use Rattle.c_tree.specs.Exprs.{expr_of};
-ghost use Rattle.c_tree.specs.Typing.{kind_of};
+ghost use Rattle.c_tree.specs.Elaboration.{kind_of};
 ghost use Rattle.operator_code.specs.declared.operation.BinaryOperation.{BinaryOperation};
 ghost use Rattle.rv64_isa.specs.declared.instr.Instr.{Instr};
-ghost use Rattle.log_layout.specs.Roles.{is_local};
-ghost use Rattle.operator_code.specs.Computing.{is_strict, left_kind, right_kind};
-ghost use Rattle.expr_code.specs.Evaluating.{Homes, Gives, fences_among};
-ghost use Rattle.expr_code.specs.links.Giving.{IsEvaluation, IsOperand, IsPair, IsMade, IsConstantForm, temporary, truth_of};
+ghost use Rattle.memory_layout.specs.Roles.{is_local};
+ghost use Rattle.operator_code.specs.ComputingCode.{is_strict, left_kind, right_kind};
+ghost use Rattle.expr_code.specs.EvaluationCode.{Homes, EvaluatesTo, fences_among};
+ghost use Rattle.expr_code.specs.links.OperandCode.{IsEvaluation, IsOperand, IsPair, IsMade, IsConstantForm, temporary, truth_of};
 
 use crate::operand::{Operand, Pair};
 use crate::temporaries::temporary;
@@ -26,7 +26,7 @@ use rv64_isa::field::Register;
 use rv64_isa::instr::Instr;
 use std::alloc::Global;
 
-/// Code behind code.
+/// Code after code.
 pub(crate) fn append(code: &mut Vec<Instr>, more: &[Instr]) -> Result<(), OutOfMemory>
     ensures { OnOk result (code.new.items ≡ code.old.items ++ more.now) }
 {
@@ -99,7 +99,7 @@ pub(crate) fn with_conversion(
     Ok(code)
 }
 
-/// The same as an operand: where its form is kept, in its own register.
+/// The operand, of the kind `from`, converted to the kind `to`, as an operand: where its form is kept, in its own register.
 pub(crate) fn converted(
     operand: Operand,
     from: Kind,

@@ -3,9 +3,9 @@ ghost use Rattle.std.specs.Prelude.{◌≡◌, ◌↔◌, ◌<◌, ◌≤◌, �
 ghost use Rattle.ido_base.specs.declared.limits.TheConstants.{MOST_PRICE};
 ghost use Rattle.c_tree.specs.Exprs.{expr_of, placed_of};
 ghost use Rattle.c_tree.specs.Prices.{need_of, nodes_of, node_price};
-ghost use Rattle.expr_code.specs.Evaluating.{AreAtHome, IsValueCode, IsConvertedCode, IsTestCode};
-ghost use Rattle.expr_code.specs.Evaluating.{IsElementAddressCode, IsVariableAddressCode, homes_of, fences_among};
-ghost use Rattle.expr_code.specs.Refusing.{IsRefused};
+ghost use Rattle.expr_code.specs.EvaluationCode.{AreAtHome, IsValueCode, IsConvertedCode, IsTestCode};
+ghost use Rattle.expr_code.specs.EvaluationCode.{IsElementAddressCode, IsVariableAddressCode, homes_of, fences_among};
+ghost use Rattle.expr_code.specs.RefusedExpressions.{IsRefusedExpression};
 
 use crate::elements::{element_address, variable_address};
 use crate::evaluation::{evaluate, evaluate_converted, operand, test};
@@ -25,7 +25,7 @@ use thiserror::Error;
 /// Why there is no code of an expression.
 #[derive(Clone, Copy, Debug, PartialEq, Eq, Drop, Error)]
 pub enum SelectError {
-    /// It needs more than four temporaries. The place is that of its first token.
+    /// The expression needs more than four temporaries. The place is that of its first token.
     #[error("an expression that needs more than four temporaries")]
     Temporaries { place: Place },
     #[error("out of memory")]
@@ -33,6 +33,10 @@ pub enum SelectError {
 }
 
 /// The code of an expression's value, into `destination`.
+///
+/// Whatever the locals and variables hold, whatever stands around the code and wherever it begins, its steps lead to its end. Since
+/// the clause holds for every such environment, the code never leaves itself; since it holds for all loads that answer for the
+/// elements that the expression reads, it loads nothing else. Of locals only those that are read have to stand in their registers.
 pub fn select(
     alloc: Global,
     expr: &Placed,
@@ -46,7 +50,7 @@ pub fn select(
     ensures fences { IfOk result (λ code. fences_among code.items ≡ 0) }
     ensures code { MatchResult result
         (λ code. (need_of (expr_of expr.now.expr) ≤ MOST_TEMPORARIES) × IsValueCode (homes_of frame.now) (expr_of expr.now.expr) destination code.items)
-        (λ error. IsRefused (placed_of expr.now) error) }
+        (λ error. IsRefusedExpression (placed_of expr.now) error) }
 {
     if need(&expr.expr) > MOST_TEMPORARIES {
         return Err(SelectError::Temporaries { place: expr.place });
@@ -74,7 +78,7 @@ pub fn select_converted(
     ensures code { MatchResult result
         (λ code. (need_of (expr_of expr.now.expr) ≤ MOST_TEMPORARIES) ×
         IsConvertedCode (homes_of frame.now) (expr_of expr.now.expr) kind destination code.items)
-        (λ error. IsRefused (placed_of expr.now) error) }
+        (λ error. IsRefusedExpression (placed_of expr.now) error) }
 {
     if need(&expr.expr) > MOST_TEMPORARIES {
         return Err(SelectError::Temporaries { place: expr.place });
@@ -85,7 +89,7 @@ pub fn select_converted(
     }
 }
 
-/// The code of a condition, and a test for the branch behind it.
+/// The code of a condition, and a test for the branch after it.
 pub fn select_test(
     alloc: Global,
     condition: &Placed,
@@ -97,7 +101,7 @@ pub fn select_test(
     ensures fences { IfOk result (λ x. fences_among x.code.items ≡ 0) }
     ensures code { MatchResult result
         (λ x. (need_of (expr_of condition.now.expr) ≤ MOST_TEMPORARIES) × IsTestCode (homes_of frame.now) (expr_of condition.now.expr) x.test x.code.items)
-        (λ error. IsRefused (placed_of condition.now) error) }
+        (λ error. IsRefusedExpression (placed_of condition.now) error) }
 {
     if need(&condition.expr) > MOST_TEMPORARIES {
         return Err(SelectError::Temporaries {
@@ -144,7 +148,7 @@ pub fn select_element_address(
     ensures code { MatchResult result
         (λ code. (need_of (expr_of index.now.expr) ≤ MOST_TEMPORARIES) ×
         IsElementAddressCode (homes_of frame.now) variable kind (placed_of index.now) destination code.items)
-        (λ error. IsRefused (placed_of index.now) error) }
+        (λ error. IsRefusedExpression (placed_of index.now) error) }
 {
     if need(&index.expr) > MOST_TEMPORARIES {
         return Err(SelectError::Temporaries { place: index.place });

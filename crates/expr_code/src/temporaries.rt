@@ -1,6 +1,6 @@
 //! The temporaries that are held while an expression is evaluated.
 ghost use Rattle.std.specs.Prelude.{◌≡◌, ◌<◌};
-ghost use Rattle.expr_code.specs.links.Giving.{temporary};
+ghost use Rattle.expr_code.specs.links.OperandCode.{temporary};
 
 use rv64_isa::field::Register;
 

@@ -1,13 +1,12 @@
-pub mod Accepted
-pub mod Shallow
-pub mod Linked
-pub mod Cleaning
-pub mod LeftOut
-pub mod Systems
-pub mod Limits
-pub mod Plans
-pub mod Stores
-pub mod Spots
-pub mod Owned
-pub mod Lives
-pub mod Tables
+mod TemporariesSuffice
+mod LinkedThreads
+mod CleanFlags
+mod OmittedCleanList
+mod Systems
+mod Limits
+mod Plans
+mod Stores
+mod ResumeAddresses
+mod ResumedNodes
+mod LiveLocals
+mod Tables

@@ -6,25 +6,25 @@ use Rattle.std.proofs.lemmas.List.{length-map}
 use Rattle.std.proofs.lemmas.Option.{none-some, same_Some}
 use Rattle.ido_base.specs.Layout.{end_from}
 use Rattle.c_tree.specs.Flats as f
-use Rattle.c_tree.specs.WellFormed.{shape_of}
+use Rattle.c_tree.specs.WellFormed.{shape_of, initial_numbers}
 use Rattle.rv64_isa.specs.declared.object.CodeItem.{CodeItem}
 use Rattle.rv64_isa.specs.declared.object.Object.{Object}
 use Rattle.rv64_isa.specs.declared.object.ThreadMarks.{ThreadMarks}
 use Rattle.rv64_isa.specs.Programs.{code_base, program_of, slot_of}
 use Rattle.hart_core.specs.Objects.{IsWithinLimits}
-use Rattle.rv64_link.specs.Linked.{AreLinked}
-use Rattle.variable_layout.specs.Placing.{AreInitial}
+use Rattle.rv64_link.specs.LinkedCode.{AreLinked}
+use Rattle.memory_layout.specs.Variables.{AreInitial}
 use Rattle.flow_graph.specs.declared.graph.Part.{Part}
 use Rattle.flow_graph.specs.Nodes.{Graph}
 use Rattle.flow_graph.specs.Lowering.{part, parts, statements_count, thread_count}
-use Rattle.flow_graph.proofs.Lockstep.{found_in, lowered_threads}
-use Rattle.code_runs.specs.Walks.{Program}
+use Rattle.flow_graph.proofs.Public.{found_in, lowered_threads}
+use Rattle.code_runs.specs.CodeTraces.{Program}
 use Rattle.thread_code.specs.Plans.{Plan, IsPlan, IsNodeOf}
-use Rattle.recovered_threads.specs.Telling.{Code}
-use Rattle.rv64_codegen.specs.Emitting.{IsCode}
-use Rattle.resumed_programs.specs.Systems as y
-use Rattle.resumed_programs.specs.Systems.{System, IsSystem}
-use Rattle.flat_compile.proofs.Linked.{AllFew, few_words, linked_at, linked_count}
+use Rattle.recovered_threads.specs.RecordDescriptions.{Code}
+use Rattle.rv64_codegen.specs.ThreadPieces.{IsCode}
+use Rattle.crash_simulation.specs.Systems as y
+use Rattle.crash_simulation.specs.Systems.{System, IsSystem}
+use Rattle.flat_compile.proofs.LinkedThreads.{AllFew, few_words, linked_at, linked_count}
 use Rattle.flat_compile.proofs.Systems.{node_there, system, system_is}
 
 -- ---- A thread has words: those of its first node
@@ -54,13 +54,13 @@ module _ (s : System) (is : IsSystem s) (n : ℕ) (below : n < y.thread_count s)
       let node = node_there s.plan is.plan code.thread code.of first own in
       let made = code.is.code first node.0 own node.1 in
       let core = made.within.core.is in
-      let behind = made.within.behind_core.is in
+      let after = made.within.after_core.is in
       let all = made.words.to_is in
       let inside = made.words.inside in
       let mine : length code.is.places.program.code ≡ length (slice_index_or s.program n []) =
       ap (λ (q : Program). length q.code) (code.is.of_program ∙ (is.own n below).program)
       ∙ ap (λ (k : ℕ). length (slice_index_or s.program k [])) (is.codes.number n below) in
-      omega (arith, core, behind, all, inside, mine)
+      omega (arith, core, after, all, inside, mine)
 
 -- ---- Objects
 
@@ -73,7 +73,7 @@ as_many_slots (code ∷ codes) (suc k) d below = as_many_slots codes k d (omega 
 
 module _ (p : Plan) (plan : IsPlan p) (threads : List (List CodeItem)) (object : Object) (marks : List ThreadMarks) (coded : IsCode p threads)
     (few : AllFew threads) (eight : length threads ≤ 8) (linked : AreLinked code_base threads (program_of object) marks)
-    (begins : AreInitial p.flat.variables object.initial.items) where
+    (begins : AreInitial (map shape_of p.flat.variables) (map initial_numbers p.flat.variables) object.initial.items) where
   -- as many as the items are of
   pub count : length object.code.items ≡ length threads
   count =

@@ -5,32 +5,65 @@ use Rattle.std.specs.Global.{Global}
 use Rattle.std.proofs.lemmas.List.{length-map}
 use Rattle.std.proofs.lemmas.List.Elements.{All-head, All-tail}
 use Rattle.std.proofs.lemmas.Option.{none-some, same_Some}
+use Rattle.c_tree.specs.Flats.{flat_of}
 use Rattle.rv64_isa.specs.declared.object.Code.{Code}
 use Rattle.rv64_isa.specs.declared.object.CodeItem.{CodeItem}
 use Rattle.rv64_isa.specs.declared.object.Object.{Object}
 use Rattle.rv64_isa.specs.declared.object.Marks.{Marks}
 use Rattle.rv64_isa.specs.Programs.{code_base, program_of}
 use Rattle.rv64_link.specs.LabelledCode.{most_words_of}
-use Rattle.rv64_link.specs.Linked.{AreLinked}
+use Rattle.rv64_link.specs.LinkedCode.{AreLinked}
 use Rattle.rv64_link.specs.links.Threads.{items_in}
-use Rattle.variable_layout.specs.Placing.{AreInitial}
+use Rattle.c_tree.specs.WellFormed.{shape_of, initial_numbers}
+use Rattle.memory_layout.specs.Variables.{AreInitial}
 use Rattle.flow_graph.specs.declared.cuts.Cuts.{Cuts}
-use Rattle.flow_graph.specs.Nodes.{Graph}
-use Rattle.flow_graph.specs.Cutting.{IsMinimal, boundaries_of}
+use Rattle.flow_graph.specs.Nodes.{Graph, graph_of}
+use Rattle.flow_graph.specs.Colours.{colouring_of}
+use Rattle.flow_graph.specs.IdempotentCuts.{AreCuts, IsMinimal, boundaries_of, AreAtWrites}
+use Rattle.flat_analysis.specs.declared.analyses.Analysis.{Analysis}
+use Rattle.flat_analysis.specs.Analyses.{IsAnalysis}
 use Rattle.thread_code.specs.Plans.{Plan, IsPlan}
 use Rattle.std.proofs.Common.{ap}
 use Rattle.std.specs.Prelude.{slice_index_or}
 use Rattle.rv64_isa.specs.declared.object.ThreadMarks.{ThreadMarks}
-use Rattle.code_runs.specs.Walks.{Program}
-use Rattle.recovered_threads.specs.Telling.{Codes}
-use Rattle.resumed_programs.specs.Systems.{System, IsSystem}
+use Rattle.code_runs.specs.CodeTraces.{Program}
+use Rattle.recovered_threads.specs.RecordDescriptions.{Codes}
+use Rattle.crash_simulation.specs.Systems.{System, IsSystem}
 use Rattle.flat_compile.specs.declared.resumes.Resume.{Resume}
-use Rattle.flat_compile.specs.Resuming.{AreMarksOf, AreMarked, IsResumeTable}
-use Rattle.flat_compile.specs.Translating.{IsTranslated, IsResumable, resume_marks}
+use Rattle.flat_compile.specs.ResumePlaces.{AreMarksOf, AreMarked, IsResumeTable}
+use Rattle.flat_compile.specs.TranslatedForms.{IsTranslated, IsResumable, resume_marks}
 use Rattle.flat_compile.specs.links.Emission.{IsCodeFor}
-use Rattle.flat_compile.proofs.Linked.{AllFew, marked_count}
+use Rattle.flat_compile.proofs.LinkedThreads.{AllFew, marked_count}
 use Rattle.flat_compile.proofs.Limits.{count, within_limits}
 use Rattle.flat_compile.proofs.Systems.{system, system_is}
+
+-- ---- What was found out of a flat form, and the cuts of its graph
+
+abbrev pub plan_at : Analysis → Cuts → Plan
+plan_at a cuts = record {
+  flat = flat_of a.flat.now;
+  graph = graph_of a.graph;
+  boundaries = boundaries_of cuts;
+  held = a.held;
+  live = a.live;
+  colours = colouring_of a.colours;
+}
+
+pub plan_is : (a : Analysis) (cuts : Cuts) → IsAnalysis a → AreCuts (graph_of a.graph) (boundaries_of cuts) →
+    AreAtWrites (graph_of a.graph) (boundaries_of cuts) → IsPlan (plan_at a cuts)
+plan_is a cuts is chosen places = record {
+  formed = is.accepted.formed;
+  lowered = is.lowered;
+  cuts = chosen;
+  at_writes = places;
+  held = is.held;
+  live = is.live;
+  registers = is.registers;
+  apart = is.apart;
+  priced = is.accepted.priced;
+}
+
+-- ---- Its code
 
 abbrev IsFew : Vec CodeItem Global → Type 0
 IsFew items = sum_by most_words_of items.items ≤ 65536
@@ -49,7 +82,8 @@ is_translated p code is plan object marks cuts at minimal linked initial mutexes
     let threads = map items_in code.threads.items in
     let few = few_at code.threads.items is.few in
     let eight : length threads ≤ 8 = omega (arith, is.eight, length-map code.threads.items items_in) in
-    let begins = subst (λ (bytes : Vec ℕ Global). AreInitial p.flat.variables bytes.items) (sym initial) is.initial in
+    let begins = subst (λ (bytes : Vec ℕ Global). AreInitial (map shape_of p.flat.variables) (map initial_numbers p.flat.variables) bytes.items)
+    (sym initial) is.initial in
     record {
       system = system p plan threads (program_of object) marks.threads.items object.initial.items is.is few eight linked begins;
       is = system_is p plan threads (program_of object) marks.threads.items object.initial.items is.is few eight linked begins;

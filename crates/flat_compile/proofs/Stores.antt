@@ -7,7 +7,7 @@ use Rattle.c_tree.specs.Flats as f
 use Rattle.flow_graph.specs.Nodes.{Action, Eval, Store, Test, Lock, Unlock, End, Node}
 use Rattle.flow_graph.specs.Lowering.{test_node, plain_node, assign_nodes, count, statements_count, arms_count, thread_count}
 use Rattle.flow_graph.specs.Lowering.{entry, statement_nodes, statements_nodes, arms_nodes, thread_nodes, threads_nodes}
-use Rattle.rv64_codegen.specs.links.Live.{is_store}
+use Rattle.rv64_codegen.specs.links.LiveRegisters.{is_store}
 
 abbrev pub is_eval : Action → Bool
 is_eval (Eval target value next) = true
@@ -17,7 +17,7 @@ is_eval (Lock mutex next) = false
 is_eval (Unlock mutex next) = false
 is_eval End = false
 
--- each store stands behind an evaluation, where it is said of what stands before the list whether it is one
+-- each store stands after an evaluation, where it is said of what stands before the list whether it is one
 abbrev Follow : (eval : Bool) → List Node → Type 0
 Follow eval [] = Unit {0}
 Follow eval (x ∷ xs) = (is_store x.action ≡ true → eval ≡ true) × Follow (is_eval x.action) xs
@@ -65,17 +65,17 @@ of_threads (t ∷ ts) first =
     (of_all t.body first (first + statements_count t.body)) (λ s. cc, tt))
     (of_threads ts (first + thread_count t))
 
-behind : (xs : List Node) (eval : Bool) (k : ℕ) (x y : Node) → Follow eval xs → slice_get xs k ≡ Some x → slice_get xs (suc k) ≡ Some y →
+after : (xs : List Node) (eval : Bool) (k : ℕ) (x y : Node) → Follow eval xs → slice_get xs k ≡ Some x → slice_get xs (suc k) ≡ Some y →
     is_store y.action ≡ true → is_eval x.action ≡ true
-behind [] eval k x y h a b s = cc
-behind (z ∷ []) eval zero x y h a b s = cc
-behind (z ∷ []) eval (suc k) x y h a b s = cc
-behind (z ∷ w ∷ xs) eval zero x y h a b s =
+after [] eval k x y h a b s = cc
+after (z ∷ []) eval zero x y h a b s = cc
+after (z ∷ []) eval (suc k) x y h a b s = cc
+after (z ∷ w ∷ xs) eval zero x y h a b s =
     let first : z ≡ x = cc in
     let second : w ≡ y = cc in
     subst (λ (n : Node). is_eval n.action ≡ true) first (h.1.0 (ap (λ (n : Node). is_store n.action) second ∙ s))
-behind (z ∷ w ∷ xs) eval (suc k) x y h a b s = behind (w ∷ xs) (is_eval z.action) k x y h.1 a b s
+after (z ∷ w ∷ xs) eval (suc k) x y h a b s = after (w ∷ xs) (is_eval z.action) k x y h.1 a b s
 
-pub store_behind : (x : f.Flat) (k : ℕ) (before it : Node) → slice_get (threads_nodes x.threads 0) k ≡ Some before →
+pub store_after : (x : f.Flat) (k : ℕ) (before it : Node) → slice_get (threads_nodes x.threads 0) k ≡ Some before →
     slice_get (threads_nodes x.threads 0) (suc k) ≡ Some it → is_store it.action ≡ true → is_eval before.action ≡ true
-store_behind x k before it a b s = behind (threads_nodes x.threads 0) false k before it (of_threads x.threads 0) a b s
+store_after x k before it a b s = after (threads_nodes x.threads 0) false k before it (of_threads x.threads 0) a b s

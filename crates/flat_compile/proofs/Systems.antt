@@ -4,33 +4,32 @@ use Rattle.std.proofs.Common.{◌∷◌, ◌++◌, length, length-append, map, t
 use Rattle.std.specs.Prelude.{slice_get, slice_index, slice_index_or, All}
 use Rattle.std.proofs.lemmas.Option.{none-some, same_Some, get_or_from_slice_get}
 use Rattle.c_tree.specs.Flats as f
-use Rattle.c_tree.specs.WellFormed.{shape_of}
-use Rattle.c_tree.specs.Locking.{IsDisciplined}
+use Rattle.c_tree.specs.WellFormed.{shape_of, initial_numbers}
+use Rattle.c_tree.specs.LockDiscipline.{IsDisciplined}
 use Rattle.rv64_isa.specs.declared.object.CodeItem.{CodeItem}
 use Rattle.rv64_isa.specs.declared.object.Slot.{Slot}
 use Rattle.rv64_isa.specs.declared.object.ThreadMarks.{ThreadMarks}
 use Rattle.rv64_isa.specs.Programs.{code_base}
-use Rattle.rv64_link.specs.Linked.{AreLinked}
-use Rattle.log_layout.specs.declared.roles.TheConstants.{LOCALS}
-use Rattle.variable_layout.specs.Placing.{AreInitial}
+use Rattle.rv64_link.specs.LinkedCode.{AreLinked}
+use Rattle.memory_layout.specs.declared.roles.TheConstants.{LOCALS}
+use Rattle.memory_layout.specs.Variables.{AreInitial}
 use Rattle.flow_graph.specs.declared.graph.Part.{Part}
 use Rattle.flow_graph.specs.Nodes.{Graph, Node}
 use Rattle.flow_graph.specs.Lowering.{part, parts, thread_count, thread_nodes, threads_nodes}
 use Rattle.flow_graph.specs.Liveness.{NodeAt}
-use Rattle.flow_graph.specs.Cleaning.{IsCleanedLater}
-use Rattle.flow_graph.proofs.Lockstep.{found_in, lowered_nodes, lowered_threads}
-use Rattle.flow_graph.proofs.Counted.{length-thread_nodes}
+use Rattle.flow_graph.specs.OmittedCleans.{IsCleanedLater}
+use Rattle.flow_graph.proofs.Public.{found_in, lowered_nodes, lowered_threads, length-thread_nodes}
 use Rattle.hart_runs.specs.Laws.{program_at}
-use Rattle.code_runs.specs.Walks.{Program}
+use Rattle.code_runs.specs.CodeTraces.{Program}
 use Rattle.thread_code.specs.Plans.{Plan, IsPlan, Thread, IsThread, IsNodeOf}
 use Rattle.thread_code.specs.Programs.{IsThreadCode}
-use Rattle.recovered_threads.specs.Telling.{Codes}
-use Rattle.rv64_codegen.specs.Emitting.{IsCode}
-use Rattle.resumed_programs.specs.Systems.{System, IsSystem}
-use Rattle.flat_compile.specs.Translating.{node_marks, resume_marks}
-use Rattle.flat_compile.proofs.Linked.{AllFew, LinkedAt, linked_at, linked_count}
-use Rattle.flat_compile.proofs.Cleaning.{recleaned, recleaned_later}
-use Rattle.flat_compile.proofs.LeftOut.{LeftOut, left_out}
+use Rattle.recovered_threads.specs.RecordDescriptions.{Codes}
+use Rattle.rv64_codegen.specs.ThreadPieces.{IsCode}
+use Rattle.crash_simulation.specs.Systems.{System, IsSystem}
+use Rattle.flat_compile.specs.TranslatedForms.{node_marks, resume_marks}
+use Rattle.flat_compile.proofs.LinkedThreads.{AllFew, LinkedAt, linked_at, linked_count}
+use Rattle.flat_compile.proofs.CleanFlags.{recleaned, recleaned_later}
+use Rattle.flat_compile.proofs.OmittedCleanList.{LeftOut, left_out}
 
 parts_count : (ts : List f.Thread) (first : ℕ) → length (parts ts first) ≡ length ts
 parts_count [] first = refl
@@ -107,7 +106,7 @@ disciplined_by p plan k d below =
 
 module _ (p : Plan) (plan : IsPlan p) (threads : List (List CodeItem)) (program : List (List Slot)) (marks : List ThreadMarks)
     (initial : List ℕ) (coded : IsCode p threads) (few : AllFew threads) (eight : length threads ≤ 8) (linked : AreLinked code_base threads program marks)
-    (begins : AreInitial p.flat.variables initial) where
+    (begins : AreInitial (map shape_of p.flat.variables) (map initial_numbers p.flat.variables) initial) where
   abbrev program_of : (n : ℕ) → Program
   program_of n = program_at program n (slice_index_or (node_marks marks) n []) (slice_index_or (resume_marks marks) n [])
 

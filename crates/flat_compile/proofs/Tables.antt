@@ -6,27 +6,26 @@ use Rattle.std.proofs.lemmas.List.{length-map}
 use Rattle.std.proofs.lemmas.Option.{same_Some, slice_get_within, slice_get-map}
 use Rattle.ido_ints.specs.declared.kinds.Kind.{Kind}
 use Rattle.c_tree.specs.Flats as f
-use Rattle.log_layout.specs.declared.roles.TheConstants.{LOCALS}
+use Rattle.memory_layout.specs.declared.roles.TheConstants.{LOCALS}
 use Rattle.flow_graph.specs.declared.graph.Part.{Part}
-use Rattle.flow_graph.proofs.Lockstep.{found_in}
+use Rattle.flow_graph.proofs.Public.{found_in}
 use Rattle.flow_graph.specs.Lowering.{parts, thread_count}
 use Rattle.std.proofs.Common.{◌⊎◌, inl, inr, ⊎_elim, get_or}
 use Rattle.std.specs.Global.{Global}
 use Rattle.std.proofs.lemmas.Bool.{cases_lt}
 use Rattle.std.proofs.lemmas.List.{take_more, length-append}
 use Rattle.rv64_isa.specs.declared.object.ThreadMarks.{ThreadMarks}
-use Rattle.recovered_threads.specs.Telling.{Codes}
-use Rattle.rv64_codegen.proofs.Known.{threads_are}
-use Rattle.rv64_codegen.proofs.Chosen.{read_get}
-use Rattle.flat_compile.specs.Resuming.{AreMarksOf, resumes_at}
-use Rattle.flat_compile.specs.links.Resuming.{AreTabled}
-use Rattle.code_runs.specs.Walks.{Program}
+use Rattle.recovered_threads.specs.RecordDescriptions.{Codes}
+use Rattle.rv64_codegen.proofs.Public.{threads_are, read_get}
+use Rattle.flat_compile.specs.ResumePlaces.{AreMarksOf, resumes_at}
+use Rattle.flat_compile.specs.links.ResumePlacesByNode.{AreTabled}
+use Rattle.code_runs.specs.CodeTraces.{Program}
 use Rattle.thread_code.specs.Plans.{Plan, IsPlan, Thread, IsThread, IsNodeOf}
 use Rattle.thread_code.specs.Programs.{IsThreadCode}
 use Rattle.flat_compile.specs.declared.resumes.Resume.{Resume}
-use Rattle.flat_compile.specs.Resuming.{goes_on_at, address_in, IsFound, AreResumes}
-use Rattle.flat_compile.specs.links.Resuming.{thread_in, IsOwn, AreNodesBelow, AreFoundAt}
-use Rattle.flat_compile.proofs.Spots.{order, goes_on_own, head, tail}
+use Rattle.flat_compile.specs.ResumePlaces.{goes_on_at, address_in, IsFound, AreResumes}
+use Rattle.flat_compile.specs.links.ResumePlacesByNode.{thread_in, IsOwn, AreNodesBelow, AreFoundAt}
+use Rattle.flat_compile.proofs.ResumeAddresses.{order, goes_on_own, head, tail}
 
 contained : {X : Type 0} (xs : List X) (k : ℕ) (x : X) → slice_get xs k ≡ Some x → Contains xs x
 contained [] k x g = cc

@@ -1,4 +1,3 @@
-pub mod Accepting
-pub mod Resuming
-pub mod Translating
+pub mod ResumePlaces
+pub mod TranslatedForms
 pub mod links

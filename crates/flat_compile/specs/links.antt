@@ -1,2 +1,2 @@
 pub mod Emission
-pub mod Resuming
+pub mod ResumePlacesByNode

@@ -2,7 +2,6 @@
 #![tactic(auto)]
 
 pub mod compile;
-pub mod laws;
 pub mod resumes;
 
 pub use compile::{Translated, translate};

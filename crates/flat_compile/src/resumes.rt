@@ -1,16 +1,17 @@
 //! Where recovery may resume threads, and what it finds there.
 ghost use Rattle.std.specs.Option.{option_to_list};
 ghost use Rattle.std.specs.Prelude.{◌≡◌, ◌↔◌, ◌<◌, ◌*◌, ◌++◌, ℕ, OnOk, length, map, slice_get, slice_index, Some, None, IfOk, IfSome, IsTrue};
-ghost use Rattle.log_layout.specs.declared.roles.TheConstants.{LOCALS as local_numbers};
+ghost use Rattle.memory_layout.specs.declared.roles.TheConstants.{LOCALS as local_numbers};
 ghost use Rattle.flow_graph.specs.Nodes.{graph_of, node_of};
-ghost use Rattle.flow_graph.specs.Cutting.{IsChosen, boundaries_of};
+ghost use Rattle.flow_graph.specs.IdempotentCuts.{IsChosen, boundaries_of};
 ghost use Rattle.thread_code.specs.Plans.{IsPlan, mask_before};
-ghost use Rattle.recovered_threads.specs.Telling.{Codes};
+ghost use Rattle.recovered_threads.specs.RecordDescriptions.{Codes};
 ghost use Rattle.rv64_codegen.specs.Plans.{plan_of};
 ghost use Rattle.rv64_codegen.specs.links.Threads.{gives};
-ghost use Rattle.flat_compile.specs.Translating.{resume_marks};
-ghost use Rattle.flat_compile.specs.Resuming.{IsFound, IsResumeTable, AreMarksOf, AreMarked};
-ghost use Rattle.flat_compile.specs.links.Resuming.{thread_in, IsOwn, IsOwnNode, IsBehind, IsBefore, AreNodesBelow, AreFoundAt, IsLiveIn, AreLiveBelow};
+ghost use Rattle.flat_compile.specs.TranslatedForms.{resume_marks};
+ghost use Rattle.flat_compile.specs.ResumePlaces.{IsFound, IsResumeTable, AreMarksOf, AreMarked};
+ghost use Rattle.flat_compile.specs.links.ResumePlacesByNode.{thread_in, IsOwn, IsOwnNode, IsPastCall, IsBefore};
+ghost use Rattle.flat_compile.specs.links.ResumePlacesByNode.{AreNodesBelow, AreFoundAt, IsLiveIn, AreLiveBelow};
 
 use flow_graph::graph::{Action, Node, Part};
 use flow_graph::live_sets::LiveSets;
@@ -18,7 +19,7 @@ use ido_base::limits::LOCAL_REGISTERS;
 use ido_base::location::Location;
 use ido_base::memory::OutOfMemory;
 use ido_ints::Kind;
-use log_layout::roles::LOCALS;
+use memory_layout::roles::LOCALS;
 use rv64_codegen::Plan;
 use rv64_isa::object::Marks;
 use std::alloc::Global;
@@ -75,10 +76,10 @@ fn mask(plan: &Plan, number: usize, part: Part, node: usize) -> u64
     plan.held.held(number as u32, (node - part.first) as u32)
 }
 
-/// Where the thread may be resumed behind the ECALL of a node: the node that it goes on at.
-fn behind(plan: &Plan, number: usize, part: Part, node: usize) -> Option<usize>
+/// Where the thread may be resumed after the ECALL of a node: the node that it goes on at.
+fn after(plan: &Plan, number: usize, part: Part, node: usize) -> Option<usize>
     requires { IsOwnNode (plan_of plan.now) number part node }
-    ensures { IsBehind (plan_of plan.now) (thread_in (plan_of plan.now) number part) node result }
+    ensures { IsPastCall (plan_of plan.now) (thread_in (plan_of plan.now) number part) node result }
 {
     match plan.graph.nodes[node].action {
         Action::Lock { next, .. } => Some(next),
@@ -93,7 +94,7 @@ fn behind(plan: &Plan, number: usize, part: Part, node: usize) -> Option<usize>
     }
 }
 
-/// Where the thread may be resumed behind a boundary before a node: the node.
+/// Where the thread may be resumed after a boundary before a node: the node.
 fn before(plan: &Plan, number: usize, part: Part, node: usize) -> Option<usize>
     requires { IsOwnNode (plan_of plan.now) number part node }
     ensures { IsBefore (plan_of plan.now) (thread_in (plan_of plan.now) number part) node result }
@@ -123,7 +124,7 @@ fn nodes(alloc: Global, plan: &Plan, number: usize, part: Part) -> Result<Vec<us
     let mut nodes = Vec::new(alloc);
     for node in part.first..part.end {
         push_some(&mut nodes, before(plan, number, part, node))?;
-        push_some(&mut nodes, behind(plan, number, part, node))?;
+        push_some(&mut nodes, after(plan, number, part, node))?;
     }
     Ok(nodes)
 }

@@ -1,12 +1,13 @@
-pub mod Words
-pub mod Standing
-pub mod Lockstep
-pub mod Counted
-pub mod Shapes
-pub mod Lying
-pub mod Keeping
-pub mod Paths
-pub mod Worked
-pub mod WorkedSets
-pub mod WorkedColours
-pub mod WorkedActions
+pub mod Public
+mod Words
+mod NodeContinuations
+mod Lockstep
+mod NodeCounts
+mod Shapes
+mod ElementsInLocations
+mod GraphStateInvariants
+mod Paths
+mod Worked
+mod WorkedSets
+mod WorkedColours
+mod WorkedActions

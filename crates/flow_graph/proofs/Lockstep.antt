@@ -1,4 +1,4 @@
--- A source and the graph of its flat form step alike.
+-- A source and the graph of its flat form step in lockstep.
 use Rattle.std.proofs.Common.{◌≡◌, ◌≢◌, ◌<◌, ◌≤◌, ◌⊎◌, inl, inr, ⊎_elim, refl, ℕ, zero, suc, ◌+◌, List, [], ◌∷◌, ◌++◌, length}
 use Rattle.std.proofs.Common.{map, replicate, sym, ◌∙◌, ap, ap₂, subst, arith, Option, Some, None, Bool, true, false, slice_set}
 use Rattle.std.specs.Prelude.{slice_get, is_some, not, if◌then◌else◌, ℤ, pos}
@@ -16,9 +16,9 @@ use Rattle.flow_graph.specs.declared.graph.Part.{Part}
 use Rattle.flow_graph.specs.Nodes.{Action, Eval, Store, Test, Lock, Unlock, End, Node, Graph}
 use Rattle.flow_graph.specs.Lowering.{lowered, parts, part, thread_count, threads_nodes}
 use Rattle.flow_graph.specs.Actions as g
-use Rattle.flow_graph.specs.Actions.{Walker, FlowState, Effect, graph_step, graph_after, graph_runs, graph_ended, graph_start}
-use Rattle.flow_graph.specs.Lockstep.{Standing, free, threads_standings, WalkerMatches, Matches, StepsMatch, RunsMatch}
-use Rattle.flow_graph.proofs.Standing.{At, Does, chooses, repeats, behind_arms, behind_eval, begins, node_at}
+use Rattle.flow_graph.specs.Actions.{GraphThread, FlowState, Effect, graph_step, graph_after, graph_runs, graph_ended, graph_start}
+use Rattle.flow_graph.specs.Lockstep.{Standing, free, threads_standings, GraphThreadMatches, Matches, StepsMatch, RunsMatch}
+use Rattle.flow_graph.proofs.NodeContinuations.{At, ActionLeads, chooses, repeats, after_arms, after_eval, begins, node_at}
 
 -- ---- Lists
 
@@ -54,35 +54,35 @@ no_more (x ∷ xs) (suc k) h = omega (arith, no_more xs k h)
 abbrev state_of : List (List ℤ) → List (Option ℕ) → List m.Thread → m.State
 state_of variables holders threads = record { variables = variables; holders = holders; threads = threads }
 
-abbrev flow_of : List (List ℤ) → List (Option ℕ) → List Walker → FlowState
-flow_of variables holders walkers = record { variables = variables; holders = holders; walkers = walkers }
+abbrev flow_of : List (List ℤ) → List (Option ℕ) → List GraphThread → FlowState
+flow_of variables holders graph_threads = record { variables = variables; holders = holders; graph_threads = graph_threads }
 
-module _ (x : f.Flat) (walkers : List Walker) (threads : List m.Thread) (count : length walkers ≡ length threads)
-    (each : (t : ℕ) (walker : Walker) (thread : m.Thread) → slice_get walkers t ≡ Some walker → slice_get threads t ≡ Some thread →
-    WalkerMatches x walker thread)
-    (t : ℕ) (before : Walker) (old : m.Thread) (here : slice_get walkers t ≡ Some before) (there : slice_get threads t ≡ Some old) where
-  one_changes : (vs : List (List ℤ)) (hs : List (Option ℕ)) (walker : Walker) (thread : m.Thread) → WalkerMatches x walker thread →
-      Matches x (flow_of vs hs (slice_set walkers t walker)) (state_of vs hs (slice_set threads t thread))
-  one_changes vs hs walker thread w = record {
+module _ (x : f.Flat) (graph_threads : List GraphThread) (threads : List m.Thread) (count : length graph_threads ≡ length threads)
+    (each : (t : ℕ) (graph_thread : GraphThread) (thread : m.Thread) → slice_get graph_threads t ≡ Some graph_thread → slice_get threads t ≡ Some thread →
+    GraphThreadMatches x graph_thread thread)
+    (t : ℕ) (before : GraphThread) (old : m.Thread) (here : slice_get graph_threads t ≡ Some before) (there : slice_get threads t ≡ Some old) where
+  one_changes : (vs : List (List ℤ)) (hs : List (Option ℕ)) (graph_thread : GraphThread) (thread : m.Thread) → GraphThreadMatches x graph_thread thread →
+      Matches x (flow_of vs hs (slice_set graph_threads t graph_thread)) (state_of vs hs (slice_set threads t thread))
+  one_changes vs hs graph_thread thread w = record {
     variables = refl;
     holders = refl;
-    count = length-set walkers t walker ∙ count ∙ sym (length-set threads t thread);
+    count = length-set graph_threads t graph_thread ∙ count ∙ sym (length-set threads t thread);
     each = λ k one other h i. ⊎_elim
         (λ same.
-        let h' : slice_get (slice_set walkers t walker) t ≡ Some one = ap (slice_get (slice_set walkers t walker)) (sym same) ∙ h in
+        let h' : slice_get (slice_set graph_threads t graph_thread) t ≡ Some one = ap (slice_get (slice_set graph_threads t graph_thread)) (sym same) ∙ h in
         let i' : slice_get (slice_set threads t thread) t ≡ Some other = ap (slice_get (slice_set threads t thread)) (sym same) ∙ i in
-        let is_walker : walker ≡ one = let set = set_same walkers t walker before here in cc in
+        let is_graph_thread : graph_thread ≡ one = let set = set_same graph_threads t graph_thread before here in cc in
         let is_thread : thread ≡ other = let set = set_same threads t thread old there in cc in
-        let P : Walker → Type 0 = λ z. WalkerMatches x z other in
-        let Q : m.Thread → Type 0 = λ z. WalkerMatches x walker z in
-        subst P is_walker (subst Q is_thread w))
-        (λ differs. each k one other (sym (set_other walkers t k walker differs) ∙ h) (sym (set_other threads t k thread differs) ∙ i))
+        let P : GraphThread → Type 0 = λ z. GraphThreadMatches x z other in
+        let Q : m.Thread → Type 0 = λ z. GraphThreadMatches x graph_thread z in
+        subst P is_graph_thread (subst Q is_thread w))
+        (λ differs. each k one other (sym (set_other graph_threads t k graph_thread differs) ∙ h) (sym (set_other threads t k thread differs) ∙ i))
         (cases_eq k t);
   }
 
   module _ (vs : List (List ℤ)) (hs : List (Option ℕ)) where
     abbrev flow_now : FlowState
-    flow_now = flow_of vs hs walkers
+    flow_now = flow_of vs hs graph_threads
 
     abbrev source_now : m.State
     source_now = state_of vs hs threads
@@ -90,33 +90,34 @@ module _ (x : f.Flat) (walkers : List Walker) (threads : List m.Thread) (count :
     abbrev all : List Standing
     all = threads_standings x.threads
 
-    abbrev walker_at : (at : ℕ) → List ℤ → Option Pending → Bool → Walker
-    walker_at at ls p ended = record { at = at; locals = ls; pending = p; ended = ended }
+    abbrev graph_thread_at : (at : ℕ) → List ℤ → Option Pending → Bool → GraphThread
+    graph_thread_at at ls p ended = record { at = at; locals = ls; pending = p; ended = ended }
 
     abbrev thread_with : List f.Statement → List ℤ → Option Pending → Bool → m.Thread
     thread_with left ls p ended = record { left = left; locals = ls; pending = p; ended = ended }
 
-    abbrev Alike : Option FlowState → Option m.State → Type 0
-    Alike a b = StepsMatch x a b
+    abbrev ParseLockstep : Option FlowState → Option m.State → Type 0
+    ParseLockstep a b = StepsMatch x a b
 
-    -- the graph's step by an action, beside that of a thread with these statements left
-    abbrev Steps : Action → (at : ℕ) → List ℤ → Option Pending → Bool → List f.Statement → Type 0
-    Steps a at ls p ended left = Alike (g.effect_step flow_now t (walker_at at ls p ended) (g.effect_of a (g.seen_by flow_now (walker_at at ls p ended))))
+    -- the graph's step by an action, in lockstep with that of a thread with these statements left
+    abbrev ActionLockstep : Action → (at : ℕ) → List ℤ → Option Pending → Bool → List f.Statement → Type 0
+    ActionLockstep a at ls p ended left =
+        ParseLockstep (g.effect_step flow_now t (graph_thread_at at ls p ended) (g.effect_of a (g.seen_by flow_now (graph_thread_at at ls p ended))))
         (m.thread_step source_now t (thread_with left ls p ended))
 
     moved : (at : ℕ) (left : List f.Statement) (ls : List ℤ) (p : Option Pending) (ended : Bool) → At all at (record { left = left; owes = is_some p }) →
-        WalkerMatches x (walker_at at ls p ended) (thread_with left ls p ended)
+        GraphThreadMatches x (graph_thread_at at ls p ended) (thread_with left ls p ended)
     moved at left ls p ended a = record { locals = refl; pending = refl; ended = refl; stands = a }
 
     evals : (target : e.Lvalue) (value : e.Placed) (next at : ℕ) (ls : List ℤ) (ended : Bool) (place : Place) (rest : List f.Statement) →
-        At all next (behind_eval target rest) → Steps (Eval target value next) at ls None ended (f.Assign place target value ∷ rest)
+        At all next (after_eval target rest) → ActionLockstep (Eval target value next) at ls None ended (f.Assign place target value ∷ rest)
     evals (e.ToLocal local kind) value next at ls ended place rest a = one_changes vs hs _ _ (moved next rest _ None ended a)
     evals (e.ToVariable name variable kind) value next at ls ended place rest a = one_changes vs hs _ _ (moved next rest ls (Some _) ended a)
     evals (e.ToElement name variable kind index) value next at ls ended place rest a = one_changes vs hs _ _ (moved next rest ls (Some _) ended a)
 
     after_test : (zero_value : Bool) (holds fails : ℕ) (place : Place) (body : f.Statements) (arms : f.Arms) (otherwise : f.Statements)
         (rest : List f.Statement) →
-        At all holds (free (opened_all body ++ rest)) → At all fails (free (behind_arms place arms otherwise ++ rest)) →
+        At all holds (free (opened_all body ++ rest)) → At all fails (free (after_arms place arms otherwise ++ rest)) →
         At all (if zero_value then fails else holds)
         (free (m.tested (not zero_value) (opened_all body) (f.If place arms otherwise ∷ []) (opened_all otherwise) arms ++ rest))
     after_test true holds fails place body f.no_arm otherwise rest a b = b
@@ -130,14 +131,14 @@ module _ (x : f.Flat) (walkers : List Walker) (threads : List m.Thread) (count :
     after_loop false holds fails again rest a b = a
 
     takes : (o : Option (Option ℕ)) (mutex next at : ℕ) (ls : List ℤ) (ended : Bool) (rest : List f.Statement) → At all next (free rest) →
-        Alike
-        (elim o [ Some None ↦ Some (g.with_walker (g.with_holder flow_now mutex (Some t)) t (walker_at next ls None ended)) | _ ↦ None ])
+        ParseLockstep
+        (elim o [ Some None ↦ Some (g.with_graph_thread (g.with_holder flow_now mutex (Some t)) t (graph_thread_at next ls None ended)) | _ ↦ None ])
         (elim o [ Some None ↦ Some (m.with_thread (m.with_holder source_now mutex (Some t)) t (thread_with rest ls None ended)) | _ ↦ None ])
     takes None mutex next at ls ended rest a = tt
     takes (Some (Some other)) mutex next at ls ended rest a = tt
     takes (Some None) mutex next at ls ended rest a = one_changes vs (slice_set hs mutex (Some t)) _ _ (moved next rest ls None ended a)
 
-    ends : (at : ℕ) (ls : List ℤ) (ended : Bool) → At all at (free []) → Steps End at ls None ended []
+    ends : (at : ℕ) (ls : List ℤ) (ended : Bool) → At all at (free []) → ActionLockstep End at ls None ended []
     ends at ls true a = tt
     ends at ls false a = one_changes vs hs _ _ (moved at [] ls None true a)
 
@@ -145,13 +146,14 @@ module _ (x : f.Flat) (walkers : List Walker) (threads : List m.Thread) (count :
     not_owing p left rest h = let b : true ≡ false = ap (λ (s : Standing). s.owes) h in cc
 
     step_by : (a : Action) (at : ℕ) (ls : List ℤ) (p : Option Pending) (ended : Bool) (left : List f.Statement) →
-        At all at (record { left = left; owes = is_some p }) → Does all a (record { left = left; owes = is_some p }) → Steps a at ls p ended left
+        At all at (record { left = left; owes = is_some p }) → ActionLeads all a (record { left = left; owes = is_some p }) →
+        ActionLockstep a at ls p ended left
     step_by (Eval target value next) at ls (Some p) ended left s d = absurd (not_owing p left _ d.is)
     step_by (Eval target value next) at ls None ended left s d =
-        let P : List f.Statement → Type 0 = λ l. Steps (Eval target value next) at ls None ended l in
+        let P : List f.Statement → Type 0 = λ l. ActionLockstep (Eval target value next) at ls None ended l in
         subst P (sym (ap (λ (z : Standing). z.left) d.is)) (evals target value next at ls ended d.place d.rest d.follows)
     step_by (Store variable kind next) at ls (Some p) ended left s d =
-        let P : List f.Statement → Type 0 = λ l. Steps (Store variable kind next) at ls (Some p) ended l in
+        let P : List f.Statement → Type 0 = λ l. ActionLockstep (Store variable kind next) at ls (Some p) ended l in
         subst P (sym (ap (λ (z : Standing). z.left) d.is)) (one_changes _ hs _ _ (moved next d.rest ls None ended d.follows))
     step_by (Store variable kind next) at ls None ended left s d = let b : false ≡ true = ap (λ (z : Standing). z.owes) d.is in cc
     step_by (Test condition holds fails) at ls (Some p) ended left s d = elim d [
@@ -159,8 +161,8 @@ module _ (x : f.Flat) (walkers : List Walker) (threads : List m.Thread) (count :
       | repeats place body rest is h k ↦ absurd (not_owing p left _ is)
     ]
     step_by (Test condition holds fails) at ls None ended left s d =
-        let P : List f.Statement → Type 0 = λ l. Steps (Test condition holds fails) at ls None ended l in
-        let z : Bool = is_zero (g.number_in (g.seen_by flow_now (walker_at at ls None ended)) condition.expr) in
+        let P : List f.Statement → Type 0 = λ l. ActionLockstep (Test condition holds fails) at ls None ended l in
+        let z : Bool = is_zero (g.number_in (g.seen_by flow_now (graph_thread_at at ls None ended)) condition.expr) in
         elim d [
           | chooses place body arms otherwise rest is h k ↦
               subst P (sym (ap (λ (z : Standing). z.left) is))
@@ -171,16 +173,16 @@ module _ (x : f.Flat) (walkers : List Walker) (threads : List m.Thread) (count :
         ]
     step_by (Lock mutex next) at ls (Some p) ended left s d = absurd (not_owing p left _ d.is)
     step_by (Lock mutex next) at ls None ended left s d =
-        let P : List f.Statement → Type 0 = λ l. Steps (Lock mutex next) at ls None ended l in
+        let P : List f.Statement → Type 0 = λ l. ActionLockstep (Lock mutex next) at ls None ended l in
         subst P (sym (ap (λ (z : Standing). z.left) d.is)) (takes (slice_get hs mutex) mutex next at ls ended d.rest d.follows)
     step_by (Unlock mutex next) at ls (Some p) ended left s d = absurd (not_owing p left _ d.is)
     step_by (Unlock mutex next) at ls None ended left s d =
-        let P : List f.Statement → Type 0 = λ l. Steps (Unlock mutex next) at ls None ended l in
+        let P : List f.Statement → Type 0 = λ l. ActionLockstep (Unlock mutex next) at ls None ended l in
         subst P (sym (ap (λ (z : Standing). z.left) d.is)) (one_changes vs (slice_set hs mutex None) _ _ (moved next d.rest ls None ended d.follows))
     step_by End at ls (Some p) ended left s d = absurd (not_owing p left _ d)
     step_by End at ls None ended left s d =
         let none : left ≡ [] = ap (λ (z : Standing). z.left) d in
-        let P : List f.Statement → Type 0 = λ l. Steps End at ls None ended l in
+        let P : List f.Statement → Type 0 = λ l. ActionLockstep End at ls None ended l in
         let Q : List f.Statement → Type 0 = λ l. At all at (free l) in
         subst P (sym none) (ends at ls ended (subst Q none s))
 
@@ -196,9 +198,10 @@ source_is : (s : m.State) (t : ℕ) (o : Option m.Thread) → slice_get s.thread
 unfolding m.source_step
 source_is s t o h = ap (source_by s t) h
 
-pub graph_is : (graph : Graph) (s : FlowState) (t : ℕ) (o : Option Walker) → slice_get s.walkers t ≡ o → graph_step graph s t ≡ g.walker_step graph s t o
+pub graph_is : (graph : Graph) (s : FlowState) (t : ℕ) (o : Option GraphThread) → slice_get s.graph_threads t ≡ o →
+    graph_step graph s t ≡ g.graph_thread_step graph s t o
 unfolding graph_step
-graph_is graph s t o h = ap (g.walker_step graph s t) h
+graph_is graph s t o h = ap (g.graph_thread_step graph s t) h
 
 pub lowered_nodes : (x : f.Flat) → (lowered x).nodes ≡ threads_nodes x.threads 0
 unfolding lowered
@@ -208,24 +211,24 @@ pub lowered_threads : (x : f.Flat) → (lowered x).threads ≡ parts x.threads 0
 unfolding lowered
 lowered_threads x = refl
 
-pub steps_alike : (x : f.Flat) (flow : FlowState) (source : m.State) (thread : ℕ) → IsWellFormed x → Matches x flow source →
+pub steps_lockstep : (x : f.Flat) (flow : FlowState) (source : m.State) (thread : ℕ) → IsWellFormed x → Matches x flow source →
     StepsMatch x (graph_step (lowered x) flow thread) (m.source_step source thread)
-steps_alike x flow source t w h =
+steps_lockstep x flow source t w h =
     let P : Option FlowState → Type 0 = λ o. StepsMatch x o (m.source_step source t) in
-    elim (get_cases flow.walkers t) [
+    elim (get_cases flow.graph_threads t) [
       | inl none ↦
-          let missing = slice_get_past source.threads t (omega (arith, h.count, no_more flow.walkers t none)) in
+          let missing = slice_get_past source.threads t (omega (arith, h.count, no_more flow.graph_threads t none)) in
           let Q : Option m.State → Type 0 = λ o. StepsMatch x None o in
           subst P (sym (graph_is (lowered x) flow t None none)) (subst Q (sym (source_is source t None missing)) tt)
       | inr found ↦
-          let walker = found.0 in
+          let graph_thread = found.0 in
           let here = found.1 in
-          let there = found_in source.threads t (omega (arith, h.count, slice_get_within flow.walkers t walker here)) in
+          let there = found_in source.threads t (omega (arith, h.count, slice_get_within flow.graph_threads t graph_thread here)) in
           let thread = there.0 in
-          let match = h.each t walker thread here there.1 in
-          let node = node_at x walker.at (record { left = thread.left; owes = is_some thread.pending }) w.threads match.stands in
+          let match = h.each t graph_thread thread here there.1 in
+          let node = node_at x graph_thread.at (record { left = thread.left; owes = is_some thread.pending }) w.threads match.stands in
           let as_source : m.State = state_of flow.variables flow.holders source.threads in
-          let as_thread : m.Thread = record { left = thread.left; locals = walker.locals; pending = walker.pending; ended = walker.ended } in
+          let as_thread : m.Thread = record { left = thread.left; locals = graph_thread.locals; pending = graph_thread.pending; ended = graph_thread.ended } in
           let same_state : source ≡ as_source = λ i. state_of (sym h.variables i) (sym h.holders i) source.threads in
           let same_thread : thread ≡ as_thread = λ i. record {
             left = thread.left;
@@ -235,47 +238,49 @@ steps_alike x flow source t w h =
           } in
           let stepping : m.source_step source t ≡ m.thread_step as_source t as_thread =
           source_is source t (Some thread) there.1 ∙ (λ i. m.thread_step (same_state i) t (same_thread i)) in
-          let at_node : graph_step (lowered x) flow t ≡ g.node_step flow t walker (Some node.0) =
-          graph_is (lowered x) flow t (Some walker) here
-          ∙ ap (g.node_step flow t walker) (ap (λ (ns : List Node). slice_get ns walker.at) (lowered_nodes x) ∙ node.1) in
-          let Q : Option m.State → Type 0 = λ o. StepsMatch x (g.node_step flow t walker (Some node.0)) o in
-          let D : Option Pending → Type 0 = λ p. Does (threads_standings x.threads) node.0.action (record { left = thread.left; owes = is_some p }) in
-          let A : Option Pending → Type 0 = λ p. At (threads_standings x.threads) walker.at (record { left = thread.left; owes = is_some p }) in
+          let at_node : graph_step (lowered x) flow t ≡ g.node_step flow t graph_thread (Some node.0) =
+          graph_is (lowered x) flow t (Some graph_thread) here
+          ∙ ap (g.node_step flow t graph_thread) (ap (λ (ns : List Node). slice_get ns graph_thread.at) (lowered_nodes x) ∙ node.1) in
+          let Q : Option m.State → Type 0 = λ o. StepsMatch x (g.node_step flow t graph_thread (Some node.0)) o in
+          let D : Option Pending → Type 0 = λ p. ActionLeads (threads_standings x.threads) node.0.action (record { left = thread.left; owes = is_some p }) in
+          let A : Option Pending → Type 0 = λ p. At (threads_standings x.threads) graph_thread.at (record { left = thread.left; owes = is_some p }) in
           subst P (sym at_node) (subst Q (sym stepping)
-          (step_by x flow.walkers source.threads h.count h.each t walker thread here there.1 flow.variables flow.holders node.0.action walker.at walker.locals
-          walker.pending walker.ended thread.left (subst A (sym match.pending) match.stands) (subst D (sym match.pending) node.2)))
+          (step_by x flow.graph_threads source.threads h.count h.each t graph_thread thread here there.1 flow.variables flow.holders node.0.action
+          graph_thread.at graph_thread.locals
+          graph_thread.pending graph_thread.ended thread.left (subst A (sym match.pending) match.stands) (subst D (sym match.pending) node.2)))
     ]
 
 -- ---- The start
 
-started : (x : f.Flat) (ts : List f.Thread) (first k : ℕ) (walker : Walker) (thread : m.Thread) →
-    slice_get (map g.walker_start (parts ts first)) k ≡ Some walker → slice_get (map m.thread_start ts) k ≡ Some thread →
-    (p : Part) × (source : f.Thread) × (slice_get (parts ts first) k ≡ Some p) × (slice_get ts k ≡ Some source) × (walker ≡ g.walker_start p) ×
+started : (x : f.Flat) (ts : List f.Thread) (first k : ℕ) (graph_thread : GraphThread) (thread : m.Thread) →
+    slice_get (map g.graph_thread_start (parts ts first)) k ≡ Some graph_thread → slice_get (map m.thread_start ts) k ≡ Some thread →
+    (p : Part) × (source : f.Thread) × (slice_get (parts ts first) k ≡ Some p) × (slice_get ts k ≡ Some source) × (graph_thread ≡ g.graph_thread_start p) ×
     (thread ≡ m.thread_start source) × (p.locals ≡ length source.locals)
-started x [] first k walker thread h i = cc
-started x (t ∷ ts) first zero walker thread h i = (part t first, t, refl, refl, cc, cc, refl)
-started x (t ∷ ts) first (suc k) walker thread h i = started x ts (first + thread_count t) k walker thread h i
+started x [] first k graph_thread thread h i = cc
+started x (t ∷ ts) first zero graph_thread thread h i = (part t first, t, refl, refl, cc, cc, refl)
+started x (t ∷ ts) first (suc k) graph_thread thread h i = started x ts (first + thread_count t) k graph_thread thread h i
 
 length-parts : (ts : List f.Thread) (first : ℕ) → length (parts ts first) ≡ length ts
 length-parts [] first = refl
 length-parts (t ∷ ts) first = ap suc (length-parts ts (first + thread_count t))
 
-pub begins_alike : (x : f.Flat) → IsWellFormed x → Matches x (graph_start (lowered x) x) (m.start x)
-begins_alike x w = record {
+pub begins_lockstep : (x : f.Flat) → IsWellFormed x → Matches x (graph_start (lowered x) x) (m.start x)
+begins_lockstep x w = record {
   variables = refl;
   holders = refl;
-  count = length-map (lowered x).threads g.walker_start ∙ ap length (lowered_threads x) ∙ length-parts x.threads 0
+  count = length-map (lowered x).threads g.graph_thread_start ∙ ap length (lowered_threads x) ∙ length-parts x.threads 0
       ∙ sym (length-map x.threads m.thread_start);
-  each = λ k walker thread h i.
-      let s = started x x.threads 0 k walker thread (ap (λ (ps : List Part). slice_get (map g.walker_start ps) k) (sym (lowered_threads x)) ∙ h) i in
-      let begun : WalkerMatches x (g.walker_start s.0) (m.thread_start s.1) = record {
+  each = λ k graph_thread thread h i.
+      let s = started x x.threads 0 k graph_thread thread
+      (ap (λ (ps : List Part). slice_get (map g.graph_thread_start ps) k) (sym (lowered_threads x)) ∙ h) i in
+      let begun : GraphThreadMatches x (g.graph_thread_start s.0) (m.thread_start s.1) = record {
         locals = ap (λ (n : ℕ). replicate n (pos 0)) s.6;
         pending = refl;
         ended = refl;
         stands = begins x k s.0 s.1 w.threads s.2 s.3;
       } in
-      let P : Walker → Type 0 = λ z. WalkerMatches x z thread in
-      let Q : m.Thread → Type 0 = λ z. WalkerMatches x (g.walker_start s.0) z in
+      let P : GraphThread → Type 0 = λ z. GraphThreadMatches x z thread in
+      let Q : m.Thread → Type 0 = λ z. GraphThreadMatches x (g.graph_thread_start s.0) z in
       subst P (sym s.4) (subst Q (sym s.5) begun);
 }
 
@@ -343,10 +348,10 @@ runs_together : (x : f.Flat) (schedule : List ℕ) → IsWellFormed x → (flow 
 runs_together x [] w flow source h = record { states = h; whole = refl; sections = λ k. refl }
 runs_together x (t ∷ ts) w flow source h =
     let both = after_both x ts (runs_together x ts w) flow source h (graph_step (lowered x) flow t) (m.source_step source t)
-    (steps_alike x flow source t w h) in
+    (steps_lockstep x flow source t w h) in
     record { states = both.0; whole = both.1; sections = both.2 }
 
-pub runs_alike : (x : f.Flat) (schedule : List ℕ) → IsWellFormed x → RunsMatch x schedule
-runs_alike x schedule w =
-    let all = runs_together x schedule w (graph_start (lowered x) x) (m.start x) (begins_alike x w) in
+pub runs_lockstep : (x : f.Flat) (schedule : List ℕ) → IsWellFormed x → RunsMatch x schedule
+runs_lockstep x schedule w =
+    let all = runs_together x schedule w (graph_start (lowered x) x) (m.start x) (begins_lockstep x w) in
     record { states = all.states; whole = all.whole; sections = all.sections }

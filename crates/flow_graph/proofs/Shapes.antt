@@ -1,4 +1,4 @@
--- The nodes of a flat form's graph have the locations that their expressions read, and an evaluation for a variable has its store behind it.
+-- The nodes of a flat form's graph have the locations that their expressions read, and an evaluation for a variable has its store after it.
 use Rattle.std.proofs.Common.{◌≡◌, refl, ℕ, zero, suc, ◌+◌, List, [], ◌∷◌, ◌++◌, length, ◌∙◌, ap, ap₂, sym, subst, arith, Some, None, length-append}
 use Rattle.std.specs.Prelude.{slice_get}
 use Rattle.std.specs.List.{AllByRecursion}
@@ -8,7 +8,7 @@ use Rattle.c_tree.specs.Exprs as e
 use Rattle.c_tree.specs.Flats as f
 use Rattle.c_tree.specs.Ranges.{range_of}
 use Rattle.flow_graph.specs.Nodes.{Action, Eval, Store, Test, Lock, Unlock, End, Node}
-use Rattle.flow_graph.proofs.Counted.{length-statement_nodes, length-statements_nodes, length-arms_nodes, length-thread_nodes}
+use Rattle.flow_graph.proofs.NodeCounts.{length-statement_nodes, length-statements_nodes, length-arms_nodes, length-thread_nodes}
 use Rattle.flow_graph.specs.Lowering.{expr_reads, target_reads, elements, scalar, test_node, plain_node, assign_nodes, assign_count, count, statements_count}
 use Rattle.flow_graph.specs.Lowering.{arms_count, thread_count, entry, statement_nodes, statements_nodes, arms_nodes, thread_nodes, threads_nodes}
 
@@ -134,11 +134,11 @@ module _ (all : List Node) where
     shaped_all : (ys : f.Statements) (first next : ℕ) → Has all first (statements_nodes ys first next) → AllShaped all (statements_nodes ys first next)
     shaped_all f.no_statement first next h = tt
     shaped_all (f.statement_and y rest) first next h =
-        let behind = entry (statements_count rest) (first + count y) next in
-        let prefix = statement_nodes y first behind in
+        let after = entry (statements_count rest) (first + count y) next in
+        let prefix = statement_nodes y first after in
         let suffix = statements_nodes rest (first + count y) next in
-        joined prefix suffix (shaped y first behind (has_prefix all first prefix suffix h))
-        (shaped_all rest (first + count y) next (has_suffix all first (count y) prefix suffix (length-statement_nodes y first behind) h))
+        joined prefix suffix (shaped y first after (has_prefix all first prefix suffix h))
+        (shaped_all rest (first + count y) next (has_suffix all first (count y) prefix suffix (length-statement_nodes y first after) h))
 
     shaped_arms : (arms : f.Arms) (place : Place) (last first next : ℕ) → Has all first (arms_nodes arms place last first next) →
         AllShaped all (arms_nodes arms place last first next)

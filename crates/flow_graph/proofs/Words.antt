@@ -13,7 +13,7 @@ use Rattle.std.proofs.lemmas.List.Sums.{sum_by-set}
 use Rattle.std.proofs.lemmas.Nat.{le_or_l}
 use Rattle.std.proofs.lemmas.Nat.Bits.{bit_at-zero, bit_at-lt, bit_at_or, bit_at_set_same, bit_at_set_other, bit_at_clear_same, bit_at_clear_other, shr_and_one}
 use Rattle.flow_graph.specs.LocalSets.{Has, HasAt}
-use Rattle.flow_graph.specs.links.Room.{room}
+use Rattle.flow_graph.specs.links.SetCapacity.{room}
 
 pub same_or_other : (i m : ℕ) → (i ≡ m) ⊎ (i ≢ m)
 same_or_other i m = grind arith
@@ -113,16 +113,13 @@ nothing_removed words local other le = (λ h. (h, λ e. none_past words local le
 
 -- ---- All locals of another set
 
--- so many words are joined
+-- the first `count` words of a set are joined with those of another
 pub record Joins (old added now : List ℕ) (count : ℕ) (grows : Bool) : Type 0 where
   pub long : length now ≡ length old
   pub joined : (k : ℕ) → k < count → get_or now k 0 ≡ bit_or (get_or old k 0) (get_or added k 0)
   pub rest : (k : ℕ) → count ≤ k → get_or now k 0 ≡ get_or old k 0
   pub same : grows ≡ false → now ≡ old
   pub fewer : grows ≡ true → room now < room old
-
-pub joins_none : (old added : List ℕ) → Joins old added old 0 false
-joins_none old added = record { long = refl; joined = λ k lt. absurd (omega arith); rest = λ k _. refl; same = λ _. refl; fewer = λ t. cc }
 
 -- where a word grows less can be added
 less_room : (words : List ℕ) (i word : ℕ) → i < length words → get_or words i 0 < word → get_or words i 0 < 2 ^ 64 → room (set words i word) < room words
@@ -220,14 +217,6 @@ pub record Lists (words items : List ℕ) (count : ℕ) : Type 0 where
   pub ascending : IsStrictlyIncreasing items
   pub only : (local : ℕ) → Contains items local → Has words local
   pub each : (local : ℕ) → local < count → Has words local → Contains items local
-
-pub lists_none : (words : List ℕ) → Lists words [] 0
-lists_none words = record {
-  below = λ k lt. absurd (omega arith);
-  ascending = λ k lt. absurd (omega arith);
-  only = λ local c. absurd (omega (arith, c.1));
-  each = λ local lt. absurd (omega arith);
-}
 
 only_one : (m local : ℕ) → Contains (m ∷ []) local → m ≡ local
 only_one m local (zero, lt, is) = is

@@ -5,7 +5,7 @@ use Rattle.ido_base.specs.declared.place.Place.{Place}
 use Rattle.ido_base.specs.declared.location.Location.{Location}
 use Rattle.ido_ints.specs.declared.kinds.Kind.TheVariants as kind
 use Rattle.ido_ints.specs.declared.operators.Binary.TheVariants as b
-use Rattle.ido_ints.specs.Typed.{typed}
+use Rattle.ido_ints.specs.TypedNumbers.{typed}
 use Rattle.ido_ints.specs.Reduction as reduction
 use Rattle.c_tree.specs.Trees as t
 use Rattle.c_tree.specs.Exprs as e
@@ -81,7 +81,7 @@ live_in_loop : IsLive (lowered counting) 0 2
 unfolding lowered
 live_in_loop = is_read _ refl (0, omega arith, refl)
 
--- nothing is live at a node that doesn't read it and that assigns it, or that has none behind it
+-- nothing is live at a node that doesn't read it and that assigns it, or that has no successor
 not_live : (g : Graph) (local n : ℕ) (x : Node) → NodeAt g n x → x.uses ≡ [] → (x.assigns ≡ Some local) ⊎ (successors x.action ≡ []) → IsLive g local n → ⊥
 not_live g local n x there none stops (is_read y here c) =
     let same : y ≡ x = cc in
@@ -156,7 +156,7 @@ thread = record { name = name (codes "t") 7; locals = []; body = all_of choices;
 abbrev two_threads : f.Flat
 two_threads = record { mutexes = name (codes "m") 6 ∷ []; variables = []; threads = thread ∷ thread ∷ [] }
 
--- a condition without a part of its own has the node behind on both ways; the numbers of the second thread go on from the first's
+-- a condition without a part of its own has the next node on both paths; the numbers of the second thread go on from the first's
 choices_edges : edges (lowered two_threads) ≡
     (1 ∷ 2 ∷ []) ∷ (4 ∷ []) ∷ (4 ∷ 3 ∷ []) ∷ (4 ∷ []) ∷ (4 ∷ 5 ∷ []) ∷ (5 ∷ 6 ∷ []) ∷ [] ∷
     (8 ∷ 9 ∷ []) ∷ (11 ∷ []) ∷ (11 ∷ 10 ∷ []) ∷ (11 ∷ []) ∷ (11 ∷ 12 ∷ []) ∷ (12 ∷ 13 ∷ []) ∷ [] ∷ []

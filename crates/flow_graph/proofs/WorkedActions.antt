@@ -4,7 +4,7 @@ use Rattle.std.specs.Prelude.{pos, codes}
 use Rattle.ido_base.specs.declared.place.Place.{Place}
 use Rattle.ido_ints.specs.declared.kinds.Kind.TheVariants as kind
 use Rattle.ido_ints.specs.declared.operators.Binary.TheVariants as b
-use Rattle.ido_ints.specs.Typed.{typed}
+use Rattle.ido_ints.specs.TypedNumbers.{typed}
 use Rattle.ido_ints.specs.Reduction.{residue, from_least_on}
 use Rattle.c_tree.specs.Exprs as e
 use Rattle.c_tree.specs.Flats as f
@@ -70,7 +70,7 @@ start = graph_start (lowered section) section
 evaluated : graph_after (lowered section) start (0 ∷ 0 ∷ []) ≡ record {
   variables = (pos 5 ∷ []) ∷ [];
   holders = Some 0 ∷ [];
-  walkers = record { at = 2; locals = []; pending = Some (record { variable = 0; element = 0; number = pos 6 }); ended = false } ∷ [];
+  graph_threads = record { at = 2; locals = []; pending = Some (record { variable = 0; element = 0; number = pos 6 }); ended = false } ∷ [];
 }
 unfolding lowered graph_step residue from_least_on
 evaluated = refl
@@ -78,7 +78,7 @@ evaluated = refl
 whole : graph_after (lowered section) start (0 ∷ 0 ∷ 0 ∷ 0 ∷ 0 ∷ []) ≡ record {
   variables = (pos 6 ∷ []) ∷ [];
   holders = None ∷ [];
-  walkers = record { at = 4; locals = []; pending = None; ended = true } ∷ [];
+  graph_threads = record { at = 4; locals = []; pending = None; ended = true } ∷ [];
 }
 unfolding lowered graph_step residue from_least_on
 whole = refl
@@ -96,18 +96,18 @@ one_section : graph_ended (lowered section) start (0 ∷ 0 ∷ 0 ∷ 0 ∷ 0 ∷
 unfolding lowered graph_step residue from_least_on
 one_section = refl
 
--- ---- The thread's own way
+-- ---- The thread's own path
 
-abbrev way : List Visit
-way = solo_path (lowered section) start 0 9
+abbrev path : List Visit
+path = solo_path (lowered section) start 0 9
 
 -- five nodes, and no more
-way_nodes : map (λ (v : Visit). v.walker.at) way ≡ 0 ∷ 1 ∷ 2 ∷ 3 ∷ 4 ∷ []
+path_nodes : map (λ (v : Visit). v.graph_thread.at) path ≡ 0 ∷ 1 ∷ 2 ∷ 3 ∷ 4 ∷ []
 unfolding lowered graph_step residue from_least_on
-way_nodes = refl
+path_nodes = refl
 
 -- the third writes the element
-written : map (λ (v : Visit). write_of (Store 0 kind.Long 3) (seen_by v.before v.walker)) way ≡ None ∷ None ∷ Some (element 0 0) ∷ None ∷ None ∷ []
+written : map (λ (v : Visit). write_of (Store 0 kind.Long 3) (seen_by v.before v.graph_thread)) path ≡ None ∷ None ∷ Some (element 0 0) ∷ None ∷ None ∷ []
 unfolding lowered graph_step residue from_least_on
 written = refl
 

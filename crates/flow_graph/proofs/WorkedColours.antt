@@ -73,12 +73,12 @@ dead_at_last local h (is_read_later x here differs c later) =
     let same : x ≡ reading (0 ∷ 1 ∷ []) = same_Some _ _ (sym here) in
     absurd (omega (arith, c.1, ap (λ (y : Node). length (successors y.action)) same))
 
--- what is live at a node that reads none and has one behind it is live there, and not assigned
-live_behind : (local node assigned next : ℕ) → NodeAt two node (assigning assigned next) → IsLive two local node → (assigned ≢ local) × IsLive two local next
-live_behind local node assigned next there (is_read x here c) =
+-- what is live at a node that reads none and has one successor is live there, and not assigned
+live_after : (local node assigned next : ℕ) → NodeAt two node (assigning assigned next) → IsLive two local node → (assigned ≢ local) × IsLive two local next
+live_after local node assigned next there (is_read x here c) =
     let same : x ≡ assigning assigned next = same_Some _ _ (sym here ∙ there) in
     absurd (omega (arith, c.1, ap (λ (y : Node). length y.uses) same))
-live_behind local node assigned next there (is_read_later {m = m} x here differs c later) =
+live_after local node assigned next there (is_read_later {m = m} x here differs c later) =
     let same : x ≡ assigning assigned next = same_Some _ _ (sym here ∙ there) in
     let at_first : c.0 ≡ 0 = omega (arith, c.1, ap (λ (y : Node). length (successors y.action)) same) in
     let is : next ≡ m = ap (λ k. get_or (next ∷ []) k m) (sym at_first) ∙ ap (λ (y : Node). get_or (successors y.action) c.0 m) (sym same) ∙ c.2 in
@@ -89,14 +89,14 @@ untouched_at_first local h touched = by touched.is
   where
     by : IsLive two local 0 ⊎ IsAssigned two local 0 → ⊥
     by (inl live) =
-        let second = live_behind local 0 0 1 refl live in
-        let third = live_behind local 1 1 2 refl second.1 in
+        let second = live_after local 0 0 1 refl live in
+        let third = live_after local 1 1 2 refl second.1 in
         dead_at_last local (omega (arith, third.0)) third.1
     by (inr assigned) =
         let same : assigned.is ≡ assigning 0 1 = same_Some _ _ (sym assigned.at) in
         absurd (omega (arith, same_Some 0 local (sym (ap (λ (y : Node). y.assigns) same) ∙ assigned.assigns)))
 
--- so this is the first clash
+-- the first clash, where both locals have one register
 first_clash : IsFirstClash two one_register 1 0 1
 first_clash = record { is = clash; first = later; least = λ c d x. omega arith; second = λ d x. omega (arith, x.different) }
   where
@@ -114,7 +114,7 @@ first_clash = record { is = clash; first = later; least = λ c d x. omega arith;
 
 -- ---- Nineteen locals that one node reads
 
--- so many numbers from this one on
+-- consecutive numbers, `count` of them from `first` on
 abbrev numbers : (count first : ℕ) → List ℕ
 numbers zero first = []
 numbers (suc n) first = first ∷ numbers n (suc first)

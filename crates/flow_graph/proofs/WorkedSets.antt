@@ -23,7 +23,7 @@ not_64 : Has (5 ∷ 64 ∷ []) 64 → ⊥
 unfolding Has
 not_64 h = cc
 
--- behind the last word there is none
+-- after the last word there is none
 not_128 : Has (5 ∷ 64 ∷ []) 128 → ⊥
 unfolding Has
 not_128 h = cc

@@ -59,12 +59,12 @@ effect_of End seen = Some Ends
 -- ---- States
 
 -- a thread on its way through the graph
-pub record Walker : Type 0 where
+pub record GraphThread : Type 0 where
   -- the node that it does next
   pub at : ℕ
   pub locals : List ℤ
   pub pending : Option Pending
-  -- its last step is done
+  -- the thread's last step is done
   pub ended : Bool
 
 pub record FlowState : Type 0 where
@@ -72,24 +72,24 @@ pub record FlowState : Type 0 where
   pub variables : List (List ℤ)
   -- of each mutex the thread that holds it, or none
   pub holders : List (Option ℕ)
-  pub walkers : List Walker
+  pub graph_threads : List GraphThread
 
 -- a thread begins at its first node; a local is assigned before it is read
-abbrev pub walker_start : Part → Walker
-walker_start part = record { at = part.first; locals = replicate part.locals (pos 0); pending = None; ended = false }
+abbrev pub graph_thread_start : Part → GraphThread
+graph_thread_start part = record { at = part.first; locals = replicate part.locals (pos 0); pending = None; ended = false }
 
 -- the variables and mutexes are those of the flat form: initial numbers, all free
 abbrev pub graph_start : Graph → f.Flat → FlowState
 graph_start g x = record {
   variables = map (λ (v : Variable). v.initial) x.variables;
   holders = replicate (length x.mutexes) None;
-  walkers = map walker_start g.threads;
+  graph_threads = map graph_thread_start g.threads;
 }
 
 -- ---- Steps
 
-abbrev pub with_walker : FlowState → ℕ → Walker → FlowState
-with_walker s t walker = record s { walkers = slice_set s.walkers t walker }
+abbrev pub with_graph_thread : FlowState → ℕ → GraphThread → FlowState
+with_graph_thread s t graph_thread = record s { graph_threads = slice_set s.graph_threads t graph_thread }
 
 abbrev pub with_holder : FlowState → (mutex : ℕ) → Option ℕ → FlowState
 with_holder s mutex holder = record s { holders = slice_set s.holders mutex holder }
@@ -97,41 +97,42 @@ with_holder s mutex holder = record s { holders = slice_set s.holders mutex hold
 abbrev pub stored : FlowState → Pending → FlowState
 stored s p = record s { variables = slice_set s.variables p.variable (slice_set (slice_index_or s.variables p.variable []) p.element p.number) }
 
-abbrev pub seen_by : FlowState → Walker → Seen
-seen_by s walker = record { locals = walker.locals; pending = walker.pending; variables = s.variables }
+abbrev pub seen_by : FlowState → GraphThread → Seen
+seen_by s graph_thread = record { locals = graph_thread.locals; pending = graph_thread.pending; variables = s.variables }
 
 -- the state after what thread t does; none where it can't be done now: a mutex isn't free, or the thread has ended
-abbrev pub done : FlowState → ℕ → Walker → Effect → Option FlowState
-done s t walker (Sets local number next) = Some (with_walker s t (record walker { at = next; locals = slice_set walker.locals local number }))
-done s t walker (Owes store next) = Some (with_walker s t (record walker { at = next; pending = Some store }))
-done s t walker (Makes store next) = Some (with_walker (stored s store) t (record walker { at = next; pending = None }))
-done s t walker (Goes next) = Some (with_walker s t (record walker { at = next }))
-done s t walker (Takes mutex next) = elim (slice_get s.holders mutex) [
-  | Some None ↦ Some (with_walker (with_holder s mutex (Some t)) t (record walker { at = next }))
+abbrev pub done : FlowState → ℕ → GraphThread → Effect → Option FlowState
+done s t graph_thread (Sets local number next) =
+    Some (with_graph_thread s t (record graph_thread { at = next; locals = slice_set graph_thread.locals local number }))
+done s t graph_thread (Owes store next) = Some (with_graph_thread s t (record graph_thread { at = next; pending = Some store }))
+done s t graph_thread (Makes store next) = Some (with_graph_thread (stored s store) t (record graph_thread { at = next; pending = None }))
+done s t graph_thread (Goes next) = Some (with_graph_thread s t (record graph_thread { at = next }))
+done s t graph_thread (Takes mutex next) = elim (slice_get s.holders mutex) [
+  | Some None ↦ Some (with_graph_thread (with_holder s mutex (Some t)) t (record graph_thread { at = next }))
   | _ ↦ None
 ]
-done s t walker (Gives mutex next) = Some (with_walker (with_holder s mutex None) t (record walker { at = next }))
-done s t walker Ends = if walker.ended then None else Some (with_walker s t (record walker { ended = true }))
+done s t graph_thread (Gives mutex next) = Some (with_graph_thread (with_holder s mutex None) t (record graph_thread { at = next }))
+done s t graph_thread Ends = if graph_thread.ended then None else Some (with_graph_thread s t (record graph_thread { ended = true }))
 
-abbrev pub effect_step : FlowState → ℕ → Walker → Option Effect → Option FlowState
-effect_step s t walker (Some effect) = done s t walker effect
-effect_step s t walker None = None
+abbrev pub effect_step : FlowState → ℕ → GraphThread → Option Effect → Option FlowState
+effect_step s t graph_thread (Some effect) = done s t graph_thread effect
+effect_step s t graph_thread None = None
 
-abbrev pub node_step : FlowState → ℕ → Walker → Option Node → Option FlowState
-node_step s t walker (Some node) = effect_step s t walker (effect_of node.action (seen_by s walker))
-node_step s t walker None = None
+abbrev pub node_step : FlowState → ℕ → GraphThread → Option Node → Option FlowState
+node_step s t graph_thread (Some node) = effect_step s t graph_thread (effect_of node.action (seen_by s graph_thread))
+node_step s t graph_thread None = None
 
-abbrev pub walker_step : Graph → FlowState → ℕ → Option Walker → Option FlowState
-walker_step g s t (Some walker) = node_step s t walker (slice_get g.nodes walker.at)
-walker_step g s t None = None
+abbrev pub graph_thread_step : Graph → FlowState → ℕ → Option GraphThread → Option FlowState
+graph_thread_step g s t (Some graph_thread) = node_step s t graph_thread (slice_get g.nodes graph_thread.at)
+graph_thread_step g s t None = None
 
 -- the state after a step of thread t; none where there is no such step
 unfoldable pub graph_step : Graph → FlowState → ℕ → Option FlowState
-graph_step g s t = walker_step g s t (slice_get s.walkers t)
+graph_step g s t = graph_thread_step g s t (slice_get s.graph_threads t)
 
 -- ---- Runs
 
--- the state after the longest front of a schedule that can be stepped
+-- the state after the longest prefix of a schedule that can be stepped
 abbrev pub graph_after : Graph → FlowState → (schedule : List ℕ) → FlowState
 graph_after g s [] = s
 graph_after g s (t ∷ ts) = elim (graph_step g s t) [
@@ -155,7 +156,7 @@ is_between s thread = holds_none s.holders thread
 abbrev pub ends_section : FlowState → FlowState → (thread : ℕ) → ℕ
 ends_section before after thread = if not (is_between before thread) && is_between after thread then 1 else 0
 
--- how many sections of the thread end in the longest front of a schedule that can be stepped
+-- how many sections of the thread end in the longest prefix of a schedule that can be stepped
 abbrev pub graph_ended : Graph → FlowState → (schedule : List ℕ) → (thread : ℕ) → ℕ
 graph_ended g s [] thread = 0
 graph_ended g s (t ∷ ts) thread = elim (graph_step g s t) [

@@ -5,8 +5,8 @@ pub mod Lockstep
 pub mod Liveness
 pub mod LocalSets
 pub mod Colours
-pub mod Cutting
+pub mod IdempotentCuts
 pub mod Paths
-pub mod Cleaning
+pub mod OmittedCleans
 pub mod Refusals
 pub mod links

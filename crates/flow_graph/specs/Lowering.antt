@@ -136,7 +136,7 @@ abbrev pub entry : (nodes first next : ℕ) → ℕ
 entry zero first next = next
 entry (suc n) first next = first
 
--- the nodes of a part, of which the first has that number; behind the part the thread goes on at `next`
+-- the nodes of a part, of which the first has that number; after the part the thread goes on at `next`
 abbrev mutual
   pub statement_nodes : f.Statement → (first next : ℕ) → List Node
   statement_nodes (f.Assign place target value) first next = assign_nodes place target value first next
@@ -146,7 +146,7 @@ abbrev mutual
   -- the body goes back to the test
   statement_nodes (f.While place condition body) first next =
       test_node place condition (entry (statements_count body) (suc first) first) next ∷ statements_nodes body (suc first) first
-  -- the test stands behind the body
+  -- the test stands after the body
   statement_nodes (f.Do place body condition) first next =
       statements_nodes body first (first + statements_count body) ++ test_node place condition first next ∷ []
   statement_nodes (f.Lock place mutex) first next = plain_node place (Lock mutex next) ∷ []

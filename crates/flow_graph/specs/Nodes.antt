@@ -1,4 +1,4 @@
--- Flow graphs, as contracts see them: nodes by their numbers, each with what it does and the nodes behind it.
+-- Flow graphs, as contracts see them: nodes by their numbers, each with what it does and its successors.
 use Rattle.std.specs.Prelude.{ℕ, List, [], ◌∷◌, map, Option, Some, None}
 use Rattle.ido_base.specs.declared.place.Place.{Place}
 use Rattle.ido_base.specs.declared.location.Location.{Location}
@@ -21,7 +21,7 @@ pub data Action : Type 0 where
   End : Action
 
 pub record Node : Type 0 where
-  -- that of the statement
+  -- the place of the node's statement
   pub place : Place
   pub action : Action
   -- the locals that it reads, and the one that it assigns
@@ -36,7 +36,7 @@ pub record Graph : Type 0 where
   -- of each thread its nodes, from the first up to the end, and how many locals it has
   pub threads : List Part
 
--- the node behind, of a test the one where its condition isn't 0
+-- the next node, of a test the one where its condition isn't 0
 abbrev pub next_of : Action → Option ℕ
 next_of (Eval target value next) = Some next
 next_of (Store variable kind next) = Some next
@@ -45,7 +45,7 @@ next_of (Lock mutex next) = Some next
 next_of (Unlock mutex next) = Some next
 next_of End = None
 
--- the node behind a test where its condition is 0
+-- the node after a test where its condition is 0
 abbrev pub other_of : Action → Option ℕ
 other_of (Eval target value next) = None
 other_of (Store variable kind next) = None
@@ -63,7 +63,7 @@ successors (Lock mutex next) = next ∷ []
 successors (Unlock mutex next) = next ∷ []
 successors End = []
 
--- ---- What the types of `graph` stand for
+-- ---- What the types of `graph` represent
 
 abbrev pub action_of : action.Action → Action
 action_of (actions.Eval target value next) = Eval (lvalue_of target.now) (placed_of value.now) next

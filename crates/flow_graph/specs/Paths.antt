@@ -1,4 +1,4 @@
--- The way of one thread alone through a graph, and which elements are read and written on it.
+-- The path of one thread alone through a graph, and which elements are read and written on it.
 use Rattle.std.specs.Prelude.{◌≡◌, ℕ, zero, suc, ◌<◌, ◌≤◌, List, [], ◌∷◌, ◌++◌, length, replicate, slice_get, Contains, Option, Some, None, true}
 use Rattle.std.specs.Option.{option_map}
 use Rattle.ido_base.specs.declared.location.Location.{Location}
@@ -9,8 +9,8 @@ use Rattle.c_tree.specs.WellFormed.{IsWellFormed}
 use Rattle.flow_graph.specs.Nodes.{Action, Eval, Store, Test, Lock, Unlock, End, Node, Graph}
 use Rattle.flow_graph.specs.Lowering.{lowered}
 use Rattle.flow_graph.specs.Liveness.{NodeAt}
-use Rattle.flow_graph.specs.Actions.{Seen, Walker, FlowState, element_in, seen_by, graph_start, graph_step, graph_after, graph_runs}
-use Rattle.flow_graph.specs.Cutting.{Boundaries, IsEdge, IsBoundary, Begins, AreCuts}
+use Rattle.flow_graph.specs.Actions.{Seen, GraphThread, FlowState, element_in, seen_by, graph_start, graph_step, graph_after, graph_runs}
+use Rattle.flow_graph.specs.IdempotentCuts.{Boundaries, IsEdge, IsBoundary, BeginsRegion, AreCuts}
 
 -- ---- Elements that are read and written
 
@@ -64,17 +64,17 @@ write_of End seen = None
 
 -- a thread, which stands at its node, and the state in which it does that
 pub record Visit : Type 0 where
-  pub walker : Walker
+  pub graph_thread : GraphThread
   pub before : FlowState
 
 -- what the thread does from the state on, by its own steps alone, so many at most
 abbrev pub solo_path : Graph → FlowState → (thread steps : ℕ) → List Visit
 solo_path g s t zero = []
-solo_path g s t (suc n) = elim (slice_get s.walkers t) [
+solo_path g s t (suc n) = elim (slice_get s.graph_threads t) [
   | None ↦ []
-  | Some walker ↦ elim (graph_step g s t) [
+  | Some graph_thread ↦ elim (graph_step g s t) [
     | None ↦ []
-    | Some next ↦ record { walker = walker; before = s } ∷ solo_path g next t n
+    | Some next ↦ record { graph_thread = graph_thread; before = s } ∷ solo_path g next t n
   ]
 ]
 
@@ -83,26 +83,26 @@ pub record ReadsElement (g : Graph) (path : List Visit) (position : ℕ) (read :
   pub visit : Visit
   pub is : Node
   pub there : slice_get path position ≡ Some visit
-  pub at : NodeAt g visit.walker.at is
-  pub reads : Contains (reads_of is.action (seen_by visit.before visit.walker)) read
+  pub at : NodeAt g visit.graph_thread.at is
+  pub reads : Contains (reads_of is.action (seen_by visit.before visit.graph_thread)) read
 
 pub record WritesElement (g : Graph) (path : List Visit) (position : ℕ) (written : Element) : Type 0 where
   pub visit : Visit
   pub is : Node
   pub there : slice_get path position ≡ Some visit
-  pub at : NodeAt g visit.walker.at is
-  pub writes : write_of is.action (seen_by visit.before visit.walker) ≡ Some written
+  pub at : NodeAt g visit.graph_thread.at is
+  pub writes : write_of is.action (seen_by visit.before visit.graph_thread) ≡ Some written
 
 -- a region begins with the path, and no boundary is passed on it
 pub record IsWithinRegion (g : Graph) (b : Boundaries) (path : List Visit) : Type 0 where
-  pub begins : (first : Visit) → slice_get path 0 ≡ Some first → Begins g b first.walker.at
+  pub begins : (first : Visit) → slice_get path 0 ≡ Some first → BeginsRegion g b first.graph_thread.at
   pub inside : (position : ℕ) (one next : Visit) → slice_get path position ≡ Some one → slice_get path (suc position) ≡ Some next →
-      ¬ (IsBoundary g b one.walker.at next.walker.at)
+      ¬ (IsBoundary g b one.graph_thread.at next.graph_thread.at)
 
 -- ---- Laws
 
 -- a run of the flat form's graph reaches the state
-pub record IsReached (x : f.Flat) (s : FlowState) : Type 0 where
+pub record IsReachedFlow (x : f.Flat) (s : FlowState) : Type 0 where
   pub schedule : List ℕ
   pub is : s ≡ graph_after (lowered x) (graph_start (lowered x) x) schedule
 
@@ -123,38 +123,41 @@ pub record LiesInWritten (l : Option Location) (one : Element) : Type 0 where
   pub lies : Lies location one
 
 -- a thread at a node, in a state that is reached
-pub record StandsAtNode (x : f.Flat) (s : FlowState) (thread : ℕ) (walker : Walker) (node : Node) : Type 0 where
-  pub reached : IsReached x s
-  pub found : slice_get s.walkers thread ≡ Some walker
-  pub at : NodeAt (lowered x) walker.at node
+pub record IsAtNode (x : f.Flat) (s : FlowState) (thread : ℕ) (graph_thread : GraphThread) (node : Node) : Type 0 where
+  pub reached : IsReachedFlow x s
+  pub found : slice_get s.graph_threads thread ≡ Some graph_thread
+  pub at : NodeAt (lowered x) graph_thread.at node
 
 -- what a node reads lies in the locations that it reads
 abbrev pub ReadsLie : Type 0
-ReadsLie = (x : f.Flat) (s : FlowState) (thread : ℕ) (walker : Walker) (node : Node) (read : Element) → IsWellFormed x → StandsAtNode x s thread walker node →
-    Contains (reads_of node.action (seen_by s walker)) read → LiesInOne node.reads read
+ReadsLie =
+    (x : f.Flat) (s : FlowState) (thread : ℕ) (graph_thread : GraphThread) (node : Node) (read : Element) → IsWellFormed x →
+    IsAtNode x s thread graph_thread node →
+    Contains (reads_of node.action (seen_by s graph_thread)) read → LiesInOne node.reads read
 
--- and what it writes in the one that it writes
+-- what a node writes lies in the location that it writes
 abbrev pub WritesLie : Type 0
-WritesLie = (x : f.Flat) (s : FlowState) (thread : ℕ) (walker : Walker) (node : Node) (written : Element) → IsWellFormed x →
-    StandsAtNode x s thread walker node → write_of node.action (seen_by s walker) ≡ Some written → LiesInWritten node.writes written
+WritesLie = (x : f.Flat) (s : FlowState) (thread : ℕ) (graph_thread : GraphThread) (node : Node) (written : Element) → IsWellFormed x →
+    IsAtNode x s thread graph_thread node → write_of node.action (seen_by s graph_thread) ≡ Some written → LiesInWritten node.writes written
 
--- a visit of a solo path is made behind as many steps of the thread as there are before it
+-- a visit of a solo path is made after as many steps of the thread as there are before it
 abbrev pub VisitsAreRuns : Type 0
 VisitsAreRuns = (g : Graph) (s : FlowState) (thread steps i : ℕ) (v : Visit) → slice_get (solo_path g s thread steps) i ≡ Some v →
     (graph_runs g s (replicate i thread) ≡ true) × (graph_after g s (replicate i thread) ≡ v.before)
 
--- and where so many steps can be made, there are so many visits
+-- where a thread can make so many steps alone, its solo path has so many visits
 abbrev pub RunsAreVisited : Type 0
 RunsAreVisited = (g : Graph) (s : FlowState) (thread steps : ℕ) → graph_runs g s (replicate steps thread) ≡ true → length (solo_path g s thread steps) ≡ steps
 
 -- a step goes along an edge, but for the last one, which stays at the end
 abbrev pub StepsGoAlongEdges : Type 0
-StepsGoAlongEdges = (g : Graph) (s next : FlowState) (thread : ℕ) (walker after : Walker) → graph_step g s thread ≡ Some next →
-    slice_get s.walkers thread ≡ Some walker → slice_get next.walkers thread ≡ Some after → after.ended ≡ walker.ended → IsEdge g walker.at after.at
+StepsGoAlongEdges = (g : Graph) (s next : FlowState) (thread : ℕ) (graph_thread after : GraphThread) → graph_step g s thread ≡ Some next →
+    slice_get s.graph_threads thread ≡ Some graph_thread → slice_get next.graph_threads thread ≡ Some after → after.ended ≡ graph_thread.ended →
+    IsEdge g graph_thread.at after.at
 
 -- reads are right: within a region, what is read and is written then or later was written before
 abbrev pub ReadsAreRight : Type 0
-ReadsAreRight = (x : f.Flat) (b : Boundaries) (s : FlowState) (thread steps : ℕ) → IsWellFormed x → AreCuts (lowered x) b → IsReached x s →
+ReadsAreRight = (x : f.Flat) (b : Boundaries) (s : FlowState) (thread steps : ℕ) → IsWellFormed x → AreCuts (lowered x) b → IsReachedFlow x s →
     IsWithinRegion (lowered x) b (solo_path (lowered x) s thread steps) → (i j : ℕ) (one : Element) → i ≤ j →
     ReadsElement (lowered x) (solo_path (lowered x) s thread steps) i one → WritesElement (lowered x) (solo_path (lowered x) s thread steps) j one →
     (k : ℕ) × (k < i) × WritesElement (lowered x) (solo_path (lowered x) s thread steps) k one

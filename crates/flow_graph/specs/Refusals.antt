@@ -4,7 +4,7 @@ use Rattle.ido_base.specs.declared.place.Place.{Place}
 use Rattle.c_tree.specs.declared.rule.Rule.{Rule}
 use Rattle.c_tree.specs.declared.rule.Rule.TheVariants as rule
 use Rattle.c_tree.specs.Flats.{Flat}
-use Rattle.c_tree.specs.Checking.{IsChecked, IsFaulty}
+use Rattle.c_tree.specs.AcceptedTexts.{IsChecked, IsFaulty}
 use Rattle.c_tree.specs.Temporaries.{temporaries_fault}
 use Rattle.flow_graph.specs.Lowering.{lowered}
 use Rattle.flow_graph.specs.Liveness.{HasRoom, IsFirstCrowded}

@@ -1,6 +1,6 @@
 //! Boundaries of a graph.
 
-/// Where the code of threads can be resumed: of each node whether a boundary stands before it, and whether one stands behind
+/// Where the code of threads can be resumed: of each node whether a boundary stands before it, and whether one stands after
 /// it, which counts where the node takes a mutex.
 #[derive(Debug, Drop)]
 pub struct Cuts {

@@ -7,7 +7,7 @@ use ido_base::location::Location;
 use ido_base::place::Place;
 use ido_ints::Kind;
 
-/// What a node does, and the nodes behind it, by their numbers.
+/// What a node does, and its successors, by their numbers.
 #[derive(Clone, Copy)]
 pub enum Action<'a> {
     /// Evaluates a value for a target: a local takes it, the store of a variable is pending from then on.
@@ -59,7 +59,7 @@ pub struct Node<'a> {
 }
 
 impl Node<'_> {
-    /// The node behind it; of a test the one where the condition isn't 0. The end has none.
+    /// The next node; of a test the one where the condition isn't 0. The end has none.
     pub fn next(&self) -> Option<usize>
         ensures { result ≡ next_of (node_of self.now).action }
     {
@@ -73,7 +73,7 @@ impl Node<'_> {
         }
     }
 
-    /// The second node behind a test, where its condition is 0. No other has one.
+    /// The second node after a test, where its condition is 0. No other has one.
     pub fn other(&self) -> Option<usize>
         ensures { result ≡ other_of (node_of self.now).action }
     {

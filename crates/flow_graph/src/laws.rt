@@ -1,13 +1,13 @@
 //! Laws of flow graphs: nothing is computed here.
-ghost use Rattle.flow_graph.specs.Lockstep.{BeginsAlike, StepsAlike, RunsAlike};
+ghost use Rattle.flow_graph.specs.Lockstep.{BeginsLockstep, StepsLockstep, RunsLockstep};
 ghost use Rattle.flow_graph.specs.Paths.{ReadsAreRight, ReadsLie, RunsAreVisited, StepsGoAlongEdges, VisitsAreRuns, WritesLie};
 
-/// A source and the flow graph of its well formed flat form step alike, on every schedule: the same variables, holders, locals and
+/// A source and the flow graph of its well formed flat form step in lockstep, on every schedule: the same variables, holders, locals and
 /// pending stores, the same steps that are there or not, and the same sections that end.
-pub fn graph_and_source_step_alike()
-    ensures begins { BeginsAlike }
-    ensures steps { StepsAlike }
-    ensures runs { RunsAlike }
+pub fn graph_and_source_step_lockstep()
+    ensures begins { BeginsLockstep }
+    ensures steps { StepsLockstep }
+    ensures runs { RunsLockstep }
 {}
 
 /// In every run of a well formed flat form's graph the elements that a node reads lie in its locations, and the one that it writes lies
@@ -17,14 +17,14 @@ pub fn elements_lie_in_locations()
     ensures writes { WritesLie }
 {}
 
-/// The way of one thread alone is what its own steps make, one after another, and it goes along edges.
+/// The path of one thread alone is what its own steps make, one after another, and it goes along edges.
 pub fn solo_paths_are_runs()
     ensures visits { VisitsAreRuns }
     ensures whole { RunsAreVisited }
     ensures edges { StepsGoAlongEdges }
 {}
 
-/// Along the way of one thread alone, within a region of idempotent cuts, an element that is read and is written then or later was
+/// Along the path of one thread alone, within a region of idempotent cuts, an element that is read and is written then or later was
 /// written before it was read: so what is read is the same when the region is run again.
 pub fn reads_are_right()
     ensures { ReadsAreRight }

@@ -23,7 +23,7 @@ impl Model for LiveSets {
 }
 
 impl LiveSets {
-    /// Of sets in the order of the nodes.
+    /// The sets of live locals, in the order of the nodes.
     pub fn new(sets: Vec<LocalSet>) -> LiveSets
         ensures { result ≡ sets.items }
     {

@@ -2,7 +2,7 @@
 ghost use Rattle.std.specs.Prelude.{◌≡◌, ◌≢◌, ◌⊎◌, ◌↔◌, ◌+◌, ◌/◌, ◌<◌, ℕ, length, Contains, IfOk, IsTrue, MatchBool};
 ghost use Rattle.std.specs.List.Sorted.{IsStrictlyIncreasing};
 ghost use Rattle.flow_graph.specs.LocalSets.{Has};
-ghost use Rattle.flow_graph.specs.links.Room.{room};
+ghost use Rattle.flow_graph.specs.links.SetCapacity.{room};
 
 use ido_base::memory::OutOfMemory;
 use std::alloc::Global;

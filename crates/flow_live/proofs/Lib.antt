@@ -1,3 +1,3 @@
-pub mod Reaching
-pub mod Pushed
-pub mod Collected
+mod LivenessFixpoint
+mod ReadSets
+mod CollectedSets

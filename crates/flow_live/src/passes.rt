@@ -1,19 +1,19 @@
-//! Passes over the nodes, each of which adds what is live behind a node and isn't assigned there.
+//! Passes over the nodes, each of which adds what is live after a node and isn't assigned there.
 ghost use Rattle.std.specs.Prelude.{◌≡◌, ◌⊎◌, ◌↔◌, ◌<◌, ℕ, length, map};
 ghost use Rattle.flow_graph.specs.Nodes.{node_of};
 ghost use Rattle.flow_graph.specs.LocalSets.{Has};
-ghost use Rattle.flow_live.specs.links.Passes.{AreLong, HasBehind, Comes, Adds, Passes};
+ghost use Rattle.flow_live.specs.links.Passes.{AreLong, HasBoundaryAfter, IsLiveFromSuccessor, Adds, IsLivenessPass};
 
 use flow_graph::graph::Node;
 use flow_graph::local_set::LocalSet;
 
 /// Adds the locals of a node's set, if there is that node.
-fn add_behind(locals: &mut LocalSet, sets: &[LocalSet], behind: Option<usize>)
+fn add_after(locals: &mut LocalSet, sets: &[LocalSet], after: Option<usize>)
     requires { AreLong sets.now (length locals.old) }
-    ensures has { (local : ℕ) → Has locals.new local ↔ (Has locals.old local ⊎ HasBehind sets.now behind local) }
+    ensures has { (local : ℕ) → Has locals.new local ↔ (Has locals.old local ⊎ HasBoundaryAfter sets.now after local) }
     ensures long { length locals.new ≡ length locals.old }
 {
-    match behind {
+    match after {
         Some(number) => match sets.get(number) {
             Some(set) => {
                 locals.add_all(set);
@@ -24,15 +24,15 @@ fn add_behind(locals: &mut LocalSet, sets: &[LocalSet], behind: Option<usize>)
     }
 }
 
-/// The locals that come to a node's entry from those behind it.
+/// The locals that come to a node's entry from its successors.
 fn collect(locals: &mut LocalSet, sets: &[LocalSet], node: &Node)
     requires { AreLong sets.now (length locals.old) }
-    ensures has { (local : ℕ) → Has locals.new local ↔ Comes (node_of node.now) sets.now local }
+    ensures has { (local : ℕ) → Has locals.new local ↔ IsLiveFromSuccessor (node_of node.now) sets.now local }
     ensures long { length locals.new ≡ length locals.old }
 {
     locals.clear();
-    add_behind(locals, sets, node.next());
-    add_behind(locals, sets, node.other());
+    add_after(locals, sets, node.next());
+    add_after(locals, sets, node.other());
     if let Some(local) = node.assigns {
         locals.remove(local);
     }
@@ -53,7 +53,7 @@ fn add_coming(sets: &mut [LocalSet], number: usize, node: &Node, coming: &mut Lo
 fn add_backwards(sets: &mut [LocalSet], nodes: &[Node], coming: &mut LocalSet) -> bool
     requires count { length sets.old ≡ length nodes.now }
     requires long { AreLong sets.old (length coming.old) }
-    ensures passes { Passes nodes.now 0 sets.old sets.new result }
+    ensures passes { IsLivenessPass nodes.now 0 sets.old sets.new result }
     ensures long { length coming.new ≡ length coming.old }
 {
     let mut grows = false;
@@ -65,11 +65,11 @@ fn add_backwards(sets: &mut [LocalSet], nodes: &[Node], coming: &mut LocalSet) -
     grows
 }
 
-/// The same from the first node to the last.
+/// Adds to each node's set the locals that come to its entry, from the first node to the last. Whether any is new.
 fn add_forwards(sets: &mut [LocalSet], nodes: &[Node], coming: &mut LocalSet) -> bool
     requires count { length sets.old ≡ length nodes.now }
     requires long { AreLong sets.old (length coming.old) }
-    ensures passes { Passes nodes.now (length nodes.now) sets.old sets.new result }
+    ensures passes { IsLivenessPass nodes.now (length nodes.now) sets.old sets.new result }
     ensures long { length coming.new ≡ length coming.old }
 {
     let mut grows = false;
@@ -82,12 +82,12 @@ fn add_forwards(sets: &mut [LocalSet], nodes: &[Node], coming: &mut LocalSet) ->
 }
 
 /// Adds to each node's set the locals that come to its entry, once from the last node to the first and once from the first to
-/// the last: so what is live behind nested loops comes into all of them at once. Whether any is new. What `coming` has before
+/// the last: so what is live after nested loops comes into all of them at once. Whether any is new. What `coming` has before
 /// doesn't matter.
 pub(crate) fn add_both_ways(sets: &mut [LocalSet], nodes: &[Node], coming: &mut LocalSet) -> bool
     requires count { length sets.old ≡ length nodes.now }
     requires long { AreLong sets.old (length coming.old) }
-    ensures passes { Passes nodes.now 0 sets.old sets.new result }
+    ensures passes { IsLivenessPass nodes.now 0 sets.old sets.new result }
     ensures long { length coming.new ≡ length coming.old }
 {
     let backwards = add_backwards(sets, nodes, coming);

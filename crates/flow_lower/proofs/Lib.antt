@@ -1,1 +1,1 @@
-pub mod Growing
+mod AddedNodes

@@ -38,7 +38,7 @@ fn last_part(
     Ok(entry(after, end, next))
 }
 
-/// The nodes of a statement, behind which the thread goes on at `next`.
+/// The nodes of a statement, after which the thread goes on at `next`.
 #[cycle(lowering)]
 fn lower_statement<'a>(
     alloc: Global,
@@ -129,8 +129,8 @@ fn lower_do<'a>(
 {
     let first = nodes.len();
     let count = count_all(body)?;
-    let behind = sum(first, count)?;
-    lower_all(alloc, nodes, body, behind)?;
+    let following = sum(first, count)?;
+    lower_all(alloc, nodes, body, following)?;
     nodes.push(test(alloc, place, condition, first, next)?)?;
     Ok(())
 }
@@ -149,8 +149,8 @@ fn lower_all<'a>(
     let end = sum(nodes.len(), all)?;
     for statement in statements {
         let own = count(statement)?;
-        let behind = sum(nodes.len(), own)?;
-        lower_statement(alloc, nodes, statement, entry(behind, end, next))?;
+        let following = sum(nodes.len(), own)?;
+        lower_statement(alloc, nodes, statement, entry(following, end, next))?;
     }
     Ok(())
 }
@@ -172,9 +172,9 @@ fn lower_arms<'a>(
     for arm in arms {
         let inside = sum(nodes.len(), 1)?;
         let count = count_all(&arm.body)?;
-        let behind = sum(inside, count)?;
-        let holds = entry(inside, behind, next);
-        let fails = entry(behind, end, last);
+        let following = sum(inside, count)?;
+        let holds = entry(inside, following, next);
+        let fails = entry(following, end, last);
         nodes.push(test(alloc, place, &arm.condition, holds, fails)?)?;
         lower_all(alloc, nodes, &arm.body, next)?;
     }

@@ -133,8 +133,8 @@ pub(crate) fn add_assignment<'a>(
     match target {
         Lvalue::Local { .. } => nodes.push(eval(alloc, place, target, value, next)?)?,
         Lvalue::Variable { variable, kind, .. } => {
-            let behind = sum(nodes.len(), 1)?;
-            nodes.push(eval(alloc, place, target, value, behind)?)?;
+            let following = sum(nodes.len(), 1)?;
+            nodes.push(eval(alloc, place, target, value, following)?)?;
             let location = Location {
                 variable: *variable,
                 lo: 0,
@@ -148,8 +148,8 @@ pub(crate) fn add_assignment<'a>(
             index,
             ..
         } => {
-            let behind = sum(nodes.len(), 1)?;
-            nodes.push(eval(alloc, place, target, value, behind)?)?;
+            let following = sum(nodes.len(), 1)?;
+            nodes.push(eval(alloc, place, target, value, following)?)?;
             let location = elements(*variable, &index.expr);
             nodes.push(store(alloc, place, *variable, *kind, location, next))?;
         }

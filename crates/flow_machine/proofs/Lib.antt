@@ -1,3 +1,3 @@
-pub mod Steps
-pub mod Runs
-pub mod Lockstep
+mod NodeSteps
+mod Runs
+mod Lockstep

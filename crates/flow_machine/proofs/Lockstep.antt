@@ -1,4 +1,4 @@
--- The answers of the graph's run beside those of the source's.
+-- The answers of the graph's run, in lockstep with the source's.
 use Rattle.std.proofs.Common.{◌≡◌, inl, inr, refl, ℕ, List, sym, ◌∙◌, ap, arith, true, false, Option, Some, None}
 use Rattle.std.specs.Prelude.{slice_get, is_some}
 use Rattle.std.proofs.lemmas.Option.{slice_get_within, slice_get_past}
@@ -10,8 +10,7 @@ use Rattle.flow_graph.specs.Nodes.{Action, Eval, Store, Test, Lock, Unlock, End,
 use Rattle.flow_graph.specs.Lowering.{lowered}
 use Rattle.flow_graph.specs.Actions.{FlowState, graph_step}
 use Rattle.flow_graph.specs.Lockstep.{Standing, free, threads_standings, Matches, StepsMatch}
-use Rattle.flow_graph.proofs.Standing.{Does, chooses, repeats, node_at}
-use Rattle.flow_graph.proofs.Lockstep.{get_cases, found_in, no_more, lowered_nodes, steps_alike, runs_alike}
+use Rattle.flow_graph.proofs.Public.{ActionLeads, chooses, repeats, node_at, get_cases, found_in, no_more, lowered_nodes, steps_lockstep, runs_lockstep}
 use Rattle.source_machine.specs.declared.answers.Stepped.{Stepped}
 use Rattle.source_machine.specs.declared.answers.Stepped.TheVariants.{Waits, Ended}
 use Rattle.source_machine.specs.Answers as source
@@ -37,7 +36,7 @@ left_is : (left rest : List f.Statement) → free left ≡ free rest → first_l
 left_is left rest h = ap (λ (s : Standing). first_lock s.left) h
 
 -- a node takes the mutex that the first statement locks
-ahead : (all : List Standing) (a : Action) (p : Option Pending) (left : List f.Statement) → Does all a (record { left = left; owes = is_some p }) →
+ahead : (all : List Standing) (a : Action) (p : Option Pending) (left : List f.Statement) → ActionLeads all a (record { left = left; owes = is_some p }) →
     taken_by a ≡ ahead_of p left
 ahead all (Eval target value next) (Some p) left d = refl
 ahead all (Eval target value next) None left d = sym (left_is left _ d.is)
@@ -55,13 +54,13 @@ ahead all (Unlock mutex next) None left d = sym (left_is left _ d.is)
 ahead all End (Some p) left d = refl
 ahead all End None left d = sym (left_is left _ d)
 
-alike : (x : f.Flat) (o : Option FlowState) (p : Option m.State) (node : Node) (thread : m.Thread) → StepsMatch x o p →
+lockstep : (x : f.Flat) (o : Option FlowState) (p : Option m.State) (node : Node) (thread : m.Thread) → StepsMatch x o p →
     taken_by node.action ≡ lock_ahead thread →
     answer_at (Some node) o ≡ source.answer_of thread p
-alike x None None node thread h e = ap stopped e ∙ stopped_is (lock_ahead thread)
-alike x None (Some after) node thread h e = absurd h
-alike x (Some next) None node thread h e = absurd h
-alike x (Some next) (Some after) node thread h e = refl
+lockstep x None None node thread h e = ap stopped e ∙ stopped_is (lock_ahead thread)
+lockstep x None (Some after) node thread h e = absurd h
+lockstep x (Some next) None node thread h e = absurd h
+lockstep x (Some next) (Some after) node thread h e = refl
 
 abbrev source_answer : Option m.Thread → Option m.State → Stepped
 source_answer o p = elim o [
@@ -69,26 +68,26 @@ source_answer o p = elim o [
   | None ↦ Ended
 ]
 
-pub answers_alike : (x : f.Flat) (flow : FlowState) (source : m.State) (thread : ℕ) → IsWellFormed x → Matches x flow source →
+pub answers_agree : (x : f.Flat) (flow : FlowState) (source : m.State) (thread : ℕ) → IsWellFormed x → Matches x flow source →
     flow_stepped (lowered x) flow thread ≡ stepped_of source thread
-answers_alike x flow s t w h = elim (get_cases flow.walkers t) [
+answers_agree x flow s t w h = elim (get_cases flow.graph_threads t) [
   | inl none ↦
-      let missing = slice_get_past s.threads t (omega (arith, h.count, no_more flow.walkers t none)) in
+      let missing = slice_get_past s.threads t (omega (arith, h.count, no_more flow.graph_threads t none)) in
       ap (λ o. answer_of (lowered x) o (graph_step (lowered x) flow t)) none ∙ sym (ap (λ o. source_answer o (m.source_step s t)) missing)
   | inr found ↦
-      let walker = found.0 in
-      let there = found_in s.threads t (omega (arith, h.count, slice_get_within flow.walkers t walker found.1)) in
-      let match = h.each t walker there.0 found.1 there.1 in
-      let node = node_at x walker.at (record { left = there.0.left; owes = is_some there.0.pending }) w.threads match.stands in
-      let here : slice_get (lowered x).nodes walker.at ≡ Some node.0 = ap (λ (ns : List Node). slice_get ns walker.at) (lowered_nodes x) ∙ node.1 in
+      let graph_thread = found.0 in
+      let there = found_in s.threads t (omega (arith, h.count, slice_get_within flow.graph_threads t graph_thread found.1)) in
+      let match = h.each t graph_thread there.0 found.1 there.1 in
+      let node = node_at x graph_thread.at (record { left = there.0.left; owes = is_some there.0.pending }) w.threads match.stands in
+      let here : slice_get (lowered x).nodes graph_thread.at ≡ Some node.0 = ap (λ (ns : List Node). slice_get ns graph_thread.at) (lowered_nodes x) ∙ node.1 in
       ap (λ o. answer_of (lowered x) o (graph_step (lowered x) flow t)) found.1
       ∙ (ap (λ n. answer_at n (graph_step (lowered x) flow t)) here
-      ∙ (alike x (graph_step (lowered x) flow t) (m.source_step s t) node.0 there.0 (steps_alike x flow s t w h)
+      ∙ (lockstep x (graph_step (lowered x) flow t) (m.source_step s t) node.0 there.0 (steps_lockstep x flow s t w h)
       (ahead (threads_standings x.threads) node.0.action there.0.pending there.0.left node.2)
       ∙ sym (ap (λ o. source_answer o (m.source_step s t)) there.1)))
 ]
 
 pub keeps_step : (x : f.Flat) (schedule : List ℕ) → IsWellFormed x → KeepsStep x schedule
 keeps_step x schedule w =
-    let r = runs_alike x schedule w in
-    record { answered = λ thread. answers_alike x _ _ thread w r.states; variables = r.states.variables; holders = r.states.holders; sections = r.sections }
+    let r = runs_lockstep x schedule w in
+    record { answered = λ thread. answers_agree x _ _ thread w r.states; variables = r.states.variables; holders = r.states.holders; sections = r.sections }

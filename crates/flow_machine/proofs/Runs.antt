@@ -12,16 +12,16 @@ use Rattle.flow_graph.specs.Nodes.{Graph, graph_of}
 use Rattle.flow_graph.specs.Actions as g
 use Rattle.flow_graph.specs.Actions.{graph_step, graph_start}
 use Rattle.source_machine.specs.Sections.{AreCounted}
-use Rattle.source_machine.specs.links.Ends.{ends}
+use Rattle.source_machine.specs.links.SectionEnds.{ends}
 use Rattle.source_machine.specs.declared.answers.Stepped.{Stepped}
-use Rattle.source_machine.proofs.Ends.{ends_same, counted_as}
+use Rattle.source_machine.proofs.Public.{ends_same, counted_as}
 use Rattle.flow_machine.specs.Answers.{answer_of}
-use Rattle.flow_machine.specs.declared.walker.Walker.{Walker}
+use Rattle.flow_machine.specs.declared.graph_thread.GraphThread.{GraphThread}
 use Rattle.flow_machine.specs.declared.state.FlowState.{FlowState}
-use Rattle.flow_machine.specs.links.Walkers.{walker_of}
-use Rattle.flow_machine.specs.Flows.{state_of, IsAt, IsAfter}
-use Rattle.flow_machine.specs.links.Hands.{hand, state_in, reached, IsMade}
-use Rattle.flow_machine.proofs.Steps.{found_in_map}
+use Rattle.flow_machine.specs.links.GraphThreads.{graph_thread_of}
+use Rattle.flow_machine.specs.Flows.{state_of, RepresentsFlow, IsAfter}
+use Rattle.flow_machine.specs.links.StepChanges.{hand, state_in, reached, IsMade}
+use Rattle.flow_machine.proofs.NodeSteps.{found_in_map}
 
 -- ---- Lists
 
@@ -41,7 +41,7 @@ map_map g h (x ∷ xs) = ap (λ ys. g (h x) ∷ ys) (map_map g h xs)
 
 -- ---- A step
 
-graph_is : (graph : Graph) (s : g.FlowState) (t : ℕ) → graph_step graph s t ≡ g.walker_step graph s t (slice_get s.walkers t)
+graph_is : (graph : Graph) (s : g.FlowState) (t : ℕ) → graph_step graph s t ≡ g.graph_thread_step graph s t (slice_get s.graph_threads t)
 unfolding graph_step
 graph_is graph s t = refl
 
@@ -65,10 +65,10 @@ ended_one : (s : g.FlowState) (k : ℕ) (o : Option g.FlowState) → ended_by s 
 ended_one s k None = sym (ends_same s.holders s.holders k refl)
 ended_one s k (Some next) = add-zero (g.ends_section s next k)
 
-module _ (before after : FlowState) (n : ℕ) (it it' : Walker) (answer : Stepped) (here : slice_get before.walkers.items n ≡ Some it)
-    (same : after.graph ≡ before.graph) (set : after.walkers.items ≡ slice_set before.walkers.items n it')
-    (makes : (walkers : List g.Walker) → IsMade (graph_of before.graph.now) n (hand (walker_of it) before.variables before.holders.items)
-    (hand (walker_of it') after.variables after.holders.items) answer walkers)
+module _ (before after : FlowState) (n : ℕ) (it it' : GraphThread) (answer : Stepped) (here : slice_get before.graph_threads.items n ≡ Some it)
+    (same : after.graph ≡ before.graph) (set : after.graph_threads.items ≡ slice_set before.graph_threads.items n it')
+    (makes : (graph_threads : List g.GraphThread) → IsMade (graph_of before.graph.now) n (hand (graph_thread_of it) before.variables before.holders.items)
+    (hand (graph_thread_of it') after.variables after.holders.items) answer graph_threads)
     (counts : (ended : ℕ → ℕ) → AreCounted before.sections.items ended →
     AreCounted after.sections.items (λ k. ended k + ends before.holders.items after.holders.items k)) where
   abbrev graph : Graph
@@ -77,27 +77,27 @@ module _ (before after : FlowState) (n : ℕ) (it it' : Walker) (answer : Steppe
   abbrev start : g.FlowState
   start = state_of before
 
-  stepping : graph_step graph start n ≡ g.walker_step graph start n (Some (walker_of it))
-  stepping = graph_is graph start n ∙ ap (g.walker_step graph start n) (found_in_map walker_of before.walkers.items n it here)
+  stepping : graph_step graph start n ≡ g.graph_thread_step graph start n (Some (graph_thread_of it))
+  stepping = graph_is graph start n ∙ ap (g.graph_thread_step graph start n) (found_in_map graph_thread_of before.graph_threads.items n it here)
 
-  kept : g.with_walker start n (walker_of it) ≡ start
-  kept = ap (state_in (hand (walker_of it) before.variables before.holders.items))
-      (set_again (map walker_of before.walkers.items) n (walker_of it) (found_in_map walker_of before.walkers.items n it here))
+  kept : g.with_graph_thread start n (graph_thread_of it) ≡ start
+  kept = ap (state_in (hand (graph_thread_of it) before.variables before.holders.items))
+      (set_again (map graph_thread_of before.graph_threads.items) n (graph_thread_of it) (found_in_map graph_thread_of before.graph_threads.items n it here))
 
   arrives : reached (graph_step graph start n) start ≡ state_of after
   arrives =
-      let made = makes (map walker_of before.walkers.items) in
+      let made = makes (map graph_thread_of before.graph_threads.items) in
       (λ i. reached (stepping i) (sym kept i)) ∙ (made.state
-      ∙ ap (state_in (hand (walker_of it') after.variables after.holders.items)) (sym (map_set walker_of before.walkers.items n it')
-      ∙ ap (map walker_of) (sym set)))
+      ∙ ap (state_in (hand (graph_thread_of it') after.variables after.holders.items)) (sym (map_set graph_thread_of before.graph_threads.items n it')
+      ∙ ap (map graph_thread_of) (sym set)))
 
   ending : (k : ℕ) → ends before.holders.items after.holders.items k ≡ g.graph_ended graph start (n ∷ []) k
   ending k = sym (ended_one start k (graph_step graph start n) ∙ ap (λ (s : g.FlowState). ends before.holders.items s.holders k) arrives)
 
   pub after_step : (ended : ℕ → ℕ) → AreCounted before.sections.items ended → IsAfter after graph answer start ended n
   after_step ended counted = record {
-    answered = (makes (map walker_of before.walkers.items)).answered
-        ∙ sym (λ i. answer_of graph (found_in_map walker_of before.walkers.items n it here i) (stepping i));
+    answered = (makes (map graph_thread_of before.graph_threads.items)).answered
+        ∙ sym (λ i. answer_of graph (found_in_map graph_thread_of before.graph_threads.items n it here i) (stepping i));
     stands = record {
       graph_is = ap (λ r. graph_of r.now) (sym same);
       state_is = one_reached start (graph_step graph start n) ∙ arrives;
@@ -106,7 +106,7 @@ module _ (before after : FlowState) (n : ℕ) (it it' : Walker) (answer : Steppe
     };
   }
 
-  pub after_any : (h : Graph) (s : g.FlowState) (ended : ℕ → ℕ) → IsAt before h s ended → IsAfter after h answer s ended n
+  pub after_any : (h : Graph) (s : g.FlowState) (ended : ℕ → ℕ) → RepresentsFlow before h s ended → IsAfter after h answer s ended n
   after_any h s ended at =
       let P : Graph → Type 0 = λ z. IsAfter after z answer s ended n in
       let Q : g.FlowState → Type 0 = λ z. IsAfter after (graph_of before.graph.now) answer z ended n in
@@ -116,10 +116,10 @@ module _ (before after : FlowState) (n : ℕ) (it it' : Walker) (answer : Steppe
 
 pub starts : (state : FlowState) (x : flat.Flat) → state.variables ≡ map (λ (v : variable.Variable). (variable_of v).initial) x.variables.items →
     state.holders.items ≡ replicate (length x.mutexes.items) None →
-    map walker_of state.walkers.items ≡ map g.walker_start state.graph.now.threads.items →
+    map graph_thread_of state.graph_threads.items ≡ map g.graph_thread_start state.graph.now.threads.items →
     state.sections.items ≡ replicate (length state.graph.now.threads.items) 0 →
-    IsAt state (graph_of state.graph.now) (graph_start (graph_of state.graph.now) (f.flat_of x)) (λ _. 0)
-starts state x variables holders walkers sections =
+    RepresentsFlow state (graph_of state.graph.now) (graph_start (graph_of state.graph.now) (f.flat_of x)) (λ _. 0)
+starts state x variables holders graph_threads sections =
     let zeros : AreCounted (replicate (length state.graph.now.threads.items) 0) (λ _. 0) =
     λ k l. get_or-replicate (length state.graph.now.threads.items) k 0 0 (omega (arith, length-replicate {A = ℕ} (length state.graph.now.threads.items) 0)) in
     let P : List ℕ → Type 0 = λ ns. AreCounted ns (λ _. 0) in
@@ -127,6 +127,6 @@ starts state x variables holders walkers sections =
     let hs = ap (λ n. replicate n None) (length-map x.mutexes.items name_of) ∙ sym holders in
     record {
       graph_is = refl;
-      state_is = λ i. record { variables = vs i; holders = hs i; walkers = sym walkers i };
+      state_is = λ i. record { variables = vs i; holders = hs i; graph_threads = sym graph_threads i };
       sections = subst P (sym sections) zeros;
     }

@@ -1,7 +1,7 @@
 -- What is answered for a step of a thread through a graph.
 use Rattle.std.specs.Prelude.{ℕ, slice_get, Option, Some, None}
 use Rattle.flow_graph.specs.Nodes.{Action, Eval, Store, Test, Lock, Unlock, End, Node, Graph}
-use Rattle.flow_graph.specs.Actions.{Walker, FlowState, graph_step}
+use Rattle.flow_graph.specs.Actions.{GraphThread, FlowState, graph_step}
 use Rattle.source_machine.specs.declared.answers.Stepped.{Stepped}
 use Rattle.source_machine.specs.declared.answers.Stepped.TheVariants.{Did, Waits, Ended}
 
@@ -28,10 +28,10 @@ abbrev pub answer_at : Option Node → (step : Option FlowState) → Stepped
 answer_at here (Some next) = Did
 answer_at here None = stopped (taken_at here)
 
-abbrev pub answer_of : Graph → Option Walker → (step : Option FlowState) → Stepped
-answer_of g (Some walker) step = answer_at (slice_get g.nodes walker.at) step
+abbrev pub answer_of : Graph → Option GraphThread → (step : Option FlowState) → Stepped
+answer_of g (Some graph_thread) step = answer_at (slice_get g.nodes graph_thread.at) step
 answer_of g None step = Ended
 
 -- `Did` where the thread has a step; else the mutex at whose lock it stands, or that it has ended
 abbrev pub flow_stepped : Graph → FlowState → (thread : ℕ) → Stepped
-flow_stepped g s t = answer_of g (slice_get s.walkers t) (graph_step g s t)
+flow_stepped g s t = answer_of g (slice_get s.graph_threads t) (graph_step g s t)

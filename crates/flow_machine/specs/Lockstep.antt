@@ -1,4 +1,4 @@
--- The run of a flat form's graph, beside that of its source.
+-- The run of a flat form's graph, in lockstep with that of its source.
 use Rattle.std.specs.Prelude.{◌≡◌, ℕ, List}
 use Rattle.c_tree.specs.Flats as f
 use Rattle.c_tree.specs.Source as m
@@ -10,11 +10,11 @@ use Rattle.source_machine.specs.Runs.{stepped_of}
 use Rattle.flow_machine.specs.Answers.{flow_stepped}
 
 -- in states that match each thread's step is answered the same
-abbrev pub AnswersAlike : Type 0
-AnswersAlike = (x : f.Flat) (flow : FlowState) (source : m.State) (thread : ℕ) → IsWellFormed x → Matches x flow source →
+abbrev pub AnswersAgree : Type 0
+AnswersAgree = (x : f.Flat) (flow : FlowState) (source : m.State) (thread : ℕ) → IsWellFormed x → Matches x flow source →
     flow_stepped (lowered x) flow thread ≡ stepped_of source thread
 
--- so after each schedule each thread's step is answered the same, the variables and holders are the same, and as many sections have ended
+-- after each schedule each thread's step is answered the same, the variables and holders are the same, and as many sections have ended
 pub record KeepsStep (x : f.Flat) (schedule : List ℕ) : Type 0 where
   pub answered : (thread : ℕ) →
       flow_stepped (lowered x) (graph_after (lowered x) (graph_start (lowered x) x) schedule) thread ≡ stepped_of (m.after_from (m.start x) schedule) thread

@@ -1,3 +1,3 @@
 -- What links the code of a thread's step to the step of the graph: nobody has to believe it.
-pub mod Hands
-pub mod Walkers
+pub mod StepChanges
+pub mod GraphThreads

@@ -2,8 +2,8 @@
 //! After `start` no call takes memory.
 #![tactic(auto)]
 
+mod graph_thread;
 pub mod laws;
 mod state;
-mod walker;
 
 pub use state::FlowState;

@@ -1,5 +1,7 @@
 //! Analyses of a flow graph: eight threads of 681 nodes each, which assign a local and then one of 16 variables, over and over in
 //! one section. It is lowered, its live locals, registers and cuts are found, and the cuts are checked.
+//!
+//! To measure: `cd crates/graph_bench && rt run && time out/graph_bench`. The whole check compares what it prints; it measures nothing.
 #![tactic(auto)]
 
 use anyhow::{Error, anyhow};

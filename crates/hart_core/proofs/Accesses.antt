@@ -9,16 +9,16 @@ use Rattle.ido_base.specs.Layout.{in_range, aligned, byte_number, line_bytes}
 use Rattle.ido_base.specs.Words.{Word, Entry, loaded, stored, drained, entry_of}
 use Rattle.line_memory.specs.declared.memory.LineMemory.{LineMemory}
 use Rattle.line_memory.specs.declared.queue.Queue.{Queue}
-use Rattle.line_memory.specs.links.Queues.{QueueStands, queue_length}
-use Rattle.line_memory.specs.links.Stands.{Stands, threads_of}
-use Rattle.line_memory.proofs.Histories.{QueueStands-stored, QueueStands-drained}
+use Rattle.line_memory.specs.links.Queues.{RepresentsQueue, queue_length}
+use Rattle.line_memory.specs.links.MemoryRepresentation.{Represents, threads_of}
+use Rattle.line_memory.proofs.Public.{RepresentsQueue-stored, RepresentsQueue-drained}
 use Rattle.rv64_isa.specs.declared.phase.Phase.{Phase}
 use Rattle.rv64_isa.specs.Rows.{Loads, Stores, Cleans, Fences, next, written, load_result}
 use Rattle.rv64_isa.specs.Machine.{Hart as HartModel, World, Outcome, applied, access, stuck, moved, gone_on, drain_one, fenced, cleaned}
 use Rattle.hart_core.specs.declared.hart.Hart.{Hart}
-use Rattle.hart_core.specs.Steps.{Parts, PartsStand, PartsEnd, IsStep}
+use Rattle.hart_core.specs.StepsOnParts.{Parts, PartsStand, PartsEnd, IsStep}
 use Rattle.hart_core.specs.links.Refusals.{refusal}
-use Rattle.hart_core.proofs.Ends.{same_end, changed_end}
+use Rattle.hart_core.proofs.StepOutcomes.{same_end, changed_end}
 
 -- what an access comes to, by whether it is in range and aligned
 refused_by : (r a : Bool) (w : World) (address : ℕ) (cause : Cause) (outcome : Outcome) →
@@ -55,7 +55,7 @@ refused_step number address bytes cause parts outcome refused = record {
 
 -- a load that is made
 pub load_step : (number address bytes register found : ℕ) (signed : Bool) (phase : Phase) (hart : Hart) (memory : LineMemory) (locks : List (Option ℕ)) →
-    refusal (threads_of memory) address bytes ≡ None → ((words : List Word) → Stands memory words → found ≡ loaded words (byte_number address) bytes) →
+    refusal (threads_of memory) address bytes ≡ None → ((words : List Word) → Represents memory words → found ≡ loaded words (byte_number address) bytes) →
     IsStep (λ w model. applied w number model (Loads address bytes signed register)) number
     (record { phase = phase; hart = hart; memory = memory; locks = locks })
     (record {
@@ -88,7 +88,8 @@ load_step number address bytes register found signed phase hart memory locks mad
 -- a store that is made
 pub store_step : (number address bytes value : ℕ) (phase : Phase) (hart : Hart) (memory memory' : LineMemory) (locks : List (Option ℕ)) →
     refusal (threads_of memory) address bytes ≡ None →
-    ((words : List Word) → Stands memory words → Stands memory' (stored words (byte_number address) bytes value)) → threads_of memory' ≡ threads_of memory →
+    ((words : List Word) → Represents memory words → Represents memory' (stored words (byte_number address) bytes value)) →
+    threads_of memory' ≡ threads_of memory →
     IsStep (λ w model. applied w number model (Stores address bytes value)) number (record { phase = phase; hart = hart; memory = memory; locks = locks })
     (record { phase = phase; hart = record hart { pc = next hart.pc }; memory = memory'; locks = locks }) Moved
 store_step number address bytes value phase hart memory memory' locks made stands threads = record {
@@ -101,8 +102,8 @@ store_step number address bytes value phase hart memory memory' locks made stand
       (changed_end before after Moved number w model (gone_on model) words w.holders s (stands w.words s.words) threads s.holders s.phase (record {
         registers = s.hart.registers;
         pc = ap next s.hart.pc;
-        queue = QueueStands-stored hart.queue model.queue w.words (byte_number address) bytes value s.hart.queue;
-      }) (λ any entries q. QueueStands-stored any entries w.words (byte_number address) bytes value q));
+        queue = RepresentsQueue-stored hart.queue model.queue w.words (byte_number address) bytes value s.hart.queue;
+      }) (λ any entries q. RepresentsQueue-stored any entries w.words (byte_number address) bytes value q));
 }
 
 -- a queue that isn't full has room
@@ -115,8 +116,8 @@ no_room n m e other = grind (arith, nat_tests)
 -- the oldest entry of a queue is written back
 drained_end : (number : ℕ) (phase : Phase) (hart : Hart) (memory memory' : LineMemory) (queue' : Queue) (locks : List (Option ℕ)) (w : World)
     (model : HartModel) (entries : List Entry) → model.queue ≡ entries → 0 < length entries →
-    ((words : List Word) (e : Entry) (es : List Entry) → Stands memory words → QueueStands hart.queue (e ∷ es) words →
-    Stands memory' (drained words e) × QueueStands queue' es (drained words e)) → threads_of memory' ≡ threads_of memory →
+    ((words : List Word) (e : Entry) (es : List Entry) → Represents memory words → RepresentsQueue hart.queue (e ∷ es) words →
+    Represents memory' (drained words e) × RepresentsQueue queue' es (drained words e)) → threads_of memory' ≡ threads_of memory →
     PartsStand (record { phase = phase; hart = hart; memory = memory; locks = locks }) number w model →
     PartsEnd (record { phase = phase; hart = record hart { queue = queue' }; memory = memory'; locks = locks }) Drained number w
     (drain_one w number model entries)
@@ -124,16 +125,16 @@ drained_end number phase hart memory memory' queue' locks w model [] same some s
 drained_end number phase hart memory memory' queue' locks w model (e ∷ es) same some stands threads s =
     let before : Parts = record { phase = phase; hart = hart; memory = memory; locks = locks } in
     let after : Parts = record { phase = phase; hart = record hart { queue = queue' }; memory = memory'; locks = locks } in
-    let both : Stands memory' (drained w.words e) × QueueStands queue' es (drained w.words e) =
-    stands w.words e es s.words (subst (λ (q : List Entry). QueueStands hart.queue q w.words) same s.hart.queue) in
+    let both : Represents memory' (drained w.words e) × RepresentsQueue queue' es (drained w.words e) =
+    stands w.words e es s.words (subst (λ (q : List Entry). RepresentsQueue hart.queue q w.words) same s.hart.queue) in
     changed_end before after Drained number w model (record model { queue = es }) (drained w.words e) w.holders s both.0 threads s.holders s.phase
-    (record { registers = s.hart.registers; pc = s.hart.pc; queue = both.1 }) (λ any entries q. QueueStands-drained any entries w.words e q)
+    (record { registers = s.hart.registers; pc = s.hart.pc; queue = both.1 }) (λ any entries q. RepresentsQueue-drained any entries w.words e q)
 
 -- a clean that meets a full queue
 pub full_step : (number address : ℕ) (phase : Phase) (hart : Hart) (memory memory' : LineMemory) (queue' : Queue) (locks : List (Option ℕ)) →
     refusal (threads_of memory) address 1 ≡ None → (queue_length hart.queue == 16) ≡ true →
-    ((words : List Word) (e : Entry) (es : List Entry) → Stands memory words → QueueStands hart.queue (e ∷ es) words →
-    Stands memory' (drained words e) × QueueStands queue' es (drained words e)) → threads_of memory' ≡ threads_of memory →
+    ((words : List Word) (e : Entry) (es : List Entry) → Represents memory words → RepresentsQueue hart.queue (e ∷ es) words →
+    Represents memory' (drained words e) × RepresentsQueue queue' es (drained words e)) → threads_of memory' ≡ threads_of memory →
     IsStep (λ w model. applied w number model (Cleans address)) number (record { phase = phase; hart = hart; memory = memory; locks = locks })
     (record { phase = phase; hart = record hart { queue = queue' }; memory = memory'; locks = locks }) Drained
 full_step number address phase hart memory memory' queue' locks made full stands threads = record {
@@ -156,8 +157,8 @@ full_step number address phase hart memory memory' queue' locks made full stands
 pub clean_step : (number address line : ℕ) (phase : Phase) (hart : Hart) (memory : LineMemory) (queue' : Queue) (locks : List (Option ℕ)) →
     refusal (threads_of memory) address 1 ≡ None → queue_length hart.queue ≤ 16 → (queue_length hart.queue == 16) ≡ false →
     line ≡ byte_number address / line_bytes →
-    ((words : List Word) (entries : List Entry) → Stands memory words → QueueStands hart.queue entries words →
-    QueueStands queue' (entries ++ entry_of words line ∷ []) words) →
+    ((words : List Word) (entries : List Entry) → Represents memory words → RepresentsQueue hart.queue entries words →
+    RepresentsQueue queue' (entries ++ entry_of words line ∷ []) words) →
     IsStep (λ w model. applied w number model (Cleans address)) number (record { phase = phase; hart = hart; memory = memory; locks = locks })
     (record { phase = phase; hart = record hart { pc = next hart.pc; queue = queue' }; memory = memory; locks = locks }) Moved
 clean_step number address line phase hart memory queue' locks made within room same stands = record {
@@ -172,15 +173,16 @@ clean_step number address line phase hart memory queue' locks made within room s
       (changed_end before after Moved number w model there w.words w.holders s s.words refl s.holders s.phase (record {
         registers = s.hart.registers;
         pc = ap next s.hart.pc;
-        queue = subst (λ (n : ℕ). QueueStands queue' (model.queue ++ entry_of w.words n ∷ []) w.words) same (stands w.words model.queue s.words s.hart.queue);
+        queue =
+            subst (λ (n : ℕ). RepresentsQueue queue' (model.queue ++ entry_of w.words n ∷ []) w.words) same (stands w.words model.queue s.words s.hart.queue);
       }) (λ any entries q. q)));
 }
 
 -- a fence that still writes back
 pub draining_step : (number : ℕ) (phase : Phase) (hart : Hart) (memory memory' : LineMemory) (queue' : Queue) (locks : List (Option ℕ)) →
     (queue_length hart.queue == 0) ≡ false →
-    ((words : List Word) (e : Entry) (es : List Entry) → Stands memory words → QueueStands hart.queue (e ∷ es) words →
-    Stands memory' (drained words e) × QueueStands queue' es (drained words e)) → threads_of memory' ≡ threads_of memory →
+    ((words : List Word) (e : Entry) (es : List Entry) → Represents memory words → RepresentsQueue hart.queue (e ∷ es) words →
+    Represents memory' (drained words e) × RepresentsQueue queue' es (drained words e)) → threads_of memory' ≡ threads_of memory →
     IsStep (λ w model. applied w number model Fences) number (record { phase = phase; hart = hart; memory = memory; locks = locks })
     (record { phase = phase; hart = record hart { queue = queue' }; memory = memory'; locks = locks }) Drained
 draining_step number phase hart memory memory' queue' locks other stands threads = record {
@@ -198,31 +200,6 @@ draining_step number phase hart memory memory' queue' locks other stands threads
         fenced w number model entries ≡ drain_one w number model entries
     fenced-some w number model [] some = absurd (omega arith)
     fenced-some w number model (e ∷ es) some = refl
-
--- a fence that is done
-pub fence_step : (number : ℕ) (phase : Phase) (hart : Hart) (memory : LineMemory) (locks : List (Option ℕ)) → (queue_length hart.queue == 0) ≡ true →
-    IsStep (λ w model. applied w number model Fences) number (record { phase = phase; hart = hart; memory = memory; locks = locks })
-    (record { phase = phase; hart = record hart { pc = next hart.pc }; memory = memory; locks = locks }) Moved
-fence_step number phase hart memory locks none = record {
-  each = λ w model s.
-      let before : Parts = record { phase = phase; hart = hart; memory = memory; locks = locks } in
-      let after : Parts = record before { hart = record hart { pc = next hart.pc } } in
-      let empty : length model.queue ≡ 0 = is_empty (length model.queue) (queue_length hart.queue) s.hart.queue.size none in
-      subst (λ (o : Outcome). PartsEnd after Moved number w o) (sym (fenced-none w number model model.queue empty))
-      (changed_end before after Moved number w model (gone_on model) w.words w.holders s s.words refl s.holders s.phase (record {
-        registers = s.hart.registers;
-        pc = ap next s.hart.pc;
-        queue = s.hart.queue;
-      }) (λ any entries q. q));
-}
-  where
-    is_empty : (n m : ℕ) → n ≡ m → (m == 0) ≡ true → n ≡ 0
-    is_empty n m e other = grind (arith, nat_tests)
-
-    fenced-none : (w : World) (number : ℕ) (model : HartModel) (entries : List Entry) → length entries ≡ 0 →
-        fenced w number model entries ≡ moved w number (gone_on model)
-    fenced-none w number model [] none = refl
-    fenced-none w number model (e ∷ es) none = absurd (omega arith)
 
 pub load_refused : (number address bytes register : ℕ) (signed : Bool) (cause : Cause) (parts : Parts) →
     refusal (threads_of parts.memory) address bytes ≡ Some cause →

@@ -1,3 +1,4 @@
-pub mod Accesses
-pub mod Ends
-pub mod Holding
+pub mod Public
+mod Accesses
+mod StepOutcomes
+mod LockSteps

@@ -1,4 +1,4 @@
 pub mod Effects
 pub mod Objects
-pub mod Steps
+pub mod StepsOnParts
 pub mod links

@@ -2,12 +2,12 @@
 ghost use Rattle.std.specs.Prelude.{◌≡◌, ℕ, ◌+◌, ◌<◌, ◌≤◌, ◌^◌, List, Option, IfNone, IsTrue};
 ghost use Rattle.ido_base.specs.Layout.{in_range as is_in_range, aligned as is_aligned};
 ghost use Rattle.line_memory.specs.Access.{is_width};
-ghost use Rattle.line_memory.specs.links.Stands.{threads_of, stores_of};
+ghost use Rattle.line_memory.specs.links.MemoryRepresentation.{threads_of, stores_of};
 ghost use Rattle.rv64_isa.specs.declared.phase.Phase.{Phase};
 ghost use Rattle.rv64_isa.specs.Rows.{Effect, Loads, Stores, Cleans, Fences, load_bytes, load_signed, store_bytes};
 ghost use Rattle.rv64_isa.specs.Machine.{applied};
 ghost use Rattle.line_memory.specs.declared.memory.LineMemory.{LineMemory};
-ghost use Rattle.hart_core.specs.Steps.{Parts, IsStep};
+ghost use Rattle.hart_core.specs.StepsOnParts.{Parts, IsStep};
 ghost use Rattle.hart_core.specs.links.Refusals.{refusal};
 
 use crate::hart::Hart;

@@ -6,7 +6,7 @@ ghost use Rattle.rv64_isa.specs.declared.phase.Phase.{Phase};
 ghost use Rattle.rv64_isa.specs.declared.phase.Phase.TheVariants.{Ended};
 ghost use Rattle.rv64_isa.specs.Rows.{Effect, Calls};
 ghost use Rattle.rv64_isa.specs.Machine.{acquired, released, ended, applied};
-ghost use Rattle.hart_core.specs.Steps.{Parts, IsStep};
+ghost use Rattle.hart_core.specs.StepsOnParts.{Parts, IsStep};
 
 use crate::hart::Hart;
 use ido_base::event::{Cause, Reply};

@@ -19,14 +19,14 @@ pub struct Hart {
 impl Hart {
     ghost use Rattle.std.specs.Prelude.{◌≡◌, List, [], replicate};
     ghost use Rattle.ido_base.specs.Words.{Word};
-    ghost use Rattle.line_memory.specs.links.Queues.{queue_length, QueueStands};
+    ghost use Rattle.line_memory.specs.links.Queues.{queue_length, RepresentsQueue};
     ghost use Rattle.rv64_isa.specs.Rows.{written, next};
 
     /// A hart with all registers 0 and nothing queued.
     pub fn new(pc: u64) -> Hart
         ensures registers { result.registers ≡ replicate 32 0 }
         ensures pc { result.pc ≡ pc }
-        ensures queue { (words : List Word) → QueueStands result.queue [] words }
+        ensures queue { (words : List Word) → RepresentsQueue result.queue [] words }
     {
         Hart {
             registers: [0; 32],
@@ -35,11 +35,11 @@ impl Hart {
         }
     }
 
-    /// The same for a hart that there is: all its registers are 0, and what it queued is lost.
+    /// Begins again at the pc: all registers are 0, and what was queued is lost.
     pub fn restart(&mut self, pc: u64)
         ensures registers { self.new.registers ≡ replicate 32 0 }
         ensures pc { self.new.pc ≡ pc }
-        ensures queue { (words : List Word) → QueueStands self.new.queue [] words }
+        ensures queue { (words : List Word) → RepresentsQueue self.new.queue [] words }
     {
         self.registers = [0; 32];
         self.pc = pc;

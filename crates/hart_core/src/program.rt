@@ -5,13 +5,11 @@ ghost use Rattle.rv64_isa.specs.Programs.{slot_of, program_of, code_start, fetch
 ghost use Rattle.hart_core.specs.Objects.{IsWithinLimits};
 ghost use Rattle.hart_core.specs.links.Starts.{AreStarts};
 
+use ido_base::limits::CODE_BASE;
 use ido_base::memory::OutOfMemory;
 use rv64_isa::object::{Object, Slot};
 use std::alloc::Global;
 use std::marker::Model;
-
-/// The address of the first thread's first word.
-const CODE_BASE: u64 = 0x0001_0000;
 
 /// What a machine runs: each thread's instructions, and the words that are none.
 #[derive(Debug, Drop)]

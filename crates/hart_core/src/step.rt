@@ -1,13 +1,13 @@
 //! The step of a hart.
 ghost use Rattle.std.specs.Prelude.{◌≡◌, ◌⊎◌, ℕ, ◌+◌, ◌^◌, ◌<◌, ◌≤◌, List, Option, length};
 ghost use Rattle.line_memory.specs.declared.memory.LineMemory.{LineMemory};
-ghost use Rattle.line_memory.specs.links.Stands.{threads_of, stores_of};
+ghost use Rattle.line_memory.specs.links.MemoryRepresentation.{threads_of, stores_of};
 ghost use Rattle.rv64_isa.specs.declared.phase.Phase.{Phase};
 ghost use Rattle.rv64_isa.specs.declared.phase.Phase.TheVariants.{Ended};
-ghost use Rattle.rv64_isa.specs.Rows.{Effect as Meaning, GoesOn, written};
+ghost use Rattle.rv64_isa.specs.Rows.{Effect as Meaning, Continues, written};
 ghost use Rattle.rv64_isa.specs.Machine.{applied, hart_step};
 ghost use Rattle.hart_core.specs.Effects.{effect_in};
-ghost use Rattle.hart_core.specs.Steps.{Parts, IsStep};
+ghost use Rattle.hart_core.specs.StepsOnParts.{Parts, IsStep};
 
 use crate::access::{clean, fence, load, store};
 use crate::calls::call;
@@ -25,7 +25,7 @@ use rv64_isa::phase::Phase;
 /// Writes a register, and goes on at the pc.
 fn write_and_go(register: Register, value: u64, pc: u64, hart: &mut Hart) -> Reply
     ensures { (number : ℕ) (phase : Phase) (memory : LineMemory) (locks : List (Option ℕ))
-        → IsStep (λ w model. applied w number model (GoesOn (written hart.old.registers register value) pc)) number
+        → IsStep (λ w model. applied w number model (Continues (written hart.old.registers register value) pc)) number
         (record { phase = phase; hart = hart.old; memory = memory; locks = locks })
         (record { phase = phase; hart = hart.new; memory = memory; locks = locks }) result }
 {
@@ -37,7 +37,7 @@ fn write_and_go(register: Register, value: u64, pc: u64, hart: &mut Hart) -> Rep
 /// Goes on at the pc.
 fn go(pc: u64, hart: &mut Hart) -> Reply
     ensures { (number : ℕ) (phase : Phase) (memory : LineMemory) (locks : List (Option ℕ))
-        → IsStep (λ w model. applied w number model (GoesOn hart.old.registers pc)) number
+        → IsStep (λ w model. applied w number model (Continues hart.old.registers pc)) number
         (record { phase = phase; hart = hart.old; memory = memory; locks = locks })
         (record { phase = phase; hart = hart.new; memory = memory; locks = locks }) result }
 {
@@ -90,6 +90,9 @@ fn apply(
 /// A step of the hart of this number, which executes instructions: an instruction, or one write-back of the
 /// oldest entry of its queue where a clean meets a full queue or a fence one that isn't empty. A hart that
 /// waits or is stuck changes nothing.
+///
+/// It speaks of every world that hart, memory and holders represent. The phase stays, or becomes `Ended`; recovery's phases aren't
+/// stepped here.
 #[inline(always)]
 pub fn step(
     number: u32,

@@ -1,13 +1,14 @@
-pub mod Worlds
-pub mod Going
-pub mod Others
-pub mod Memory
-pub mod Calling
-pub mod Recovering
-pub mod Crashing
-pub mod Delay
-pub mod Queues
-pub mod Reaching
-pub mod Well
-pub mod Counting
+pub mod Public
+mod Worlds
+mod RunStepEffects
+mod OtherEventsKeepRuns
+mod Memory
+mod CallSteps
+mod RecoverySteps
+mod WorldAfterCrash
+mod Delay
+mod Queues
+mod QueuePersistence
+mod NoStuckHarts
+mod CallCounts
 mod Worked

@@ -1,4 +1,4 @@
--- What memory goes on to give: bytes beside a store, and raised words.
+-- What memory goes on to give: bytes beside a store, and words that are persisted.
 use Rattle.std.proofs.Common.{◌≡◌, ◌⊎◌, inl, inr, ℕ, ◌+◌, ◌-◌, ◌*◌, ◌/◌, ◌%◌, ◌≤◌, List, [], ◌∷◌, ◌++◌, length}
 use Rattle.std.proofs.Common.{refl, ap, arith, sym, ◌∙◌, subst, cond, get_or, Bool, true, false, ⊎_elim}
 use Rattle.std.specs.Prelude.{nat_lt, nat_le, ◌&&◌}
@@ -8,18 +8,17 @@ use Rattle.std.proofs.Math.ListN.{length-append, length-set}
 use Rattle.ido_base.specs.declared.event.Event.TheVariants.{Step, Evict}
 use Rattle.ido_base.specs.Words.{Word, Entry, word_at, live_value, last_position, with_value, with_part, part, loaded, stored}
 use Rattle.ido_base.specs.Layout.{in_range, aligned, byte_number, word_count, variables_base, logs_base}
-use Rattle.ido_base.specs.Growth.{IsRaised, AreRaised, AreEntries}
-use Rattle.ido_base.proofs.Growth.{word_same, word_other, same_last, are_raised_refl, write_backs_raise, evictions_raise}
-use Rattle.resumption.proofs.Parts.{part_above, part_below}
+use Rattle.ido_base.specs.Growth.{IsPersisted, ArePersisted, AreEntries}
+use Rattle.ido_base.proofs.Public.{word_same, word_other, same_last, are_persisted_refl, write_backs_raise, evictions_raise, part_above, part_below}
 use Rattle.rv64_isa.specs.declared.object.Slot.{Slot}
-use Rattle.rv64_isa.specs.Rows.{Effect, GoesOn, Loads, Stores, Cleans, Fences, Calls}
+use Rattle.rv64_isa.specs.Rows.{Effect, Continues, Loads, Stores, Cleans, Fences, Calls}
 use Rattle.rv64_isa.specs.Machine.{World, happens, after_event}
-use Rattle.rv64_isa.specs.Frames.{IsSound}
-use Rattle.code_runs.specs.Walks.{Setting}
-use Rattle.hart_runs.specs.Standing.{is_access, is_width, Gives, Agrees, may_go, OnRun}
-use Rattle.hart_runs.specs.Steps.{Contents, Changes, GoesForward, Drains}
+use Rattle.rv64_isa.specs.Frames.{IsWellFormedWorld}
+use Rattle.code_runs.specs.CodeTraces.{MarkedEnvironment}
+use Rattle.hart_runs.specs.HartsOnRuns.{is_access, is_width, LoadGives, Agrees, may_go, OnRun}
+use Rattle.hart_runs.specs.RunSteps.{Contents, Changes, GoesForward, Drains}
 use Rattle.hart_runs.specs.Laws.{IsApart, StoresApart}
-use Rattle.hart_runs.proofs.Going.{may_next}
+use Rattle.hart_runs.proofs.RunStepEffects.{may_next}
 
 -- ---- Words
 
@@ -33,14 +32,14 @@ live_appended word value =
     at_end [] = refl
     at_end (x ∷ xs) = at_end xs
 
-live_raised : (old new : Word) → IsRaised old new → live_value new ≡ live_value old
-live_raised old new r =
+live_persisted : (old new : Word) → IsPersisted old new → live_value new ≡ live_value old
+live_persisted old new r =
     let same : last_position new ≡ last_position old = same_last old new r in
     ap (λ (i : ℕ). get_or new.values i 0) same ∙ ap (λ (xs : List ℕ). get_or xs (last_position old) 0) r.values
 
-raised_loads : (old new : List Word) (number count : ℕ) → AreRaised old new → loaded new number count ≡ loaded old number count
-raised_loads old new number count r = ap (λ (v : ℕ). part v (number % 8) count)
-    (live_raised (word_at old (number / 8)) (word_at new (number / 8)) (r.each (number / 8)))
+persisted_loads : (old new : List Word) (number count : ℕ) → ArePersisted old new → loaded new number count ≡ loaded old number count
+persisted_loads old new number count r = ap (λ (v : ℕ). part v (number % 8) count)
+    (live_persisted (word_at old (number / 8)) (word_at new (number / 8)) (r.each (number / 8)))
 
 -- a store leaves what other bytes hold
 beside : (words : List Word) (n bytes value k count : ℕ) → (k + count ≤ n) ⊎ (n + bytes ≤ k) → n % 8 + bytes ≤ 8 → k % 8 + count ≤ 8 →
@@ -78,7 +77,7 @@ in_variables address bytes top e = let h = and_parts _ _ e in (leb-true _ _ h.0,
 in_logs : (address bytes top : ℕ) → (nat_le logs_base address && nat_le (address + bytes) top) ≡ true → (logs_base ≤ address) × (address + bytes ≤ top)
 in_logs address bytes top e = let h = and_parts _ _ e in (leb-true _ _ h.0, leb-true _ _ h.1)
 
--- among the variables' bytes, or behind them among those of logs
+-- among the variables' bytes, or after them among those of logs
 IsNumbered : (threads address bytes number : ℕ) → Type 0
 IsNumbered threads address bytes number =
     ((address + bytes ≤ variables_base + 65536) × (number + variables_base ≡ address)) ⊎
@@ -166,25 +165,26 @@ line_there threads address inside = ⊎_elim
 
 -- ---- Agreement
 
-pub raised_agrees : (program : List (List Slot)) (w v : World) (h : ℕ) (s : Setting) → length v.harts ≡ length w.harts → AreRaised w.words v.words →
+pub persisted_agrees : (program : List (List Slot)) (w v : World) (h : ℕ) (s : MarkedEnvironment) → length v.harts ≡ length w.harts →
+    ArePersisted w.words v.words →
     Agrees program w h s → Agrees program v h s
-raised_agrees program w v h s count r a = record {
+persisted_agrees program w v h s count r a = record {
   fetches = a.fetches;
   loads = λ address bytes value e.
-      let g : Gives w address bytes value = a.loads address bytes value e in
+      let g : LoadGives w address bytes value = a.loads address bytes value e in
       record {
         may = subst (λ (n : ℕ). is_access n address bytes ≡ true) (sym count) g.may;
-        is = raised_loads w.words v.words (byte_number address) bytes r ∙ g.is;
+        is = persisted_loads w.words v.words (byte_number address) bytes r ∙ g.is;
       };
 }
 
-pub beside_agrees : (program : List (List Slot)) (w v : World) (h : ℕ) (s : Setting) (address bytes value : ℕ) → length v.harts ≡ length w.harts →
+pub beside_agrees : (program : List (List Slot)) (w v : World) (h : ℕ) (s : MarkedEnvironment) (address bytes value : ℕ) → length v.harts ≡ length w.harts →
     v.words ≡ stored w.words (byte_number address) bytes value → is_access (length w.harts) address bytes ≡ true → IsApart s address bytes →
     Agrees program w h s → Agrees program v h s
 beside_agrees program w v h s address bytes value count words may apart a = record {
   fetches = a.fetches;
   loads = λ at size found e.
-      let g : Gives w at size found = a.loads at size found e in
+      let g : LoadGives w at size found = a.loads at size found e in
       let there : IsPlaced (length w.harts) address bytes = placed (length w.harts) address bytes may in
       let here : IsPlaced (length w.harts) at size = placed (length w.harts) at size g.may in
       let numbers : (byte_number at + size ≤ byte_number address) ⊎ (byte_number address + bytes ≤ byte_number at) = ⊎_elim
@@ -199,41 +199,42 @@ beside_agrees program w v h s address bytes value count words may apart a = reco
 }
 
 module _ (program : List (List Slot)) (w : World) (h : ℕ) (run : OnRun w h) where
-  -- words that are the same are raised
-  same_raised : (v : World) → v.words ≡ w.words → AreRaised w.words v.words
-  same_raised v e = subst (λ (ws : List Word). AreRaised w.words ws) (sym e) (are_raised_refl w.words)
+  -- words that are the same are persisted
+  same_persisted : (v : World) → v.words ≡ w.words → ArePersisted w.words v.words
+  same_persisted v e = subst (λ (ws : List Word). ArePersisted w.words ws) (sym e) (are_persisted_refl w.words)
 
-  by_effect : (v : World) (k : ℕ) (z : Setting) (e : Effect) (c : Contents) → length v.harts ≡ length w.harts → v.words ≡ c.words →
+  by_effect : (v : World) (k : ℕ) (z : MarkedEnvironment) (e : Effect) (c : Contents) → length v.harts ≡ length w.harts → v.words ≡ c.words →
       Changes (record { words = w.words; queue = run.on.hart.queue }) e c → may_go (length w.harts) e ≡ true → StoresApart z e → Agrees program w k z →
       Agrees program v k z
-  by_effect v k z (GoesOn registers pc) c count is changes may apart a =
-      raised_agrees program w v k z count (same_raised v (is ∙ ap (λ (x : Contents). x.words) changes)) a
+  by_effect v k z (Continues registers pc) c count is changes may apart a =
+      persisted_agrees program w v k z count (same_persisted v (is ∙ ap (λ (x : Contents). x.words) changes)) a
   by_effect v k z (Loads address bytes signed register) c count is changes may apart a =
-      raised_agrees program w v k z count (same_raised v (is ∙ ap (λ (x : Contents). x.words) changes)) a
+      persisted_agrees program w v k z count (same_persisted v (is ∙ ap (λ (x : Contents). x.words) changes)) a
   by_effect v k z (Stores address bytes value) c count is changes may apart a =
       beside_agrees program w v k z address bytes value count (is ∙ ap (λ (x : Contents). x.words) changes) may apart a
   by_effect v k z (Cleans address) c count is changes may apart a =
-      raised_agrees program w v k z count (same_raised v (is ∙ ap (λ (x : Contents). x.words) changes.1)) a
-  by_effect v k z Fences c count is changes may apart a = raised_agrees program w v k z count (same_raised v (is ∙ ap (λ (x : Contents). x.words) changes.1)) a
+      persisted_agrees program w v k z count (same_persisted v (is ∙ ap (λ (x : Contents). x.words) changes.1)) a
+  by_effect v k z Fences c count is changes may apart a =
+      persisted_agrees program w v k z count (same_persisted v (is ∙ ap (λ (x : Contents). x.words) changes.1)) a
   by_effect v k z Calls c count is changes may apart a = absurd changes
 
-  pub forward_agrees : (f : GoesForward program w h run) → (k : ℕ) (z : Setting) → StoresApart z f.effect → Agrees program w k z →
+  pub forward_agrees : (f : GoesForward program w h run) → (k : ℕ) (z : MarkedEnvironment) → StoresApart z f.effect → Agrees program w k z →
       Agrees program (after_event program w (Step h)) k z
   forward_agrees f k z apart a =
       let count : length (after_event program w (Step h)).harts ≡ length w.harts = ap (λ (v : World). length v.harts) f.world ∙ length-set w.harts h _ in
       by_effect (after_event program w (Step h)) k z f.effect f.contents count (ap (λ (v : World). v.words) f.world) f.changes
       (may_next program w h run f) apart a
 
-  pub drains_agree : IsSound w → Drains program w h run → (k : ℕ) (z : Setting) → Agrees program w k z →
+  pub drains_agree : IsWellFormedWorld w → Drains program w h run → (k : ℕ) (z : MarkedEnvironment) → Agrees program w k z →
       Agrees program (after_event program w (Step h)) k z
   drains_agree sound d k z a =
       let entries : AreEntries w.words (d.entry ∷ d.rest) =
       subst (λ (q : List Entry). AreEntries w.words q) d.queue_is (sound.queues h run.on.hart run.on.here) in
       let count : length (after_event program w (Step h)).harts ≡ length w.harts = ap (λ (v : World). length v.harts) d.world ∙ length-set w.harts h _ in
-      raised_agrees program w (after_event program w (Step h)) k z count
-      (subst (λ (v : World). AreRaised w.words v.words) (sym d.world) (write_backs_raise w.words d.entry entries.0)) a
+      persisted_agrees program w (after_event program w (Step h)) k z count
+      (subst (λ (v : World). ArePersisted w.words v.words) (sym d.world) (write_backs_raise w.words d.entry entries.0)) a
 
-pub evictions_agree : (program : List (List Slot)) (w : World) (line mask k : ℕ) (z : Setting) → Agrees program w k z →
+pub evictions_agree : (program : List (List Slot)) (w : World) (line mask k : ℕ) (z : MarkedEnvironment) → Agrees program w k z →
     Agrees program (after_event program w (Evict line mask)) k z
 unfolding happens
-evictions_agree program w line mask k z a = raised_agrees program w (after_event program w (Evict line mask)) k z refl (evictions_raise w.words line mask) a
+evictions_agree program w line mask k z a = persisted_agrees program w (after_event program w (Evict line mask)) k z refl (evictions_raise w.words line mask) a

@@ -13,12 +13,12 @@ use Rattle.rv64_isa.specs.declared.object.Slot.{Slot}
 use Rattle.rv64_isa.specs.declared.object.Slot.TheVariants.{Row, NoRow}
 use Rattle.rv64_isa.specs.declared.phase.Phase.{Phase}
 use Rattle.rv64_isa.specs.declared.phase.Phase.TheVariants.{Take, Wait, Resume, Run, Done, Ended}
-use Rattle.rv64_isa.specs.Rows.{Effect, GoesOn, Loads, Stores, Cleans, Fences, Calls, row, read, next}
+use Rattle.rv64_isa.specs.Rows.{Effect, Continues, Loads, Stores, Cleans, Fences, Calls, row, read, next}
 use Rattle.rv64_isa.specs.Programs.{fetched}
 use Rattle.rv64_isa.specs.Machine.{Hart, World, Outcome, with_hart, with_holder, drain_one, access, cleaned, fenced, acquired, released, ended, called}
 use Rattle.rv64_isa.specs.Machine.{applied, executed, hart_step, taken, waited, taking_from, record_of, resumed, over_after, done_if_over, phase_step}
 use Rattle.rv64_isa.specs.Machine.{stepped, happens, after_event, durable_point, phase_after_crash, start_of, after_crash_of, fresh_hart, numbers_from}
-use Rattle.rv64_isa.proofs.Frames.{get-set_same, get-set_other}
+use Rattle.rv64_isa.proofs.Public.{get-set_same, get-set_other}
 use Rattle.hart_runs.specs.Laws.{AreShort}
 use Rattle.hart_runs.proofs.Worlds.{none_some, some_same, same_there, took}
 
@@ -97,7 +97,7 @@ module _ (h : ℕ) (w : World) (hart : Hart) (short : length hart.queue ≤ 16) 
       (λ _. cond_both (number == 3) _ _ (λ (x : Outcome). KeepsQueues h w x.0) (λ _. ends (least_held w.holders h)) (λ _. stays)))
 
   applies : (effect : Effect) → KeepsQueues h w (applied w h hart effect).0
-  applies (GoesOn registers pc) = moves w (record hart { registers = registers; pc = pc }) refl short
+  applies (Continues registers pc) = moves w (record hart { registers = registers; pc = pc }) refl short
   applies (Loads address bytes signed register) = accesses address bytes _ (moves w _ refl short)
   applies (Stores address bytes value) =
       accesses address bytes _ (moves (record w { words = stored w.words (byte_number address) bytes value }) (record hart { pc = next hart.pc }) refl short)

@@ -18,14 +18,14 @@ use Rattle.rv64_isa.specs.declared.phase.Phase.TheVariants.{Run, Done}
 use Rattle.rv64_isa.specs.Arithmetic.{result_of}
 use Rattle.rv64_isa.specs.Rows.{Stores, Cleans, Fences, row}
 use Rattle.rv64_isa.specs.Machine.{Hart, World, happens, after_event, after_events, reply_to}
-use Rattle.code_runs.specs.Running.{Moment, moment}
-use Rattle.code_runs.specs.Walks.{Setting, Sight, Mark, Does, Walk}
-use Rattle.hart_runs.specs.Standing.{instr_at, live_loads, setting_of, Agrees, StandsOn}
-use Rattle.hart_runs.specs.Steps.{steps_left}
-use Rattle.hart_runs.specs.Laws.{AreCrashless, own_steps, Comes}
+use Rattle.code_runs.specs.ComputingRuns.{LocalConfig, config}
+use Rattle.code_runs.specs.CodeTraces.{MarkedEnvironment, Observation, Mark, Does, Trace}
+use Rattle.hart_runs.specs.HartsOnRuns.{instr_at, live_loads, environment_of, Agrees, IsOnTrace}
+use Rattle.hart_runs.specs.RunSteps.{steps_left}
+use Rattle.hart_runs.specs.Laws.{AreCrashless, own_steps, ComesTo}
 use Rattle.hart_runs.proofs.Worlds.{none_some, some_same}
 use Rattle.hart_runs.proofs.Delay.{harts_come}
-use Rattle.rv64_isa.specs.Frames.{IsSound}
+use Rattle.rv64_isa.specs.Frames.{IsWellFormedWorld}
 use Rattle.ido_base.specs.Growth.{AreEntries}
 use Rattle.ido_base.specs.Layout.{word_count}
 
@@ -57,26 +57,26 @@ abbrev all : ℕ → ℕ → Bool
 all address bytes = true
 
 -- what is around the code, by what loads give
-abbrev s : (loads : ℕ → ℕ → Option ℕ) → Setting
+abbrev s : (loads : ℕ → ℕ → Option ℕ) → MarkedEnvironment
 s loads = record { around = record { fetch = instr_at program 0; loads = loads }; marks = marks }
 
-abbrev seen : List Sight
+abbrev seen : List Observation
 seen = Mark ∷ Does (Stores 0x10000000 8 7) ∷ Does (Cleans 0x10000000) ∷ Does Fences ∷ []
 
-abbrev to : Moment
-to = moment (registers 7 0) 0x10014
+abbrev to : LocalConfig
+to = config (registers 7 0) 0x10014
 
 -- ---- The run
 
 module _ (loads : ℕ → ℕ → Option ℕ) where
-  fence : Walk (s loads) 1 (moment (registers 7 0) 0x10010) (Does Fences ∷ []) to
+  fence : Trace (s loads) 1 (config (registers 7 0) 0x10010) (Does Fences ∷ []) to
   unfolding row
   fence = (to, Does Fences ∷ [], [], record { instr = Fence; stands = refl; does = refl; sees = refl }, (refl, refl), refl)
 
-  clean : Walk (s loads) 2 (moment (registers 7 0) 0x1000c) (Does (Cleans 0x10000000) ∷ Does Fences ∷ []) to
+  clean : Trace (s loads) 2 (config (registers 7 0) 0x1000c) (Does (Cleans 0x10000000) ∷ Does Fences ∷ []) to
   unfolding row
   clean = (
-    moment (registers 7 0) 0x10010,
+    config (registers 7 0) 0x10010,
     Does (Cleans 0x10000000) ∷ [],
     Does Fences ∷ [],
     record { instr = CboClean 28; stands = refl; does = refl; sees = refl },
@@ -84,10 +84,10 @@ module _ (loads : ℕ → ℕ → Option ℕ) where
     refl,
   )
 
-  store : Walk (s loads) 3 (moment (registers 7 0) 0x10008) seen to
+  store : Trace (s loads) 3 (config (registers 7 0) 0x10008) seen to
   unfolding row
   store = (
-    moment (registers 7 0) 0x1000c,
+    config (registers 7 0) 0x1000c,
     Mark ∷ Does (Stores 0x10000000 8 7) ∷ [],
     Does (Cleans 0x10000000) ∷ Does Fences ∷ [],
     record { instr = Store Sd 5 28 0; stands = refl; does = refl; sees = refl },
@@ -95,15 +95,15 @@ module _ (loads : ℕ → ℕ → Option ℕ) where
     refl,
   )
 
-  add : Walk (s loads) 4 (moment (registers 6 0) 0x10004) seen to
+  add : Trace (s loads) 4 (config (registers 6 0) 0x10004) seen to
   unfolding row result_of
-  add = (moment (registers 7 0) 0x10008, [], seen, record { instr = OpImmediate Addi 5 5 1; stands = refl; does = refl; sees = refl }, store, refl)
+  add = (config (registers 7 0) 0x10008, [], seen, record { instr = OpImmediate Addi 5 5 1; stands = refl; does = refl; sees = refl }, store, refl)
 
 -- memory gives 6
-load : Walk (setting_of program marks all first 0) 5 (moment (registers 0 0) 0x10000) seen to
+load : Trace (environment_of program marks all first 0) 5 (config (registers 0 0) 0x10000) seen to
 unfolding row
 load = (
-  moment (registers 6 0) 0x10004,
+  config (registers 6 0) 0x10004,
   [],
   seen,
   record { instr = Load Ld 5 28 0; stands = refl; does = refl; sees = refl },
@@ -111,7 +111,7 @@ load = (
   refl,
 )
 
-stands : StandsOn first 0 (setting_of program marks all first 0) 5 seen to
+stands : IsOnTrace first 0 (environment_of program marks all first 0) 5 seen to
 stands = record {
   hart = record { registers = registers 0 0; pc = 0x10000; phase = Run; queue = [] };
   here = refl;
@@ -138,7 +138,7 @@ module _ (ws : List Word) (size : length ws ≡ word_count 1) where
   no_loads : ℕ → ℕ → Option ℕ
   no_loads address bytes = None
 
-  on : StandsOn before 0 (s no_loads) 3 seen to
+  on : IsOnTrace before 0 (s no_loads) 3 seen to
   unfolding before
   on = record {
     hart = record { registers = registers 7 0; pc = 0x10008; phase = Run; queue = [] };
@@ -148,7 +148,7 @@ module _ (ws : List Word) (size : length ws ≡ word_count 1) where
     may = (refl, (refl, (refl, tt)));
   }
 
-  sound : IsSound before
+  sound : IsWellFormedWorld before
   unfolding before
   sound = record { size = size; queues = none }
     where
@@ -161,7 +161,7 @@ module _ (ws : List Word) (size : length ws ≡ word_count 1) where
   agrees w = record { fetches = λ address instr e. e; loads = λ address bytes value e. absurd (none_some value e) }
 
   -- four steps are enough
-  comes_whatever : (events : List Event) → AreCrashless events → 4 ≤ own_steps 0 events → Comes program before 0 events to 4
+  comes_whatever : (events : List Event) → AreCrashless events → 4 ≤ own_steps 0 events → ComesTo program before 0 events to 4
   unfolding before on
   comes_whatever events crashless enough =
       harts_come program before 0 (s no_loads) 3 seen to events refl sound on crashless
@@ -195,7 +195,7 @@ at_fence : told (after_events program first (replicate 4 (Step 0))) ≡ record {
 unfolding told happens row result_of
 at_fence = refl
 
--- so it comes by its sixth step, and by no earlier one
+-- the fifth step has written the entry back, and the sixth passes the fence
 written_back : told (after_events program first (replicate 5 (Step 0))) ≡ record { pc = 0x10010; queued = 0; live = 7; durable = 7; reply = Moved }
 unfolding told happens row result_of
 written_back = refl

@@ -14,7 +14,7 @@ use Rattle.rv64_isa.specs.Rows.{Effect, row}
 use Rattle.rv64_isa.specs.Machine.{Hart, World, Outcome, moved, with_hart, with_holder, happens, stepped}
 use Rattle.rv64_isa.specs.Machine.{phase_step, hart_step, applied, executed, over_after, done_if_over}
 use Rattle.rv64_isa.specs.Schedule.{effect_at}
-use Rattle.hart_runs.specs.Standing.{instr_of, instr_at}
+use Rattle.hart_runs.specs.HartsOnRuns.{instr_of, instr_at}
 
 pub is_some : {A : Type 0} → Option A → Type 0
 is_some None = ⊥

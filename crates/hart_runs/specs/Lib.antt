@@ -1,4 +1,4 @@
-pub mod Standing
-pub mod Steps
+pub mod HartsOnRuns
+pub mod RunSteps
 pub mod Calls
 pub mod Laws

@@ -1,54 +1,16 @@
 //! What is true of harts that stand on runs: nothing is computed here.
-ghost use Rattle.hart_runs.specs.Laws.{
-  AcquiresTake,
-  AcquiresWait,
-  BesideAgrees,
-  CallsCount,
-  CleansReachNow,
-  CrashesAreShort,
-  CrashesLeave,
-  DrainsAgree,
-  DrainsCountNone,
-  DrainsReach,
-  EndsEnd,
-  EvictionsAgree,
-  FencesSettle,
-  ForwardAgrees,
-  ForwardCounts,
-  ForwardReaches,
-  HartsAwait,
-  HartsCome,
-  HartsResume,
-  HartsTake,
-  MovedHartsBegin,
-  NoneIsStuck,
-  OthersCountNone,
-  OthersKeepRuns,
-  OthersLeave,
-  OthersReach,
-  QueuesStayShort,
-  RaisedAgrees,
-  RecoveryCountsNone,
-  ReleasesGive,
-  RunsBegin,
-  RunsEnd,
-  RunsJoin,
-  RunsSplit,
-  RunsStayOn,
-  SettingsAgree,
-  SettingsAnswer,
-  SettingsMeet,
-  StartsAreShort,
-  StepsGoOn,
-  StepsLower,
-  StoppedStay,
-};
+ghost use Rattle.hart_runs.specs.Laws.{AcquiresTake, AcquiresWait, BesideAgrees, CallsCount, CleansReachNow, CrashesAreShort, CrashesLeave};
+ghost use Rattle.hart_runs.specs.Laws.{DrainsAgree, DrainsCountNone, DrainsReach, EndsEnd, EvictionsAgree, FencesSettle, ForwardAgrees};
+ghost use Rattle.hart_runs.specs.Laws.{ForwardCounts, ForwardReaches, HartsAwait, HartsCome, HartsResume, HartsTake, MovedHartsBegin};
+ghost use Rattle.hart_runs.specs.Laws.{NoneIsStuck, OthersCountNone, OthersKeepRuns, OthersLeave, OthersReach, QueuesStayShort, PersistedAgrees};
+ghost use Rattle.hart_runs.specs.Laws.{RecoveryCountsNone, ReleasesGive, RunsBegin, RunsEnd, RunsJoin, RunsSplit, RunsStayOn, EnvironmentsAgree};
+ghost use Rattle.hart_runs.specs.Laws.{EnvironmentsAnswer, EnvironmentsMeet, StartsAreShort, StepsGoOn, StepsLower, StoppedStay};
 
-/// The setting of a world agrees with it, and meets a thread's code; where another world agrees with it, it answers alike.
-pub fn settings_agree()
-    ensures agrees { SettingsAgree }
-    ensures meets { SettingsMeet }
-    ensures answers { SettingsAnswer }
+/// The environment of a world agrees with it, and meets a thread's code; where another world agrees with it, that one's answers with the same values.
+pub fn environments_agree()
+    ensures agrees { EnvironmentsAgree }
+    ensures meets { EnvironmentsMeet }
+    ensures answers { EnvironmentsAnswer }
 {}
 
 /// A step of a hart that stands on a run completes the next instruction, or writes back an entry that it is held up by.
@@ -66,7 +28,7 @@ pub fn steps_are_counted()
     ensures others { OthersCountNone }
 {}
 
-/// How far a hart's queue reaches: whatever happens but a crash, no less far; behind a clean to the last positions of its line; and a
+/// How far a hart's queue reaches: whatever happens but a crash, no less far; after a clean to the last positions of its line; and a
 /// fence is passed once all of it is durable.
 pub fn queues_reach()
     ensures forward { ForwardReaches }
@@ -89,16 +51,16 @@ pub fn others_keep_runs()
     ensures run { OthersKeepRuns }
 {}
 
-/// What a setting answers, memory goes on to give where words are raised or other bytes are stored to.
+/// What an environment answers, memory goes on to give where words are persisted or other bytes are stored to.
 pub fn memory_agrees()
-    ensures raised { RaisedAgrees }
+    ensures persisted { PersistedAgrees }
     ensures beside { BesideAgrees }
     ensures forward { ForwardAgrees }
     ensures drained { DrainsAgree }
     ensures evicted { EvictionsAgree }
 {}
 
-/// A hart stands on a run that begins where it is, on one behind the other, and on the first part of one; at its end it is there.
+/// A hart stands on a run that begins where it is, on one after the other, and on the first part of one; at its end it is there.
 pub fn runs_join()
     ensures begin { RunsBegin }
     ensures moved { MovedHartsBegin }

@@ -5,20 +5,20 @@ use Rattle.std.proofs.lemmas.Bool.{cases_lt, cases_eq, cond_both}
 use Rattle.std.proofs.lemmas.List.{get_or-set_same, get_or-set_other, get_or-map, get_or-take, get_or-drop, length-take-le, length-map, length-drop, set_past}
 use Rattle.std.proofs.Math.ListN.{length-set, length-append}
 use Rattle.ido_base.specs.Words.{Word, Entry, word_of, word_at, last_position, with_value, written_back, part}
-use Rattle.ido_base.specs.Words.{with_part, live_value, stored, entry_of, raised, drained, evicted_from, evicted}
-use Rattle.ido_base.specs.Growth.{IsRaised, AreRaised, IsChanged, AreChanged, drained_all, Reaches, IsEntry, AreEntries}
+use Rattle.ido_base.specs.Words.{with_part, live_value, stored, entry_of, persisted, drained, evicted_from, evicted}
+use Rattle.ido_base.specs.Growth.{IsPersisted, ArePersisted, IsChanged, AreChanged, drained_all, PersistsThrough, IsEntry, AreEntries}
 use Rattle.ido_base.specs.Growth.{EvictionsRaise, WriteBacksRaise, StoresChange, StableStays, EntriesStay, ReachStays, CleansReach}
 
 -- ---- One word
 
-pub raised_refl : (w : Word) → IsRaised w w
-raised_refl w = record { values = refl; no_lower = omega arith; no_higher = λ h. h }
+pub persisted_refl : (w : Word) → IsPersisted w w
+persisted_refl w = record { values = refl; no_lower = omega arith; no_higher = λ h. h }
 
-pub same_last : (u v : Word) → IsRaised u v → last_position v ≡ last_position u
+pub same_last : (u v : Word) → IsPersisted u v → last_position v ≡ last_position u
 same_last u v a = ap (λ (xs : List ℕ). length xs - 1) a.values
 
-pub raised_trans : (u v w : Word) → IsRaised u v → IsRaised v w → IsRaised u w
-raised_trans u v w a b =
+pub persisted_trans : (u v w : Word) → IsPersisted u v → IsPersisted v w → IsPersisted u w
+persisted_trans u v w a b =
     let same : last_position v ≡ last_position u = same_last u v a in
     record {
       values = b.values ∙ a.values;
@@ -26,8 +26,8 @@ raised_trans u v w a b =
       no_higher = λ h. omega (arith, same, b.no_higher (omega (arith, same, a.no_higher h)));
     }
 
-pub written_back_raised : (w : Word) (position : ℕ) → position ≤ last_position w → IsRaised w (written_back w position)
-written_back_raised w position h = record { values = refl; no_lower = omega arith; no_higher = λ d. omega (arith, h, d) }
+pub written_back_persisted : (w : Word) (position : ℕ) → position ≤ last_position w → IsPersisted w (written_back w position)
+written_back_persisted w position h = record { values = refl; no_lower = omega arith; no_higher = λ d. omega (arith, h, d) }
 
 pub last_later : (u v : Word) → IsChanged u v → last_position u ≤ last_position v
 last_later u v (inl r) = omega (arith, same_last u v r)
@@ -68,17 +68,18 @@ each_by_set P ws i w same there j = elim (cases_eq j i) [
   | inr other ↦ subst (λ (v : Word). P (word_at ws j) v) (sym (word_other ws i j w other)) (same (word_at ws j))
 ]
 
-pub are_raised_refl : (ws : List Word) → AreRaised ws ws
-are_raised_refl ws = record { size = refl; each = λ j. raised_refl (word_at ws j) }
+pub are_persisted_refl : (ws : List Word) → ArePersisted ws ws
+are_persisted_refl ws = record { size = refl; each = λ j. persisted_refl (word_at ws j) }
 
-pub are_raised_trans : (us vs ws : List Word) → AreRaised us vs → AreRaised vs ws → AreRaised us ws
-are_raised_trans us vs ws a b = record { size = b.size ∙ a.size; each = λ j. raised_trans (word_at us j) (word_at vs j) (word_at ws j) (a.each j) (b.each j) }
+pub are_persisted_trans : (us vs ws : List Word) → ArePersisted us vs → ArePersisted vs ws → ArePersisted us ws
+are_persisted_trans us vs ws a b =
+    record { size = b.size ∙ a.size; each = λ j. persisted_trans (word_at us j) (word_at vs j) (word_at ws j) (a.each j) (b.each j) }
 
-pub changed_by_raised : (us vs : List Word) → AreRaised us vs → AreChanged us vs
-changed_by_raised us vs a = record { size = a.size; each = λ j. inl (a.each j) }
+pub changed_by_persisted : (us vs : List Word) → ArePersisted us vs → AreChanged us vs
+changed_by_persisted us vs a = record { size = a.size; each = λ j. inl (a.each j) }
 
 pub changed_refl : (ws : List Word) → AreChanged ws ws
-changed_refl ws = changed_by_raised ws ws (are_raised_refl ws)
+changed_refl ws = changed_by_persisted ws ws (are_persisted_refl ws)
 
 pub stores_change : StoresChange
 stores_change words number count value =
@@ -86,57 +87,57 @@ stores_change words number count value =
     let n = with_part (live_value (word_at words i)) (number % 8) count value in
     record {
       size = length-set words i (with_value (word_at words i) n);
-      each = each_by_set IsChanged words i (with_value (word_at words i) n) (λ u. inl (raised_refl u)) (inr (n, refl));
+      each = each_by_set IsChanged words i (with_value (word_at words i) n) (λ u. inl (persisted_refl u)) (inr (n, refl));
     }
 
 -- ---- Evictions
 
-one_raised : (words : List Word) (at position : ℕ) → position ≤ last_position (word_at words at) →
-    AreRaised words (set words at (written_back (word_at words at) position))
-one_raised words at position h = record {
+one_persisted : (words : List Word) (at position : ℕ) → position ≤ last_position (word_at words at) →
+    ArePersisted words (set words at (written_back (word_at words at) position))
+one_persisted words at position h = record {
   size = length-set words at (written_back (word_at words at) position);
-  each = each_by_set IsRaised words at (written_back (word_at words at) position) raised_refl (written_back_raised (word_at words at) position h);
+  each = each_by_set IsPersisted words at (written_back (word_at words at) position) persisted_refl (written_back_persisted (word_at words at) position h);
 }
 
 evicted_at : List Word → (at mask : ℕ) → List Word
 evicted_at words at mask = cond (eqb (mask % 2) 1) (set words at (written_back (word_at words at) (last_position (word_at words at)))) words
 
-evicted_at_raised : (words : List Word) (at mask : ℕ) → AreRaised words (evicted_at words at mask)
+evicted_at_persisted : (words : List Word) (at mask : ℕ) → ArePersisted words (evicted_at words at mask)
 unfolding evicted_at
-evicted_at_raised words at mask =
+evicted_at_persisted words at mask =
     cond_both (eqb (mask % 2) 1) (set words at (written_back (word_at words at) (last_position (word_at words at)))) words
-    (λ (ws : List Word). AreRaised words ws)
-    (λ _. one_raised words at (last_position (word_at words at)) (omega arith)) (λ _. are_raised_refl words)
+    (λ (ws : List Word). ArePersisted words ws)
+    (λ _. one_persisted words at (last_position (word_at words at)) (omega arith)) (λ _. are_persisted_refl words)
 
-evicted_from_raised : (words : List Word) (at mask count : ℕ) → AreRaised words (evicted_from words at mask count)
+evicted_from_persisted : (words : List Word) (at mask count : ℕ) → ArePersisted words (evicted_from words at mask count)
 unfolding evicted_at
-evicted_from_raised words at mask zero = are_raised_refl words
-evicted_from_raised words at mask (suc count) =
-    are_raised_trans words (evicted_at words at mask) _ (evicted_at_raised words at mask)
-    (evicted_from_raised (evicted_at words at mask) (at + 1) (mask / 2) count)
+evicted_from_persisted words at mask zero = are_persisted_refl words
+evicted_from_persisted words at mask (suc count) =
+    are_persisted_trans words (evicted_at words at mask) _ (evicted_at_persisted words at mask)
+    (evicted_from_persisted (evicted_at words at mask) (at + 1) (mask / 2) count)
 
 pub evictions_raise : EvictionsRaise
-evictions_raise words line mask = evicted_from_raised words (8 * line) mask 8
+evictions_raise words line mask = evicted_from_persisted words (8 * line) mask 8
 
 -- ---- Write-backs
 
-pub length-raised : (ws : List Word) (at : ℕ) (ps : List ℕ) → length (raised ws at ps) ≡ length ws
-length-raised ws at [] = refl
-length-raised ws at (p ∷ ps) = length-raised (set ws at (written_back (word_at ws at) p)) (at + 1) ps ∙ length-set ws at (written_back (word_at ws at) p)
+pub length-persisted : (ws : List Word) (at : ℕ) (ps : List ℕ) → length (persisted ws at ps) ≡ length ws
+length-persisted ws at [] = refl
+length-persisted ws at (p ∷ ps) = length-persisted (set ws at (written_back (word_at ws at) p)) (at + 1) ps ∙ length-set ws at (written_back (word_at ws at) p)
 
 -- positions that the words from `at` on have
 are_positions : List Word → (at : ℕ) → List ℕ → Type 0
 are_positions words at ps = (k : ℕ) → k < length ps → get_or ps k 0 ≤ last_position (word_at words (at + k))
 
-raised_raised : (ws : List Word) (at : ℕ) (ps : List ℕ) → are_positions ws at ps → AreRaised ws (raised ws at ps)
+persisted_persisted : (ws : List Word) (at : ℕ) (ps : List ℕ) → are_positions ws at ps → ArePersisted ws (persisted ws at ps)
 unfolding are_positions
-raised_raised ws at [] within = are_raised_refl ws
-raised_raised ws at (p ∷ ps) within =
+persisted_persisted ws at [] within = are_persisted_refl ws
+persisted_persisted ws at (p ∷ ps) within =
     let zeroth : p ≤ last_position (word_at ws (at + 0)) = within 0 (omega arith) in
     let first : p ≤ last_position (word_at ws at) = subst (λ (i : ℕ). p ≤ last_position (word_at ws i)) (add-zero at) zeroth in
-    let one : AreRaised ws (set ws at (written_back (word_at ws at) p)) = one_raised ws at p first in
-    are_raised_trans ws (set ws at (written_back (word_at ws at) p)) (raised ws at (p ∷ ps)) one
-    (raised_raised (set ws at (written_back (word_at ws at) p)) (at + 1) ps (λ k below.
+    let one : ArePersisted ws (set ws at (written_back (word_at ws at) p)) = one_persisted ws at p first in
+    are_persisted_trans ws (set ws at (written_back (word_at ws at) p)) (persisted ws at (p ∷ ps)) one
+    (persisted_persisted (set ws at (written_back (word_at ws at) p)) (at + 1) ps (λ k below.
     let e : at + 1 + k ≡ at + suc k = omega arith in
     let same : last_position (word_at (set ws at (written_back (word_at ws at) p)) (at + 1 + k)) ≡ last_position (word_at ws (at + 1 + k)) =
     same_last _ _ (one.each (at + 1 + k)) in
@@ -146,7 +147,7 @@ raised_raised ws at (p ∷ ps) within =
 
 pub write_backs_raise : WriteBacksRaise
 unfolding are_positions
-write_backs_raise words e i = raised_raised words (8 * e.line) e.positions (λ k below. i.within k (omega (arith, below, i.eight)))
+write_backs_raise words e i = persisted_persisted words (8 * e.line) e.positions (λ k below. i.within k (omega (arith, below, i.eight)))
 
 -- ---- Entries
 
@@ -175,9 +176,9 @@ pub record NoLower (old new : List Word) : Type 0 where
 no_lower_trans : (us vs ws : List Word) → NoLower us vs → NoLower vs ws → NoLower us ws
 no_lower_trans us vs ws a b = record { size = b.size ∙ a.size; each = λ j. omega (arith, a.each j, b.each j) }
 
-no_lower_raised_at : (old new : List Word) (at p : ℕ) → NoLower old new →
+no_lower_persisted_at : (old new : List Word) (at p : ℕ) → NoLower old new →
     NoLower (set old at (written_back (word_at old at) p)) (set new at (written_back (word_at new at) p))
-no_lower_raised_at old new at p n = record {
+no_lower_persisted_at old new at p n = record {
   size = length-set new at (written_back (word_at new at) p) ∙ n.size ∙ sym (length-set old at (written_back (word_at old at) p));
   each = λ j. elim (cases_eq j at) [
     | inl is ↦ elim (cases_lt at (length old)) [
@@ -208,15 +209,15 @@ no_lower_raised_at old new at p n = record {
   ];
 }
 
-no_lower_raised : (old new : List Word) (at : ℕ) (ps : List ℕ) → NoLower old new → NoLower (raised old at ps) (raised new at ps)
-no_lower_raised old new at [] n = n
-no_lower_raised old new at (p ∷ ps) n =
-    no_lower_raised (set old at (written_back (word_at old at) p)) (set new at (written_back (word_at new at) p)) (at + 1) ps
-    (no_lower_raised_at old new at p n)
+no_lower_persisted : (old new : List Word) (at : ℕ) (ps : List ℕ) → NoLower old new → NoLower (persisted old at ps) (persisted new at ps)
+no_lower_persisted old new at [] n = n
+no_lower_persisted old new at (p ∷ ps) n =
+    no_lower_persisted (set old at (written_back (word_at old at) p)) (set new at (written_back (word_at new at) p)) (at + 1) ps
+    (no_lower_persisted_at old new at p n)
 
 pub no_lower_drained : (old new : List Word) (queue : List Entry) → NoLower old new → NoLower (drained_all old queue) (drained_all new queue)
 no_lower_drained old new [] n = n
-no_lower_drained old new (e ∷ es) n = no_lower_drained (drained old e) (drained new e) es (no_lower_raised old new (8 * e.line) e.positions n)
+no_lower_drained old new (e ∷ es) n = no_lower_drained (drained old e) (drained new e) es (no_lower_persisted old new (8 * e.line) e.positions n)
 
 -- a write-back lowers nothing, whatever its positions
 higher_at : (words : List Word) (at p : ℕ) → NoLower words (set words at (written_back (word_at words at) p))
@@ -225,7 +226,7 @@ higher_at words at p = record {
   each = each_by_set (λ u v. u.durable ≤ v.durable) words at (written_back (word_at words at) p) (λ u. omega arith) (omega arith);
 }
 
-higher : (words : List Word) (at : ℕ) (ps : List ℕ) → NoLower words (raised words at ps)
+higher : (words : List Word) (at : ℕ) (ps : List ℕ) → NoLower words (persisted words at ps)
 higher words at [] = record { size = refl; each = λ j. omega arith }
 higher words at (p ∷ ps) = no_lower_trans words _ _ (higher_at words at p) (higher (set words at (written_back (word_at words at) p)) (at + 1) ps)
 
@@ -241,10 +242,10 @@ pub reach_stays : ReachStays
 reach_stays old new queue more j position c reached =
     let n : NoLower old new = record { size = c.size; each = λ i. durable_later (word_at old i) (word_at new i) (c.each i) } in
     let here = (no_lower_drained old new queue n).each j in
-    let behind = (higher_all (drained_all new queue) more).each j in
+    let after = (higher_all (drained_all new queue) more).each j in
     let same : (word_at (drained_all new (queue ++ more)) j).durable ≡ (word_at (drained_all (drained_all new queue) more) j).durable =
     ap (λ (ws : List Word). (word_at ws j).durable) (drained_append new queue more) in
-    omega (arith, reached, here, behind, same)
+    omega (arith, reached, here, after, same)
 
 -- ---- Cleans
 
@@ -263,26 +264,26 @@ clean_entry ws line h = record {
 }
 
 -- a write-back reaches its positions
-raised_reaches : (ws : List Word) (at : ℕ) (ps : List ℕ) (k : ℕ) → at + length ps ≤ length ws → k < length ps →
-    get_or ps k 0 ≤ (word_at (raised ws at ps) (at + k)).durable
-raised_reaches ws at [] k h u = absurd (let z : ⊥ = omega arith in z)
-raised_reaches ws at (p ∷ ps) zero h u =
+persisted_reaches : (ws : List Word) (at : ℕ) (ps : List ℕ) (k : ℕ) → at + length ps ≤ length ws → k < length ps →
+    get_or ps k 0 ≤ (word_at (persisted ws at ps) (at + k)).durable
+persisted_reaches ws at [] k h u = absurd (let z : ⊥ = omega arith in z)
+persisted_reaches ws at (p ∷ ps) zero h u =
     let first = set ws at (written_back (word_at ws at) p) in
     let is : (word_at first at).durable ≡ max (word_at ws at).durable p =
     ap (λ (w : Word). w.durable) (word_same ws at (written_back (word_at ws at) p) (omega arith)) in
-    let up : (word_at first at).durable ≤ (word_at (raised first (at + 1) ps) at).durable = (higher first (at + 1) ps).each at in
-    let le : p ≤ (word_at (raised first (at + 1) ps) at).durable = omega (arith, is, up) in
-    subst (λ (i : ℕ). p ≤ (word_at (raised first (at + 1) ps) i).durable) (sym (add-zero at)) le
-raised_reaches ws at (p ∷ ps) (suc k) h u =
+    let up : (word_at first at).durable ≤ (word_at (persisted first (at + 1) ps) at).durable = (higher first (at + 1) ps).each at in
+    let le : p ≤ (word_at (persisted first (at + 1) ps) at).durable = omega (arith, is, up) in
+    subst (λ (i : ℕ). p ≤ (word_at (persisted first (at + 1) ps) i).durable) (sym (add-zero at)) le
+persisted_reaches ws at (p ∷ ps) (suc k) h u =
     let first = set ws at (written_back (word_at ws at) p) in
     let e : at + 1 + k ≡ at + suc k = omega arith in
-    let le : get_or ps k 0 ≤ (word_at (raised first (at + 1) ps) (at + 1 + k)).durable =
-    raised_reaches first (at + 1) ps k (omega (arith, length-set ws at (written_back (word_at ws at) p))) (omega arith) in
-    subst (λ (i : ℕ). get_or ps k 0 ≤ (word_at (raised first (at + 1) ps) i).durable) e le
+    let le : get_or ps k 0 ≤ (word_at (persisted first (at + 1) ps) (at + 1 + k)).durable =
+    persisted_reaches first (at + 1) ps k (omega (arith, length-set ws at (written_back (word_at ws at) p))) (omega arith) in
+    subst (λ (i : ℕ). get_or ps k 0 ≤ (word_at (persisted first (at + 1) ps) i).durable) e le
 
 length-drained_all : (ws : List Word) (queue : List Entry) → length (drained_all ws queue) ≡ length ws
 length-drained_all ws [] = refl
-length-drained_all ws (e ∷ es) = length-drained_all (drained ws e) es ∙ length-raised ws (8 * e.line) e.positions
+length-drained_all ws (e ∷ es) = length-drained_all (drained ws e) es ∙ length-persisted ws (8 * e.line) e.positions
 
 pub cleans_reach : CleansReach
 cleans_reach words queue line k exists below entries =
@@ -292,5 +293,5 @@ cleans_reach words queue line k exists below entries =
     let same : (word_at (drained_all words (queue ++ e ∷ [])) (8 * line + k)).durable ≡ (word_at (drained queued e) (8 * line + k)).durable =
     ap (λ (ws : List Word). (word_at ws (8 * line + k)).durable) (drained_append words queue (e ∷ [])) in
     let reach : get_or e.positions k 0 ≤ (word_at (drained queued e) (8 * line + k)).durable =
-    raised_reaches queued (8 * line) e.positions k (omega (arith, i.eight, exists, length-drained_all words queue)) (omega (arith, i.eight, below)) in
+    persisted_reaches queued (8 * line) e.positions k (omega (arith, i.eight, exists, length-drained_all words queue)) (omega (arith, i.eight, below)) in
     (i, omega (arith, same, reach, position_of words line k exists below))

@@ -1,3 +1,5 @@
+pub mod Public
 mod Worked
-pub mod Growth
-pub mod Cores
+mod Growth
+mod Parts
+mod Cores

@@ -10,9 +10,9 @@ use Rattle.ido_base.specs.Places.{line_of, column_of}
 shapes : List Shape
 shapes = record { bytes = 1; length = 3 } ∷ record { bytes = 8; length = 1 } ∷ record { bytes = 2; length = 1 } ∷ []
 
-aligned_behind_bytes : variable_at shapes 1 0 ≡ 0x1000_0008
+aligned_after_bytes : variable_at shapes 1 0 ≡ 0x1000_0008
 unfolding shapes
-aligned_behind_bytes = refl
+aligned_after_bytes = refl
 
 last_variable : variable_at shapes 2 0 ≡ 0x1000_0010
 unfolding shapes
@@ -43,7 +43,7 @@ older_entry : durable_value (word_at (drained (stored (stored eight_words 0 8 6)
 unfolding eight_words
 older_entry = refl
 
--- and never lowers what is durable
+-- what an older entry writes back never lowers what is durable
 newer_durable : durable_value (word_at (drained (evicted (stored (stored eight_words 0 8 6) 0 8 7) 0 1) (entry_of (stored eight_words 0 8 6) 0)) 0) ≡ 7
 unfolding eight_words
 newer_durable = refl

@@ -1,4 +1,4 @@
--- Where things stand in memory: the variables' lines, and behind them the lines of a log for each thread.
+-- Where things stand in memory: the variables' lines, and after them the lines of a log for each thread.
 use Rattle.std.specs.Prelude.{ℕ, zero, suc, ◌+◌, ◌-◌, ◌*◌, ◌/◌, ◌%◌, List, [], ◌∷◌, ◌++◌, take, drop}
 use Rattle.std.specs.Prelude.{replicate, Bool, nat_lt, nat_le, ◌==◌, ◌&&◌, ◌||◌, if◌then◌else◌}
 use Rattle.std.specs.Int.{w64, from_le_bytes}
@@ -57,7 +57,7 @@ log_of thread = logs_base + line_bytes * log_lines * thread
 abbrev pub point_at : (thread : ℕ) → ℕ
 point_at thread = log_of thread
 
--- how far the second bank lies behind the first
+-- how far the second bank lies after the first
 abbrev pub bank_bytes : ℕ
 bank_bytes = 256
 
@@ -75,13 +75,13 @@ word_number address = byte_number address / 8
 abbrev pub aligned_up : (n size : ℕ) → ℕ
 aligned_up n size = (n + size - 1) / size * size
 
--- bytes behind the base at which a variable begins, where the ones before it end at n
+-- how many bytes after the base a variable begins, where the ones before it end at n
 abbrev pub start_from : (n : ℕ) → List Shape → (variable : ℕ) → ℕ
 start_from n [] variable = n
 start_from n (s ∷ ss) zero = aligned_up n s.bytes
 start_from n (s ∷ ss) (suc variable) = start_from (aligned_up n s.bytes + s.bytes * s.length) ss variable
 
--- bytes behind the base at which the last variable ends, where the ones before these end at n
+-- how many bytes after the base the last variable ends, where the ones before these end at n
 abbrev pub end_from : (n : ℕ) → List Shape → ℕ
 end_from n [] = n
 end_from n (s ∷ ss) = end_from (aligned_up n s.bytes + s.bytes * s.length) ss
@@ -97,7 +97,7 @@ variable_at shapes variable element = variables_base + start_from 0 shapes varia
 
 -- ---- Contents of all words
 
--- bytes as little-endian words, so many of them; zeros behind the last byte
+-- bytes as little-endian words, so many of them; zeros after the last byte
 abbrev pub words_of_bytes : List ℕ → (count : ℕ) → List ℕ
 words_of_bytes bytes zero = []
 words_of_bytes bytes (suc count) = from_le_bytes w64 (take 8 bytes) ∷ words_of_bytes (drop 8 bytes) count
@@ -106,6 +106,6 @@ words_of_bytes bytes (suc count) = from_le_bytes w64 (take 8 bytes) ∷ words_of
 unfoldable pub initial_words : (threads : ℕ) → List ℕ → List ℕ
 initial_words threads bytes = words_of_bytes bytes (8 * variable_lines) ++ replicate (8 * log_lines * threads) 0
 
--- all words, where so many words of the variables are given and behind them those of the logs
+-- all words, where so many words of the variables are given and after them those of the logs
 unfoldable pub spread_words : (variable_words : ℕ) → List ℕ → List ℕ
 spread_words variable_words words = take variable_words words ++ replicate (8 * variable_lines - variable_words) 0 ++ drop variable_words words

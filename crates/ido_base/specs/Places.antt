@@ -10,6 +10,6 @@ line_feed = 10
 abbrev pub line_of : List ℕ → (place : ℕ) → ℕ
 line_of text place = 1 + count_by (λ c. c == line_feed) (take place text)
 
--- the byte column of the place in its line, from 1: one more than the bytes behind the last line feed before it
+-- the byte column of the place in its line, from 1: one more than the bytes after the last line feed before it
 abbrev pub column_of : List ℕ → (place : ℕ) → ℕ
 column_of text place = 1 + prefix_len (λ c. not (c == line_feed)) (reverse (take place text))

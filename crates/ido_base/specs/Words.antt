@@ -26,7 +26,7 @@ durable_value w = slice_index w.values w.durable
 abbrev pub with_value : Word → ℕ → Word
 with_value w n = record { values = w.values ++ n ∷ []; durable = w.durable }
 
--- a write-back raises the durable position, and never lowers it
+-- a write-back persists a word up to a position, and never lowers its durable position
 abbrev pub written_back : Word → ℕ → Word
 written_back w position = record { values = w.values; durable = max w.durable position }
 
@@ -68,13 +68,13 @@ abbrev pub entry_of : List Word → ℕ → Entry
 entry_of words line = record { line = line; positions = map last_position (line_words words line) }
 
 -- the words from `at` on are written back to these positions
-abbrev pub raised : List Word → ℕ → List ℕ → List Word
-raised words at [] = words
-raised words at (p ∷ ps) = raised (slice_set words at (written_back (word_at words at) p)) (at + 1) ps
+abbrev pub persisted : List Word → ℕ → List ℕ → List Word
+persisted words at [] = words
+persisted words at (p ∷ ps) = persisted (slice_set words at (written_back (word_at words at) p)) (at + 1) ps
 
 -- a queued line is written back
 abbrev pub drained : List Word → Entry → List Word
-drained words e = raised words (8 * e.line) e.positions
+drained words e = persisted words (8 * e.line) e.positions
 
 -- of count words from `at` on, those that the mask chooses (bit i the i-th) are written back to their last position
 abbrev pub evicted_from : List Word → (at mask count : ℕ) → List Word

@@ -43,6 +43,12 @@ pub const MOST_SOURCE_BYTES: usize = 1_048_576;
 /// Bytes of any input at most.
 pub const MOST_INPUT_BYTES: u64 = 67_108_864;
 
+/// The address of the first word of the first thread's code.
+pub const CODE_BASE: u64 = 0x0001_0000;
+
+/// Bytes of a word.
+pub const WORD_BYTES: u32 = 8;
+
 /// Bytes of a line.
 pub const LINE_BYTES: u64 = 64;
 
@@ -57,3 +63,6 @@ pub const LOG_LINES: u64 = 16;
 
 /// Words of eight bytes of a thread's log.
 pub const LOG_WORDS: u32 = 128;
+
+/// The line of the first thread's point, which is word 0 of it. The point of each further thread lies a log further on.
+pub const POINT_LINE: u32 = VARIABLE_LINES as u32;

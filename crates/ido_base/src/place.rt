@@ -25,7 +25,7 @@ pub fn line_column(text: &[u8], place: Place) -> (u32, u32)
 {
     let before = &text[..place.0 as usize];
     let line = 1 + count_line_feeds(before);
-    let column = 1 + length_behind_line_feed(before);
+    let column = 1 + length_after_line_feed(before);
     (line, column)
 }
 
@@ -44,15 +44,15 @@ fn count_line_feeds(text: &[u8]) -> u32
     count
 }
 
-/// How many bytes stand behind the last line feed.
-fn length_behind_line_feed(text: &[u8]) -> u32
+/// How many bytes stand after the last line feed.
+fn length_after_line_feed(text: &[u8]) -> u32
     requires { length text.now < 2 ^ 31 }
     ensures value { result ≡ prefix_len (λ c. not (c == line_feed)) (reverse text.now) }
     ensures bound { result ≤ length text.now }
 {
-    let mut behind = 0;
+    let mut after = 0;
     for c in text {
-        behind = if *c == LINE_FEED { 0 } else { behind + 1 };
+        after = if *c == LINE_FEED { 0 } else { after + 1 };
     }
-    behind
+    after
 }

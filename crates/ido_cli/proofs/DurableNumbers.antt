@@ -10,18 +10,16 @@ use Rattle.ido_base.specs.Layout.{byte_number, start_from, variable_at, variable
 use Rattle.ido_ints.specs.declared.kinds.Kind.{Kind}
 use Rattle.ido_ints.specs.Kinds.{bytes_of, modulus_of}
 use Rattle.ido_ints.specs.Reduction.{reduced}
-use Rattle.ido_ints.proofs.Congruence.{Same-mod}
-use Rattle.ido_ints.proofs.Reduced.{reduced-same}
+use Rattle.ido_ints.proofs.Public.{Same-mod, reduced-same}
 use Rattle.c_tree.specs.declared.program.Variable as declared
 use Rattle.c_tree.specs.Programs as p
 use Rattle.c_tree.specs.Programs.{variable_of}
 use Rattle.c_tree.specs.WellFormed.{elements_in}
 use Rattle.rv64_isa.specs.Machine.{numbers_from}
-use Rattle.variable_layout.specs.Placing.{AreAddresses, HaveRoom}
-use Rattle.variable_layout.proofs.Laying.{shapes, address_is, length-variables, variable_at_index}
-use Rattle.resumption.specs.Elements.{number_in}
+use Rattle.memory_layout.specs.Variables.{AreAddresses, HaveRoom}
+use Rattle.variable_words.proofs.Public.{shapes, address_is, length-variables, length-shapes, variable_at_index, number_is, within_end}
+use Rattle.recovery_semantics.specs.Elements.{number_in}
 use Rattle.variable_words.specs.Variables.{durable_variables, number_of_byte, variables_from}
-use Rattle.variable_words.proofs.Standing.{number_is, within_end}
 use Rattle.run_scripts.specs.Reports as r
 use Rattle.run_scripts.specs.declared.report.Variable as found
 use Rattle.run_scripts.specs.links.ReportViews as views
@@ -75,12 +73,13 @@ there_is xs i x l is =
     let vs = map variable_of xs in
     slice_get_read vs (length vs) i (variable_of x) refl (omega (arith, l, length-variables xs)) (variable_at_index xs i x l is)
 
-address_at : (xs : List declared.Variable) (addresses : List ℕ) (i address : ℕ) → AreAddresses (map variable_of xs) addresses → i < length xs →
+address_at : (xs : List declared.Variable) (addresses : List ℕ) (i address : ℕ) → AreAddresses (shapes (map variable_of xs)) addresses → i < length xs →
     address ≡ slice_index addresses i → address ≡ variable_at (shapes (map variable_of xs)) i 0
-address_at xs addresses i address are l is = is ∙ are.each i (omega (arith, l, length-variables xs))
+address_at xs addresses i address are l is = is ∙ are.each i (omega (arith, l, length-shapes xs))
 
 pub variable_fits : (xs : List declared.Variable) (addresses : List ℕ) (i address : ℕ) (x : declared.Variable) →
-    HaveRoom (map variable_of xs) → AreAddresses (map variable_of xs) addresses → i < length xs → x ≡ get_or xs i x → address ≡ slice_index addresses i →
+    HaveRoom (shapes (map variable_of xs)) → AreAddresses (shapes (map variable_of xs)) addresses → i < length xs → x ≡ get_or xs i x →
+    address ≡ slice_index addresses i →
     address - variables_base + bytes_of x.kind * elements_in x.length ≤ 65536
 variable_fits xs addresses i address x room are l is at =
     let vs = map variable_of xs in
@@ -93,7 +92,7 @@ abbrev elements_at : List Word → List Shape → ℕ → p.Variable → List �
 elements_at words ss v is =
     map (λ e. number_of_byte durable_value words is.kind (byte_number (variable_at ss v e))) (numbers_from 0 (elements_in is.length))
 
-same_elements : (words : List Word) (vs : List p.Variable) (v : ℕ) (is : p.Variable) (address : ℕ) → HaveRoom vs → slice_get vs v ≡ Some is →
+same_elements : (words : List Word) (vs : List p.Variable) (v : ℕ) (is : p.Variable) (address : ℕ) → HaveRoom (shapes vs) → slice_get vs v ≡ Some is →
     address ≡ variable_at (shapes vs) v 0 → elements_at words (shapes vs) v is ≡ durable_elements words is (address - variables_base)
 same_elements words vs v is address room there at =
     let first = first_is vs v is address there at in
@@ -128,7 +127,8 @@ IsSoFar words xs i us =
 
 pub variables_more : (words : List Word) (xs : List declared.Variable) (addresses : List ℕ) (i address : ℕ) (x : declared.Variable)
     (u : found.Variable) (us new : List found.Variable) →
-    HaveRoom (map variable_of xs) → AreAddresses (map variable_of xs) addresses → i < length xs → x ≡ get_or xs i x → address ≡ slice_index addresses i →
+    HaveRoom (shapes (map variable_of xs)) → AreAddresses (shapes (map variable_of xs)) addresses → i < length xs → x ≡ get_or xs i x →
+    address ≡ slice_index addresses i →
     views.variable_of u ≡ variable_with (variable_of x) (durable_elements words (variable_of x) (address - variables_base)) →
     new ≡ us ++ u ∷ [] → IsSoFar words xs i us → IsSoFar words xs (i + 1) new
 variables_more words xs addresses i address x u us new room are l is at u_is new_is so_far =

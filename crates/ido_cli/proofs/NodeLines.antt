@@ -13,11 +13,11 @@ use Rattle.flow_graph.specs.declared.cuts.Cuts.{Cuts}
 use Rattle.flow_graph.specs.declared.graph.Graph as code
 use Rattle.flow_graph.specs.declared.graph.Node as node
 use Rattle.flow_graph.specs.declared.graph.Part.{Part}
-use Rattle.flow_graph.specs.Cutting.{Boundaries}
+use Rattle.flow_graph.specs.IdempotentCuts.{Boundaries}
 use Rattle.flow_graph.specs.Lowering.{lowered, part, parts, thread_count, thread_nodes, threads_nodes}
 use Rattle.flow_graph.specs.Nodes.{Graph, Node, graph_of, node_of}
-use Rattle.flow_graph.proofs.Counted.{length-thread_nodes}
-use Rattle.flat_compile.specs.Translating.{IsTranslated}
+use Rattle.flow_graph.proofs.Public.{length-thread_nodes}
+use Rattle.flat_compile.specs.TranslatedForms.{IsTranslated}
 use Rattle.ido_cli.specs.Regions.{is_chosen, line_at, lines_from, node_line, node_lines, regions_of, thread_line}
 
 regroup : (a b c d : List ℕ) → a ++ b ++ c ++ d ≡ a ++ (b ++ c ++ d)
@@ -111,9 +111,6 @@ part_inside x g k own is below at =
     let there : slice_get (graph_of g).threads k ≡ Some own = slice_get_read g.threads.items (length g.threads.items) k own refl below at in
     let inside : own.end ≤ length (lowered x).nodes = thread_inside x k own (sym (ap (λ (y : Graph). slice_get y.threads k) is) ∙ there) in
     omega (arith, inside, ap (λ (y : Graph). length y.nodes) is, length-map g.nodes.items node_of)
-
-pub nodes_as_many : (x : f.Flat) (g : code.Graph) → graph_of g ≡ lowered x → length (lowered x).nodes ≡ length g.nodes.items
-nodes_as_many x g is = ap (λ (y : Graph). length y.nodes) (sym is) ∙ length-map g.nodes.items node_of
 
 -- ---- Of each node it is said whether a boundary stands before it
 

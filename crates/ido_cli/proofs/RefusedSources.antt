@@ -3,22 +3,22 @@ use Rattle.std.proofs.Common.{◌≡◌, ℕ, List, ap, ◌∙◌, subst}
 use Rattle.std.specs.Prelude.{Err}
 use Rattle.ido_base.specs.declared.event.Event.{Event}
 use Rattle.flow_graph.specs.Refusals.{IsRefusedBy}
-use Rattle.compilation.specs.Translations.{Translation}
-use Rattle.ido_compile.specs.Compiling.{IsCompileAnswer}
-use Rattle.ido_compile.specs.links.Fronts.{IsFrontAnswer}
+use Rattle.compiler_correctness.specs.Translations.{Translation}
+use Rattle.ido_compile.specs.CompileAnswers.{IsCompileAnswer}
+use Rattle.ido_compile.specs.links.FrontEndAnswers.{IsFrontAnswer, IsRefusal}
 use Rattle.ido_compile.specs.declared.error.CompileError.{CompileError}
 use Rattle.ido_compile.specs.declared.error.CompileError.TheVariants as error
 use Rattle.ido_cli.specs.Answers.{CompileAnswer, uncompiled, RegionsAnswer, uncut, ScriptedAnswer, unplayed, SourceAnswer, unaccepted}
 use Rattle.ido_cli.specs.Inputs.{source_of}
 use Rattle.ido_cli.specs.Refusals.{code_of, line_at}
-use Rattle.ido_cli.specs.links.Uncompiled.{TellsRefusal}
+use Rattle.ido_cli.specs.links.CompileRefusals.{TellsRefusal}
 
 pub compile_refused : (source : List ℕ) (found : CompileError) → IsCompileAnswer source (Err found) → (status : ℕ) (output : List ℕ) →
     TellsRefusal found source status output → CompileAnswer source status output
 compile_refused source (error.Refused x) refused status output told = uncompiled x.rule x.place refused told
 compile_refused source error.Memory refused status output none = absurd none
 
-pub regions_refused : (source : List ℕ) (found : CompileError) → IsCompileAnswer source (Err found) → (status : ℕ) (output : List ℕ) →
+pub regions_refused : (source : List ℕ) (found : CompileError) → IsRefusal source found → (status : ℕ) (output : List ℕ) →
     TellsRefusal found source status output → RegionsAnswer source status output
 regions_refused source (error.Refused x) refused status output told = uncut x.rule x.place refused told
 regions_refused source error.Memory refused status output none = absurd none

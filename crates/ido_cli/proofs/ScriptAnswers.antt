@@ -6,7 +6,7 @@ use Rattle.flow_graph.specs.Refusals.{IsAccepted}
 use Rattle.run_scripts.specs.Scripts as e
 use Rattle.run_scripts.specs.Scripts.{IsDoable, IsEviction}
 use Rattle.run_scripts.specs.declared.script.Line.{Line}
-use Rattle.compilation.specs.Translations.{Translation}
+use Rattle.compiler_correctness.specs.Translations.{Translation}
 use Rattle.ido_cli.specs.Answers.{ScriptedAnswer, no_script, of_script}
 use Rattle.ido_cli.specs.Inputs.{rest_of, source_of}
 use Rattle.ido_cli.specs.Plays.{IsTranslationOf, ScriptAnswer}

@@ -1,6 +1,6 @@
 -- What the definitions compute.
 use Rattle.std.specs.Prelude.{◌≡◌, [], ◌∷◌, Some, None, refl, codes}
-use Rattle.ido_cli.specs.Inputs.{source_of, rest_of, behind_mark}
+use Rattle.ido_cli.specs.Inputs.{source_of, rest_of, after_mark}
 use Rattle.clap.proofs.OnLiterals.{clap_on_literals}
 use Rattle.ido_cli.specs.declared.command.Command.TheVariants as command
 use Rattle.ido_cli.specs.Commands.{command_of}
@@ -8,35 +8,35 @@ use Rattle.ido_cli.specs.Commands.{command_of}
 -- ---- Inputs
 
 split_at_mark : source_of (codes "a\n%%\ns 0 1\n") ≡ codes "a\n"
-unfolding source_of behind_mark
+unfolding source_of after_mark
 split_at_mark = refl
 
-rest_behind_mark : rest_of (codes "a\n%%\ns 0 1\n") ≡ codes "s 0 1\n"
-unfolding rest_of behind_mark
-rest_behind_mark = refl
+rest_after_mark : rest_of (codes "a\n%%\ns 0 1\n") ≡ codes "s 0 1\n"
+unfolding rest_of after_mark
+rest_after_mark = refl
 
 return_is_passed_over : rest_of (codes "a\r\n%%\r\nb") ≡ codes "b"
-unfolding rest_of behind_mark
+unfolding rest_of after_mark
 return_is_passed_over = refl
 
 last_line_splits : source_of (codes "a\n%%") ≡ codes "a\n"
-unfolding source_of behind_mark
+unfolding source_of after_mark
 last_line_splits = refl
 
 last_return_does_not : source_of (codes "a\n%%\r") ≡ codes "a\n%%\r"
-unfolding source_of behind_mark
+unfolding source_of after_mark
 last_return_does_not = refl
 
 no_mark_within_a_line : source_of (codes "a%%\n%%%\n %%\nb") ≡ codes "a%%\n%%%\n %%\nb"
-unfolding source_of behind_mark
+unfolding source_of after_mark
 no_mark_within_a_line = refl
 
 no_rest_without_mark : rest_of (codes "a\nb") ≡ []
-unfolding rest_of behind_mark
+unfolding rest_of after_mark
 no_rest_without_mark = refl
 
 first_mark_splits : rest_of (codes "%%\n%%\na") ≡ codes "%%\na"
-unfolding rest_of behind_mark
+unfolding rest_of after_mark
 first_mark_splits = refl
 
 -- ---- Words
@@ -81,9 +81,9 @@ no_minus : command_of (codes "ido" ∷ codes "recover" ∷ codes "-0" ∷ []) �
 unfolding command_of clap_on_literals
 no_minus = refl
 
-no_minus_behind : command_of (codes "ido" ∷ codes "recover" ∷ codes "--" ∷ codes "-0" ∷ []) ≡ None
+no_minus_after : command_of (codes "ido" ∷ codes "recover" ∷ codes "--" ∷ codes "-0" ∷ []) ≡ None
 unfolding command_of clap_on_literals
-no_minus_behind = refl
+no_minus_after = refl
 
 turns_once : command_of (codes "ido" ∷ codes "recover" ∷ codes "1" ∷ codes "1" ∷ []) ≡ None
 unfolding command_of clap_on_literals

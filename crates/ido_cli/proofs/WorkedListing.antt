@@ -8,7 +8,7 @@ use Rattle.rv64_isa.specs.declared.instr.ShiftOperation.TheVariants.{Srai}
 use Rattle.rv64_isa.specs.declared.instr.Condition.TheVariants.{Beq}
 use Rattle.rv64_isa.specs.declared.instr.StoreKind.TheVariants.{Sd}
 use Rattle.ido_cli.specs.Instructions.{hex_word, of_three, of_base, of_upper, of_jump, of_clean, instruction_text}
-use Rattle.ido_cli.specs.Listing.{word_line, thread_line, listing}
+use Rattle.ido_cli.specs.ObjectListing.{word_line, thread_line, listing}
 
 negative_immediate : instruction_text 0 (OpImmediate Addi 1 0 (2 ^ 12 - 1)) ≡ codes "addi x1, x0, -1"
 unfolding of_three digits
@@ -51,7 +51,7 @@ two_words : listing ((0x0010_0293 ∷ 0x0000_0073 ∷ []) ∷ []) ≡ codes "thr
 unfolding word_line thread_line of_three hex_word digits decoded
 two_words = refl
 
--- the second thread's code stands behind the first's
+-- the second thread's code stands after the first's
 two_threads : listing ((0x0330_000F ∷ []) ∷ (0x0000_006F ∷ []) ∷ [])
     ≡ codes "thread 0\n00010000 0330000f fence rw, rw\nthread 1\n00010004 0000006f jal x0, 00010004\n"
 unfolding word_line thread_line of_jump hex_word digits decoded

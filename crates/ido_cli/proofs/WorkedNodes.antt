@@ -3,7 +3,7 @@ use Rattle.std.specs.Prelude.{◌≡◌, ℕ, [], ◌∷◌, None, true, false, 
 use Rattle.std.specs.Fmt.{digits}
 use Rattle.ido_ints.specs.declared.kinds.Kind.TheVariants.{Int}
 use Rattle.c_tree.specs.Flats.{Thread, no_statement}
-use Rattle.flow_graph.specs.Cutting.{Boundaries}
+use Rattle.flow_graph.specs.IdempotentCuts.{Boundaries}
 use Rattle.flow_graph.specs.Nodes.{Action, Store, Lock, Unlock, End, Node, Graph}
 use Rattle.ido_cli.specs.Regions.{node_line, regions, thread_line}
 

@@ -10,28 +10,29 @@ use Rattle.c_tree.specs.declared.rule.Rule as r
 use Rattle.rv64_isa.specs.declared.object.Object.{Object}
 use Rattle.rv64_isa.specs.declared.object.Marks.{Marks}
 use Rattle.flow_graph.specs.declared.cuts.Cuts.{Cuts}
-use Rattle.flow_graph.specs.Cutting.{boundaries_of}
+use Rattle.flow_graph.specs.IdempotentCuts.{boundaries_of}
 use Rattle.flow_graph.specs.Lowering.{lowered}
 use Rattle.flow_graph.specs.Refusals.{IsAccepted, IsRefusedBy}
-use Rattle.flat_compile.specs.Translating.{IsTranslated}
-use Rattle.compilation.specs.Translations.{Translation}
-use Rattle.compilation.specs.Images.{Image}
-use Rattle.crash_images.specs.declared.error.ImageError.{ImageError}
-use Rattle.crash_images.specs.declared.image.Image as i
-use Rattle.crash_images.specs.Images.{IsImageAnswer}
+use Rattle.flat_compile.specs.TranslatedForms.{IsTranslated}
+use Rattle.compiler_correctness.specs.Translations.{Translation}
+use Rattle.compiler_correctness.specs.Images.{Image}
+use Rattle.file_fields.specs.Fields as fields
+use Rattle.image_checks.specs.declared.error.ImageError.{ImageError}
+use Rattle.image_checks.specs.declared.image.Image as i
+use Rattle.image_checks.specs.Images.{IsImageAnswer}
 use Rattle.object_format.specs.Contents.{Contents, contents_of}
-use Rattle.object_format.specs.Reading as o
-use Rattle.object_format.specs.Spelling.{spelling}
+use Rattle.object_format.specs.ObjectDecoder as o
+use Rattle.object_format.specs.ObjectEncoder.{spelling}
 use Rattle.run_scripts.specs.Reports.{line}
 use Rattle.run_scripts.specs.Schedules as s
 use Rattle.run_scripts.specs.Scripts as e
-use Rattle.ido_compile.specs.Compiling.{translation_in}
+use Rattle.ido_compile.specs.CompileAnswers.{translation_in}
 use Rattle.ido_cli.specs.declared.command.Command.{Command}
 use Rattle.ido_cli.specs.declared.command.Command.TheVariants as command
 use Rattle.ido_cli.specs.Commands.{command_of}
-use Rattle.ido_cli.specs.Images.{IsImageBehind}
+use Rattle.ido_cli.specs.Images.{IsImageAfter}
 use Rattle.ido_cli.specs.Inputs.{source_of, rest_of}
-use Rattle.ido_cli.specs.Listing.{listing}
+use Rattle.ido_cli.specs.ObjectListing.{listing}
 use Rattle.ido_cli.specs.Plays.{IsRunBy, IsTranslationOf, ScriptAnswer}
 use Rattle.ido_cli.specs.Recoveries.{IsRecovery}
 use Rattle.ido_cli.specs.Refusals.{IsRefusedAt, code_of, fault_code, fault_place, image_line, line_at_byte}
@@ -106,9 +107,9 @@ pub data ScriptedAnswer (Says : Translation → List Event → (status : ℕ) �
 abbrev pub PlayAnswer : (input : List ℕ) → (status : ℕ) → (output : List ℕ) → Type 0
 PlayAnswer input status output = ScriptedAnswer IsRunBy input status output
 
--- the bytes of the image that a crash would leave behind it
+-- the bytes of the image that a crash after the run would leave
 abbrev pub ImageAnswer : (input : List ℕ) → (status : ℕ) → (output : List ℕ) → Type 0
-ImageAnswer input status output = ScriptedAnswer (IsImageBehind (source_of input)) input status output
+ImageAnswer input status output = ScriptedAnswer (IsImageAfter (source_of input)) input status output
 
 -- ---- `recover`
 
@@ -126,7 +127,7 @@ pub data RecoverAnswer (turns : ℕ) (input : List ℕ) (status : ℕ) (output :
 
 -- what an input of an object is answered: its listing, or its first fault
 pub data ListAnswer (input : List ℕ) (status : ℕ) (output : List ℕ) : Type 0 where
-  no_object : (fault : o.Fault) → o.read input ≡ Err fault → status ≡ 6 → output ≡ line_at_byte (object_fault_code fault) (object_fault_place fault) →
+  no_object : (fault : fields.Fault) → o.read input ≡ Err fault → status ≡ 6 → output ≡ line_at_byte (object_fault_code fault) (object_fault_place fault) →
       ListAnswer input status output
   of_object : (object : Contents) → o.read input ≡ Ok object → status ≡ 0 → output ≡ listing object.code → ListAnswer input status output
 
@@ -165,6 +166,19 @@ pub record Outside : Type 0 where
   pub sink_faults_before : ℕ
   pub sink_faults : ℕ
 
+-- what a source and a sink tell before and after a run
+abbrev pub outside : {S K : Type 0} (left : S → Option (List ℕ)) (source_faults : S → ℕ) (written : K → Option (List ℕ)) (sink_faults : K → ℕ) →
+    (source_before source : S) → (sink_before sink : K) → Outside
+outside left source_faults written sink_faults source_before source sink_before sink = record {
+  left = left source_before;
+  written_before = written sink_before;
+  written = written sink;
+  source_faults_before = source_faults source_before;
+  source_faults = source_faults source;
+  sink_faults_before = sink_faults sink_before;
+  sink_faults = sink_faults sink;
+}
+
 -- the answer to an input, which is what was left where the source tells it
 pub record IsAnswer (words : List (List ℕ)) (left : Option (List ℕ)) (status : ℕ) (output : List ℕ) : Type 0 where
   pub input : List ℕ
@@ -172,13 +186,15 @@ pub record IsAnswer (words : List (List ℕ)) (left : Option (List ℕ)) (status
   pub answer : Answer words input status output
 
 -- the status of a run, and what it wrote
+-- Where the source doesn't tell what it has left, as standard input, this says that there is an input to which status and output are the answer.
+-- Where the sink doesn't tell what was written, as standard output, this says nothing of what was written.
 pub data IsAnswered (words : List (List ℕ)) (o : Outside) (status : ℕ) : Type 0 where
   -- the answer, and all of it
   answered : (output : List ℕ) → IsAnswer words o.left status output → Adds o.written_before o.written output → IsAnswered words o status
   -- words were taken, the source failed, and nothing was written
   source_failed : IsSome (command_of words) → status ≡ 4 → Rose o.source_faults_before o.source_faults → Adds o.written_before o.written [] →
       IsAnswered words o status
-  -- the sink failed, and a front of the answer was written
+  -- the sink failed, and a prefix of the answer was written
   sink_failed : (output : List ℕ) (answer : ℕ) → status ≡ 5 → Rose o.sink_faults_before o.sink_faults → IsAnswer words o.left answer output →
       AddsPrefix o.written_before o.written output → IsAnswered words o status
   -- want of memory, and nothing was written

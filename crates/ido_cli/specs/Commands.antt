@@ -30,7 +30,7 @@ table =
     let three = with_subcommand (with_subcommand two (new_shape (codes "play"))) (new_shape (codes "source")) in
     with_subcommand (with_subcommand three (new_shape (codes "image"))) recover_shape
 
--- the number of 32 bits that a text is read as: decimal digits, behind a `+` or not
+-- the number of 32 bits that a text is read as: decimal digits, with a `+` before them or not
 abbrev pub number_of : (text : List ℕ) → Option ℕ
 number_of text = if is_unsigned_in 0 (2 ^ 32 - 1) text then Some (digits_value 10 (without_leading_plus text)) else None
 

@@ -25,7 +25,7 @@ use Rattle.rv64_isa.specs.declared.instr.StoreKind.TheVariants.{Sb, Sh, Sw, Sd}
 abbrev pub hex_digit : (n : ℕ) → ℕ
 hex_digit n = if nat_lt n 10 then 48 + n else 87 + n
 
--- that at a place, from the lowest one
+-- the hexadecimal digit of a number at a place, from the lowest one
 abbrev pub hex_at : (n place : ℕ) → ℕ
 hex_at n place = hex_digit (n / 16 ^ place % 16)
 

@@ -20,7 +20,7 @@ IsPlain (Some command.Source) = Unit {0}
 IsPlain (Some command.Image) = ⊥
 IsPlain (Some (command.Recover turns)) = ⊥
 
--- behind its source it has a script
+-- the command takes a script after its source
 abbrev pub TakesScript : Option Command → Type 0
 TakesScript None = ⊥
 TakesScript (Some command.Compile) = ⊥

@@ -10,7 +10,7 @@ pub mod Recoveries
 pub mod Regions
 pub mod Deliveries
 pub mod Instructions
-pub mod Listing
+pub mod ObjectListing
 pub mod Answers
 pub mod Laws
 pub mod links

@@ -2,16 +2,16 @@
 use Rattle.std.specs.Prelude.{◌≡◌, ℕ, List, ◌∷◌, ◌++◌, length}
 use Rattle.ido_base.specs.declared.event.Event.{Event}
 use Rattle.ido_base.specs.declared.event.Event.TheVariants.{Crash}
-use Rattle.compilation.specs.Translations.{Translation}
-use Rattle.compilation.specs.Images.{Image, file_of, first_from, image_in, image_of, steps_from, variable_words, world_from}
-use Rattle.run_tracker.specs.Lives.{Moment, living}
+use Rattle.compiler_correctness.specs.Translations.{Translation}
+use Rattle.compiler_correctness.specs.Images.{Image, file_of, first_from, image_in, image_of, steps_from, variable_words, world_from}
+use Rattle.run_tracker.specs.ObjectLives.{LifeConfig, living}
 use Rattle.ido_cli.specs.Legs.{IsLeg, most_leg_events}
 use Rattle.ido_cli.specs.Plays.{IsRunBy}
 use Rattle.ido_cli.specs.Reports.{machine_state}
 use Rattle.ido_cli.specs.Runs.{IsReport}
 
 -- the machine of a translation before any event, where power returns over the words of a file
-abbrev pub recovering : Translation → (file : Image) → Moment
+abbrev pub recovering : Translation → (file : Image) → LifeConfig
 recovering c file = record {
   program = c.program;
   marks = c.marks;
@@ -26,6 +26,6 @@ pub record IsRecovery (c : Translation) (file : Image) (turns status : ℕ) (out
   pub journal : List Event
   pub leg : IsLeg living (recovering c file) (length c.program) turns most_leg_events journal
   pub reported : IsReport (machine_state c.flat (world_from c (image_in c file) journal) (steps_from c (image_in c file) journal).kept) status output
-  -- Where the file is what a crash leaves behind events of the same translation, this is what `play` says of these events, a crash, and the leg; so at
+  -- Where the file is what a crash leaves after events of the same translation, this is what `play` says of these events, a crash, and the leg; so at
   -- status 0 the output is that of the source's own run of the schedule that is printed.
   pub goes_on : (before : List Event) → file ≡ file_of c (image_of c before) → IsRunBy c (before ++ Crash ∷ journal) status output

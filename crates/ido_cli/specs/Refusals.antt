@@ -3,9 +3,9 @@ use Rattle.std.specs.Prelude.{◌≡◌, ℕ, List, ◌++◌, Option, Some, None
 use Rattle.ido_base.specs.Places.{column_of, line_of}
 use Rattle.c_tree.specs.declared.rule.Rule as r
 use Rattle.c_tree.specs.declared.rule.Rule.TheVariants as rule
-use Rattle.crash_images.specs.declared.error.ImageError.{ImageError}
-use Rattle.crash_images.specs.declared.error.ImageError.TheVariants as image
-use Rattle.object_format.specs.Reading as o
+use Rattle.file_fields.specs.Fields as fields
+use Rattle.image_checks.specs.declared.error.ImageError.{ImageError}
+use Rattle.image_checks.specs.declared.error.ImageError.TheVariants as image
 use Rattle.run_scripts.specs.Reports.{line}
 use Rattle.run_scripts.specs.Schedules as s
 use Rattle.run_scripts.specs.Scripts as c
@@ -38,7 +38,7 @@ code_of rule.NotHeld = codes "L3"
 code_of rule.Join = codes "L4"
 code_of rule.EndHeld = codes "L5"
 
--- that of a fault of a schedule, and its place in the schedule's text
+-- the code of a fault of a schedule; its place is one in the schedule's text
 abbrev pub fault_code : s.Fault → List ℕ
 fault_code (s.TooMany place) = codes "E1"
 fault_code (s.BadWord place) = codes "E2"
@@ -49,7 +49,7 @@ fault_place (s.TooMany place) = place
 fault_place (s.BadWord place) = place
 fault_place (s.BadNumber place) = place
 
--- that of a fault of a script, and its place in the script's text
+-- the code of a fault of a script; its place is one in the script's text
 abbrev pub script_fault_code : c.Fault → List ℕ
 script_fault_code (c.BadWord place) = codes "E2"
 script_fault_code (c.BadNumber place) = codes "E3"
@@ -62,26 +62,26 @@ script_fault_place (c.BadNumber place) = place
 script_fault_place (c.NoHart place) = place
 script_fault_place (c.NoLine place) = place
 
--- that of a step that can't be made
+-- the code of a step that can't be made
 abbrev pub stop_code : RefusedKind → List ℕ
 stop_code kind.UnknownThread = codes "Q1"
 stop_code kind.Waits = codes "Q2"
 stop_code kind.Ended = codes "Q3"
 
--- that of a fault of an object, and its place
-abbrev pub object_fault_code : o.Fault → List ℕ
-object_fault_code o.Magic = codes "O1"
-object_fault_code o.Version = codes "O2"
-object_fault_code (o.Cut place) = codes "O3"
-object_fault_code (o.Field place) = codes "O4"
-object_fault_code (o.Rest place) = codes "O5"
+-- the code of a fault of an object
+abbrev pub object_fault_code : fields.Fault → List ℕ
+object_fault_code fields.Magic = codes "O1"
+object_fault_code fields.Version = codes "O2"
+object_fault_code (fields.Cut place) = codes "O3"
+object_fault_code (fields.Field place) = codes "O4"
+object_fault_code (fields.Rest place) = codes "O5"
 
-abbrev pub object_fault_place : o.Fault → ℕ
-object_fault_place o.Magic = 0
-object_fault_place o.Version = 8
-object_fault_place (o.Cut place) = place
-object_fault_place (o.Field place) = place
-object_fault_place (o.Rest place) = place
+abbrev pub object_fault_place : fields.Fault → ℕ
+object_fault_place fields.Magic = 0
+object_fault_place fields.Version = 8
+object_fault_place (fields.Cut place) = place
+object_fault_place (fields.Field place) = place
+object_fault_place (fields.Rest place) = place
 
 -- ---- Lines
 
@@ -110,7 +110,7 @@ unfoldable pub line_of_threads : (code : List ℕ) → (lock first second : ℕ)
 line_of_threads code lock first second =
     line (codes "refused " ++ code ++ codes " lock " ++ decimal lock ++ codes " threads " ++ decimal first ++ codes " " ++ decimal second)
 
--- that of a fault of an image; want of memory is none
+-- the line of a fault of an image; want of memory has none
 abbrev pub image_line : ImageError → Option (List ℕ)
 image_line image.Magic = Some (line_at_byte (codes "I1") 0)
 image_line image.Version = Some (line_at_byte (codes "I2") 8)

@@ -4,7 +4,7 @@ use Rattle.std.specs.Prelude.{slice_get, Option, Some, None, Bool, true, false, 
 use Rattle.ido_base.specs.Places.{column_of, line_of}
 use Rattle.c_tree.specs.Flats.{Thread}
 use Rattle.flow_graph.specs.declared.graph.Part.{Part}
-use Rattle.flow_graph.specs.Cutting.{Boundaries}
+use Rattle.flow_graph.specs.IdempotentCuts.{Boundaries}
 use Rattle.flow_graph.specs.Nodes.{Action, Eval, Store, Test, Lock, Unlock, End, Node, Graph}
 use Rattle.run_scripts.specs.Reports.{line}
 

@@ -17,7 +17,7 @@ abbrev pub unsettled_harts : World → List ℕ
 unsettled_harts w = filter (λ h. not (is_settled_hart w h)) (numbers_from 0 (length w.harts))
 
 -- the variables as a crash would leave them, the ended sections by the kept schedule, and that schedule
-unfoldable pub machine_state : f.Flat → World → (kept : List ℕ) → r.State
+unfoldable pub machine_state : f.Flat → World → (kept : List ℕ) → r.ReportedState
 machine_state x w kept = record {
   unsettled = unsettled_harts w;
   variables = named x.variables (durable_variables w.words x.variables);

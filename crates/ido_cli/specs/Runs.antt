@@ -7,7 +7,7 @@ use Rattle.c_tree.specs.Source.{State, start, after_from, ended_from, is_between
 use Rattle.run_scripts.specs.Reports as r
 use Rattle.run_scripts.specs.Reports.{report}
 use Rattle.source_machine.specs.declared.answers.Refused.{Refused}
-use Rattle.source_machine.specs.Runs.{IsRefused}
+use Rattle.source_machine.specs.Runs.{IsRefusedSchedule}
 use Rattle.ido_cli.specs.Refusals.{line_at_step, stop_code}
 
 -- a variable with these numbers as its elements
@@ -24,8 +24,8 @@ named (v ∷ vs) (n ∷ ns) = variable_with v n ∷ named vs ns
 abbrev pub unsettled_threads : State → List ℕ
 unsettled_threads s = filter (λ t. not (is_between s t)) (numbers_from 0 (length s.threads))
 
--- behind a schedule
-unfoldable pub run_state : f.Flat → (schedule : List ℕ) → r.State
+-- what is reported of the state after a schedule
+unfoldable pub run_state : f.Flat → (schedule : List ℕ) → r.ReportedState
 run_state x schedule = record {
   unsettled = unsettled_threads (after_from (start x) schedule);
   variables = named x.variables (after_from (start x) schedule).variables;
@@ -38,14 +38,14 @@ abbrev pub status_by : (unsettled : List ℕ) → ℕ
 status_by [] = 0
 status_by (h ∷ hs) = 3
 
-pub record IsReport (s : r.State) (status : ℕ) (output : List ℕ) : Type 0 where
+pub record IsReport (s : r.ReportedState) (status : ℕ) (output : List ℕ) : Type 0 where
   pub status_is : status ≡ status_by s.unsettled
   pub output_is : output ≡ report s
 
 -- what is said of a schedule: the report of its run, or the first step that can't be made
 pub data RunAnswer (x : f.Flat) (schedule : List ℕ) (status : ℕ) (output : List ℕ) : Type 0 where
   ran : runs_from (start x) schedule ≡ true → IsReport (run_state x schedule) status output → RunAnswer x schedule status output
-  stopped : (stop : Refused) → IsRefused stop (start x) schedule → status ≡ 6 → output ≡ line_at_step (stop_code stop.kind) stop.step →
+  stopped : (stop : Refused) → IsRefusedSchedule stop (start x) schedule → status ≡ 6 → output ≡ line_at_step (stop_code stop.kind) stop.step →
       RunAnswer x schedule status output
 
 -- ---- As the code finds it

@@ -1,2 +1,3 @@
-pub mod Asking
-pub mod Uncompiled
+pub mod RunRequests
+pub mod Regions
+pub mod CompileRefusals

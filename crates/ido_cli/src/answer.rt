@@ -1,9 +1,9 @@
 //! The answer to an input.
 ghost use Rattle.std.specs.Prelude.{◌≤◌, length, IfOk};
-ghost use Rattle.ido_base.specs.declared.limits.TheConstants.{MOST_INPUT_BYTES};
+ghost use Rattle.ido_base.specs.declared.limits.TheConstants.{MOST_INPUT_BYTES, MOST_SOURCE_BYTES};
 ghost use Rattle.ido_cli.specs.declared.command.Command.TheVariants as command;
-ghost use Rattle.ido_cli.specs.Answers.{AnswerToInput};
-ghost use Rattle.ido_cli.specs.links.Asking.{command_asking};
+ghost use Rattle.ido_cli.specs.Answers.{AnswerToInput, CommandAnswer};
+ghost use Rattle.ido_cli.specs.links.RunRequests.{command_asking, command_making};
 
 use crate::command::Command;
 use crate::input::split;
@@ -19,26 +19,34 @@ use ido_base::limits::MOST_SOURCE_BYTES;
 use ido_base::memory::OutOfMemory;
 use std::alloc::Global;
 
-/// The answer to an input of `compile`.
-fn compile_input(alloc: Global, input: &[u8]) -> Result<Said, OutOfMemory>
-    requires { length input.now ≤ MOST_INPUT_BYTES }
-    ensures { IfOk result (λ said. AnswerToInput command.Compile input.now said.status said.output.items) }
-{
-    if input.len() > MOST_SOURCE_BYTES {
-        return refused(alloc, 6, b"refused limit\n");
-    }
-    compile_answer(alloc, input)
+/// What is asked of a source alone.
+#[derive(Clone, Copy, Debug)]
+enum Product {
+    /// Its object.
+    Object,
+    /// The nodes of its graph, and the boundaries among them.
+    Regions,
 }
 
-/// The answer to an input of `regions`.
-fn regions_input(alloc: Global, input: &[u8]) -> Result<Said, OutOfMemory>
-    requires { length input.now ≤ MOST_INPUT_BYTES }
-    ensures { IfOk result (λ said. AnswerToInput command.Regions input.now said.status said.output.items) }
+/// The answer to a source text.
+fn product_answer(alloc: Global, product: Product, source: &[u8]) -> Result<Said, OutOfMemory>
+    requires { length source.now ≤ MOST_SOURCE_BYTES }
+    ensures { IfOk result (λ said. CommandAnswer (command_making product) source.now said.status said.output.items) }
+{
+    match product {
+        Product::Object => compile_answer(alloc, source),
+        Product::Regions => regions_answer(alloc, source),
+    }
+}
+
+/// The answer to an input of `compile` or of `regions`.
+fn product_input(alloc: Global, product: Product, input: &[u8]) -> Result<Said, OutOfMemory>
+    ensures { IfOk result (λ said. AnswerToInput (command_making product) input.now said.status said.output.items) }
 {
     if input.len() > MOST_SOURCE_BYTES {
         return refused(alloc, 6, b"refused limit\n");
     }
-    regions_answer(alloc, input)
+    product_answer(alloc, product, input)
 }
 
 /// The answer to an input of `play` or of `image`.
@@ -71,9 +79,9 @@ pub fn answer(alloc: Global, command: Command, input: &[u8]) -> Result<Said, Out
     ensures { IfOk result (λ said. AnswerToInput command input.now said.status said.output.items) }
 {
     match command {
-        Command::Compile => compile_input(alloc, input),
+        Command::Compile => product_input(alloc, Product::Object, input),
         Command::List => list_answer(alloc, input),
-        Command::Regions => regions_input(alloc, input),
+        Command::Regions => product_input(alloc, Product::Regions, input),
         Command::Play => scripted_input(alloc, Asked::Report, input),
         Command::Source => source_input(alloc, input),
         Command::Image => scripted_input(alloc, Asked::Image, input),

@@ -24,7 +24,7 @@ pub enum Command {
     Play,
     /// Runs a source by itself, by a schedule.
     Source,
-    /// Writes what a crash would leave behind a script.
+    /// Writes what a crash after a script would leave.
     Image,
     /// Resumes what a crash has left, by so many turns of each hart, 0 to 1,000,000.
     Recover { turns: u32 },

@@ -4,10 +4,10 @@ ghost use Rattle.ido_base.specs.Words.{durable_value};
 ghost use Rattle.ido_base.specs.declared.limits.TheConstants.{MOST_VARIABLE_BYTES};
 ghost use Rattle.ido_ints.specs.Kinds.{bytes_of};
 ghost use Rattle.c_tree.specs.Programs.{variable_of};
-ghost use Rattle.c_tree.specs.WellFormed.{elements_in};
-ghost use Rattle.resumption.specs.Elements.{number_in};
-ghost use Rattle.run_tracker.specs.Lives.{world_of};
-ghost use Rattle.variable_layout.specs.Placing.{HaveRoom};
+ghost use Rattle.c_tree.specs.WellFormed.{elements_in, shape_of};
+ghost use Rattle.recovery_semantics.specs.Elements.{number_in};
+ghost use Rattle.run_tracker.specs.ObjectLives.{world_of};
+ghost use Rattle.memory_layout.specs.Variables.{HaveRoom};
 ghost use Rattle.variable_words.specs.Variables.{durable_variables, number_of_byte};
 ghost use Rattle.run_scripts.specs.links.ReportViews as views;
 ghost use Rattle.ido_cli.specs.Runs.{named, variable_with};
@@ -15,11 +15,11 @@ ghost use Rattle.ido_cli.specs.Reports.{durable_elements};
 
 use ido_base::memory::OutOfMemory;
 use ido_ints::{Kind, Value};
-use log_layout::variables::VARIABLES_BASE;
+use memory_layout::variables::VARIABLES_BASE;
 use run_scripts::report::Variable;
 use run_tracker::life::Life;
 use std::alloc::Global;
-use variable_layout::addresses;
+use variable_words::places::addresses;
 
 /// The number of this kind in the bytes of a word from one of them on.
 #[tactic(auto, using(crate::proofs::DurableNumbers::shifted_number))]
@@ -81,7 +81,7 @@ pub fn durable(
     life: &Life,
     declared: &[c_tree::program::Variable],
 ) -> Result<Vec<Variable>, OutOfMemory>
-    requires { HaveRoom (map variable_of declared.now) }
+    requires { HaveRoom (map shape_of (map variable_of declared.now)) }
     ensures { IfOk result (λ found. map views.variable_of found.items ≡
         named (map variable_of declared.now) (durable_variables (world_of life.now).words (map variable_of declared.now))) }
 {

@@ -2,8 +2,8 @@
 ghost use Rattle.std.specs.Prelude.{◌≡◌, ◌+◌, ◌/◌, ◌≤◌, drop, length, take, IfOk};
 ghost use Rattle.ido_base.specs.declared.limits.TheConstants.{MOST_SOURCE_BYTES, VARIABLE_WORDS, MOST_STEPS};
 ghost use Rattle.crash_images.specs.Contents.{contents, most_logs};
-ghost use Rattle.crash_images.specs.Spelling.{spelling};
-ghost use Rattle.run_tracker.specs.Lives.{left_words, steps_in, world_of};
+ghost use Rattle.crash_images.specs.ImageEncoder.{spelling};
+ghost use Rattle.run_tracker.specs.ObjectLives.{left_words, steps_in, world_of};
 
 use crate::said::Said;
 use crash_images::writing::write_image;

@@ -1,7 +1,7 @@
 //! A leg of a life: steps of its harts until each of them has a stop.
 ghost use Rattle.std.specs.Prelude.{◌≡◌, ◌≤◌, [], length};
-ghost use Rattle.rv64_isa.specs.Frames.{IsSound};
-ghost use Rattle.run_tracker.specs.Lives.{living, opening_of, world_of};
+ghost use Rattle.rv64_isa.specs.Frames.{IsWellFormedWorld};
+ghost use Rattle.run_tracker.specs.ObjectLives.{living, opening_of, world_of};
 ghost use Rattle.ido_cli.specs.Legs.{IsLeg, most_leg_events};
 
 use ido_base::event::Event;
@@ -16,7 +16,7 @@ pub fn leg(life: &mut Life, turns: u32)
     requires begins { life.old.journal ≡ [] }
     requires room { most_leg_events ≤ life.old.cap }
     requires harts { length (world_of life.old).harts ≡ length life.old.program }
-    requires sound { IsSound (world_of life.old) }
+    requires sound { IsWellFormedWorld (world_of life.old) }
     ensures opening { opening_of life.new ≡ opening_of life.old }
     ensures leg { IsLeg living (opening_of life.old) (length life.old.program) turns most_leg_events life.new.journal }
 {

@@ -6,9 +6,9 @@ ghost use Rattle.ido_cli.specs.Answers.{ListAnswer};
 use crate::listing::listing;
 use crate::refusal::{VERSION_PLACE, refused_at_byte};
 use crate::said::Said;
+use file_fields::error::ReadError;
 use ido_base::memory::OutOfMemory;
 use ido_base::place::Place;
-use object_format::error::ReadError;
 use object_format::reading::read_object;
 use std::alloc::Global;
 

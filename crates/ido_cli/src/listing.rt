@@ -2,19 +2,17 @@
 ghost use Rattle.std.specs.Prelude.{◌≡◌, ◌≤◌, ◌+◌, ◌*◌, ◌++◌, ◌<◌, ◌^◌, length, map, IfOk, OnOk, All};
 ghost use Rattle.ido_base.specs.declared.limits.TheConstants.{MOST_THREADS, MOST_CODE_WORDS};
 ghost use Rattle.object_format.specs.Contents.{IsWithinLimits, contents_of, items_of};
-ghost use Rattle.ido_cli.specs.Listing.{word_line, word_lines, thread_line, thread_lines, listing};
+ghost use Rattle.ido_cli.specs.ObjectListing.{word_line, word_lines, thread_line, thread_lines, listing};
 
 use crate::instruction::{hex_word, put, put_instruction};
+use ido_base::limits::CODE_BASE;
 use ido_base::memory::OutOfMemory;
 use rv64_isa::object::Object;
 use rv64_isa::word::decode;
 use std::alloc::Global;
 
-/// The address of the first thread's first word.
-const CODE_BASE: u32 = 0x0001_0000;
-
 /// Adds the line of a word.
-#[tactic(auto, unfolding(crate::specs::Listing::word_line))]
+#[tactic(auto, unfolding(crate::specs::ObjectListing::word_line))]
 fn put_word(alloc: Global, out: &mut Vec<u8>, address: u32, word: u32) -> Result<(), OutOfMemory>
     ensures { OnOk result (out.new.items ≡ out.old.items ++ word_line address word) }
 {
@@ -47,7 +45,7 @@ fn put_words(
 }
 
 /// Adds the line of a thread.
-#[tactic(auto, unfolding(crate::specs::Listing::thread_line))]
+#[tactic(auto, unfolding(crate::specs::ObjectListing::thread_line))]
 fn put_thread(alloc: Global, out: &mut Vec<u8>, thread: u32) -> Result<(), OutOfMemory>
     ensures { OnOk result (out.new.items ≡ out.old.items ++ thread_line thread) }
 {
@@ -61,7 +59,7 @@ fn put_code(alloc: Global, out: &mut Vec<u8>, code: &[Vec<u32>]) -> Result<(), O
     requires words { All (λ words. length words.items ≤ MOST_CODE_WORDS) code.now }
     ensures { OnOk result (out.new.items ≡ out.old.items ++ listing (map items_of code.now)) }
 {
-    let mut address = CODE_BASE;
+    let mut address = CODE_BASE as u32;
     let mut thread = 0;
     for words in code {
         put_thread(alloc, out, thread)?;
@@ -74,7 +72,7 @@ fn put_code(alloc: Global, out: &mut Vec<u8>, code: &[Vec<u32>]) -> Result<(), O
 
 /// The listing of an object: for each thread the line `thread T`, and a line for each word with its
 /// address, the word and its instruction.
-#[tactic(auto, using(crate::proofs::Listed::few_threads, crate::proofs::Listed::few_words))]
+#[tactic(auto, using(crate::proofs::CodeLimits::few_threads, crate::proofs::CodeLimits::few_words))]
 pub fn listing(alloc: Global, object: &Object) -> Result<Vec<u8>, OutOfMemory>
     requires { IsWithinLimits (contents_of object.now) }
     ensures { IfOk result (λ text. text.items ≡ listing (contents_of object.now).code) }

@@ -68,7 +68,7 @@ pub fn shift_name(operation: ShiftOperation) -> &'static str
     }
 }
 
-/// Its W form.
+/// The W form of a shift by a count.
 pub fn word_shift_name(operation: ShiftOperation) -> &'static str
     ensures { result.now ≡ word_shift_name operation }
 {

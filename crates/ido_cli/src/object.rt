@@ -17,7 +17,7 @@ pub fn compile_answer(alloc: Global, source: &[u8]) -> Result<Said, OutOfMemory>
 {
     match compile(alloc, source) {
         Ok(compiled) => {
-            let output = write_object(alloc, &compiled.object)?;
+            let output = write_object(alloc, &compiled.translated.object)?;
             Ok(Said { status: 0, output })
         }
         Err(error) => source_refused(alloc, source, error),

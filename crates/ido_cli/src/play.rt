@@ -2,17 +2,17 @@
 ghost use Rattle.std.specs.Prelude.{◌≡◌, ◌+◌, ◌≤◌, All, length, map, IfOk, IfSome, IsSome};
 ghost use Rattle.ido_base.specs.declared.limits.TheConstants.{MOST_INPUT_BYTES, MOST_SOURCE_BYTES};
 ghost use Rattle.c_tree.specs.Flats.{flat_of};
-ghost use Rattle.flat_compile.specs.Translating.{IsTranslated};
+ghost use Rattle.flat_compile.specs.TranslatedForms.{IsTranslated};
 ghost use Rattle.rv64_isa.specs.Machine.{IsEviction};
 ghost use Rattle.run_scripts.specs.Scripts.{IsDoable};
 ghost use Rattle.run_scripts.specs.links.ScriptViews as scripts;
-ghost use Rattle.compilation.specs.Compilations.{IsCompilation};
-ghost use Rattle.ido_compile.specs.Compiling.{IsCompiled, translation_in};
+ghost use Rattle.compiler_correctness.specs.Compilations.{IsCompilation};
+ghost use Rattle.ido_compile.specs.CompileAnswers.{IsCompiled, translation_in};
 ghost use Rattle.ido_cli.specs.Answers.{ScriptedAnswer};
 ghost use Rattle.ido_cli.specs.Inputs.{source_of, rest_of};
 ghost use Rattle.ido_cli.specs.Plays.{ScriptAnswer};
 ghost use Rattle.ido_cli.specs.Refusals.{IsRefusedAt, script_fault_code, script_fault_place};
-ghost use Rattle.ido_cli.specs.links.Asking.{Says};
+ghost use Rattle.ido_cli.specs.links.RunRequests.{Says};
 
 use crate::image::image;
 use crate::refusal::{refused_at, source_refused};
@@ -29,9 +29,9 @@ use std::alloc::Global;
 /// What is asked of the run of a script.
 #[derive(Clone, Copy, Debug)]
 pub enum Asked {
-    /// Its report.
+    /// The report of the run.
     Report,
-    /// The image that a crash would leave behind it.
+    /// The image that a crash after the run would leave.
     Image,
 }
 
@@ -46,19 +46,24 @@ fn script_answer(
 ) -> Result<Said, OutOfMemory>
     requires short { length input.now ≤ MOST_INPUT_BYTES }
     requires within { begins ≤ length input.now }
-    requires translated { IsTranslated (flat_of compiled.now.flat) compiled.now.object compiled.now.marks compiled.now.cuts }
+    requires translated { IsTranslated (flat_of compiled.now.flat) compiled.now.translated.object compiled.now.translated.marks compiled.now.translated.cuts }
     requires compilation { IsCompilation (translation_in compiled.now) }
     requires short_source { length compiled.now.text.items ≤ MOST_SOURCE_BYTES }
-    requires doable { All (λ line. IsDoable (length compiled.now.object.code.items) (IsEviction (length compiled.now.object.code.items)) line.command)
-        script.now.lines.items }
+    requires doable { let threads = length compiled.now.translated.object.code.items in
+        All (λ line. IsDoable threads (IsEviction threads) line.command) script.now.lines.items }
     ensures { IfOk result (λ said. ScriptAnswer (translation_in compiled.now) (Says asked compiled.now.text.items (translation_in compiled.now))
         (record { lines = map scripts.line_of script.now.lines.items; input = input.now; begins = begins }) said.status said.output.items) }
 {
-    let mut life = Life::new(alloc, &compiled.object, &compiled.marks, MOST_EVENTS)?;
+    let mut life = Life::new(
+        alloc,
+        &compiled.translated.object,
+        &compiled.translated.marks,
+        MOST_EVENTS,
+    )?;
     match play(script, &mut life) {
         Ok(()) => match asked {
             Asked::Report => say(alloc, &compiled.flat, &life),
-            Asked::Image => image(alloc, &compiled.text, &compiled.object, &life),
+            Asked::Image => image(alloc, &compiled.text, &compiled.translated.object, &life),
         },
         Err(many) => refused_at(alloc, 6, "E1", input, begins + u64::from(many.line.0)),
     }
@@ -102,13 +107,13 @@ fn compiled_answer(
     ensures { IfOk result (λ said. ScriptedAnswer (Says asked (source_of input.now)) input.now said.status said.output.items) }
 {
     let begins = (input.len() - rest.len()) as u64;
-    match read_script(alloc, rest, compiled.object.code.len() as u32) {
+    match read_script(alloc, rest, compiled.translated.object.code.len() as u32) {
         Ok(script) => script_answer(alloc, asked, compiled, &script, input, begins),
         Err(error) => script_refused(alloc, input, begins, error),
     }
 }
 
-/// The answer to an input of `play` or of `image`, from its source text and what stands behind it.
+/// The answer to an input of `play` or of `image`, from its source text and what stands after it.
 pub fn scripted_answer(
     alloc: Global,
     asked: Asked,

@@ -1,13 +1,13 @@
 //! The command `recover`: a run that goes on from what a crash has left.
 ghost use Rattle.std.specs.Prelude.{◌≡◌, ◌+◌, ◌*◌, ◌/◌, ◌≤◌, length, IfOk, Some};
-ghost use Rattle.ido_base.specs.declared.limits.TheConstants.{MOST_INPUT_BYTES};
+ghost use Rattle.ido_base.specs.declared.limits.TheConstants.{MOST_INPUT_BYTES, LOG_WORDS};
 ghost use Rattle.c_tree.specs.Flats.{flat_of};
-ghost use Rattle.compilation.specs.Compilations.{IsCompilation};
-ghost use Rattle.flat_compile.specs.Translating.{IsTranslated};
+ghost use Rattle.compiler_correctness.specs.Compilations.{IsCompilation};
+ghost use Rattle.flat_compile.specs.TranslatedForms.{IsTranslated};
 ghost use Rattle.ido_cli.specs.Answers.{RecoverAnswer, file_in};
 ghost use Rattle.ido_cli.specs.Recoveries.{IsRecovery};
 ghost use Rattle.ido_cli.specs.Refusals.{image_line};
-ghost use Rattle.ido_compile.specs.Compiling.{translation_in};
+ghost use Rattle.ido_compile.specs.CompileAnswers.{translation_in};
 
 use crate::leg::{MOST_LEG_EVENTS, leg};
 use crate::refusal::{
@@ -16,12 +16,12 @@ use crate::refusal::{
 };
 use crate::report::say;
 use crate::said::Said;
-use compilation::laws::images_are_crashes;
-use crash_images::error::ImageError;
-use crash_images::image::{Image, read_image};
+use compiler_correctness::laws::images_are_crashes;
 use ido_base::memory::OutOfMemory;
 use ido_base::place::Place;
 use ido_compile::laws::files_begin;
+use image_checks::error::ImageError;
+use image_checks::image::{Image, read_image};
 use run_tracker::life::Life;
 use std::alloc::Global;
 
@@ -53,9 +53,11 @@ fn image_refused(alloc: Global, error: ImageError) -> Result<Said, OutOfMemory>
 
 /// What is said of a run that goes on from an image by so many turns of each hart.
 fn recovered(alloc: Global, image: &Image, turns: u32) -> Result<Said, OutOfMemory>
-    requires translated { IsTranslated (flat_of image.now.compiled.flat) image.now.compiled.object image.now.compiled.marks image.now.compiled.cuts }
+    requires translated { let made = image.now.compiled.translated in
+        IsTranslated (flat_of image.now.compiled.flat) made.object made.marks made.cuts }
     requires compilation { IsCompilation (translation_in image.now.compiled) }
-    requires words { length image.now.words.items ≡ length image.now.compiled.object.initial.items / 8 + 128 * length image.now.compiled.object.code.items }
+    requires words { let object = image.now.compiled.translated.object in
+        length image.now.words.items ≡ length object.initial.items / 8 + LOG_WORDS * length object.code.items }
     ensures { IfOk result (λ said. IsRecovery (translation_in image.now.compiled) (file_in image.now) turns said.status said.output.items) }
 {
     images_are_crashes();
@@ -63,8 +65,8 @@ fn recovered(alloc: Global, image: &Image, turns: u32) -> Result<Said, OutOfMemo
     let compiled = &image.compiled;
     let mut life = Life::of_words(
         alloc,
-        &compiled.object,
-        &compiled.marks,
+        &compiled.translated.object,
+        &compiled.translated.marks,
         &image.words,
         &image.schedule,
         MOST_LEG_EVENTS,

@@ -4,7 +4,7 @@ ghost use Rattle.ido_base.specs.Places.{column_of, line_of};
 ghost use Rattle.ido_base.specs.declared.limits.TheConstants.{MOST_SOURCE_BYTES};
 ghost use Rattle.ido_cli.specs.Refusals.{code_of, fault_code, fault_place, line_at, line_at_byte, line_at_register};
 ghost use Rattle.ido_cli.specs.Refusals.{line_at_step, line_at_thread, line_of_threads, stop_code};
-ghost use Rattle.ido_cli.specs.links.Uncompiled.{TellsRefusal};
+ghost use Rattle.ido_cli.specs.links.CompileRefusals.{TellsRefusal};
 ghost use Rattle.run_scripts.specs.Schedules as s;
 
 use crate::said::Said;

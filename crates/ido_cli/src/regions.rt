@@ -3,20 +3,22 @@ ghost use Rattle.std.specs.Prelude.{◌≡◌, ◌<◌, ◌≤◌, ◌++◌, ◌
 ghost use Rattle.ido_base.specs.declared.limits.TheConstants.{MOST_SOURCE_BYTES};
 ghost use Rattle.c_tree.specs.Flats.{flat_of, thread_of};
 ghost use Rattle.flow_graph.specs.Nodes.{action_of, graph_of, node_of};
-ghost use Rattle.flow_graph.specs.Cutting.{boundaries_of};
+ghost use Rattle.flow_graph.specs.IdempotentCuts.{boundaries_of};
 ghost use Rattle.flow_graph.specs.Lowering.{lowered};
 ghost use Rattle.ido_cli.specs.Answers.{RegionsAnswer};
+ghost use Rattle.ido_cli.specs.links.Regions.{IsRegionsAnswer};
 ghost use Rattle.ido_cli.specs.Regions.{action_name, cut_mark, is_chosen, node_line, node_lines, regions, thread_line};
 
 use crate::instruction::put;
 use crate::refusal::{place_in, source_refused};
 use crate::said::Said;
-use c_tree::flat::{Flat, Thread};
+use c_tree::flat::Thread;
+use flat_analysis::Analysis;
+use flat_compile::translate;
 use flow_graph::cuts::Cuts;
 use flow_graph::graph::{Action, Graph, Node, Part};
-use flow_lower::lower;
 use ido_base::memory::OutOfMemory;
-use ido_compile::compile;
+use ido_compile::{CompileError, checked, flatten};
 use std::alloc::Global;
 
 /// The name of what a node does.
@@ -41,7 +43,7 @@ fn is_chosen(cuts: &Cuts, number: usize, node: &Node<'_>) -> bool
     cuts.before[number] && !matches!(node.action, Action::Unlock { .. })
 }
 
-/// What stands behind a node before which a boundary is chosen.
+/// What stands after a node before which a boundary is chosen.
 fn cut_mark(chosen: bool) -> &'static str
     ensures { result.now ≡ cut_mark chosen }
 {
@@ -101,18 +103,36 @@ fn put_thread(out: &mut Vec<u8>, thread: &Thread) -> Result<(), OutOfMemory>
 }
 
 /// The nodes of a flat form, thread after thread.
-fn regions(alloc: Global, text: &[u8], flat: &Flat, cuts: &Cuts) -> Result<Vec<u8>, OutOfMemory>
+fn regions(
+    alloc: Global,
+    text: &[u8],
+    analysis: &Analysis,
+    cuts: &Cuts,
+) -> Result<Vec<u8>, OutOfMemory>
     requires short { length text.now < 2 ^ 31 }
-    requires cuts { length cuts.now.before.items ≡ length (lowered (flat_of flat.now)).nodes }
-    ensures { IfOk result (λ said. said.items ≡ regions text.now (lowered (flat_of flat.now)) (boundaries_of cuts.now) (flat_of flat.now).threads) }
+    requires graph { graph_of analysis.now.graph ≡ lowered (flat_of analysis.now.flat.now) }
+    requires cuts { length cuts.now.before.items ≡ length (lowered (flat_of analysis.now.flat.now)).nodes }
+    ensures { IfOk result (λ said. let flat = flat_of analysis.now.flat.now in
+        said.items ≡ regions text.now (lowered flat) (boundaries_of cuts.now) flat.threads) }
 {
-    let graph = lower(alloc, flat)?;
     let mut out = Vec::new(alloc);
-    for (thread, part) in flat.threads.iter().zip(&graph.threads) {
+    for (thread, part) in analysis.flat.threads.iter().zip(&analysis.graph.threads) {
         put_thread(&mut out, thread)?;
-        put_nodes(alloc, &mut out, text, &graph, cuts, *part)?;
+        put_nodes(alloc, &mut out, text, &analysis.graph, cuts, *part)?;
     }
     Ok(out)
+}
+
+/// The nodes of a source's flat form, with the boundaries of its object, or why it has none.
+fn source_regions(alloc: Global, source: &[u8]) -> Result<Vec<u8>, CompileError>
+    requires { length source.now ≤ MOST_SOURCE_BYTES }
+    ensures { IsRegionsAnswer source.now result }
+{
+    let flat = flatten(alloc, source)?;
+    let analysis = checked(alloc, source, &flat)?;
+    let translated = translate(alloc, &analysis)?;
+    let output = regions(alloc, source, &analysis, &translated.cuts)?;
+    Ok(output)
 }
 
 /// The answer to a source text.
@@ -120,11 +140,8 @@ pub fn regions_answer(alloc: Global, source: &[u8]) -> Result<Said, OutOfMemory>
     requires { length source.now ≤ MOST_SOURCE_BYTES }
     ensures { IfOk result (λ said. RegionsAnswer source.now said.status said.output.items) }
 {
-    match compile(alloc, source) {
-        Ok(compiled) => {
-            let output = regions(alloc, source, &compiled.flat, &compiled.cuts)?;
-            Ok(Said { status: 0, output })
-        }
+    match source_regions(alloc, source) {
+        Ok(output) => Ok(Said { status: 0, output }),
         Err(error) => source_refused(alloc, source, error),
     }
 }

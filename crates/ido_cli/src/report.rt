@@ -1,11 +1,13 @@
 //! The report of a life.
 ghost use Rattle.std.specs.Prelude.{◌≡◌, ◌≤◌, length, map, IfOk};
+ghost use Rattle.ido_base.specs.declared.limits.TheConstants.{MOST_THREADS};
 ghost use Rattle.c_tree.specs.Flats.{flat_of};
 ghost use Rattle.c_tree.specs.Source as m;
 ghost use Rattle.rv64_isa.specs.Machine.{numbers_from};
 ghost use Rattle.run_scripts.specs.links.ReportViews as views;
-ghost use Rattle.run_tracker.specs.Lives.{world_of, steps_in};
-ghost use Rattle.variable_layout.specs.Placing.{HaveRoom};
+ghost use Rattle.run_tracker.specs.ObjectLives.{world_of, steps_in};
+ghost use Rattle.c_tree.specs.WellFormed.{shape_of};
+ghost use Rattle.memory_layout.specs.Variables.{HaveRoom};
 ghost use Rattle.ido_cli.specs.Reports.{machine_state, unsettled_harts};
 ghost use Rattle.ido_cli.specs.Runs.{IsReport};
 
@@ -36,7 +38,7 @@ fn unsettled(alloc: Global, life: &Life) -> Result<Vec<u32>, OutOfMemory>
 
 /// How many sections of each thread the source ends by a schedule, up to its first step that can't be made.
 fn ended_by(alloc: Global, flat: &Flat, schedule: &[u32]) -> Result<Vec<u64>, OutOfMemory>
-    requires few { length flat.now.threads.items ≤ 8 }
+    requires few { length flat.now.threads.items ≤ MOST_THREADS }
     ensures { IfOk result (λ sections. sections.items ≡
         map (m.ended_from (m.start (flat_of flat.now)) schedule.now) (numbers_from 0 (length flat.now.threads.items))) }
 {
@@ -49,8 +51,8 @@ fn ended_by(alloc: Global, flat: &Flat, schedule: &[u32]) -> Result<Vec<u64>, Ou
 
 /// What is reported of a life.
 fn reported(alloc: Global, flat: &Flat, life: &Life) -> Result<Reported, OutOfMemory>
-    requires few { length flat.now.threads.items ≤ 8 }
-    requires room { HaveRoom (flat_of flat.now).variables }
+    requires few { length flat.now.threads.items ≤ MOST_THREADS }
+    requires room { HaveRoom (map shape_of (flat_of flat.now).variables) }
     requires harts { length (world_of life.now).harts ≡ length life.now.program }
     ensures { IfOk result (λ state. views.state_of state ≡ machine_state (flat_of flat.now) (world_of life.now) (steps_in life.now).kept) }
 {
@@ -67,15 +69,22 @@ fn reported(alloc: Global, flat: &Flat, life: &Life) -> Result<Reported, OutOfMe
     })
 }
 
-/// What is said of a life: its report, with the status that says whether it is settled.
+/// What is said of a state: its report, with the status that says whether it is settled.
+pub fn say_reported(alloc: Global, state: &Reported) -> Result<Said, OutOfMemory>
+    ensures { IfOk result (λ said. IsReport (views.state_of state.now) said.status said.output.items) }
+{
+    let output = report(alloc, state)?;
+    let status = if state.unsettled.is_empty() { 0 } else { 3 };
+    Ok(Said { status, output })
+}
+
+/// What is said of a life.
 pub fn say(alloc: Global, flat: &Flat, life: &Life) -> Result<Said, OutOfMemory>
-    requires few { length flat.now.threads.items ≤ 8 }
-    requires room { HaveRoom (flat_of flat.now).variables }
+    requires few { length flat.now.threads.items ≤ MOST_THREADS }
+    requires room { HaveRoom (map shape_of (flat_of flat.now).variables) }
     requires harts { length (world_of life.now).harts ≡ length life.now.program }
     ensures { IfOk result (λ said. IsReport (machine_state (flat_of flat.now) (world_of life.now) (steps_in life.now).kept) said.status said.output.items) }
 {
     let state = reported(alloc, flat, life)?;
-    let output = report(alloc, &state)?;
-    let status = if state.unsettled.is_empty() { 0 } else { 3 };
-    Ok(Said { status, output })
+    say_reported(alloc, &state)
 }

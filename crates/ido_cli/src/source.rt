@@ -1,24 +1,25 @@
 //! The command `source`: the source's own run.
 ghost use Rattle.std.specs.Prelude.{◌≡◌, ◌+◌, ◌-◌, ◌<◌, ◌≤◌, ◌^◌, ℕ, length, map, take, drop, IfOk, IfSome, IsSome};
-ghost use Rattle.ido_base.specs.declared.limits.TheConstants.{MOST_INPUT_BYTES, MOST_SOURCE_BYTES};
+ghost use Rattle.ido_base.specs.declared.limits.TheConstants.{MOST_INPUT_BYTES, MOST_SOURCE_BYTES, MOST_THREADS};
 ghost use Rattle.flow_graph.specs.Refusals.{IsAccepted};
 ghost use Rattle.c_tree.specs.Flats.{flat_of};
 ghost use Rattle.c_tree.specs.Programs.{variable_of};
 ghost use Rattle.c_tree.specs.Source as m;
 ghost use Rattle.run_scripts.specs.links.ReportViews as views;
 ghost use Rattle.run_scripts.specs.links.WordLengths as words;
-ghost use Rattle.source_machine.specs.links.States.{Stands, threads_in};
+ghost use Rattle.source_machine.specs.links.States.{RepresentsState, threads_in};
 ghost use Rattle.ido_cli.specs.Answers.{SourceAnswer};
 ghost use Rattle.ido_cli.specs.Inputs.{source_of, rest_of};
 ghost use Rattle.ido_cli.specs.Refusals.{IsRefusedAt, fault_code, fault_place};
 ghost use Rattle.ido_cli.specs.Runs.{IsReport, RunAnswer, counted, run_state, taken, unsettled_threads, variable_with};
 
 use crate::refusal::{refused_at, refused_at_step, source_refused, stop_code};
+use crate::report::say_reported;
 use crate::said::Said;
 use c_tree::flat::Flat;
 use ido_base::memory::OutOfMemory;
 use ido_compile::front;
-use run_scripts::report::{Reported, Variable, report};
+use run_scripts::report::{Reported, Variable};
 use run_scripts::schedule::{ScheduleError, read_schedule};
 use source_machine::SourceState;
 use source_machine::laws::sizes_stay;
@@ -27,7 +28,7 @@ use std::alloc::Global;
 /// The threads that hold a mutex, ascending.
 fn unsettled(alloc: Global, state: &SourceState) -> Result<Vec<u32>, OutOfMemory>
     requires { threads_in state.now < 2 ^ 32 }
-    ensures { IfOk result (λ threads. (s : m.State) (ended : ℕ → ℕ) → Stands state.now s ended → threads.items ≡ unsettled_threads s) }
+    ensures { IfOk result (λ threads. (s : m.State) (ended : ℕ → ℕ) → RepresentsState state.now s ended → threads.items ≡ unsettled_threads s) }
 {
     let mut threads = Vec::new(alloc);
     for thread in 0..state.threads() as u32 {
@@ -41,7 +42,7 @@ fn unsettled(alloc: Global, state: &SourceState) -> Result<Vec<u32>, OutOfMemory
 /// How many sections of each thread have ended.
 pub fn ended(alloc: Global, state: &SourceState) -> Result<Vec<u64>, OutOfMemory>
     requires { threads_in state.now < 2 ^ 32 }
-    ensures { IfOk result (λ sections. (s : m.State) (ended : ℕ → ℕ) → Stands state.now s ended → sections.items ≡ counted ended (length s.threads)) }
+    ensures { IfOk result (λ sections. (s : m.State) (ended : ℕ → ℕ) → RepresentsState state.now s ended → sections.items ≡ counted ended (length s.threads)) }
 {
     let mut sections = Vec::new(alloc);
     for thread in 0..state.threads() as u32 {
@@ -50,11 +51,11 @@ pub fn ended(alloc: Global, state: &SourceState) -> Result<Vec<u64>, OutOfMemory
     Ok(sections)
 }
 
-/// The first so many elements, or all where there are fewer, and those behind them.
-#[tactic(auto, using(crate::proofs::Gathered::take_min, crate::proofs::Gathered::drop_min))]
+/// The first so many elements, or all where there are fewer, and those after them.
+#[tactic(auto, using(crate::proofs::GatheredReports::take_min, crate::proofs::GatheredReports::drop_min))]
 fn split_prefix(elements: &[i128], count: usize) -> (&[i128], &[i128])
     ensures prefix { result.0.now ≡ take count elements.entry.now }
-    ensures behind { result.1.now ≡ drop count elements.entry.now }
+    ensures after { result.1.now ≡ drop count elements.entry.now }
 {
     elements.split_at(count.min(elements.len()))
 }
@@ -73,7 +74,7 @@ fn with_elements(
     })
 }
 
-/// Variables with the numbers of their elements, of which those of all stand one behind the other.
+/// Variables with the numbers of their elements, of which those of all stand one after the other.
 fn variables(
     alloc: Global,
     declared: &[c_tree::program::Variable],
@@ -84,22 +85,22 @@ fn variables(
     let mut found = Vec::new(alloc);
     let mut rest = elements;
     for variable in declared {
-        let (own, behind) = split_prefix(rest, variable.initial.len());
+        let (own, after) = split_prefix(rest, variable.initial.len());
         found.push(with_elements(alloc, variable, own)?)?;
-        rest = behind;
+        rest = after;
     }
     Ok(found)
 }
 
-/// What is reported of the state behind a schedule.
+/// What is reported of the state after a schedule.
 fn reported(
     alloc: Global,
     flat: &Flat,
     state: &SourceState,
     schedule: Vec<u32>,
 ) -> Result<Reported, OutOfMemory>
-    requires few { length flat.now.threads.items ≤ 8 }
-    requires stands { Stands state.now (m.after_from (m.start (flat_of flat.now)) schedule.items)
+    requires few { length flat.now.threads.items ≤ MOST_THREADS }
+    requires stands { RepresentsState state.now (m.after_from (m.start (flat_of flat.now)) schedule.items)
         (λ thread. 0 + m.ended_from (m.start (flat_of flat.now)) schedule.items thread) }
     ensures { IfOk result (λ x. views.state_of x ≡ run_state (flat_of flat.now) schedule.items) }
 {
@@ -115,27 +116,25 @@ fn reported(
     })
 }
 
-/// What is said of the state behind a schedule.
+/// What is said of the state after a schedule.
 fn say_run(
     alloc: Global,
     flat: &Flat,
     state: &SourceState,
     schedule: Vec<u32>,
 ) -> Result<Said, OutOfMemory>
-    requires few { length flat.now.threads.items ≤ 8 }
-    requires stands { Stands state.now (m.after_from (m.start (flat_of flat.now)) schedule.items)
+    requires few { length flat.now.threads.items ≤ MOST_THREADS }
+    requires stands { RepresentsState state.now (m.after_from (m.start (flat_of flat.now)) schedule.items)
         (λ thread. 0 + m.ended_from (m.start (flat_of flat.now)) schedule.items thread) }
     ensures { IfOk result (λ said. IsReport (run_state (flat_of flat.now) schedule.items) said.status said.output.items) }
 {
     let state = reported(alloc, flat, state, schedule)?;
-    let output = report(alloc, &state)?;
-    let status = if state.unsettled.is_empty() { 0 } else { 3 };
-    Ok(Said { status, output })
+    say_reported(alloc, &state)
 }
 
 /// What is said of the run of a schedule.
 fn run_answer(alloc: Global, flat: &Flat, schedule: Vec<u32>) -> Result<Said, OutOfMemory>
-    requires few { length flat.now.threads.items ≤ 8 }
+    requires few { length flat.now.threads.items ≤ MOST_THREADS }
     ensures { IfOk result (λ said. RunAnswer (flat_of flat.now) schedule.items said.status said.output.items) }
 {
     let mut state = SourceState::start(alloc, flat)?;
@@ -169,7 +168,7 @@ fn schedule_refused(
 
 /// What is said of a flat form and the text of a schedule, which ends an input.
 fn flat_answer(alloc: Global, flat: &Flat, input: &[u8], rest: &[u8]) -> Result<Said, OutOfMemory>
-    requires few { length flat.now.threads.items ≤ 8 }
+    requires few { length flat.now.threads.items ≤ MOST_THREADS }
     requires short { length input.now ≤ MOST_INPUT_BYTES }
     requires rest { rest.now ≡ rest_of input.now }
     ensures { IfOk result (λ said. IsAccepted (source_of input.now) (flat_of flat.now) → SourceAnswer input.now said.status said.output.items) }
@@ -180,7 +179,7 @@ fn flat_answer(alloc: Global, flat: &Flat, input: &[u8], rest: &[u8]) -> Result<
     }
 }
 
-/// The answer to an input of `source`, from its source text and what stands behind it.
+/// The answer to an input of `source`, from its source text and what stands after it.
 pub fn source_answer(
     alloc: Global,
     input: &[u8],

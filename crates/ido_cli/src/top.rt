@@ -1,7 +1,7 @@
 //! The top calls.
 ghost use Rattle.std.specs.Prelude.{◌≡◌, ◌⊎◌, map, string_bytes, None, IfOk, IsErrOf, IsSome, IfSome};
 ghost use Rattle.ido_outside.specs.Causes.{Rose};
-ghost use Rattle.ido_cli.specs.Answers.{IsAnswer, IsAnswered};
+ghost use Rattle.ido_cli.specs.Answers.{IsAnswer, IsAnswered, outside};
 ghost use Rattle.ido_cli.specs.Commands.{command_of};
 ghost use Rattle.ido_cli.specs.Deliveries.{IsSaidToInput, IsDelivered};
 
@@ -36,7 +36,7 @@ impl From<OutOfMemory> for Unsaid {
 }
 
 /// What is said to the input of a command.
-#[tactic(auto, using(crate::proofs::Tops::said_to_long_input))]
+#[tactic(auto, using(crate::proofs::TopCallAnswers::said_to_long_input))]
 fn say_to_input<S: Source>(alloc: Global, command: Command, input: &mut S) -> Result<Said, Unsaid>
     ensures said { IfOk result (λ said. IsSaidToInput command (S.left input.old) said) }
     ensures failed { IsErrOf result Unsaid.Failed → Rose (S.faults input.old) (S.faults input.new) }
@@ -87,15 +87,7 @@ fn deliver<K: Sink>(said: &Said, output: &mut K) -> u8
 
 /// The status of a run, which writes what is said.
 fn serve<S: Source, K: Sink>(alloc: Global, words: &[String], input: &mut S, output: &mut K) -> u8
-    ensures answered { IsAnswered (map string_bytes words.now) (record {
-      left = S.left input.old;
-      written_before = K.written output.old;
-      written = K.written output.new;
-      source_faults_before = S.faults input.old;
-      source_faults = S.faults input.new;
-      sink_faults_before = K.faults output.old;
-      sink_faults = K.faults output.new;
-    }) result }
+    ensures answered { IsAnswered (map string_bytes words.now) (outside S.left S.faults K.written K.faults input.old input.new output.old output.new) result }
     ensures unread { command_of (map string_bytes words.now) ≡ None → input.new ≡ input.old }
     ensures unwritten { (result ≡ 4) ⊎ (result ≡ 7) → output.new ≡ output.old }
 {
@@ -122,15 +114,8 @@ pub fn alone<S: Source, K: Sink>(
 
     // The status and what was written are the answer, or say what was wanting. There is one answer
     // (`laws::one_answer`), but where it stands on a compilation.
-    ensures answered { IfSome result (λ status. IsAnswered (map string_bytes words.now) (record {
-      left = S.left input.old;
-      written_before = K.written output.old;
-      written = K.written output.new;
-      source_faults_before = S.faults input.old;
-      source_faults = S.faults input.new;
-      sink_faults_before = K.faults output.old;
-      sink_faults = K.faults output.new;
-    }) status) }
+    ensures answered { IfSome result (λ status.
+        IsAnswered (map string_bytes words.now) (outside S.left S.faults K.written K.faults input.old input.new output.old output.new) status) }
 
     // For words that aren't taken the source isn't touched.
     ensures unread { command_of (map string_bytes words.now) ≡ None → input.new ≡ input.old }
@@ -143,6 +128,9 @@ pub fn alone<S: Source, K: Sink>(
 
 /// Answers words, the program's name first, and an input: writes the output, and answers the
 /// status. Commands that need threads are to be done here; there is none yet.
+///
+/// It owes no return: by its bounds `Threads` and `Wait` it may wait, and its clauses say what holds if it returns. Today it calls
+/// `alone`, which is proved to return as far as the source and the sink do; runtime and gate are for commands to come.
 pub fn ido<R: Threads + Wait + Sync, S: Source, K: Sink, G: Gate + Sync>(
     rt: &R,
     alloc: Global,
@@ -153,15 +141,7 @@ pub fn ido<R: Threads + Wait + Sync, S: Source, K: Sink, G: Gate + Sync>(
 ) -> u8
     // The status and what was written are the answer, or say what was wanting. There is one answer
     // (`laws::one_answer`), but where it stands on a compilation.
-    ensures answered { IsAnswered (map string_bytes words.now) (record {
-      left = S.left input.old;
-      written_before = K.written output.old;
-      written = K.written output.new;
-      source_faults_before = S.faults input.old;
-      source_faults = S.faults input.new;
-      sink_faults_before = K.faults output.old;
-      sink_faults = K.faults output.new;
-    }) result }
+    ensures answered { IsAnswered (map string_bytes words.now) (outside S.left S.faults K.written K.faults input.old input.new output.old output.new) result }
 
     // For words that aren't taken the source isn't touched.
     ensures unread { command_of (map string_bytes words.now) ≡ None → input.new ≡ input.old }

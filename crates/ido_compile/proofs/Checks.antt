@@ -1,4 +1,4 @@
--- What a text that keeps the rules of names has: few mutexes and few threads.
+-- What a text that keeps the rules of names has: few threads.
 use Rattle.std.proofs.Common.{◌≡◌, refl, ℕ, zero, suc, ◌≤◌, List, [], ◌∷◌, ◌++◌, length, flat_map, ap, arith}
 use Rattle.std.proofs.lemmas.List.{length-map}
 use Rattle.ido_base.specs.declared.limits.TheConstants.{MOST_THREADS, MOST_MUTEXES}
@@ -9,8 +9,7 @@ use Rattle.c_tree.specs.Names as n
 use Rattle.c_tree.specs.Programs as p
 use Rattle.c_tree.specs.Trees as t
 use Rattle.c_tree.specs.TypeRules.{mutex_names, past, thread_names, type_faults, twice_from, too_many_bytes, item_faults}
-use Rattle.c_tree.specs.Views.{name_of}
-use Rattle.c_tree.specs.Typing.{program_from, typed_program}
+use Rattle.c_tree.specs.Elaboration.{program_from, typed_program}
 use Rattle.c_tree.specs.declared.rule.Rule as r
 use Rattle.c_tree.specs.declared.rule.Rule.TheVariants as rule
 use Rattle.c_tree.specs.declared.flat.Flat.{Flat}
@@ -29,13 +28,6 @@ few found most [] h = omega arith
 few found zero (x ∷ xs) h = absurd (cc h)
 few found (suc most) (x ∷ xs) h = let rest = few found most xs h in omega (arith, rest)
 
-mutexes_in : (gs : List n.Global) (xs : List t.Item) → length (program_from gs xs).mutexes ≡ length (mutex_names xs)
-mutexes_in gs [] = refl
-mutexes_in gs (t.MutexItem x ∷ xs) = ap suc (mutexes_in gs xs)
-mutexes_in gs (t.PersistentItem x ∷ xs) = mutexes_in gs xs
-mutexes_in gs (t.FunctionItem x ∷ xs) = mutexes_in gs xs
-mutexes_in gs (t.ThreadItem x ∷ xs) = mutexes_in gs xs
-
 threads_in : (gs : List n.Global) (xs : List t.Item) → length (program_from gs xs).threads ≡ length (thread_names xs)
 threads_in gs [] = refl
 threads_in gs (t.MutexItem x ∷ xs) = threads_in gs xs
@@ -43,7 +35,7 @@ threads_in gs (t.PersistentItem x ∷ xs) = threads_in gs xs
 threads_in gs (t.FunctionItem x ∷ xs) = threads_in gs xs
 threads_in gs (t.ThreadItem x ∷ xs) = ap suc (threads_in gs xs)
 
-few_of : (xs : List t.Item) → type_faults xs ≡ [] → (length (typed_program xs).threads ≤ MOST_THREADS) × (length (typed_program xs).mutexes ≤ MOST_MUTEXES)
+few_of : (xs : List t.Item) → type_faults xs ≡ [] → length (typed_program xs).threads ≤ MOST_THREADS
 unfolding type_faults typed_program
 few_of xs h =
     let twice = twice_from [] (n.globals_of xs) in
@@ -51,35 +43,22 @@ few_of xs h =
     let of_mutexes = past rule.Mutexes MOST_MUTEXES (mutex_names xs) in
     let a = no_prefix (twice ++ of_threads ++ of_mutexes ++ too_many_bytes 0 xs) (flat_map (item_faults (n.globals_of xs)) xs) h in
     let b = no_prefix (twice ++ of_threads ++ of_mutexes) (too_many_bytes 0 xs) a in
-    let mutexes = no_back (twice ++ of_threads) of_mutexes b in
     let threads = no_back twice of_threads (no_prefix (twice ++ of_threads) of_mutexes b) in
     let e = threads_in (n.globals_of xs) xs in
-    let g = mutexes_in (n.globals_of xs) xs in
     let t = few rule.Threads MOST_THREADS (thread_names xs) threads in
-    let m = few rule.Mutexes MOST_MUTEXES (mutex_names xs) mutexes in
-    (omega (arith, e, t), omega (arith, g, m))
+    omega (arith, e, t)
 
-flat_counts : (x : p.Program) → (length (flat_form x).threads ≡ length x.threads) × (length (flat_form x).mutexes ≡ length x.mutexes)
+flat_count : (x : p.Program) → length (flat_form x).threads ≡ length x.threads
 unfolding flat_form
-flat_counts x = (length-map x.threads (flat_thread x.functions), refl)
-
-pub few_mutexes : (xs : List t.Item) (x : p.Program) (flat : Flat) → type_faults xs ≡ [] → x ≡ typed_program xs → flat_of flat ≡ flat_form x →
-    length flat.mutexes.items ≤ 64
-few_mutexes xs x flat faultless typed flattened =
-    let a = (few_of xs faultless).1 in
-    let b = ap (λ (q : p.Program). length q.mutexes) typed in
-    let c = (flat_counts x).1 in
-    let d = ap (λ (y : f.Flat). length y.mutexes) flattened in
-    let e = length-map flat.mutexes.items name_of in
-    omega (arith, a, b, c, d, e)
+flat_count x = length-map x.threads (flat_thread x.functions)
 
 pub few_threads : (text : List ℕ) (flat : Flat) → IsAccepted text (flat_of flat) → length flat.threads.items ≤ 8
 few_threads text flat is =
     let flattened = is.checked.flattened in
     let it = flattened.ranged.typed in
-    let a = (few_of it.items it.faultless).0 in
+    let a = few_of it.items it.faultless in
     let b = ap (λ (q : p.Program). length q.threads) it.typed in
-    let c = (flat_counts flattened.program).0 in
+    let c = flat_count flattened.program in
     let d = ap (λ (y : f.Flat). length y.threads) flattened.flattened in
     let e = length-map flat.threads.items f.thread_of in
     omega (arith, a, b, c, d, e)

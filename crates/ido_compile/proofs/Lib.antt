@@ -1,4 +1,5 @@
-pub mod Checks
-pub mod Fronts
-pub mod Verdicts
-pub mod Translations
+pub mod Public
+mod Checks
+mod FrontEndChecks
+mod Verdicts
+mod Translations

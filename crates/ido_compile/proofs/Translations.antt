@@ -6,14 +6,14 @@ use Rattle.rv64_isa.specs.declared.object.Marks.{Marks}
 use Rattle.rv64_isa.specs.declared.object.Slot.{Slot}
 use Rattle.rv64_isa.specs.Programs.{program_of}
 use Rattle.flow_graph.specs.declared.cuts.Cuts.{Cuts}
-use Rattle.flow_graph.specs.Cutting.{Boundaries, IsMinimal}
+use Rattle.flow_graph.specs.IdempotentCuts.{Boundaries, IsMinimal}
 use Rattle.flow_graph.specs.Lowering.{lowered}
-use Rattle.resumed_programs.specs.Systems.{flat_of}
-use Rattle.compilation.specs.Translations.{Translation}
-use Rattle.compilation.specs.Compilations.{IsCompilation}
-use Rattle.compilation.specs.Laws.{SystemsAreCompilations, translation_of}
-use Rattle.flat_compile.specs.Translating.{IsTranslated, node_marks, resume_marks}
-use Rattle.ido_compile.specs.Compiling.{translation_to}
+use Rattle.crash_simulation.specs.Systems.{flat_of}
+use Rattle.compiler_correctness.specs.Translations.{Translation}
+use Rattle.compiler_correctness.specs.Compilations.{IsCompilation}
+use Rattle.compiler_correctness.specs.Laws.{SystemsAreCompilations, translation_of}
+use Rattle.flat_compile.specs.TranslatedForms.{IsTranslated, node_marks, resume_marks}
+use Rattle.ido_compile.specs.CompileAnswers.{translation_to}
 
 abbrev made : f.Flat → List (List Slot) → (mutexes : ℕ) → (initial : List ℕ) → (marks resumes : List (List ℕ)) → Boundaries → Translation
 made flat program mutexes initial marks resumes boundaries =

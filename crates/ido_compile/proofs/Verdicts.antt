@@ -1,19 +1,20 @@
 -- A text is accepted and has one flat form, or it is refused by one rule, at one place: check after check.
 use Rattle.std.proofs.Common.{◌≡◌, ◌⊎◌, inl, inr, refl, ℕ, ◌<◌, ◌≤◌, List, [], length, Option, Some, None, true, false, sym, ap, ap₂, ◌∙◌, subst, arith}
 use Rattle.ido_base.specs.declared.place.Place.{Place}
-use Rattle.c_tree.specs.Checking.{HasNoBack, IsTyped, IsRanged, IsFlattened, IsChecked, IsFaulty, unread, mistyped, unfit, leads_back, too_long, undisciplined}
+use Rattle.c_tree.specs.AcceptedTexts.{HasNoBack, IsTyped, IsRanged, IsFlattened, IsChecked, IsFaulty}
+use Rattle.c_tree.specs.AcceptedTexts.{unread, mistyped, unfit, leads_back, too_long, undisciplined}
 use Rattle.c_tree.specs.Flats as f
 use Rattle.c_tree.specs.Inlining.{IsFirstBack, flat_form}
-use Rattle.c_tree.specs.Locking as l
-use Rattle.c_tree.specs.Locking.{lock_fault}
+use Rattle.c_tree.specs.LockDiscipline as l
+use Rattle.c_tree.specs.LockDiscipline.{lock_fault}
 use Rattle.c_tree.specs.Programs as p
 use Rattle.c_tree.specs.Ranges.{AllFit, Index, IsFirstUnfit}
-use Rattle.c_tree.specs.Reading.{IsRead, IsRefused}
-use Rattle.c_tree.specs.Scanning.{Fault}
+use Rattle.c_tree.specs.TextReadings.{IsRead, IsRefused}
+use Rattle.c_tree.specs.LexicalScan.{Fault}
 use Rattle.c_tree.specs.Temporaries.{price_fault, temporaries_fault}
 use Rattle.c_tree.specs.Trees.{Item}
 use Rattle.c_tree.specs.TypeRules.{IsFirst, type_faults}
-use Rattle.c_tree.specs.Typing.{typed_program}
+use Rattle.c_tree.specs.Elaboration.{typed_program}
 use Rattle.c_tree.specs.declared.rule.Rule as r
 use Rattle.c_tree.specs.declared.rule.Rule.TheVariants as rule
 use Rattle.c_reader.specs.Laws as reader

@@ -1,16 +1,16 @@
 -- What holds of the flat form of every text that is accepted, and of each run of it.
 use Rattle.std.specs.Prelude.{ℕ, List}
 use Rattle.std.specs.List.{AllByRecursion}
-use Rattle.c_tree.specs.Checking.{IsFlattened}
+use Rattle.c_tree.specs.AcceptedTexts.{IsFlattened}
 use Rattle.c_tree.specs.Exprs.{Placed}
 use Rattle.c_tree.specs.Flats.{Flat, Statement}
 use Rattle.c_tree.specs.Source.{Thread, start, after_from}
 use Rattle.c_tree.specs.WellFormed.{IsWellFormed}
-use Rattle.c_ranges.specs.Keeping.{IsStateOf, IsElement, IsNext, step_exprs, step_indexes}
+use Rattle.c_ranges.specs.RunInvariants.{IsStateOf, IsElement, IsNext, step_exprs, step_indexes}
 use Rattle.c_ranges.specs.Laws.{IsForeseen}
 use Rattle.flow_graph.specs.Refusals.{IsAccepted}
 
--- it is well formed
+-- the flat form of a text is well formed
 abbrev pub FlattenedIsFormed : Type 0
 FlattenedIsFormed = (text : List ℕ) (flat : Flat) → IsFlattened text flat → IsWellFormed flat
 
@@ -24,7 +24,7 @@ AcceptedValues = (text : List ℕ) (flat : Flat) (schedule : List ℕ) (thread :
     IsNext (after_from (start flat) schedule) thread it y rest →
     AllByRecursion (λ (z : Placed). IsForeseen it.locals (after_from (start flat) schedule).variables z.expr) (step_exprs y)
 
--- and no index is out of range
+-- no index that a step evaluates is out of range
 abbrev pub AcceptedIndexes : Type 0
 AcceptedIndexes = (text : List ℕ) (flat : Flat) (schedule : List ℕ) (thread : ℕ) (it : Thread) (y : Statement) (rest : List Statement) → IsAccepted text flat →
     IsNext (after_from (start flat) schedule) thread it y rest →

@@ -1,4 +1,4 @@
-pub mod Compiling
+pub mod CompileAnswers
 pub mod Verdicts
 pub mod FormLaws
 pub mod Files

@@ -14,6 +14,6 @@ abbrev pub OneFault : Type 0
 OneFault = (text : List ℕ) (found other : Rule) (place elsewhere : Place) →
     IsRefusedBy text found place → IsRefusedBy text other elsewhere → (found ≡ other) × (place ≡ elsewhere)
 
--- and none is both
+-- no text is both accepted and refused
 abbrev pub NotBoth : Type 0
 NotBoth = (text : List ℕ) (x : Flat) (found : Rule) (place : Place) → IsAccepted text x → ¬ (IsRefusedBy text found place)

@@ -1,61 +1,45 @@
 //! Source texts, compiled.
 ghost use Rattle.std.specs.Prelude.{◌≡◌, ◌≤◌, length, IfOk};
 ghost use Rattle.ido_base.specs.declared.limits.TheConstants.{MOST_SOURCE_BYTES};
+ghost use Rattle.c_tree.specs.AcceptedTexts.{IsFlattened};
 ghost use Rattle.c_tree.specs.Flats.{flat_of};
-ghost use Rattle.flat_compile.specs.Accepting.{IsAcceptedForm};
-ghost use Rattle.flat_compile.specs.Translating.{IsTranslated, IsResumable};
-ghost use Rattle.ido_compile.specs.Compiling.{IsCompileAnswer};
+ghost use Rattle.ido_compile.specs.CompileAnswers.{IsCompileAnswer};
+ghost use Rattle.ido_compile.specs.links.FrontEndAnswers.{IsTranslationAnswer};
 
-use crate::checking::front;
+use crate::checking::{checked, flatten};
 use crate::error::CompileError;
 use c_tree::flat::Flat;
-use compilation::laws::systems_are_compilations;
-use flat_compile::laws::accepted_forms;
-use flat_compile::resumes::Resume;
+use compiler_correctness::laws::systems_are_compilations;
 use flat_compile::{Translated, translate};
-use flow_graph::cuts::Cuts;
 use ido_base::memory::OutOfMemory;
-use rv64_isa::object::{Marks, Object};
 use std::alloc::Global;
 
 /// A text, compiled.
 #[derive(Drop)]
 pub struct Compiled {
     pub text: Vec<u8>,
-    /// Its flat form.
+    /// The text's flat form.
     pub flat: Flat,
-    pub object: Object,
-    /// Of each thread the addresses of its nodes, and where recovery may resume it.
-    pub marks: Marks,
-    /// Where boundaries stand among the nodes of the flat form's graph.
-    pub cuts: Cuts,
-    /// Of each thread what it has where recovery may resume it, in the order of the addresses.
-    pub resumes: Vec<Vec<Resume>>,
+    /// What a machine runs for that.
+    pub translated: Translated,
 }
 
-/// An accepted flat form with its object.
-fn with_object(alloc: Global, text: &[u8], flat: Flat) -> Result<Compiled, OutOfMemory>
-    requires { IsAcceptedForm (flat_of flat) }
-    ensures text { IfOk result (λ c. c.text.items ≡ text.now) }
-    ensures flat { IfOk result (λ c. c.flat ≡ flat) }
-    ensures translated { IfOk result (λ c. IsTranslated (flat_of flat) c.object c.marks c.cuts) }
-    ensures resumes { IfOk result (λ c. IsResumable (flat_of flat) c.object c.marks c.cuts c.resumes.items) }
+/// What a machine runs for a text's flat form, or why nothing does.
+fn object_of(alloc: Global, text: &[u8], flat: &Flat) -> Result<Translated, CompileError>
+    requires { IsFlattened text.now (flat_of flat.now) }
+    ensures { IsTranslationAnswer text.now (flat_of flat.now) result }
 {
-    let text = text.to_vec(alloc)?;
-    let Translated {
-        object,
-        marks,
-        cuts,
-        resumes,
-    } = translate(alloc, &flat)?;
-    Ok(Compiled {
-        text,
-        flat,
-        object,
-        marks,
-        cuts,
-        resumes,
-    })
+    let analysis = checked(alloc, text, flat)?;
+    let translated = translate(alloc, &analysis)?;
+    Ok(translated)
+}
+
+/// The text, as a value of its own.
+fn copied(alloc: Global, text: &[u8]) -> Result<Vec<u8>, OutOfMemory>
+    ensures { IfOk result (λ copy. copy.items ≡ text.now) }
+{
+    let copy = text.to_vec(alloc)?;
+    Ok(copy)
 }
 
 /// The object of a text that keeps all rules, with its flat form, the addresses of its marks, and where boundaries stand; else
@@ -64,13 +48,13 @@ pub fn compile(alloc: Global, text: &[u8]) -> Result<Compiled, CompileError>
     requires { length text.now ≤ MOST_SOURCE_BYTES }
     ensures { IsCompileAnswer text.now result }
 {
-    accepted_forms();
     systems_are_compilations();
-    match front(alloc, text) {
-        Ok(flat) => {
-            let compiled = with_object(alloc, text, flat)?;
-            Ok(compiled)
-        }
-        Err(error) => Err(error),
-    }
+    let flat = flatten(alloc, text)?;
+    let translated = object_of(alloc, text, &flat)?;
+    let text = copied(alloc, text)?;
+    Ok(Compiled {
+        text,
+        flat,
+        translated,
+    })
 }

@@ -1,16 +1,14 @@
 //! Why a text isn't compiled.
 ghost use Rattle.std.specs.Prelude.{◌≡◌};
-ghost use Rattle.ido_compile.specs.links.Fronts.{refused};
+ghost use Rattle.ido_compile.specs.links.FrontEndAnswers.{refused};
 
 use c_inline::inline::InlineError;
 use c_ranges::IndexError;
-use c_temporaries::TemporariesError;
 use c_tree::refusal::{Refusal, SourceError};
 use c_tree::rule::Rule;
 use ido_base::memory::OutOfMemory;
 use ido_base::place::Place;
-use lock_discipline::LockError;
-use reg_colour::ColourRefusal;
+use std::alloc::AllocError;
 use thiserror::Error;
 
 /// Why a text isn't compiled.
@@ -32,7 +30,7 @@ fn refused(rule: Rule, place: Place) -> CompileError
 }
 
 impl From<SourceError> for CompileError {
-    ghost use Rattle.ido_compile.specs.links.Fronts.{of_source};
+    ghost use Rattle.ido_compile.specs.links.FrontEndAnswers.{of_source};
 
     ghost from_gives = { λ x e. e ≡ of_source x };
 
@@ -45,7 +43,7 @@ impl From<SourceError> for CompileError {
 }
 
 impl From<IndexError> for CompileError {
-    ghost use Rattle.ido_compile.specs.links.Fronts.{of_index};
+    ghost use Rattle.ido_compile.specs.links.FrontEndAnswers.{of_index};
 
     ghost from_gives = { λ x e. e ≡ of_index x };
 
@@ -55,7 +53,7 @@ impl From<IndexError> for CompileError {
 }
 
 impl From<InlineError> for CompileError {
-    ghost use Rattle.ido_compile.specs.links.Fronts.{of_inline};
+    ghost use Rattle.ido_compile.specs.links.FrontEndAnswers.{of_inline};
 
     ghost from_gives = { λ x e. e ≡ of_inline x };
 
@@ -68,52 +66,22 @@ impl From<InlineError> for CompileError {
     }
 }
 
-impl From<LockError> for CompileError {
-    ghost use Rattle.ido_compile.specs.links.Fronts.{of_lock};
-
-    ghost from_gives = { λ x e. e ≡ of_lock x };
-
-    fn from(error: LockError) -> Self {
-        match error {
-            LockError::Unheld { place, .. } => refused(Rule::Unheld, place),
-            LockError::Again { place, .. } => refused(Rule::Again, place),
-            LockError::NotHeld { place, .. } => refused(Rule::NotHeld, place),
-            LockError::Join { place, .. } => refused(Rule::Join, place),
-            LockError::EndHeld { place, .. } => refused(Rule::EndHeld, place),
-            LockError::Memory => CompileError::Memory,
-        }
-    }
-}
-
-impl From<ColourRefusal> for CompileError {
-    ghost use Rattle.ido_compile.specs.links.Fronts.{of_colours};
-
-    ghost from_gives = { λ x e. e ≡ of_colours x };
-
-    fn from(error: ColourRefusal) -> Self {
-        match error {
-            ColourRefusal::Locals { place, .. } => refused(Rule::Locals, place),
-            ColourRefusal::Memory => CompileError::Memory,
-        }
-    }
-}
-
-impl From<TemporariesError> for CompileError {
-    ghost use Rattle.ido_compile.specs.links.Fronts.{of_temporaries};
-
-    ghost from_gives = { λ x e. e ≡ of_temporaries x };
-
-    fn from(error: TemporariesError) -> Self {
-        refused(Rule::Temporaries, error.place)
-    }
-}
-
 impl From<OutOfMemory> for CompileError {
     ghost use Rattle.ido_compile.specs.declared.error.CompileError.TheVariants as answers;
 
     ghost from_gives = { λ _ e. e ≡ answers.Memory };
 
     fn from(_: OutOfMemory) -> Self {
+        CompileError::Memory
+    }
+}
+
+impl From<AllocError> for CompileError {
+    ghost use Rattle.ido_compile.specs.declared.error.CompileError.TheVariants as answers;
+
+    ghost from_gives = { λ _ e. e ≡ answers.Memory };
+
+    fn from(_: AllocError) -> Self {
         CompileError::Memory
     }
 }

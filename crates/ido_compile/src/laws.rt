@@ -6,6 +6,7 @@ use c_reader::laws::one_reading;
 use c_typer::laws::one_first;
 
 /// A text is accepted with one flat form or refused by one rule, at one place, and never both.
+/// That a text has one translation isn't said.
 pub fn one_verdict()
     ensures flat { OneFlat }
     ensures fault { OneFault }

@@ -7,6 +7,6 @@ pub mod error;
 pub mod forms;
 pub mod laws;
 
-pub use checking::front;
+pub use checking::{checked, flatten, front};
 pub use compiler::{Compiled, compile};
 pub use error::CompileError;

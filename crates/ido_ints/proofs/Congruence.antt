@@ -72,13 +72,6 @@ split (negsuc a) n h = record {
   same = record { more = 0; less = a / n + 1; sums = omega (arith, ints, div-add-mod' a n, mod-lt a h) };
 }
 
--- what is left of z modulo n differs from z by a multiple of n
-pub rem_euclid-Same : (z : ℤ) (n r : ℕ) → 0 < n → int_rem_euclid z (pos n) ≡ pos r → Same n (pos r) z
-rem_euclid-Same z n r h e =
-    let s = split z n h in
-    let is : s.rest ≡ r = omega (arith, ints, sym s.rest_is ∙ e) in
-    rw is at s.same
-
 -- the range of n numbers from l on
 pub record InRange (l : ℤ) (n : ℕ) (z : ℤ) : Type 0 where
   pub low : l ≤ℤ z

@@ -1,11 +1,12 @@
-pub mod Congruence
-pub mod Exact
-pub mod LiteralKinds
-pub mod LowBits
-pub mod Promotion
-pub mod Reduced
-pub mod RegisterBits
-pub mod RegisterValues
-pub mod Registers
-pub mod Results
-pub mod Rows
+pub mod Public
+mod Congruence
+mod ExactArithmetic
+mod LiteralKinds
+mod LowBits
+mod Promotion
+mod ReductionLaws
+mod RegisterBits
+mod RegisterValues
+mod Registers
+mod Results
+mod Rows

@@ -13,8 +13,8 @@ use Rattle.ido_ints.specs.Kinds.{Holds, bits_of, least_of, modulus_of}
 use Rattle.ido_ints.specs.Operators.{bitwise, places, shifted_left, is_zero, quotient, remainder}
 use Rattle.ido_ints.specs.Reduction.{residue, reduced}
 use Rattle.ido_ints.proofs.Congruence.{Same, Same_refl, Same_sym, Same_trans, Same-add, Same-neg, Same-mul, Same-mod}
-use Rattle.ido_ints.proofs.Reduced.{Same-modulus, Same-reduced, modulus_pos, reduced-is, reduced-same}
-use Rattle.ido_ints.proofs.Reduced.{reduced-reduced, reduced-add, reduced-sub, reduced-mul, Is}
+use Rattle.ido_ints.proofs.ReductionLaws.{Same-modulus, Same-reduced, modulus_pos, reduced-is, reduced-same}
+use Rattle.ido_ints.proofs.ReductionLaws.{reduced-reduced, reduced-add, reduced-sub, reduced-mul, Is}
 use Rattle.ido_ints.proofs.Registers.{Same-minus, residue_below, residue-Same, residue-mod, residue-add, residue-sub, residue-mul}
 use Rattle.ido_ints.proofs.RegisterValues.{places-register}
 
@@ -25,7 +25,7 @@ pub residue-wide : (z : ℤ) → FitsSigned w128 z → cast_unsigned w128 z % 2 
 residue-wide (pos n) f = sym (residue-mod 64 (pos n) n (Same_refl (2 ^ 64) (pos n)))
 residue-wide (negsuc n) f = sym (residue-mod 64 (negsuc n) (2 ^ 128 - suc n) (record { more = 0; less = 2 ^ 64; sums = omega (arith, ints, f.sfits) }))
 
--- they reduce to what the number does
+-- the low 64 bits of a number reduce to what the number does
 pub reduced-residue : (k : Kind) (z : ℤ) → reduced k (pos (residue 64 z)) ≡ reduced k z
 reduced-residue k z = reduced-same k _ z (Same-modulus k _ z (residue-Same 64 z))
 
@@ -65,7 +65,7 @@ exact_above : (l : ℤ) (a : ℕ) → FitsSigned w64 l → a < 2 ^ 64 →
     cast_signed w128 (cast_unsigned w128 (cast_signed w128 (cast_unsigned w128 (cast_signed w64 (cast_unsigned w64 l))) +ℤ cast_signed w128 a)) ≡ l +ℤ pos a
 exact_above l a f h = omega (arith, ints, f.sfits)
 
--- the same, of a number that the code puts together
+-- the least number of a kind, and above it the low bits of the distance from it, as the code puts the number together
 pub narrowed_exact : (k : Kind) (n : ℕ) (l : ℤ) (c m : ℕ) → l ≡ least_of k → m ≡ modulus_of k - 1 → FitsSigned w64 l →
     c ≡ cast_unsigned w64 l →
     cast_signed w128 (cast_unsigned w128 (cast_signed w128 (cast_unsigned w128 (cast_signed w64 (cast_unsigned w64 l)))

@@ -10,7 +10,7 @@ use Rattle.ido_ints.specs.Operators.{bitwise}
 use Rattle.ido_ints.specs.Reduction.{residue, reduced, register_of}
 use Rattle.ido_ints.specs.links.Signs.{sign_extended}
 use Rattle.ido_ints.proofs.Congruence.{Same_refl}
-use Rattle.ido_ints.proofs.Reduced.{reduced_held}
+use Rattle.ido_ints.proofs.ReductionLaws.{reduced_held}
 use Rattle.ido_ints.proofs.RegisterValues.{sign_extended-cases}
 use Rattle.ido_ints.proofs.Registers.{residue_below, residue-Same, residue-is, register-64, register-reduced_64, register-reduced_32, sign_extended-is}
 
@@ -91,7 +91,7 @@ register-bitwise_64 {f} w c b x y =
 extended : (c : Kind) → bits_of c ≡ 32 → (x : ℤ) → Holds c x → sign_extended (residue 32 x) ≡ register_of c x
 extended c b x h = sign_extended-is (residue 32 x) x (residue-Same 32 x) ∙ sym (register-reduced_32 c b x) ∙ ap (register_of c) (reduced_held c x h)
 
--- and so it does on `int` and `unsigned int`
+-- on `int` and `unsigned int`, a bitwise instruction gives the operator's register form
 pub register-bitwise_32 : {f : ℕ → ℕ → ℕ} → Bitwise f → (c : Kind) → bits_of c ≡ 32 → (x y : ℤ) → Holds c x → Holds c y →
     register_of c (reduced c (bitwise f c x y)) ≡ f (register_of c x) (register_of c y)
 register-bitwise_32 {f} w c b x y h k =

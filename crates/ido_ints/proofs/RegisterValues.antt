@@ -1,9 +1,8 @@
--- What a register form says of the number: its signed reading, its low bits, its order, and a count of places.
-use Rattle.std.proofs.Common.{◌≡◌, refl, ℕ, suc, ◌+◌, ◌-◌, ◌%◌, ◌^◌, ◌<◌, ◌≤◌, sym, ◌∙◌, ap, arith, Bool, true, false, cond, inl, inr}
-use Rattle.std.specs.Prelude.{ℤ, pos, negsuc, nat_lt, FitsSigned, ◌⊎◌}
-use Rattle.std.specs.Int.{w64, cast_signed, cast_unsigned}
+-- What a register form says of the number: its low bits, its order, and a count of places.
+use Rattle.std.proofs.Common.{◌≡◌, refl, ℕ, ◌+◌, ◌-◌, ◌%◌, ◌^◌, ◌<◌, ◌≤◌, sym, ◌∙◌, arith, Bool, true, false, cond, inl, inr}
+use Rattle.std.specs.Prelude.{ℤ, pos, nat_lt, ◌⊎◌}
 use Rattle.std.proofs.Math.Nat.{mod-eq_of_lt}
-use Rattle.std.proofs.lemmas.Int.{ints, to_z-of_z}
+use Rattle.std.proofs.lemmas.Int.{ints}
 use Rattle.std.proofs.lemmas.Bool.{false≢true}
 use Rattle.std.proofs.lemmas.Bool.Decides.{same_from_decides, Decides-like, Decides-ltb}
 use borrow.Author.Tests.{ltb-true, ltb-false}
@@ -14,29 +13,8 @@ use Rattle.ido_ints.specs.Operators.{places}
 use Rattle.ido_ints.specs.Reduction.{residue, register_of}
 use Rattle.ido_ints.specs.links.Signs.{sign_extended}
 use Rattle.ido_ints.proofs.Congruence.{Same, Same_refl, Same-factor, rem_euclid-mod}
-use Rattle.ido_ints.proofs.Reduced.{Divides, modulus_pos, Holds-zero}
+use Rattle.ido_ints.proofs.ReductionLaws.{Divides, modulus_pos, Holds-zero}
 use Rattle.ido_ints.proofs.Registers.{residue-is, register-Same, sign_extended-is}
-
--- ---- the signed reading, as a signed 64-bit instruction has it
-
-residue-cast : (z : ℤ) → FitsSigned w64 z → residue 64 z ≡ cast_unsigned w64 z
-residue-cast (pos n) f = residue-is 64 (pos n) n (omega (arith, f.sfits)) (Same_refl (2 ^ 64) (pos n))
-residue-cast (negsuc n) f = residue-is 64 (negsuc n) (2 ^ 64 - suc n) (omega arith) (record { more = 0; less = 1; sums = omega (arith, ints, f.sfits) })
-
-signed_residue : (z : ℤ) → FitsSigned w64 z → cast_signed w64 (residue 64 z) ≡ z
-signed_residue z f = ap (cast_signed w64) (residue-cast z f) ∙ to_z-of_z w64 z f
-
--- the register form of a number of a signed kind, read as signed, is the number
-pub signed-register : (k : Kind) → is_signed k ≡ true → (z : ℤ) → Holds k z → cast_signed w64 (register_of k z) ≡ z
-signed-register Char s z h = absurd (false≢true s)
-signed-register UnsignedChar s z h = absurd (false≢true s)
-signed-register SignedChar s z h = signed_residue z (omega (arith, ints, h.from_least, h.to_greatest))
-signed-register Short s z h = signed_residue z (omega (arith, ints, h.from_least, h.to_greatest))
-signed-register UnsignedShort s z h = absurd (false≢true s)
-signed-register Int s z h = signed_residue z (omega (arith, ints, h.from_least, h.to_greatest))
-signed-register UnsignedInt s z h = absurd (false≢true s)
-signed-register Long s z h = signed_residue z (omega (arith, ints, h.from_least, h.to_greatest))
-signed-register UnsignedLong s z h = absurd (false≢true s)
 
 -- ---- low bits
 
@@ -54,9 +32,6 @@ natural n h = residue-is 64 (pos n) n h (Same_refl (2 ^ 64) (pos n))
 
 pub register-unsigned_int : (n : ℕ) → register_of UnsignedInt (pos n) ≡ sign_extended n
 register-unsigned_int n = sym (sign_extended-is n (pos n) (Same_refl (2 ^ 32) (pos n)))
-
-pub register-unsigned_long : (n : ℕ) → n < 2 ^ 64 → register_of UnsignedLong (pos n) ≡ n
-register-unsigned_long n h = natural n h
 
 -- ---- order, as an unsigned 64-bit comparison has it
 

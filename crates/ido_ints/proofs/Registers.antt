@@ -12,7 +12,7 @@ use Rattle.ido_ints.specs.Reduction.{reduced, residue, register_of}
 use Rattle.ido_ints.specs.links.Signs.{sign_extended}
 use Rattle.ido_ints.proofs.Congruence.{Same, Same_refl, Same_sym, Same_trans, Same-add, Same-neg}
 use Rattle.ido_ints.proofs.Congruence.{Same-mul, Same-factor, Same-mod, InRange, InRange_unique, split}
-use Rattle.ido_ints.proofs.Reduced.{Same-reduced, Same-modulus, reduced-is, reduced-same, reduced_held}
+use Rattle.ido_ints.proofs.ReductionLaws.{Same-reduced, Same-modulus, reduced-is, reduced-same}
 
 -- ---- residues modulo 2 ^ w
 
@@ -84,11 +84,11 @@ register-Same UnsignedInt z = Same_trans (2 ^ 32) _ (reduced Int z) z (narrow Un
 register-Same Long z = narrow Long z
 register-Same UnsignedLong z = narrow UnsignedLong z
 
--- so a kind's number is its register form, reduced
+-- a kind's number is its register form, reduced
 pub reduced-register : (k : Kind) (z : ℤ) → Holds k z → reduced k (pos (register_of k z)) ≡ z
 reduced-register k z h = reduced-is k _ z h (Same_sym (modulus_of k) _ z (register-Same k z))
 
--- and no two numbers of a kind have one register form
+-- no two numbers of a kind have one register form
 pub register_injective : (k : Kind) (a b : ℤ) → Holds k a → Holds k b → register_of k a ≡ register_of k b → a ≡ b
 register_injective k a b h l e = sym (reduced-register k a h) ∙ ap (λ n. reduced k (pos n)) e ∙ reduced-register k b l
 
@@ -149,12 +149,6 @@ sign_extended-is n z s = by (mod-lt n (omega arith)) (Same_trans (2 ^ 32) _ (pos
     by below same true e = low_is (n % 2 ^ 32) z (ltb-true _ _ e) same
     by below same false e = high_is (n % 2 ^ 32) z (ltb-false _ _ e) below same
 
--- to take 64 bits first changes nothing
-pub sign_extended-mod : (n : ℕ) → sign_extended (n % 2 ^ 64) ≡ sign_extended n
-sign_extended-mod n =
-    sign_extended-is (n % 2 ^ 64) (pos n) (Same-factor (2 ^ 32) (2 ^ 32) _ _ (Same-mod n (2 ^ 64)))
-    ∙ sym (sign_extended-is n (pos n) (Same_refl (2 ^ 32) (pos n)))
-
 pub register-reduced_32 : (k : Kind) → bits_of k ≡ 32 → (z : ℤ) → register_of k (reduced k z) ≡ residue 64 (reduced Int z)
 register-reduced_32 Char b z = absurd (omega arith)
 register-reduced_32 UnsignedChar b z = absurd (omega arith)
@@ -168,10 +162,6 @@ register-reduced_32 UnsignedLong b z = absurd (omega arith)
 
 low : (k : Kind) → bits_of k ≡ 32 → (z : ℤ) → Same (2 ^ 32) (pos (register_of k z)) z
 low k b z = let P : ℕ → Type 0 = λ n. Same (2 ^ n) (pos (register_of k z)) z in subst P b (register-Same k z)
-
--- a register form is sign-extended
-pub sign_extended-register : (k : Kind) → bits_of k ≡ 32 → (z : ℤ) → Holds k z → sign_extended (register_of k z) ≡ register_of k z
-sign_extended-register k w z h = sign_extended-is (register_of k z) z (low k w z) ∙ sym (register-reduced_32 k w z) ∙ ap (register_of k) (reduced_held k z h)
 
 pub register-add_32 : (k : Kind) → bits_of k ≡ 32 → (a b : ℤ) → register_of k (reduced k (a +ℤ b)) ≡ sign_extended (register_of k a + register_of k b)
 register-add_32 k w a b = register-reduced_32 k w (a +ℤ b) ∙ sym (sign_extended-is _ (a +ℤ b) (Same-add (2 ^ 32) _ a _ b (low k w a) (low k w b)))

@@ -1,8 +1,6 @@
 -- The kind of each result holds its number.
 use Rattle.std.proofs.Common.{arith, Bool, true, false}
-use Rattle.std.specs.Prelude.{ℕ, ◌^◌, ℤ, pos, negsuc}
-use Rattle.std.specs.Int.{int_shr}
-use Rattle.std.proofs.Math.Nat.{div-le_self}
+use Rattle.std.specs.Prelude.{ℤ}
 use Rattle.std.proofs.lemmas.Int.{ints}
 use Rattle.ido_ints.specs.declared.kinds.Kind.{Kind}
 use Rattle.ido_ints.specs.declared.kinds.Kind.TheVariants.{Int}
@@ -13,7 +11,7 @@ use Rattle.ido_ints.specs.declared.operators.Binary.TheVariants.{Mul, Div, Rem, 
 use Rattle.ido_ints.specs.declared.operators.Binary.TheVariants.{GreaterEqual, Equal, NotEqual, And, Xor, Or, LogicalAnd, LogicalOr}
 use Rattle.ido_ints.specs.Kinds.{Holds, promoted, common_of}
 use Rattle.ido_ints.specs.Operators.{truth, unary_kind, unary_number, binary_kind, binary_number}
-use Rattle.ido_ints.proofs.Reduced.{Holds-reduced, Holds-zero}
+use Rattle.ido_ints.proofs.ReductionLaws.{Holds-reduced}
 
 pub Holds-truth : (t : Bool) → Holds Int (truth t)
 Holds-truth true = record { from_least = omega (arith, ints); to_greatest = omega (arith, ints) }
@@ -44,14 +42,3 @@ Holds-binary_number Xor j a k b = Holds-reduced (common_of j k) _
 Holds-binary_number Or j a k b = Holds-reduced (common_of j k) _
 Holds-binary_number LogicalAnd j a k b = Holds-truth _
 Holds-binary_number LogicalOr j a k b = Holds-truth _
-
--- a shift right stays in the range of the kind
-pub Holds-int_shr : (k : Kind) (z : ℤ) (p : ℕ) → Holds k z → Holds k (int_shr z p)
-Holds-int_shr k (pos a) p h =
-    let zero = Holds-zero k in
-    let less = div-le_self a (2 ^ p) in
-    record { from_least = omega (arith, ints, zero.from_least); to_greatest = omega (arith, ints, h.to_greatest) }
-Holds-int_shr k (negsuc a) p h =
-    let zero = Holds-zero k in
-    let less = div-le_self a (2 ^ p) in
-    record { from_least = omega (arith, ints, h.from_least); to_greatest = omega (arith, ints, zero.to_greatest) }

@@ -11,7 +11,7 @@ use Rattle.ido_ints.specs.Literals.{literal_kind_of}
 use Rattle.ido_ints.specs.Operators.{unary_of, binary_of}
 use Rattle.ido_ints.specs.Reduction.{from_least_on, residue, register_of}
 use Rattle.ido_ints.specs.links.Signs.{sign_extended}
-use Rattle.ido_ints.specs.Typed.{typed, converted}
+use Rattle.ido_ints.specs.TypedNumbers.{typed, converted}
 
 char_unsigned : greatest_of Char ≡ pos 255
 char_unsigned = refl

@@ -47,7 +47,7 @@ pub record Holds (k : Kind) (z : ℤ) : Type 0 where
   pub from_least : least_of k ≤ℤ z
   pub to_greatest : z ≤ℤ greatest_of k
 
--- the same, as a test
+-- whether the kind holds the number, as a test
 abbrev pub holds : Kind → ℤ → Bool
 holds k z = int_le (least_of k) z && int_le z (greatest_of k)
 

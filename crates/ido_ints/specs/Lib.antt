@@ -2,5 +2,5 @@ pub mod Kinds
 pub mod Literals
 pub mod Operators
 pub mod Reduction
-pub mod Typed
+pub mod TypedNumbers
 pub mod links

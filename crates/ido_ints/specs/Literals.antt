@@ -8,7 +8,7 @@ use Rattle.ido_ints.specs.declared.literals.Base.TheVariants.{Decimal, Octal, He
 use Rattle.ido_ints.specs.declared.literals.Suffix.{Suffix}
 use Rattle.ido_ints.specs.declared.literals.Suffix.TheVariants.{Absent, U, L, Ul}
 use Rattle.ido_ints.specs.Kinds.{holds}
-use Rattle.ido_ints.specs.Typed.{Typed, typed}
+use Rattle.ido_ints.specs.TypedNumbers.{Typed, typed}
 
 -- the kinds that a literal may have, in order
 abbrev pub kinds_of : Base → Suffix → List Kind

@@ -13,7 +13,7 @@ use Rattle.ido_ints.specs.declared.operators.Binary.TheVariants.{Mul, Div, Rem, 
 use Rattle.ido_ints.specs.declared.operators.Binary.TheVariants.{GreaterEqual, Equal, NotEqual, And, Xor, Or, LogicalAnd, LogicalOr}
 use Rattle.ido_ints.specs.Kinds.{bits_of, promoted, common_of}
 use Rattle.ido_ints.specs.Reduction.{residue, reduced}
-use Rattle.ido_ints.specs.Typed.{Typed, typed}
+use Rattle.ido_ints.specs.TypedNumbers.{Typed, typed}
 
 -- what a comparison gives: 1 or 0
 abbrev pub truth : Bool → ℤ
@@ -53,7 +53,7 @@ unary_kind Minus k = promoted k
 unary_kind Complement k = promoted k
 unary_kind Not k = Int
 
--- its number, for the operand z of kind k; the complement of z is -1 - z
+-- the number that a unary operator gives, for the operand z of kind k; the complement of z is -1 - z
 abbrev pub unary_number : Unary → Kind → ℤ → ℤ
 unary_number Plus k z = reduced (promoted k) z
 unary_number Minus k z = reduced (promoted k) (neg_ℤ z)

@@ -5,7 +5,7 @@ ghost use Rattle.std.specs.Ordering.{int_eq};
 ghost use Rattle.ido_ints.specs.declared.kinds.Kind.TheVariants.{Int};
 ghost use Rattle.ido_ints.specs.Operators.{truth, is_zero, quotient, remainder, bitwise, places, shifted_left, shifted_right, unary_of, binary_of};
 ghost use Rattle.ido_ints.specs.Reduction.{reduced};
-ghost use Rattle.ido_ints.specs.Typed.{typed, typed_reduced};
+ghost use Rattle.ido_ints.specs.TypedNumbers.{typed, typed_reduced};
 
 use crate::kinds::{Kind, common, promote};
 use crate::operators::{Binary, Unary};
@@ -18,7 +18,7 @@ pub fn unary(op: Unary, operand: Value) -> Value
     unary_of_number(op, operand.kind(), operand.number())
 }
 
-/// The same for a number that the kind need not hold.
+/// What the operator gives for a number that the kind need not hold (C11 6.5.3.3).
 pub fn unary_of_number(op: Unary, kind: Kind, number: i128) -> Value
     ensures { result ≡ unary_of op (typed kind number) }
 {
@@ -38,7 +38,7 @@ pub fn binary(op: Binary, left: Value, right: Value) -> Value
     binary_of_numbers(op, left.kind(), left.number(), right.kind(), right.number())
 }
 
-/// The same for numbers that their kinds need not hold.
+/// What the operator gives for numbers that their kinds need not hold (C11 6.5.5 to 6.5.14).
 pub fn binary_of_numbers(
     op: Binary,
     left_kind: Kind,

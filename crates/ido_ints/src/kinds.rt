@@ -26,7 +26,7 @@ pub enum Kind {
 }
 
 impl Kind {
-    /// Its size in bytes: 1, 2, 4 or 8.
+    /// The kind's size in bytes: 1, 2, 4 or 8.
     pub fn bytes(self) -> u32
         ensures { result ≡ bytes_of self }
     {
@@ -38,7 +38,7 @@ impl Kind {
         }
     }
 
-    /// Its width in bits, the sign among them: 8, 16, 32 or 64.
+    /// The kind's width in bits, the sign among them: 8, 16, 32 or 64.
     pub fn bits(self) -> u32
         ensures { result ≡ bits_of self }
     {

@@ -14,7 +14,7 @@ pub enum Base {
     Hexadecimal,
 }
 
-/// What stands behind a literal's digits, in any case and order.
+/// What stands after a literal's digits, in any case and order.
 #[derive(Clone, Copy, PartialEq, Eq, Debug)]
 pub enum Suffix {
     /// Nothing.

@@ -2,7 +2,7 @@
 ghost use Rattle.std.specs.Prelude.{◌≡◌, ◌-◌, ◌^◌, pos, neg_ℤ, ◌≤ℤ◌, ◌<ℤ◌};
 ghost use Rattle.ido_ints.specs.Kinds.{Holds, least_of, modulus_of};
 ghost use Rattle.ido_ints.specs.Reduction.{reduced, residue};
-ghost use Rattle.ido_ints.specs.Typed.{typed, typed_reduced, converted, register_form_of};
+ghost use Rattle.ido_ints.specs.TypedNumbers.{typed, typed_reduced, converted, register_form_of};
 
 use crate::kinds::Kind;
 use std::marker::Model;
@@ -16,7 +16,7 @@ pub struct Value {
 
 impl Model for Value {
     ghost use Rattle.ido_ints.specs.Kinds.{Holds};
-    ghost use Rattle.ido_ints.specs.Typed.{Typed};
+    ghost use Rattle.ido_ints.specs.TypedNumbers.{Typed};
 
     ghost Value = { Typed };
 
@@ -47,14 +47,14 @@ impl Value {
         }
     }
 
-    /// Its kind.
+    /// The value's kind.
     pub fn kind(self) -> Kind
         ensures { result ≡ self.kind }
     {
         self.kind
     }
 
-    /// Its number, which lies in the range of its kind, and so from -2^63 to 2^64 - 1.
+    /// The value's number, which lies in the range of its kind, and so from -2^63 to 2^64 - 1.
     pub fn number(self) -> i128
         ensures value { result ≡ self.number }
         ensures held { Holds self.kind self.number }
@@ -107,7 +107,7 @@ impl Range {
         }
     }
 
-    /// Its number: it is above the least one by the low bits of what a number of 64 bits is above that.
+    /// The narrowed value's number: it is above the least one by the low bits of what a number of 64 bits is above that.
     fn narrow(self, number: u64) -> i128
         ensures value { result ≡ reduced self.kind (pos number) }
         ensures held { Holds self.kind result }

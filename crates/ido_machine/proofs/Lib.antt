@@ -1,3 +1,4 @@
-pub mod Lists
-pub mod Starts
-pub mod Steps
+pub mod Public
+mod Lists
+mod Starts
+mod MachineEvents

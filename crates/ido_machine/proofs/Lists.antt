@@ -1,5 +1,5 @@
 -- Places of lists.
-use Rattle.std.proofs.Common.{Vec, ◌≡◌, ◌≢◌, ℕ, zero, suc, ◌+◌, ◌<◌, List, [], ◌∷◌, ◌++◌, length, map, replicate, get_or, slice_get}
+use Rattle.std.proofs.Common.{◌≡◌, ◌≢◌, ℕ, zero, suc, ◌+◌, ◌<◌, List, [], ◌∷◌, ◌++◌, length, map, replicate, get_or, slice_get}
 use Rattle.std.proofs.Common.{slice_set, Some, ◌⊎◌, inl, inr, refl, sym, ◌∙◌, ap, subst, arith, get_or-set_same, get_or-set_other}
 use Rattle.std.proofs.lemmas.Bool.{cases_eq}
 use Rattle.rv64_isa.specs.Machine.{numbers_from}
@@ -95,7 +95,3 @@ set_next f xs n x d within is before i below = elim (cases_eq i n) [
   | inl same ↦ subst (λ (j : ℕ). get_or (slice_set xs n x) j d ≡ f j) (sym same) (get_or-set_same xs n x d within ∙ is)
   | inr other ↦ get_or-set_other xs n i x d other ∙ before i (omega (arith, other, below))
 ]
-
--- a place below a vector's length
-pub in_vec : {X Z : Type 0} (v : Vec X Z) (n : ℕ) → n < v.len → n < length v.items
-in_vec v n within = omega (arith, v.ok.0, within)

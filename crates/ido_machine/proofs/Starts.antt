@@ -5,15 +5,15 @@ use Rattle.std.proofs.lemmas.Bool.{cases_eq}
 use Rattle.std.proofs.lemmas.List.{length_push}
 use Rattle.ido_base.specs.Words.{Word, word_of}
 use Rattle.ido_base.specs.Layout.{initial_words}
-use Rattle.line_memory.specs.links.Stands.{Stands}
+use Rattle.line_memory.specs.links.MemoryRepresentation.{Represents}
 use Rattle.rv64_isa.specs.declared.object.Slot.{Slot}
 use Rattle.rv64_isa.specs.declared.phase.Phase.{Phase}
 use Rattle.rv64_isa.specs.declared.phase.Phase.TheVariants.{Run}
 use Rattle.rv64_isa.specs.Machine.{Hart as HartModel, start_of, after_crash_of, fresh_hart, phase_after_crash, durable_point, numbers_from}
 use Rattle.hart_core.specs.declared.hart.Hart.{Hart}
-use Rattle.hart_core.specs.links.Harts.{HartStands}
+use Rattle.hart_core.specs.links.Harts.{RepresentsHart}
 use Rattle.ido_machine.specs.Harts.{HartsStand, IsFresh, AreFresh}
-use Rattle.ido_machine.specs.Machines.{State, StateStands}
+use Rattle.ido_machine.specs.Machines.{MachineState, RepresentsMachineState}
 use Rattle.ido_machine.proofs.Lists.{set_same, set_other, get_push, get_numbers, length-numbers, map_map, map_constant}
 
 -- one hart more
@@ -27,7 +27,7 @@ AreFresh-push program harts count it fresh new = record {
   ];
 }
 
--- so many harts, the first of them fresh
+-- as many harts as programs, of which the first `count` are fresh
 pub record AreRestarted (program : List (List Slot)) (harts : List Hart) (count : ℕ) : Type 0 where
   pub size : length harts ≡ length program
   pub each : (thread : ℕ) (it : Hart) → thread < count → slice_get harts thread ≡ Some it → IsFresh program thread it
@@ -59,7 +59,7 @@ AreFresh-all program harts count all a = record {
         below (z ∷ zs) zero y there = omega arith
         below (z ∷ zs) (suc m) y there = omega (arith, below zs m y there)
 
--- fresh harts stand for those of the definition, whatever their phases
+-- fresh harts represent those of the definition, whatever their phases
 fresh_stand : (program : List (List Slot)) (phase : ℕ → Phase) (harts : List Hart) (words : List Word) → AreFresh program harts (length program) →
     HartsStand harts (map (λ thread. fresh_hart program (phase thread) thread) (numbers_from 0 (length program))) words
 fresh_stand program phase harts words fresh = record {
@@ -67,20 +67,20 @@ fresh_stand program phase harts words fresh = record {
   each = λ thread it m found there.
       let same : model (0 + thread) ≡ m = get_numbers model 0 (length program) thread m there in
       let zero_is : 0 + thread ≡ thread = omega arith in
-      subst (λ (x : HartModel). HartStands it x words) (ap model (sym zero_is) ∙ same) (one thread it (fresh.each thread it found));
+      subst (λ (x : HartModel). RepresentsHart it x words) (ap model (sym zero_is) ∙ same) (one thread it (fresh.each thread it found));
 }
   where
     model : ℕ → HartModel
     model = λ thread. fresh_hart program (phase thread) thread
 
-    one : (thread : ℕ) (it : Hart) → IsFresh program thread it → HartStands it (fresh_hart program (phase thread) thread) words
+    one : (thread : ℕ) (it : Hart) → IsFresh program thread it → RepresentsHart it (fresh_hart program (phase thread) thread) words
     one thread it is = record { registers = sym is.registers; pc = sym is.pc; queue = is.queue words }
 
-pub start_stands : (program : List (List Slot)) (locks : ℕ) (initial : List ℕ) (state : State) → AreFresh program state.harts (length program) →
-    state.phases ≡ replicate (length program) Run → Stands state.memory (map word_of (initial_words (length program) initial)) →
-    state.locks ≡ replicate locks None → state.recovering ≡ false → StateStands state (start_of program locks initial)
+pub start_simulates : (program : List (List Slot)) (locks : ℕ) (initial : List ℕ) (state : MachineState) → AreFresh program state.harts (length program) →
+    state.phases ≡ replicate (length program) Run → Represents state.memory (map word_of (initial_words (length program) initial)) →
+    state.locks ≡ replicate locks None → state.recovering ≡ false → RepresentsMachineState state (start_of program locks initial)
 unfolding start_of
-start_stands program locks initial state fresh phases stands free running = record {
+start_simulates program locks initial state fresh phases stands free running = record {
   words = stands;
   holders = sym free;
   phases =
@@ -89,12 +89,12 @@ start_stands program locks initial state fresh phases stands free running = reco
   recovering = sym running;
 }
 
-pub crash_stands : (program : List (List Slot)) (locks : ℕ) (words : List ℕ) (state : State) → AreFresh program state.harts (length program) →
+pub crash_simulates : (program : List (List Slot)) (locks : ℕ) (words : List ℕ) (state : MachineState) → AreFresh program state.harts (length program) →
     state.phases ≡ map (λ thread. phase_after_crash (durable_point (map word_of words) thread)) (numbers_from 0 (length program)) →
-    Stands state.memory (map word_of words) → state.locks ≡ replicate locks None → state.recovering ≡ true →
-    StateStands state (after_crash_of program locks words)
+    Represents state.memory (map word_of words) → state.locks ≡ replicate locks None → state.recovering ≡ true →
+    RepresentsMachineState state (after_crash_of program locks words)
 unfolding after_crash_of
-crash_stands program locks words state fresh phases stands free recovering = record {
+crash_simulates program locks words state fresh phases stands free recovering = record {
   words = stands;
   holders = sym free;
   phases =

@@ -1,25 +1,26 @@
--- What the harts in the code stand for.
+-- What the harts in the code represent.
 use Rattle.std.specs.Prelude.{◌≡◌, ℕ, List, [], length, slice_get, Some, replicate}
 use Rattle.ido_base.specs.Words.{Word}
-use Rattle.line_memory.specs.links.Queues.{QueueStands}
+use Rattle.line_memory.specs.links.Queues.{RepresentsQueue}
 use Rattle.rv64_isa.specs.declared.object.Slot.{Slot}
 use Rattle.rv64_isa.specs.Programs.{code_start}
 use Rattle.rv64_isa.specs.Machine.{Hart as HartModel}
 use Rattle.hart_core.specs.declared.hart.Hart.{Hart}
-use Rattle.hart_core.specs.links.Harts.{HartStands}
+use Rattle.hart_core.specs.links.Harts.{RepresentsHart}
 
--- as many harts, and each stands for the one of its number
+-- as many harts, and each represents the one of its number
 pub record HartsStand (harts : List Hart) (models : List HartModel) (words : List Word) : Type 0 where
   pub count : length models ≡ length harts
-  pub each : (number : ℕ) (it : Hart) (model : HartModel) → slice_get harts number ≡ Some it → slice_get models number ≡ Some model → HartStands it model words
+  pub each : (number : ℕ) (it : Hart) (model : HartModel) → slice_get harts number ≡ Some it → slice_get models number ≡ Some model →
+      RepresentsHart it model words
 
 -- a hart that has done nothing yet
 pub record IsFresh (program : List (List Slot)) (thread : ℕ) (it : Hart) : Type 0 where
   pub registers : it.registers ≡ replicate 32 0
   pub pc : it.pc ≡ code_start program thread
-  pub queue : (words : List Word) → QueueStands it.queue [] words
+  pub queue : (words : List Word) → RepresentsQueue it.queue [] words
 
--- so many harts that have done nothing yet
+-- harts that have done nothing yet, `count` of them
 pub record AreFresh (program : List (List Slot)) (harts : List Hart) (count : ℕ) : Type 0 where
   pub size : length harts ≡ count
   pub each : (thread : ℕ) (it : Hart) → slice_get harts thread ≡ Some it → IsFresh program thread it

@@ -1,13 +1,13 @@
--- What a machine in the code stands for.
+-- What a machine in the code represents.
 use Rattle.std.specs.Prelude.{◌≡◌, ℕ, List, Option, Bool}
 use Rattle.ido_base.specs.declared.event.Reply.{Reply}
 use Rattle.line_memory.specs.declared.memory.LineMemory.{LineMemory}
-use Rattle.line_memory.specs.links.Stands.{Stands}
+use Rattle.line_memory.specs.links.MemoryRepresentation.{Represents}
 use Rattle.rv64_isa.specs.declared.object.Slot.{Slot}
 use Rattle.rv64_isa.specs.declared.phase.Phase.{Phase}
 use Rattle.rv64_isa.specs.Machine.{World, Outcome}
 use Rattle.hart_core.specs.declared.hart.Hart.{Hart}
-use Rattle.resume_recovery.specs.Steps.{phases_of}
+use Rattle.resume_recovery.specs.RecoverySteps.{phases_of}
 use Rattle.ido_machine.specs.declared.machine.Machine.{Machine}
 use Rattle.ido_machine.specs.Harts.{HartsStand}
 
@@ -20,14 +20,14 @@ abbrev pub events_of : Machine → ℕ
 events_of machine = machine.events
 
 -- what changes of a machine: phases and harts, memory and locks, and whether it is in recovery
-pub record State : Type 0 where
+pub record MachineState : Type 0 where
   pub phases : List Phase
   pub harts : List Hart
   pub memory : LineMemory
   pub locks : List (Option ℕ)
   pub recovering : Bool
 
-abbrev pub state_of : Machine → State
+abbrev pub state_of : Machine → MachineState
 state_of machine = record {
   phases = machine.phases.items;
   harts = machine.harts.items;
@@ -36,22 +36,22 @@ state_of machine = record {
   recovering = machine.recovering;
 }
 
--- all of it is that of the world
-pub record StateStands (state : State) (w : World) : Type 0 where
-  pub words : Stands state.memory w.words
+-- all of the machine's state is that of the world
+pub record RepresentsMachineState (state : MachineState) (w : World) : Type 0 where
+  pub words : Represents state.memory w.words
   pub holders : w.holders ≡ state.locks
   pub phases : phases_of w ≡ state.phases
   pub standing : HartsStand state.harts w.harts w.words
   pub recovering : w.recovering ≡ state.recovering
 
--- its harts with their phases and queues, its memory and its locks are those of the world
-abbrev pub MachineStands : Machine → World → Type 0
-MachineStands machine w = StateStands (state_of machine) w
+-- the machine's harts with their phases and queues, its memory and its locks are those of the world
+abbrev pub RepresentsMachine : Machine → World → Type 0
+RepresentsMachine machine w = RepresentsMachineState (state_of machine) w
 
 -- the state is that of the world of an outcome, and the reply is its
-pub record StateEnds (state : State) (reply : Reply) (outcome : Outcome) : Type 0 where
+pub record StateEnds (state : MachineState) (reply : Reply) (outcome : Outcome) : Type 0 where
   pub replied : reply ≡ outcome.1
-  pub stands : StateStands state outcome.0
+  pub stands : RepresentsMachineState state outcome.0
 
 -- the machine is at the world of an outcome, and the reply is its
 abbrev pub IsAfter : Machine → Reply → Outcome → Type 0

@@ -1,6 +1,7 @@
 //! The machine.
 ghost use Rattle.std.specs.Prelude.{◌≡◌, ◌≤◌, length, vec_len};
-ghost use Rattle.line_memory.specs.links.Stands.{threads_of, stores_of};
+ghost use Rattle.ido_base.specs.declared.limits.TheConstants.{LOG_WORDS};
+ghost use Rattle.line_memory.specs.links.MemoryRepresentation.{threads_of, stores_of};
 
 use crate::harts;
 use crate::running::step_one;
@@ -40,12 +41,12 @@ impl Machine {
     ghost use Rattle.rv64_isa.specs.Programs.{program_of};
     ghost use Rattle.rv64_isa.specs.Machine.{Hart as HartModel, World, IsValidEvent, happens, machine_start, machine_from};
     ghost use Rattle.hart_core.specs.Objects.{IsWithinLimits};
-    ghost use Rattle.ido_machine.specs.Machines.{program_in, events_of, MachineStands, IsAfter};
+    ghost use Rattle.ido_machine.specs.Machines.{program_in, events_of, RepresentsMachine, IsAfter};
 
     /// The machine of an object at its start.
     pub fn start(alloc: Global, object: &Object) -> Result<Machine, OutOfMemory>
         requires { IsWithinLimits object.now }
-        ensures stands { IfOk result (λ machine. MachineStands machine (machine_start object.now)) }
+        ensures stands { IfOk result (λ machine. RepresentsMachine machine (machine_start object.now)) }
         ensures program { IfOk result (λ machine. program_in machine ≡ program_of object.now) }
         ensures events { IfOk result (λ machine. events_of machine ≡ 0) }
     {
@@ -65,12 +66,12 @@ impl Machine {
         })
     }
 
-    /// The machine of an object after a crash that left these words of its variables and, behind them, of its
+    /// The machine of an object after a crash that left these words of its variables and, after them, of its
     /// logs.
     pub fn of_words(alloc: Global, object: &Object, words: &[u64]) -> Result<Machine, OutOfMemory>
         requires limits { IsWithinLimits object.now }
-        requires count { length words.now ≡ length object.now.initial.items / 8 + 128 * length object.now.code.items }
-        ensures stands { IfOk result (λ machine. MachineStands machine (machine_from object.now words.now [])) }
+        requires count { length words.now ≡ length object.now.initial.items / 8 + LOG_WORDS * length object.now.code.items }
+        ensures stands { IfOk result (λ machine. RepresentsMachine machine (machine_from object.now words.now [])) }
         ensures program { IfOk result (λ machine. program_in machine ≡ program_of object.now) }
         ensures events { IfOk result (λ machine. events_of machine ≡ 0) }
     {
@@ -107,10 +108,11 @@ impl Machine {
     }
 
     /// Makes an event.
+    /// By induction a machine that was started from an object represents `machine object events`, crashes and recovery among them.
     pub fn event(&mut self, event: Event) -> Reply
         requires valid { IsValidEvent (length (program_in self.old)) event }
         requires room { events_of self.old < 2 ^ 63 }
-        ensures world { (w : World) → MachineStands self.old w → IsAfter self.new result (happens (program_in self.old) w event) }
+        ensures world { (w : World) → RepresentsMachine self.old w → IsAfter self.new result (happens (program_in self.old) w event) }
         ensures program { program_in self.new ≡ program_in self.old }
         ensures events { events_of self.new ≡ events_of self.old + 1 }
     {
@@ -126,7 +128,7 @@ impl Machine {
     pub fn step(&mut self, hart: u32) -> Reply
         requires exists { hart < length (program_in self.old) }
         requires room { events_of self.old < 2 ^ 63 }
-        ensures world { (w : World) → MachineStands self.old w → IsAfter self.new result (happens (program_in self.old) w (Step hart)) }
+        ensures world { (w : World) → RepresentsMachine self.old w → IsAfter self.new result (happens (program_in self.old) w (Step hart)) }
         ensures program { program_in self.new ≡ program_in self.old }
         ensures events { events_of self.new ≡ events_of self.old + 1 }
     {
@@ -148,7 +150,7 @@ impl Machine {
         requires exists { line < line_count (length (program_in self.old)) }
         requires mask { mask ≤ 255 }
         requires room { events_of self.old < 2 ^ 63 }
-        ensures world { (w : World) → MachineStands self.old w → IsAfter self.new result (happens (program_in self.old) w (Evict line mask)) }
+        ensures world { (w : World) → RepresentsMachine self.old w → IsAfter self.new result (happens (program_in self.old) w (Evict line mask)) }
         ensures program { program_in self.new ≡ program_in self.old }
         ensures events { events_of self.new ≡ events_of self.old + 1 }
     {
@@ -160,7 +162,7 @@ impl Machine {
     /// A crash: what `event` does for it.
     pub fn crash(&mut self) -> Reply
         requires room { events_of self.old < 2 ^ 63 }
-        ensures world { (w : World) → MachineStands self.old w → IsAfter self.new result (happens (program_in self.old) w Crash) }
+        ensures world { (w : World) → RepresentsMachine self.old w → IsAfter self.new result (happens (program_in self.old) w Crash) }
         ensures program { program_in self.new ≡ program_in self.old }
         ensures events { events_of self.new ≡ events_of self.old + 1 }
     {
@@ -176,7 +178,7 @@ impl Machine {
     /// The phase of a hart.
     pub fn phase(&self, hart: u32) -> Phase
         requires { hart < length (program_in self.now) }
-        ensures { (w : World) (model : HartModel) → MachineStands self.now w → slice_get w.harts hart ≡ Some model → result ≡ model.phase }
+        ensures { (w : World) (model : HartModel) → RepresentsMachine self.now w → slice_get w.harts hart ≡ Some model → result ≡ model.phase }
     {
         self.phases[hart as usize]
     }
@@ -184,14 +186,14 @@ impl Machine {
     /// The address of the instruction that a hart executes next.
     pub fn pc(&self, hart: u32) -> u64
         requires { hart < length (program_in self.now) }
-        ensures { (w : World) (model : HartModel) → MachineStands self.now w → slice_get w.harts hart ≡ Some model → result ≡ model.pc }
+        ensures { (w : World) (model : HartModel) → RepresentsMachine self.now w → slice_get w.harts hart ≡ Some model → result ≡ model.pc }
     {
         self.harts[hart as usize].pc
     }
 
     /// The hart holds a lock.
     pub fn holds(&self, hart: u32) -> bool
-        ensures { (w : World) → MachineStands self.now w → result ≡ not (holds_none w.holders hart) }
+        ensures { (w : World) → RepresentsMachine self.now w → result ≡ not (holds_none w.holders hart) }
     {
         !self.locks.holds_none(hart)
     }
@@ -200,7 +202,7 @@ impl Machine {
     pub fn live_word(&self, line: u32, word: u32) -> u64
         requires exists { line < line_count (length (program_in self.now)) }
         requires word { word < 8 }
-        ensures { (w : World) → MachineStands self.now w → result ≡ live_value (word_at w.words (8 * line + word)) }
+        ensures { (w : World) → RepresentsMachine self.now w → result ≡ live_value (word_at w.words (8 * line + word)) }
     {
         self.memory.live_word(line, word)
     }
@@ -209,7 +211,7 @@ impl Machine {
     pub fn durable_word(&self, line: u32, word: u32) -> u64
         requires exists { line < line_count (length (program_in self.now)) }
         requires word { word < 8 }
-        ensures { (w : World) → MachineStands self.now w → result ≡ durable_value (word_at w.words (8 * line + word)) }
+        ensures { (w : World) → RepresentsMachine self.now w → result ≡ durable_value (word_at w.words (8 * line + word)) }
     {
         self.memory.durable_word(line, word)
     }
@@ -218,7 +220,7 @@ impl Machine {
     pub fn last_position(&self, line: u32, word: u32) -> u64
         requires exists { line < line_count (length (program_in self.now)) }
         requires word { word < 8 }
-        ensures { (w : World) → MachineStands self.now w → result ≡ last_position (word_at w.words (8 * line + word)) }
+        ensures { (w : World) → RepresentsMachine self.now w → result ≡ last_position (word_at w.words (8 * line + word)) }
     {
         self.memory.last_position(line, word)
     }
@@ -227,7 +229,7 @@ impl Machine {
     pub fn durable_position(&self, line: u32, word: u32) -> u64
         requires exists { line < line_count (length (program_in self.now)) }
         requires word { word < 8 }
-        ensures { (w : World) → MachineStands self.now w → result ≡ (word_at w.words (8 * line + word)).durable }
+        ensures { (w : World) → RepresentsMachine self.now w → result ≡ (word_at w.words (8 * line + word)).durable }
     {
         self.memory.durable_position(line, word)
     }

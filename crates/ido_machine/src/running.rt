@@ -2,10 +2,10 @@
 ghost use Rattle.std.specs.Prelude.{◌≡◌, ◌&&◌, ◌+◌, ◌^◌, ◌<◌, ◌≤◌, ℕ, not, length, slice_get};
 ghost use Rattle.ido_base.specs.declared.event.Event.TheVariants.{Step};
 ghost use Rattle.ido_base.specs.Locks.{holds_none};
-ghost use Rattle.line_memory.specs.links.Stands.{threads_of, stores_of};
+ghost use Rattle.line_memory.specs.links.MemoryRepresentation.{threads_of, stores_of};
 ghost use Rattle.rv64_isa.specs.Machine.{Hart as HartModel, World, happens, run_step};
-ghost use Rattle.hart_core.specs.Steps.{Parts, PartsStand, PartsEnd};
-ghost use Rattle.ido_machine.specs.Machines.{State, StateStands, StateEnds};
+ghost use Rattle.hart_core.specs.StepsOnParts.{Parts, PartsStand, PartsEnd};
+ghost use Rattle.ido_machine.specs.Machines.{MachineState, RepresentsMachineState, StateEnds};
 
 use hart_core::hart::Hart;
 use hart_core::program::Program;
@@ -76,7 +76,7 @@ pub(crate) fn step_one(
     requires sized { length harts.old ≡ length program.now }
     requires threads { threads_of memory.old ≡ length program.now }
     requires room { stores_of memory.old < 2 ^ 63 }
-    ensures step { (w : World) → StateStands
+    ensures step { (w : World) → RepresentsMachineState
         (record { phases = phases.old; harts = harts.old; memory = memory.old; locks = locks.old; recovering = recovering }) w →
         StateEnds (record { phases = phases.new; harts = harts.new; memory = memory.new; locks = locks.new; recovering = recovering }) result
         (happens program.now w (Step number)) }

@@ -1,3 +1,2 @@
-pub mod Added
-pub mod CauseLaws
-pub mod Taken
+mod AddedBytes
+mod TakenBytes

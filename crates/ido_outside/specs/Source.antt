@@ -4,11 +4,11 @@ use Rattle.std.specs.Io.KnownBytes.{Consumes}
 use Rattle.ido_outside.specs.declared.faults.InFault.{InFault}
 use Rattle.ido_outside.specs.declared.faults.InFault.TheVariants.{Failed, TooLong, Memory}
 
--- the front of what was left was taken, and it has n bytes
+-- a prefix of what was left was taken, and it has n bytes
 abbrev pub TakesExactly : ℕ → Option (List ℕ) → Option (List ℕ) → Type 0
 TakesExactly n old new = (taken : List ℕ) × Consumes old new taken × (length taken ≡ n)
 
--- the front of what was left was taken, and it has at most n bytes
+-- a prefix of what was left was taken, and it has at most n bytes
 abbrev pub TakesAtMost : ℕ → Option (List ℕ) → Option (List ℕ) → Type 0
 TakesAtMost n old new = (taken : List ℕ) × Consumes old new taken × (length taken ≤ n)
 

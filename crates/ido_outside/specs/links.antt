@@ -2,4 +2,4 @@ pub mod MemSink
 pub mod MemSource
 pub mod SureSink
 pub mod SureSource
-pub mod Gathering
+pub mod GatheredBytes

@@ -16,7 +16,7 @@ pub trait Sink {
     /// A count of faults, which never falls.
     ghost faults: { Self → ℕ };
 
-    /// Takes a front of `piece`, adds it behind what was written, and answers how many bytes it
+    /// Takes a prefix of `piece`, adds it after what was written, and answers how many bytes it
     /// has: at least one, where `piece` isn't empty. `Failed` comes only where the count of
     /// faults rose, and adds nothing.
     fn write(&mut self, piece: &[u8]) -> Result<usize, Failed>
@@ -30,7 +30,7 @@ pub trait Sink {
 ///
 /// # Errors
 ///
-/// `Failed` only where the sink's count of faults rose. A front of the bytes was then written,
+/// `Failed` only where the sink's count of faults rose. A prefix of the bytes was then written,
 /// and not all of them.
 pub fn write_all<K: Sink>(sink: &mut K, bytes: &[u8]) -> Result<(), Failed>
     ensures ok { OnOk result (Adds (K.written sink.old) (K.written sink.new) bytes.now) }

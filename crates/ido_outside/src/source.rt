@@ -6,7 +6,7 @@ ghost use Rattle.std.specs.Io.{ReadsAtMost};
 ghost use Rattle.std.specs.Io.KnownBytes.{ReadConsumes, Consumes, IsAtEnd};
 ghost use Rattle.ido_outside.specs.Causes.{Rose, HasCause};
 ghost use Rattle.ido_outside.specs.Source.{TakenAtFault};
-ghost use Rattle.ido_outside.specs.links.Gathering.{Gathers};
+ghost use Rattle.ido_outside.specs.links.GatheredBytes.{Gathers};
 
 use crate::{Failed, InFault};
 use std::alloc::{AllocError, Global};
@@ -59,7 +59,7 @@ pub fn read_all<S: Source>(alloc: Global, source: &mut S, limit: u64) -> Result<
     Ok(bytes)
 }
 
-/// Reads piece after piece behind `bytes`, to the end of the source.
+/// Reads piece after piece onto the end of `bytes`, to the end of the source.
 fn read_pieces<S: Source>(
     source: &mut S,
     buffer: &mut [u8],
@@ -81,7 +81,7 @@ fn read_pieces<S: Source>(
     Ok(())
 }
 
-/// Reads one piece behind `bytes`. `false` at the end of the source.
+/// Reads one piece onto the end of `bytes`. `false` at the end of the source.
 fn read_piece<S: Source>(
     source: &mut S,
     buffer: &mut [u8],

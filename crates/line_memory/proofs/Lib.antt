@@ -1,6 +1,7 @@
-pub mod Histories
-pub mod Memories
-pub mod NewCells
-pub mod Parts
-pub mod Rings
-pub mod Steps
+pub mod Public
+mod HistoriesGrow
+mod Memories
+mod NewCells
+mod WordParts
+mod Rings
+mod CellLoopSteps

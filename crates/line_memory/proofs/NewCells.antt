@@ -7,10 +7,10 @@ use Rattle.std.specs.Int.{w64, from_le_bytes}
 use Rattle.ido_base.specs.Words.{word_of}
 use Rattle.ido_base.specs.Layout.{words_of_bytes, word_count, variable_lines, log_lines, initial_words, spread_words}
 use Rattle.line_memory.specs.declared.memory.LineMemory.{LineMemory}
-use Rattle.line_memory.specs.links.Stands.{Stands}
+use Rattle.line_memory.specs.links.MemoryRepresentation.{Represents}
 use Rattle.line_memory.specs.declared.cell.Cell.{Cell}
 use Rattle.line_memory.proofs.Memories.{known_single}
-use Rattle.line_memory.specs.links.Cells.{cell_of, CellStands, CellsStand}
+use Rattle.line_memory.specs.links.Cells.{cell_of, RepresentsCell, CellsStand}
 
 -- ---- A word from bytes
 
@@ -95,15 +95,15 @@ push_zeros_step old new cell len count is_len is_cell is_new =
 
 -- ---- All cells
 
-CellStands-of : (n : ℕ) → CellStands (cell_of n) (word_of n) 0
-CellStands-of n = record { live = refl; version = refl; durable = refl; durable_version = refl; order = omega arith; counted = omega arith }
+RepresentsCell-of : (n : ℕ) → RepresentsCell (cell_of n) (word_of n) 0
+RepresentsCell-of n = record { live = refl; version = refl; durable = refl; durable_version = refl; order = omega arith; counted = omega arith }
 
 pub CellsStand-of : (ns : List ℕ) → CellsStand (map cell_of ns) (map word_of ns) 0
 CellsStand-of ns = record {
   size = length-map ns cell_of ∙ sym (length-map ns word_of);
   each = λ i below.
       let in_ns : i < length ns = omega (arith, below, length-map ns cell_of) in
-      rw (get_or-map cell_of ns i 0 (cell_of 0) in_ns, get_or-map word_of ns i 0 (word_of 0) in_ns) (CellStands-of (get_or ns i 0));
+      rw (get_or-map cell_of ns i 0 (cell_of 0) in_ns, get_or-map word_of ns i 0 (word_of 0) in_ns) (RepresentsCell-of (get_or ns i 0));
 }
 
 -- ---- New memories
@@ -111,8 +111,8 @@ CellsStand-of ns = record {
 length-made : (memory : LineMemory) (ns : List ℕ) → memory.cells.items ≡ map cell_of ns → length (map word_of ns) ≡ word_count memory.threads
 length-made memory ns same = length-map ns word_of ∙ sym (length-map ns cell_of) ∙ ap length (sym same) ∙ sym memory.cells.ok.0 ∙ memory.sized
 
-pub Stands-of : (memory : LineMemory) (ns : List ℕ) → memory.stores ≡ 0 → memory.cells.items ≡ map cell_of ns → Stands memory (map word_of ns)
-Stands-of memory ns none same = record {
+pub represents-of : (memory : LineMemory) (ns : List ℕ) → memory.stores ≡ 0 → memory.cells.items ≡ map cell_of ns → Represents memory (map word_of ns)
+represents-of memory ns none same = record {
   size = length-made memory ns same;
   changes = known_single memory.changes ns;
   cells =
@@ -120,7 +120,7 @@ Stands-of memory ns none same = record {
       (subst (λ (cs : List Cell). CellsStand cs (map word_of ns) 0) (sym same) (CellsStand-of ns));
 }
 
--- three parts, one behind another
+-- three parts, one after another
 parts : (all first second : List Cell) (a b d : List ℕ) → first ≡ map cell_of a → second ≡ first ++ map cell_of b → all ≡ second ++ map cell_of d →
     all ≡ map cell_of (a ++ b ++ d)
 parts all first second a b d e f g =

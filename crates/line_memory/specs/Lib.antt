@@ -1,3 +1,3 @@
 pub mod Access
-pub mod Changes
+pub mod ChangedWords
 pub mod links

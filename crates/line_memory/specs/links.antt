@@ -1,3 +1,3 @@
 pub mod Cells
 pub mod Queues
-pub mod Stands
+pub mod MemoryRepresentation

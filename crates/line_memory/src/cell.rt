@@ -14,7 +14,7 @@ pub struct Cell {
 impl Cell {
     ghost use Rattle.std.specs.Prelude.{◌≡◌, ℕ, ◌+◌, ◌^◌, ◌<◌, length, slice_index};
     ghost use Rattle.ido_base.specs.Words.{Word, with_value, written_back, after_crash, last_position};
-    ghost use Rattle.line_memory.specs.links.Cells.{cell_of, newest_of, CellStands};
+    ghost use Rattle.line_memory.specs.links.Cells.{cell_of, newest_of, RepresentsCell};
 
     /// A word that has this value, durably.
     pub fn of(value: u64) -> Cell
@@ -30,8 +30,8 @@ impl Cell {
 
     /// Stores a whole word. Versions count the stores, so none wraps.
     pub fn store(&mut self, value: u64)
-        ensures { (word : Word) (stores : ℕ) → stores < 2 ^ 63 → CellStands self.old word stores
-            → CellStands self.new (with_value word value) (stores + 1) }
+        ensures { (word : Word) (stores : ℕ) → stores < 2 ^ 63 → RepresentsCell self.old word stores
+            → RepresentsCell self.new (with_value word value) (stores + 1) }
     {
         self.live = value;
         self.version = self.version.wrapping_add(1);
@@ -39,9 +39,9 @@ impl Cell {
 
     /// Writes an earlier value back: it becomes durable where the durable version is older.
     pub fn write_back(&mut self, saved: Saved)
-        ensures { (word : Word) (stores : ℕ) → CellStands self.old word stores
+        ensures { (word : Word) (stores : ℕ) → RepresentsCell self.old word stores
             → saved.version < length word.values → saved.value ≡ slice_index word.values saved.version
-            → CellStands self.new (written_back word saved.version) stores }
+            → RepresentsCell self.new (written_back word saved.version) stores }
     {
         if self.durable_version < saved.version {
             self.durable = saved.value;
@@ -49,7 +49,7 @@ impl Cell {
         }
     }
 
-    /// Its newest value.
+    /// The cell's newest value.
     pub fn newest(&self) -> Saved
         ensures { result ≡ newest_of self.now }
     {
@@ -61,14 +61,14 @@ impl Cell {
 
     /// Writes its newest value back.
     pub fn evict(&mut self)
-        ensures { (word : Word) (stores : ℕ) → CellStands self.old word stores
-            → CellStands self.new (written_back word (last_position word)) stores }
+        ensures { (word : Word) (stores : ℕ) → RepresentsCell self.old word stores
+            → RepresentsCell self.new (written_back word (last_position word)) stores }
     {
         let newest = self.newest();
         self.write_back(newest);
     }
 
-    /// After a crash.
+    /// The cell after a crash.
     pub fn crashed(self) -> Cell
         ensures { result ≡ cell_of self.durable }
     {

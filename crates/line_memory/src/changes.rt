@@ -17,7 +17,7 @@ pub struct Changes {
 
 impl Changes {
     ghost use Rattle.std.specs.Prelude.{◌≡◌, ℕ, List, [], true, false};
-    ghost use Rattle.line_memory.specs.Changes.{HasChanged};
+    ghost use Rattle.line_memory.specs.ChangedWords.{HasChanged};
 
     /// No word has changed.
     pub fn new(alloc: Global) -> Result<Changes, OutOfMemory> {

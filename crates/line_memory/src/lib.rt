@@ -3,7 +3,10 @@
 //! cleans, drains and evictions take constant time, a crash as much as has changed since the last one, and
 //! nothing takes memory once it is made.
 //!
-//! What the calls do is said in terms of word histories, whichever the memory stands for.
+//! What the calls do is said in terms of word histories, whichever the memory represents.
+//! A memory is no function of word histories, nor they of it: each clause says, whatever histories it represented, it now
+//! represents these. That a queue represents what it did, whatever is stored, drained or evicted, is a lemma of
+//! `proofs/HistoriesGrow`.
 #![tactic(auto)]
 
 ghost use Rattle.std.specs.Prelude.{◌≡◌, ◌==◌, ◌≤◌, IsTrue};

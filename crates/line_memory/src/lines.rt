@@ -1,9 +1,9 @@
 //! Lines among the cells of a memory.
 ghost use Rattle.std.specs.Prelude.{◌≡◌, ℕ, ◌+◌, ◌*◌, ◌<◌, ◌≤◌, List, length, map};
-ghost use Rattle.ido_base.specs.Words.{Word, Entry, word_at, entry_of, drained, raised, evicted_from, after_crash};
+ghost use Rattle.ido_base.specs.Words.{Word, Entry, word_at, entry_of, drained, persisted, evicted_from, after_crash};
 ghost use Rattle.line_memory.specs.links.Cells.{CellsStand, Remembers, versions_in};
-ghost use Rattle.line_memory.specs.Changes.{IsListed, HasChanged};
-ghost use Rattle.line_memory.specs.links.Queues.{SnapshotStands};
+ghost use Rattle.line_memory.specs.ChangedWords.{IsListed, HasChanged};
+ghost use Rattle.line_memory.specs.links.Queues.{RepresentsSnapshot};
 
 use crate::cell::Cell;
 use crate::changes::Changes;
@@ -13,7 +13,7 @@ use crate::queue::{Saved, Snapshot};
 pub fn snapshot_of(cells: &[Cell], line: u32) -> Snapshot
     requires { 8 * line + 8 ≤ length cells.now }
     ensures { (words : List Word) (stores : ℕ) → CellsStand cells.now words stores
-        → SnapshotStands result (entry_of words line) words }
+        → RepresentsSnapshot result (entry_of words line) words }
 {
     let base = 8 * line as usize;
     let nothing = Saved {
@@ -32,7 +32,7 @@ fn write_words_back(cells: &mut [Cell], base: usize, saved: &[Saved; 8])
     requires { base + 8 ≤ length cells.old }
     ensures { (words : List Word) (stores : ℕ) → CellsStand cells.old words stores
         → Remembers saved.now base words
-        → CellsStand cells.new (raised words base (versions_in saved.now)) stores }
+        → CellsStand cells.new (persisted words base (versions_in saved.now)) stores }
 {
     for k in 0..8 {
         cells[base + k].write_back(saved[k]);
@@ -43,7 +43,7 @@ fn write_words_back(cells: &mut [Cell], base: usize, saved: &[Saved; 8])
 /// among the cells changes nothing.
 pub fn write_back(cells: &mut [Cell], snapshot: &Snapshot)
     ensures { (words : List Word) (stores : ℕ) (entry : Entry) → CellsStand cells.old words stores
-        → SnapshotStands snapshot.now entry words
+        → RepresentsSnapshot snapshot.now entry words
         → CellsStand cells.new (drained words entry) stores }
 {
     let base = 8 * snapshot.line as usize;

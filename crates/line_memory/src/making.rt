@@ -7,7 +7,7 @@ ghost use Rattle.line_memory.specs.links.Cells.{cell_of};
 use crate::cell::Cell;
 use ido_base::memory::OutOfMemory;
 
-/// The eight bytes from the given one on as a little-endian word, with zeros behind the last byte.
+/// The eight bytes from the given one on as a little-endian word, with zeros after the last byte.
 fn word_from(bytes: &[u8], at: usize) -> u64
     requires { at < 2 ^ 32 }
     ensures { result ≡ from_le_bytes w64 (take 8 (drop at bytes.now)) }
@@ -21,7 +21,7 @@ fn word_from(bytes: &[u8], at: usize) -> u64
     u64::from_le_bytes(word)
 }
 
-/// So many words of the bytes, with zeros behind the last byte.
+/// Adds the first `count` words of the bytes, with zeros after the last byte.
 pub fn push_bytes(cells: &mut Vec<Cell>, bytes: &[u8], count: usize) -> Result<(), OutOfMemory>
     requires { count < 2 ^ 16 }
     ensures items { OnOk result (cells.new.items ≡ cells.old.items ++ map cell_of (words_of_bytes bytes.now count)) }
@@ -33,7 +33,7 @@ pub fn push_bytes(cells: &mut Vec<Cell>, bytes: &[u8], count: usize) -> Result<(
     Ok(())
 }
 
-/// These words.
+/// Adds cells that have these words.
 pub fn push_words(cells: &mut Vec<Cell>, words: &[u64]) -> Result<(), OutOfMemory>
     ensures items { OnOk result (cells.new.items ≡ cells.old.items ++ map cell_of words.now) }
     ensures len { OnOk result (vec_len cells.new ≡ vec_len cells.old + length words.now) }
@@ -44,7 +44,7 @@ pub fn push_words(cells: &mut Vec<Cell>, words: &[u64]) -> Result<(), OutOfMemor
     Ok(())
 }
 
-/// So many words of 0.
+/// Adds `count` cells of 0.
 pub fn push_zeros(cells: &mut Vec<Cell>, count: usize) -> Result<(), OutOfMemory>
     requires { vec_len cells.old + count < 2 ^ 32 }
     ensures items { OnOk result (cells.new.items ≡ cells.old.items ++ map cell_of (replicate count 0)) }

@@ -10,8 +10,8 @@ use crate::queue::Queue;
 use crate::{lines, making};
 use ido_base::limits::{LINE_BYTES, LOG_WORDS, VARIABLE_WORDS};
 use ido_base::memory::OutOfMemory;
-use log_layout::log::{self, LOG_BYTES, LOGS_BASE};
-use log_layout::variables::VARIABLES_BASE;
+use memory_layout::log::{self, LOG_BYTES, LOGS_BASE};
+use memory_layout::variables::VARIABLES_BASE;
 use std::alloc::Global;
 
 /// All words of the variables and of the logs of at most 8 threads, as one flat array.
@@ -32,15 +32,15 @@ impl LineMemory {
     ghost use Rattle.ido_base.specs.Layout.{in_range as is_in_range, aligned, byte_number, line_bytes, line_count};
     ghost use Rattle.ido_base.specs.Layout.{initial_words, spread_words, word_number, point_at, slot_at};
     ghost use Rattle.line_memory.specs.Access.{is_width};
-    ghost use Rattle.line_memory.specs.links.Queues.{queue_length, QueueStands};
+    ghost use Rattle.line_memory.specs.links.Queues.{queue_length, RepresentsQueue};
     ghost use Rattle.line_memory.specs.declared.queue.Queue.{Queue};
-    ghost use Rattle.line_memory.specs.links.Stands.{Stands, threads_of, stores_of};
+    ghost use Rattle.line_memory.specs.links.MemoryRepresentation.{Represents, threads_of, stores_of};
 
     /// The memory at the start of a machine: the initial bytes of the variables, and zeros.
     pub fn new(alloc: Global, vars: &[u8], threads: u32) -> Result<LineMemory, OutOfMemory>
         requires few_bytes { length vars.now ≤ MOST_VARIABLE_BYTES }
         requires few_threads { threads ≤ MOST_THREADS }
-        ensures stands { IfOk result (λ memory. Stands memory (map word_of (initial_words threads vars.now))) }
+        ensures stands { IfOk result (λ memory. Represents memory (map word_of (initial_words threads vars.now))) }
         ensures logs { IfOk result (λ memory. threads_of memory ≡ threads) }
         ensures stores { IfOk result (λ memory. stores_of memory ≡ 0) }
     {
@@ -59,7 +59,7 @@ impl LineMemory {
         })
     }
 
-    /// The memory that has these words: those of so many bytes of variables, and behind them those of the
+    /// The memory that has these words: those of so many bytes of variables, and after them those of the
     /// logs. All other words are 0.
     pub fn of_words(
         alloc: Global,
@@ -71,7 +71,7 @@ impl LineMemory {
         requires few_bytes { vars ≤ MOST_VARIABLE_BYTES }
         requires few_threads { threads ≤ MOST_THREADS }
         requires count { length words.now ≡ vars / 8 + LOG_WORDS * threads }
-        ensures stands { IfOk result (λ memory. Stands memory (map word_of (spread_words (vars / 8) words.now))) }
+        ensures stands { IfOk result (λ memory. Represents memory (map word_of (spread_words (vars / 8) words.now))) }
         ensures logs { IfOk result (λ memory. threads_of memory ≡ threads) }
         ensures stores { IfOk result (λ memory. stores_of memory ≡ 0) }
     {
@@ -118,7 +118,7 @@ impl LineMemory {
     /// The durable value of the word that has the byte at the address.
     fn durable_at(&self, address: u64) -> u64
         requires { IsTrue (is_in_range (threads_of self.now) address 1) }
-        ensures { (words : List Word) → Stands self.now words → result ≡ durable_value (word_at words (word_number address)) }
+        ensures { (words : List Word) → Represents self.now words → result ≡ durable_value (word_at words (word_number address)) }
     {
         self.cells[(bytes::byte_number(address) / 8) as usize].durable
     }
@@ -126,7 +126,7 @@ impl LineMemory {
     /// The durable point of a thread.
     pub fn durable_point(&self, thread: u32) -> u64
         requires { thread < threads_of self.now }
-        ensures { (words : List Word) → Stands self.now words
+        ensures { (words : List Word) → Represents self.now words
             → result ≡ durable_value (word_at words (word_number (point_at thread))) }
     {
         self.durable_at(log::point_at(thread))
@@ -137,7 +137,7 @@ impl LineMemory {
         requires exists { thread < threads_of self.now }
         requires bank { bank < 2 }
         requires slot { slot < 32 }
-        ensures { (words : List Word) → Stands self.now words
+        ensures { (words : List Word) → Represents self.now words
             → result ≡ durable_value (word_at words (word_number (slot_at thread bank slot))) }
     {
         self.durable_at(log::slot_at(thread, bank, slot))
@@ -148,7 +148,7 @@ impl LineMemory {
         requires width { IsTrue (is_width bytes) }
         requires in_range { IsTrue (is_in_range (threads_of self.now) address bytes) }
         requires aligned { IsTrue (aligned address bytes) }
-        ensures value { (words : List Word) → Stands self.now words
+        ensures value { (words : List Word) → Represents self.now words
             → result ≡ loaded words (byte_number address) bytes }
         ensures bound { result < 2 ^ (8 * bytes) }
     {
@@ -163,8 +163,8 @@ impl LineMemory {
         requires in_range { IsTrue (is_in_range (threads_of self.old) address bytes) }
         requires aligned { IsTrue (aligned address bytes) }
         requires room { stores_of self.old < 2 ^ 63 }
-        ensures stands { (words : List Word) → Stands self.old words
-            → Stands self.new (stored words (byte_number address) bytes value) }
+        ensures stands { (words : List Word) → Represents self.old words
+            → Represents self.new (stored words (byte_number address) bytes value) }
         ensures logs { threads_of self.new ≡ threads_of self.old }
         ensures stores { stores_of self.new ≡ stores_of self.old + 1 }
     {
@@ -181,9 +181,9 @@ impl LineMemory {
     pub fn clean(&self, queue: &mut Queue, line: u32)
         requires exists { line < line_count (threads_of self.now) }
         requires room { queue_length queue.old < 16 }
-        ensures stands { (words : List Word) (entries : List Entry) → Stands self.now words
-            → QueueStands queue.old entries words
-            → QueueStands queue.new (entries ++ entry_of words line ∷ []) words }
+        ensures stands { (words : List Word) (entries : List Entry) → Represents self.now words
+            → RepresentsQueue queue.old entries words
+            → RepresentsQueue queue.new (entries ++ entry_of words line ∷ []) words }
         ensures length { queue_length queue.new ≡ queue_length queue.old + 1 }
     {
         queue.push(lines::snapshot_of(&self.cells, line));
@@ -192,9 +192,9 @@ impl LineMemory {
     /// Writes the oldest entry back: each of its words where the durable version is older.
     pub fn drain(&mut self, queue: &mut Queue)
         requires { 0 < queue_length queue.old }
-        ensures stands { (words : List Word) (e : Entry) (es : List Entry) → Stands self.old words
-            → QueueStands queue.old (e ∷ es) words
-            → Stands self.new (drained words e) × QueueStands queue.new es (drained words e) }
+        ensures stands { (words : List Word) (e : Entry) (es : List Entry) → Represents self.old words
+            → RepresentsQueue queue.old (e ∷ es) words
+            → Represents self.new (drained words e) × RepresentsQueue queue.new es (drained words e) }
         ensures length { queue_length queue.new + 1 ≡ queue_length queue.old }
         ensures logs { threads_of self.new ≡ threads_of self.old }
         ensures stores { stores_of self.new ≡ stores_of self.old }
@@ -207,17 +207,18 @@ impl LineMemory {
     pub fn evict(&mut self, line: u32, mask: u32)
         requires exists { line < line_count (threads_of self.old) }
         requires mask { mask ≤ 255 }
-        ensures stands { (words : List Word) → Stands self.old words
-            → Stands self.new (evicted words line mask) }
+        ensures stands { (words : List Word) → Represents self.old words
+            → Represents self.new (evicted words line mask) }
         ensures logs { threads_of self.new ≡ threads_of self.old }
         ensures stores { stores_of self.new ≡ stores_of self.old }
     {
         lines::evict_words(&mut self.cells, 8 * line as usize, mask);
     }
 
-    /// Every word keeps its durable value alone.
+    /// Every word keeps its durable value alone. The histories are new ones, so queues of before represent nothing: who crashes a
+    /// memory clears them.
     pub fn crash(&mut self)
-        ensures stands { (words : List Word) → Stands self.old words → Stands self.new (crashed words) }
+        ensures stands { (words : List Word) → Represents self.old words → Represents self.new (crashed words) }
         ensures logs { threads_of self.new ≡ threads_of self.old }
         ensures stores { stores_of self.new ≡ 0 }
     {
@@ -230,7 +231,7 @@ impl LineMemory {
     pub fn durable_word(&self, line: u32, word: u32) -> u64
         requires exists { line < line_count (threads_of self.now) }
         requires word { word < 8 }
-        ensures { (words : List Word) → Stands self.now words
+        ensures { (words : List Word) → Represents self.now words
             → result ≡ durable_value (word_at words (8 * line + word)) }
     {
         self.cells[8 * line as usize + word as usize].durable
@@ -240,7 +241,7 @@ impl LineMemory {
     pub fn live_word(&self, line: u32, word: u32) -> u64
         requires exists { line < line_count (threads_of self.now) }
         requires word { word < 8 }
-        ensures { (words : List Word) → Stands self.now words
+        ensures { (words : List Word) → Represents self.now words
             → result ≡ live_value (word_at words (8 * line + word)) }
     {
         self.cells[8 * line as usize + word as usize].live
@@ -251,7 +252,7 @@ impl LineMemory {
     pub fn last_position(&self, line: u32, word: u32) -> u64
         requires exists { line < line_count (threads_of self.now) }
         requires word { word < 8 }
-        ensures { (words : List Word) → Stands self.now words → result ≡ last_position (word_at words (8 * line + word)) }
+        ensures { (words : List Word) → Represents self.now words → result ≡ last_position (word_at words (8 * line + word)) }
     {
         self.cells[8 * line as usize + word as usize].version
     }
@@ -261,7 +262,7 @@ impl LineMemory {
     pub fn durable_position(&self, line: u32, word: u32) -> u64
         requires exists { line < line_count (threads_of self.now) }
         requires word { word < 8 }
-        ensures { (words : List Word) → Stands self.now words → result ≡ (word_at words (8 * line + word)).durable }
+        ensures { (words : List Word) → Represents self.now words → result ≡ (word_at words (8 * line + word)).durable }
     {
         self.cells[8 * line as usize + word as usize].durable_version
     }

@@ -28,11 +28,11 @@ pub struct Queue {
 impl Queue {
     ghost use Rattle.std.specs.Prelude.{◌≡◌, ℕ, ◌+◌, ◌<◌, ◌≤◌, ◌==◌, List, []};
     ghost use Rattle.ido_base.specs.Words.{Word};
-    ghost use Rattle.line_memory.specs.links.Queues.{queue_length, queued, QueueStands};
+    ghost use Rattle.line_memory.specs.links.Queues.{queue_length, queued, RepresentsQueue};
 
     /// A queue with no entry.
     pub fn new() -> Queue
-        ensures stands { (words : List Word) → QueueStands result [] words }
+        ensures stands { (words : List Word) → RepresentsQueue result [] words }
         ensures length { queue_length result ≡ 0 }
     {
         let nothing = Saved {
@@ -58,7 +58,7 @@ impl Queue {
 
     /// All entries are lost.
     pub fn clear(&mut self)
-        ensures stands { (words : List Word) → QueueStands self.new [] words }
+        ensures stands { (words : List Word) → RepresentsQueue self.new [] words }
         ensures length { queue_length self.new ≡ 0 }
     {
         self.count = 0;

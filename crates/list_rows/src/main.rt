@@ -1,11 +1,12 @@
 //! Answers of the program's `list` to a table of inputs. Each line of standard input has the bytes of an input in
 //! hexadecimal; of each the status and the output are written.
 //!
-//! The lines of the table are: an object of one thread and two words; all its beginnings; it with one byte more, and with one
-//! byte replaced; an object of two threads; an object of one word for each word that GNU as and objdump 2.40 were asked
+//! The 2,271 lines of the table are: an object of one thread and two words; all its beginnings; it with one byte more, and with one
+//! field replaced; an object of two threads; an object of one word for each word that GNU as and objdump 2.40 were asked
 //! for at address 00010000, and then for near misses of every such word and for words of other extensions; and the object of
 //! two threads with one byte replaced. Those tools' texts are what is wanted of the words that are instructions, in the spelling
 //! of the listing: targets of eight digits, and immediates in signed decimal.
+//! Of the words 1,262 are instructions, and 951 are none.
 #![tactic(auto)]
 
 use ido_base::memory::OutOfMemory;

@@ -6,12 +6,12 @@ use Rattle.ido_base.specs.declared.place.Place.{Place}
 use Rattle.c_tree.specs.Exprs as e
 use Rattle.c_tree.specs.Programs.{Variable}
 use Rattle.c_tree.specs.Flats as f
-use Rattle.c_tree.specs.Locking.{Held, none_held, Keeps, KeepAll, KeepArms, assign, choose, repeat}
-use Rattle.c_tree.specs.Locking.{again, lock, unlock, no_more, then, no_more_arms, arm, IsDisciplined}
-use Rattle.lock_discipline.specs.Steps.{assign_steps, steps, steps_of_all, steps_of_arms, HeldIn, HeldInAll, HeldInArms, evaluate}
-use Rattle.lock_discipline.specs.Steps.{store_variable, store_element, in_arms, in_otherwise, test_first, in_while, in_do, test_last, take}
-use Rattle.lock_discipline.specs.Steps.{give, in_first, in_rest, test_arm, in_arm, in_other_arms, HeldBefore, in_body, at_end, AreSetsOf}
-use Rattle.lock_discipline.specs.links.Flow.{behind, behind_all, sets_in, sets_in_all, sets_in_arms, thread_sets}
+use Rattle.c_tree.specs.LockDiscipline.{Held, none_held, Keeps, KeepAll, KeepArms, assign, choose, repeat}
+use Rattle.c_tree.specs.LockDiscipline.{again, lock, unlock, no_more, then, no_more_arms, arm, IsDisciplined}
+use Rattle.lock_discipline.specs.HeldSetsByStep.{assign_steps, steps, steps_of_all, steps_of_arms, HeldIn, HeldInAll, HeldInArms, evaluate}
+use Rattle.lock_discipline.specs.HeldSetsByStep.{store_variable, store_element, in_arms, in_otherwise, test_first, in_while, in_do, test_last, take}
+use Rattle.lock_discipline.specs.HeldSetsByStep.{give, in_first, in_rest, test_arm, in_arm, in_other_arms, HeldBefore, in_body, at_end, AreSetsOf}
+use Rattle.lock_discipline.specs.links.Flow.{held_after, held_after_all, sets_in, sets_in_all, sets_in_arms, thread_sets}
 
 -- ---- A set for each step
 
@@ -21,14 +21,14 @@ mutual
   length-sets_in (f.If place arms otherwise) h = length-append (sets_in_arms h arms) (sets_in_all h otherwise)
       ∙ ap₂ ◌+◌ (length-sets_in_arms arms h) (length-sets_in_all otherwise h)
   length-sets_in (f.While place condition body) h = ap suc (length-sets_in_all body h)
-  length-sets_in (f.Do place body condition) h = length-append (sets_in_all h body) (behind_all h body ∷ []) ∙ ap (λ n. n + 1) (length-sets_in_all body h)
+  length-sets_in (f.Do place body condition) h = length-append (sets_in_all h body) (held_after_all h body ∷ []) ∙ ap (λ n. n + 1) (length-sets_in_all body h)
   length-sets_in (f.Lock place mutex) h = refl
   length-sets_in (f.Unlock place mutex) h = refl
 
   length-sets_in_all : (ss : f.Statements) (h : Held) → length (sets_in_all h ss) ≡ steps_of_all ss
   length-sets_in_all f.no_statement h = refl
-  length-sets_in_all (f.statement_and x rest) h = length-append (sets_in h x) (sets_in_all (behind h x) rest)
-      ∙ ap₂ ◌+◌ (length-sets_in x h) (length-sets_in_all rest (behind h x))
+  length-sets_in_all (f.statement_and x rest) h = length-append (sets_in h x) (sets_in_all (held_after h x) rest)
+      ∙ ap₂ ◌+◌ (length-sets_in x h) (length-sets_in_all rest (held_after h x))
 
   length-sets_in_arms : (arms : f.Arms) (h : Held) → length (sets_in_arms h arms) ≡ steps_of_arms arms
   length-sets_in_arms f.no_arm h = refl
@@ -42,12 +42,12 @@ at_left [] ys n k p = absurd (cc)
 at_left (x ∷ xs) ys zero k p = p
 at_left (x ∷ xs) ys (suc n) k p = at_left xs ys n k p
 
-at_behind : {X : Type 0} (xs ys : List X) (n : ℕ) → slice_get (xs ++ ys) (length xs + n) ≡ slice_get ys n
-at_behind [] ys n = ap (slice_get ys) (zero-add n)
-at_behind (x ∷ xs) ys n = ap (slice_get (x ∷ xs ++ ys)) (suc-add (length xs) n) ∙ at_behind xs ys n
+at_after : {X : Type 0} (xs ys : List X) (n : ℕ) → slice_get (xs ++ ys) (length xs + n) ≡ slice_get ys n
+at_after [] ys n = ap (slice_get ys) (zero-add n)
+at_after (x ∷ xs) ys n = ap (slice_get (x ∷ xs ++ ys)) (suc-add (length xs) n) ∙ at_after xs ys n
 
 at_right : {X : Type 0} (xs ys : List X) (m n : ℕ) → length xs ≡ m → slice_get (xs ++ ys) (m + n) ≡ slice_get ys n
-at_right xs ys m n l = ap (λ (i : ℕ). slice_get (xs ++ ys) (i + n)) (sym l) ∙ at_behind xs ys n
+at_right xs ys m n l = ap (λ (i : ℕ). slice_get (xs ++ ys) (i + n)) (sym l) ∙ at_after xs ys n
 
 at_either : {X : Type 0} (xs ys : List X) (n : ℕ) (k : X) → slice_get (xs ++ ys) n ≡ Some k → (slice_get xs n ≡ Some k)
     ⊎ ((m : ℕ) × (n ≡ length xs + m) × (slice_get ys m ≡ Some k))
@@ -62,20 +62,20 @@ same_some : {X : Type 0} (x y : X) → Some x ≡ Some y → x ≡ y
 same_some x y p = cc
 
 module _ (vs : List Variable) where
-  -- ---- Behind a part that keeps the discipline
+  -- ---- After a part that keeps the discipline
 
   mutual
-    pub behind_is : {h after : Held} {s : f.Statement} → Keeps vs h s after → behind h s ≡ after
-    behind_is (assign place target value g) = refl
-    behind_is (choose place arms otherwise p q) = behind_all_is q
-    behind_is (repeat place condition body g p) = refl
-    behind_is (again place body condition p g) = refl
-    behind_is (lock place mutex free) = refl
-    behind_is (unlock place mutex held) = refl
+    pub boundary_after_is : {h after : Held} {s : f.Statement} → Keeps vs h s after → held_after h s ≡ after
+    boundary_after_is (assign place target value g) = refl
+    boundary_after_is (choose place arms otherwise p q) = after_all_is q
+    boundary_after_is (repeat place condition body g p) = refl
+    boundary_after_is (again place body condition p g) = refl
+    boundary_after_is (lock place mutex free) = refl
+    boundary_after_is (unlock place mutex held) = refl
 
-    pub behind_all_is : {h after : Held} {ss : f.Statements} → KeepAll vs h ss after → behind_all h ss ≡ after
-    behind_all_is no_more = refl
-    behind_all_is (then x rest p q) = ap (λ k. behind_all k rest) (behind_is p) ∙ behind_all_is q
+    pub after_all_is : {h after : Held} {ss : f.Statements} → KeepAll vs h ss after → held_after_all h ss ≡ after
+    after_all_is no_more = refl
+    after_all_is (then x rest p q) = ap (λ k. held_after_all k rest) (boundary_after_is p) ∙ after_all_is q
 
   -- ---- A set before a step is the one at its place
 
@@ -94,18 +94,18 @@ module _ (vs : List Variable) where
         at_right (sets_in_arms h arms) (sets_in_all h otherwise) (steps_of_arms arms) n (length-sets_in_arms arms h) ∙ held_at_all p
     held_at (test_first place condition body) = refl
     held_at (in_while place condition body p) = held_at_all p
-    held_at (in_do {h = h} {k = k} {n = n} place body condition p) = at_left (sets_in_all h body) (behind_all h body ∷ []) n k (held_at_all p)
+    held_at (in_do {h = h} {k = k} {n = n} place body condition p) = at_left (sets_in_all h body) (held_after_all h body ∷ []) n k (held_at_all p)
     held_at (test_last {h = h} place body condition p) =
-        ap (slice_get (sets_in_all h body ++ behind_all h body ∷ [])) (sym (add-zero (steps_of_all body)))
-        ∙ at_right (sets_in_all h body) (behind_all h body ∷ []) (steps_of_all body) 0 (length-sets_in_all body h) ∙ ap Some (behind_all_is p)
+        ap (slice_get (sets_in_all h body ++ held_after_all h body ∷ [])) (sym (add-zero (steps_of_all body)))
+        ∙ at_right (sets_in_all h body) (held_after_all h body ∷ []) (steps_of_all body) 0 (length-sets_in_all body h) ∙ ap Some (after_all_is p)
     held_at (take place mutex) = refl
     held_at (give place mutex) = refl
 
     held_at_all : {h k : Held} {ss : f.Statements} {n : ℕ} → HeldInAll vs h ss n k → slice_get (sets_in_all h ss) n ≡ Some k
-    held_at_all (in_first {h = h} {k = k} {n = n} x rest p) = at_left (sets_in h x) (sets_in_all (behind h x) rest) n k (held_at p)
+    held_at_all (in_first {h = h} {k = k} {n = n} x rest p) = at_left (sets_in h x) (sets_in_all (held_after h x) rest) n k (held_at p)
     held_at_all (in_rest {h = h} {n = n} x rest p q) =
-        at_right (sets_in h x) (sets_in_all (behind h x) rest) (steps x) n (length-sets_in x h)
-        ∙ ap (λ (b : Held). slice_get (sets_in_all b rest) n) (behind_is p) ∙ held_at_all q
+        at_right (sets_in h x) (sets_in_all (held_after h x) rest) (steps x) n (length-sets_in x h)
+        ∙ ap (λ (b : Held). slice_get (sets_in_all b rest) n) (boundary_after_is p) ∙ held_at_all q
 
     held_at_arms : {h k : Held} {arms : f.Arms} {n : ℕ} → HeldInArms vs h arms n k → slice_get (sets_in_arms h arms) n ≡ Some k
     held_at_arms (test_arm condition body rest) = refl
@@ -148,13 +148,13 @@ module _ (vs : List Variable) where
     at_held (repeat {h = h} place condition body g p) zero k e = subst (λ x. HeldIn vs h (f.While place condition body) 0 x) (same_some h k e)
         (test_first place condition body)
     at_held (repeat {h = h} place condition body g p) (suc n) k e = in_while place condition body (at_held_all p n k e)
-    at_held (again {h = h} place body condition p g) n k e = elim (at_either (sets_in_all h body) (behind_all h body ∷ []) n k e) [
+    at_held (again {h = h} place body condition p g) n k e = elim (at_either (sets_in_all h body) (held_after_all h body ∷ []) n k e) [
       | inl here ↦ in_do place body condition (at_held_all p n k here)
       | inr there ↦
-          let one = at_single (behind_all h body) k there.0 there.2 in
+          let one = at_single (held_after_all h body) k there.0 there.2 in
           let place_of : steps_of_all body ≡ n = omega (arith, one.0, there.1, length-sets_in_all body h) in
           subst (λ i. HeldIn vs h (f.Do place body condition) i k) place_of
-          (test_last place body condition (subst (λ x. KeepAll vs h body x) (sym (behind_all_is p) ∙ one.1) p))
+          (test_last place body condition (subst (λ x. KeepAll vs h body x) (sym (after_all_is p) ∙ one.1) p))
     ]
     at_held (lock {h = h} place mutex free) n k e =
         let one = at_single h k n e in
@@ -166,10 +166,10 @@ module _ (vs : List Variable) where
     at_held_all : {h after : Held} {ss : f.Statements} → KeepAll vs h ss after → (n : ℕ) (k : Held) → slice_get (sets_in_all h ss) n ≡ Some k →
         HeldInAll vs h ss n k
     at_held_all no_more n k e = absurd (cc)
-    at_held_all (then {h = h} {between = between} x rest p q) n k e = elim (at_either (sets_in h x) (sets_in_all (behind h x) rest) n k e) [
+    at_held_all (then {h = h} {between = between} x rest p q) n k e = elim (at_either (sets_in h x) (sets_in_all (held_after h x) rest) n k e) [
       | inl here ↦ in_first x rest (at_held p n k here)
       | inr there ↦
-          let later = subst (λ b. slice_get (sets_in_all b rest) there.0 ≡ Some k) (behind_is p) there.2 in
+          let later = subst (λ b. slice_get (sets_in_all b rest) there.0 ≡ Some k) (boundary_after_is p) there.2 in
           subst (λ i. HeldInAll vs h (f.statement_and x rest) i k) (ap (λ m. m + there.0) (sym (length-sets_in x h)) ∙ sym there.1)
           (in_rest x rest p (at_held_all q there.0 k later))
     ]
@@ -188,17 +188,17 @@ module _ (vs : List Variable) where
 -- ---- Threads
 
 last_of_body : (x : f.Flat) (t : f.Thread) → IsDisciplined x t → (n : ℕ) (k : Held) → n ≡ steps_of_all t.body →
-    behind_all (none_held (length x.mutexes)) t.body ≡ k → HeldBefore x t n k
+    held_after_all (none_held (length x.mutexes)) t.body ≡ k → HeldBefore x t n k
 last_of_body x t p n k i e =
     subst (λ j. HeldBefore x t j k) (sym i) (at_end (subst (λ h. KeepAll x.variables (none_held (length x.mutexes)) t.body h)
-    (sym (behind_all_is x.variables p) ∙ e) p))
+    (sym (after_all_is x.variables p) ∙ e) p))
 
 held_before : (x : f.Flat) (t : f.Thread) → IsDisciplined x t → (n : ℕ) (k : Held) → slice_get (thread_sets (length x.mutexes) t) n ≡ Some k →
     HeldBefore x t n k
 held_before x t p n k e =
     let first = none_held (length x.mutexes) in
     let sets = sets_in_all first t.body in
-    let last = behind_all first t.body in
+    let last = held_after_all first t.body in
     elim (at_either sets (last ∷ []) n k e) [
       | inl here ↦ in_body (at_held_all x.variables p n k here)
       | inr there ↦
@@ -208,19 +208,19 @@ held_before x t p n k e =
 
 before_held : (x : f.Flat) (t : f.Thread) {n : ℕ} {k : Held} → HeldBefore x t n k → slice_get (thread_sets (length x.mutexes) t) n ≡ Some k
 before_held x t (in_body {k = k} {n = n} p) = at_left (sets_in_all (none_held (length x.mutexes)) t.body)
-    (behind_all (none_held (length x.mutexes)) t.body ∷ []) n k (held_at_all x.variables p)
+    (held_after_all (none_held (length x.mutexes)) t.body ∷ []) n k (held_at_all x.variables p)
 before_held x t (at_end p) =
     let first = none_held (length x.mutexes) in
     let sets = sets_in_all first t.body in
-    let last = behind_all first t.body in
+    let last = held_after_all first t.body in
     ap (slice_get (sets ++ last ∷ [])) (sym (add-zero (steps_of_all t.body)))
-    ∙ at_right sets (last ∷ []) (steps_of_all t.body) 0 (length-sets_in_all t.body first) ∙ ap Some (behind_all_is x.variables p)
+    ∙ at_right sets (last ∷ []) (steps_of_all t.body) 0 (length-sets_in_all t.body first) ∙ ap Some (after_all_is x.variables p)
 
 pub thread_sets_are : (x : f.Flat) (t : f.Thread) → IsDisciplined x t → AreSetsOf x t (thread_sets (length x.mutexes) t)
 thread_sets_are x t p =
     let first = none_held (length x.mutexes) in
     let sets = sets_in_all first t.body in
-    let last = behind_all first t.body in
+    let last = held_after_all first t.body in
     record {
       disciplined = p;
       each_step = length-append sets (last ∷ []) ∙ ap (λ (n : ℕ). n + 1) (length-sets_in_all t.body first);

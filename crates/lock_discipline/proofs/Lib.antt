@@ -1,9 +1,10 @@
-pub mod Masks
-pub mod Bits
-pub mod Sets
-pub mod Walks
-pub mod Flows
-pub mod Refusals
-pub mod Parts
-pub mod Threads
-pub mod Standing
+pub mod Public
+mod Masks
+mod Bits
+mod Sets
+mod CheckerCorrectness
+mod Flows
+mod Refusals
+mod CheckerByStatement
+mod Threads
+mod DisciplinedContinuations

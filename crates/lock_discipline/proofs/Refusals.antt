@@ -4,11 +4,11 @@ use Rattle.std.specs.Option.{option_or}
 use Rattle.std.proofs.lemmas.List.Folds.{find-append}
 use Rattle.c_tree.specs.declared.rule.Rule.TheVariants as rule
 use Rattle.c_tree.specs.Programs.{Variable}
-use Rattle.c_tree.specs.Locking.{Held, Fault, Walked, Behind, Broken, and_then, Use, guard_of, is_guarded, walk_uses}
+use Rattle.c_tree.specs.LockDiscipline.{Held, Fault, Walked, After, Broken, and_then, Use, guard_of, is_guarded, walk_uses}
 use Rattle.lock_discipline.specs.declared.error.LockError.{LockError}
 use Rattle.lock_discipline.specs.Faults.{fault_of}
 use Rattle.lock_discipline.specs.links.Refusals.{Refuses, RefusesAny}
-use Rattle.lock_discipline.proofs.Walks.{none_or}
+use Rattle.lock_discipline.proofs.CheckerCorrectness.{none_or}
 
 pub same_fault : (o : Option Fault) (P Q : Fault → Type 0) → ((x : Fault) → P x → Q x) → IfSome o P → IfSome o Q
 same_fault None P Q g h = h
@@ -23,18 +23,18 @@ pub refuses_as : (w v : Walked) (e : LockError) → v ≡ w → Refuses w e → 
 refuses_as w v e is h = subst (λ x. Refuses x e) (sym is) h
 
 pub refuses_any : (w : Walked) (v : (List Held → Walked) → Walked) (next : (List Held → Walked) → Held → Walked) (e : LockError) →
-    ((behind : List Held → Walked) → v behind ≡ and_then w (next behind)) → Refuses w e → RefusesAny v e
+    ((after : List Held → Walked) → v after ≡ and_then w (next after)) → Refuses w e → RefusesAny v e
 refuses_any w v next e is h =
-    same_fault (fault_of e) (λ x. w ≡ Broken x) (λ x. (behind : List Held → Walked) → v behind ≡ Broken x)
-    (λ x p behind. is behind ∙ ap (λ y. and_then y (next behind)) p) h
+    same_fault (fault_of e) (λ x. w ≡ Broken x) (λ x. (after : List Held → Walked) → v after ≡ Broken x)
+    (λ x p after. is after ∙ ap (λ y. and_then y (next after)) p) h
 
-pub refuses_one : (v : (List Held → Walked) → Walked) (w : Walked) (behind : List Held → Walked) (e : LockError) → w ≡ v behind → RefusesAny v e → Refuses w e
-refuses_one v w behind e is h =
-    same_fault (fault_of e) (λ x. (behind : List Held → Walked) → v behind ≡ Broken x) (λ x. w ≡ Broken x) (λ x p. is ∙ p behind) h
+pub refuses_one : (v : (List Held → Walked) → Walked) (w : Walked) (after : List Held → Walked) (e : LockError) → w ≡ v after → RefusesAny v e → Refuses w e
+refuses_one v w after e is h =
+    same_fault (fault_of e) (λ x. (after : List Held → Walked) → v after ≡ Broken x) (λ x. w ≡ Broken x) (λ x p. is ∙ p after) h
 
-pub matches_as : {A : Type 0} (r : Result A LockError) (w v : Walked) (f : A → Held) → v ≡ w → MatchResult r (λ x. w ≡ Behind (f x)) (Refuses w) →
-    MatchResult r (λ x. v ≡ Behind (f x)) (Refuses v)
-matches_as r w v f is h = subst (λ x. MatchResult r (λ y. x ≡ Behind (f y)) (Refuses x)) (sym is) h
+pub matches_as : {A : Type 0} (r : Result A LockError) (w v : Walked) (f : A → Held) → v ≡ w → MatchResult r (λ x. w ≡ After (f x)) (Refuses w) →
+    MatchResult r (λ x. v ≡ After (f x)) (Refuses v)
+matches_as r w v f is h = subst (λ x. MatchResult r (λ y. x ≡ After (f y)) (Refuses x)) (sym is) h
 
 either : {A : Type 0} (a b : Option A) (fault : A → Fault) (h : Held) → none_or (option_or a b) fault h ≡ and_then (none_or a fault h) (λ _. none_or b fault h)
 either None b fault h = refl
@@ -48,7 +48,7 @@ uses_append vs n h us ws =
     let fault : Use → Fault = λ u. record { rule = rule.Unheld; place = u.place; mutex = guard_of vs u.variable } in
     ap (λ (o : Option Use). none_or o fault h) (find-append missing us ws) ∙ either (find missing us) (find missing ws) fault h
 
--- the same of a list that is put together
+-- the walk over uses that are put together of two lists goes over the one and then over the other
 pub uses_split : (vs : List Variable) (n : ℕ) (h : Held) (us xs ys : List Use) → us ≡ xs ++ ys →
     walk_uses vs n h us ≡ and_then (walk_uses vs n h xs) (λ _. walk_uses vs n h ys)
 uses_split vs n h us xs ys e = ap (walk_uses vs n h) e ∙ uses_append vs n h xs ys

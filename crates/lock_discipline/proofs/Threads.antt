@@ -11,13 +11,13 @@ use Rattle.c_tree.specs.declared.program.Variable as variable
 use Rattle.c_tree.specs.Views.{name_of}
 use Rattle.c_tree.specs.Programs.{Variable, variable_of}
 use Rattle.c_tree.specs.Flats as f
-use Rattle.c_tree.specs.Locking.{Held, holds, none_held, numbers_below, Fault, Walked, Behind, Broken, and_then}
-use Rattle.c_tree.specs.Locking.{walk_all, walk_end, walk_thread, walk_threads, lock_fault, IsDisciplined}
-use Rattle.lock_discipline.specs.Steps.{AreSetsOf, AreAllSetsOf}
-use Rattle.lock_discipline.specs.links.Flow.{behind_all, sets_in_all, thread_sets}
-use Rattle.lock_discipline.proofs.Walks.{none_or, behind_then, fault_or, walk-is_discipline}
+use Rattle.c_tree.specs.LockDiscipline.{Held, holds, none_held, numbers_below, Fault, Walked, After, Broken, and_then}
+use Rattle.c_tree.specs.LockDiscipline.{walk_all, walk_end, walk_thread, walk_threads, lock_fault, IsDisciplined}
+use Rattle.lock_discipline.specs.HeldSetsByStep.{AreSetsOf, AreAllSetsOf}
+use Rattle.lock_discipline.specs.links.Flow.{held_after_all, sets_in_all, thread_sets}
+use Rattle.lock_discipline.proofs.CheckerCorrectness.{none_or, after_then, fault_or, walk-is_discipline}
 use Rattle.lock_discipline.proofs.Flows.{thread_sets_are}
-use Rattle.lock_discipline.proofs.Parts.{walked_all_length, walked_all_behind}
+use Rattle.lock_discipline.proofs.CheckerByStatement.{walked_all_length, walked_all_after}
 
 module _ (vs : List Variable) (n : ℕ) (t : thread.Thread) (first : Held) (xs : List s.Statement) where
   pub begins : first ≡ none_held n → xs ≡ t.body.items →
@@ -27,31 +27,31 @@ module _ (vs : List Variable) (n : ℕ) (t : thread.Thread) (first : Held) (xs :
       ∙ ap₂ (λ (m : ℕ) (h : Held). and_then (walk_all vs m h (f.statements_of xs)) (walk_end vs n t.closing)) (sym (ap length is ∙ length-replicate n false))
       (sym is)
 
-  ends : (end : Held) (o : Option ℕ) → first ≡ none_held n → xs ≡ t.body.items → walk_all vs (length first) first (f.statements_of xs) ≡ Behind end →
+  ends : (end : Held) (o : Option ℕ) → first ≡ none_held n → xs ≡ t.body.items → walk_all vs (length first) first (f.statements_of xs) ≡ After end →
       o ≡ find (λ m. holds end m) (numbers_below (length end)) →
       walk_thread vs n (f.thread_of t) ≡ none_or o (λ m. record { rule = rule.EndHeld; place = t.closing; mutex = m }) end
   ends end o is same walked e =
       let long : length end ≡ n = walked_all_length vs first (f.statements_of xs) end walked ∙ ap length is ∙ length-replicate n false in
-      begins is same ∙ behind_then _ (walk_end vs n t.closing) end walked
+      begins is same ∙ after_then _ (walk_end vs n t.closing) end walked
       ∙ ap (λ (p : Option ℕ). none_or p (λ m. record { rule = rule.EndHeld; place = t.closing; mutex = m }) end)
       (sym (e ∙ ap (λ (m : ℕ). find (λ k. holds end k) (numbers_below m)) long))
 
-  pub ends_held : (end : Held) (m : ℕ) → first ≡ none_held n → xs ≡ t.body.items → walk_all vs (length first) first (f.statements_of xs) ≡ Behind end →
+  pub ends_held : (end : Held) (m : ℕ) → first ≡ none_held n → xs ≡ t.body.items → walk_all vs (length first) first (f.statements_of xs) ≡ After end →
       Some m ≡ find (λ m. holds end m) (numbers_below (length end)) → walk_thread vs n (f.thread_of t) ≡ Broken
       (record { rule = rule.EndHeld; place = t.closing; mutex = m })
   ends_held end m is same walked e = ends end (Some m) is same walked e
 
-  pub ends_free : (end : Held) → first ≡ none_held n → xs ≡ t.body.items → walk_all vs (length first) first (f.statements_of xs) ≡ Behind end →
-      None ≡ find (λ m. holds end m) (numbers_below (length end)) → walk_thread vs n (f.thread_of t) ≡ Behind end
+  pub ends_free : (end : Held) → first ≡ none_held n → xs ≡ t.body.items → walk_all vs (length first) first (f.statements_of xs) ≡ After end →
+      None ≡ find (λ m. holds end m) (numbers_below (length end)) → walk_thread vs n (f.thread_of t) ≡ After end
   ends_free end is same walked e = ends end None is same walked e
 
   pub sets_are : (end : Held) (old some all : List Held) → first ≡ none_held n → xs ≡ t.body.items →
-      walk_all vs (length first) first (f.statements_of xs) ≡ Behind end →
+      walk_all vs (length first) first (f.statements_of xs) ≡ After end →
       old ≡ [] → some ≡ old ++ sets_in_all first (f.statements_of xs) → all ≡ some ++ end ∷ [] → all ≡ thread_sets n (f.thread_of t)
   sets_are end old some all is same walked p q r =
       r ∙ ap (λ (ys : List Held). ys ++ end ∷ []) (q ∙ ap (λ (ys : List Held). ys ++ sets_in_all first (f.statements_of xs)) p)
-      ∙ ap (λ (k : Held). sets_in_all first (f.statements_of xs) ++ k ∷ []) (sym (walked_all_behind vs first (f.statements_of xs) end walked))
-      ∙ ap₂ (λ (h : Held) (ys : List s.Statement). sets_in_all h (f.statements_of ys) ++ behind_all h (f.statements_of ys) ∷ []) is same
+      ∙ ap (λ (k : Held). sets_in_all first (f.statements_of xs) ++ k ∷ []) (sym (walked_all_after vs first (f.statements_of xs) end walked))
+      ∙ ap₂ (λ (h : Held) (ys : List s.Statement). sets_in_all h (f.statements_of ys) ++ held_after_all h (f.statements_of ys) ∷ []) is same
 
 -- ---- All threads
 
@@ -78,7 +78,7 @@ module _ (x : d.Flat) (i : ℕ) (t : thread.Thread) (variables : List variable.V
   pub thread_breaks : (fault : Fault) → walk_thread (map variable_of variables) n (f.thread_of t) ≡ Broken fault → lock_fault (f.flat_of x) ≡ Some fault
   thread_breaks fault e = whole_walk x ∙ at_thread ∙ ap (λ (w : Walked). fault_or w (walk_from x (i + 1))) e
 
-  pub thread_keeps : (end : Held) × (walk_thread (map variable_of variables) n (f.thread_of t) ≡ Behind end) → walk_from x 0 ≡ walk_from x (i + 1)
+  pub thread_keeps : (end : Held) × (walk_thread (map variable_of variables) n (f.thread_of t) ≡ After end) → walk_from x 0 ≡ walk_from x (i + 1)
   thread_keeps e = at_thread ∙ ap (λ (w : Walked). fault_or w (walk_from x (i + 1))) e.1
 
 pub no_thread_breaks : (x : d.Flat) (i : ℕ) → length x.threads.items ≤ i → walk_from x 0 ≡ walk_from x i → lock_fault (f.flat_of x) ≡ None

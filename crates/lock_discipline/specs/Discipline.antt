@@ -2,7 +2,7 @@
 use Rattle.std.specs.Prelude.{◌≡◌, ◌↔◌, None}
 use Rattle.std.specs.List.{All}
 use Rattle.c_tree.specs.Flats.{Flat}
-use Rattle.c_tree.specs.Locking.{IsDisciplined, lock_fault}
+use Rattle.c_tree.specs.LockDiscipline.{IsDisciplined, lock_fault}
 
 -- the walk finds no fault exactly where each thread keeps the discipline
 abbrev pub WalkIsDiscipline : Type 0

@@ -1,7 +1,7 @@
 -- What an error says.
 use Rattle.std.specs.Prelude.{Option, Some, None}
 use Rattle.c_tree.specs.declared.rule.Rule.TheVariants as rule
-use Rattle.c_tree.specs.Locking.{Fault}
+use Rattle.c_tree.specs.LockDiscipline.{Fault}
 use Rattle.lock_discipline.specs.declared.error.LockError.{LockError}
 use Rattle.lock_discipline.specs.declared.error.LockError.TheVariants as error
 

@@ -1,7 +1,7 @@
 pub mod Masks
-pub mod Steps
+pub mod HeldSetsByStep
 pub mod links
 pub mod Faults
 pub mod Discipline
-pub mod Standing
+pub mod StepContinuations
 pub mod FormLaws

@@ -2,10 +2,10 @@
 ghost use Rattle.std.specs.Prelude.{◌≡◌, ◌<◌, ◌≤◌, [], None, Some, length, slice_index_or, IfOk, IfErr, IfSome};
 ghost use Rattle.ido_base.specs.declared.limits.TheConstants.{MOST_MUTEXES};
 ghost use Rattle.c_tree.specs.Flats.{flat_of};
-ghost use Rattle.c_tree.specs.Locking.{lock_fault};
+ghost use Rattle.c_tree.specs.LockDiscipline.{lock_fault};
 ghost use Rattle.lock_discipline.specs.Faults.{fault_of};
 ghost use Rattle.lock_discipline.specs.Masks.{mask_of};
-ghost use Rattle.lock_discipline.specs.Steps.{AreAllSetsOf};
+ghost use Rattle.lock_discipline.specs.HeldSetsByStep.{AreAllSetsOf};
 
 use crate::error::LockError;
 use crate::set::MutexSet;
@@ -45,6 +45,8 @@ impl Held {
     }
 
     /// The mutexes that are held before the step of this number: bit i is set where mutex i is held.
+    /// Steps are numbered within a thread, in the order of its text: an assignment of a variable has two, evaluation and store; each
+    /// condition is one, that of a `while` before its body and that of a `do` after it; the end is the last.
     pub fn held(&self, thread: u32, step: u32) -> u64
         requires thread { thread < length self.now }
         requires step { step < length (slice_index_or self.now thread []) }
@@ -60,6 +62,9 @@ impl Held {
 /// its mutex isn't held, a mutex that is locked while it is held or unlocked while it isn't, paths that meet with
 /// different mutexes held, or a thread that ends with one held. A well formed flat form has no more than 64 mutexes
 /// (`laws::well_formed_has_few_mutexes`).
+///
+/// A number of a mutex or a variable may be any: a mutex that there isn't is never held, and a variable that there isn't is guarded
+/// by mutex 0. The sets are said by relations of before, statement and after, and not by the walk.
 pub fn check(alloc: Global, flat: &Flat) -> Result<Held, LockError>
     requires { length flat.now.mutexes.items ≤ MOST_MUTEXES }
     ensures accepts { IfOk result (λ _. lock_fault (flat_of flat.now) ≡ None) }

@@ -1,7 +1,7 @@
 //! What holds of the definitions themselves.
 ghost use Rattle.lock_discipline.specs.Discipline.{WalkIsDiscipline};
 ghost use Rattle.lock_discipline.specs.FormLaws.{HasFewMutexes};
-ghost use Rattle.lock_discipline.specs.Standing.{HeldIsHeld};
+ghost use Rattle.lock_discipline.specs.StepContinuations.{HeldIsHeld};
 
 /// The walk finds no fault exactly where each thread keeps the discipline.
 pub fn walk_is_discipline()

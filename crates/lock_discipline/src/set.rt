@@ -1,7 +1,7 @@
 //! Sets of mutexes.
 ghost use Rattle.std.specs.Prelude.{◌≡◌, ◌≤◌, ◌||◌, ℕ, true, false, length, slice_set, find};
 ghost use Rattle.ido_base.specs.declared.limits.TheConstants.{MOST_MUTEXES};
-ghost use Rattle.c_tree.specs.Locking.{holds, none_held, numbers_below};
+ghost use Rattle.c_tree.specs.LockDiscipline.{holds, none_held, numbers_below};
 ghost use Rattle.lock_discipline.specs.Masks.{mask_of};
 ghost use Rattle.lock_discipline.specs.links.Sets.{differ};
 
@@ -61,7 +61,7 @@ impl MutexSet {
         }
     }
 
-    /// As a mask: bit i is set where mutex i is held.
+    /// The set as a mask: bit i is set where mutex i is held.
     pub fn mask(self) -> u64
         ensures { result ≡ mask_of self }
     {
@@ -75,7 +75,7 @@ impl MutexSet {
         mutex < self.mutexes && self.mask >> mutex & 1 == 1
     }
 
-    /// With the mutex, where there is such a one.
+    /// The set with the mutex, where there is such a one.
     pub fn with(self, mutex: u32) -> MutexSet
         ensures { result ≡ slice_set self mutex true }
     {
@@ -101,7 +101,7 @@ impl MutexSet {
         }
     }
 
-    /// With each mutex that one of the two others holds and the other doesn't.
+    /// The set with each mutex that one of the two others holds and the other doesn't.
     pub fn with_differences(self, left: MutexSet, right: MutexSet) -> MutexSet
         requires left { length left ≡ length self }
         requires right { length right ≡ length self }

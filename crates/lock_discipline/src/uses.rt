@@ -2,7 +2,7 @@
 ghost use Rattle.std.specs.Prelude.{◌≡◌, [], ◌∷◌, length, map, MatchResult};
 ghost use Rattle.c_tree.specs.Programs.{variable_of};
 ghost use Rattle.c_tree.specs.Exprs.{expr_of, lvalue_of};
-ghost use Rattle.c_tree.specs.Locking.{Behind, guard_of, walk_uses, expr_uses, target_uses};
+ghost use Rattle.c_tree.specs.LockDiscipline.{After, guard_of, walk_uses, expr_uses, target_uses};
 ghost use Rattle.lock_discipline.specs.links.Refusals.{Refuses};
 ghost use Rattle.lock_discipline.specs.links.Uses.{use_of};
 
@@ -30,7 +30,7 @@ fn check_use(
     place: Place,
 ) -> Result<(), LockError>
     ensures { let w = walk_uses (map variable_of variables.now) (length held) held (use_of variable place ∷ []) in
-        MatchResult result (λ _. w ≡ Behind held) (Refuses w) }
+        MatchResult result (λ _. w ≡ After held) (Refuses w) }
 {
     let mutex = guard_of(variables, variable);
     if held.holds(mutex) {
@@ -43,7 +43,7 @@ fn check_use(
 /// The uses in an expression, from left to right.
 pub fn check_expr(variables: &[Variable], held: MutexSet, expr: &Expr) -> Result<(), LockError>
     ensures { let w = walk_uses (map variable_of variables.now) (length held) held (expr_uses (expr_of expr.now)) in
-        MatchResult result (λ _. w ≡ Behind held) (Refuses w) }
+        MatchResult result (λ _. w ≡ After held) (Refuses w) }
 {
     match expr {
         Expr::Constant { .. } | Expr::Local { .. } => Ok(()),
@@ -88,7 +88,7 @@ pub fn check_target(
     target: &Lvalue,
 ) -> Result<(), LockError>
     ensures { let w = walk_uses (map variable_of variables.now) (length held) held (target_uses (lvalue_of target.now)) in
-        MatchResult result (λ _. w ≡ Behind held) (Refuses w) }
+        MatchResult result (λ _. w ≡ After held) (Refuses w) }
 {
     match target {
         Lvalue::Local { .. } => Ok(()),

@@ -4,7 +4,7 @@ ghost use Rattle.std.specs.List.{All};
 ghost use Rattle.ido_base.specs.declared.limits.TheConstants.{MOST_MUTEXES};
 ghost use Rattle.c_tree.specs.Programs.{variable_of};
 ghost use Rattle.c_tree.specs.Flats.{statement_of, statements_of, arms_list_of, thread_of};
-ghost use Rattle.c_tree.specs.Locking.{Held, Walked, Behind, least_difference, join, walk, walk_all, walk_arms, walk_thread};
+ghost use Rattle.c_tree.specs.LockDiscipline.{Held, Walked, After, least_difference, join, walk, walk_all, walk_arms, walk_thread};
 ghost use Rattle.lock_discipline.specs.links.Refusals.{Refuses, RefusesAny};
 ghost use Rattle.lock_discipline.specs.links.Flow.{sets_in, sets_in_all, sets_in_arms, thread_sets};
 
@@ -33,7 +33,7 @@ fn least_difference(first: MutexSet, others: &[MutexSet]) -> Option<u32>
 fn join(place: Place, first: MutexSet, others: &[MutexSet]) -> Result<(), LockError>
     requires { All (λ h. length h ≡ length first) others.now }
     ensures { let w = join [] (length first) place first others.now in
-        MatchResult result (λ _. w ≡ Behind first) (Refuses w) }
+        MatchResult result (λ _. w ≡ After first) (Refuses w) }
 {
     match least_difference(first, others) {
         Some(mutex) => Err(LockError::Join { place, mutex }),
@@ -41,7 +41,7 @@ fn join(place: Place, first: MutexSet, others: &[MutexSet]) -> Result<(), LockEr
     }
 }
 
-/// A statement: the set behind it. Its steps' sets go behind the others.
+/// A statement: the set after it. Its steps' sets go after the others.
 #[cycle(walk)]
 fn walk_statement(
     alloc: Global,
@@ -51,7 +51,7 @@ fn walk_statement(
     sets: &mut Vec<MutexSet>,
 ) -> Result<MutexSet, LockError>
     ensures walk { let w = walk (map variable_of variables.now) (length held) held (statement_of statement.now) in
-        MatchResult result (λ after. w ≡ Behind after) (Refuses w) }
+        MatchResult result (λ after. w ≡ After after) (Refuses w) }
     ensures sets { IfOk result (λ _. sets.new.items ≡ sets.old.items ++ sets_in held (statement_of statement.now)) }
 {
     match statement {
@@ -131,7 +131,7 @@ fn walk_statements(
     sets: &mut Vec<MutexSet>,
 ) -> Result<MutexSet, LockError>
     ensures walk { let w = walk_all (map variable_of variables.now) (length held) held (statements_of statements.now) in
-        MatchResult result (λ after. w ≡ Behind after) (Refuses w) }
+        MatchResult result (λ after. w ≡ After after) (Refuses w) }
     ensures sets { IfOk result (λ _. sets.new.items ≡ sets.old.items ++ sets_in_all held (statements_of statements.now)) }
 {
     let mut end = held;
@@ -141,7 +141,7 @@ fn walk_statements(
     Ok(end)
 }
 
-/// The arms of an `if`: the sets behind them.
+/// The arms of an `if`: the sets after them.
 #[cycle(walk)]
 fn walk_arms(
     alloc: Global,
@@ -151,7 +151,7 @@ fn walk_arms(
     sets: &mut Vec<MutexSet>,
 ) -> Result<Vec<MutexSet>, LockError>
     ensures walk { let w = walk_arms (map variable_of variables.now) (length held) held [] (arms_list_of arms.now) in
-        MatchResult result (λ ends. (behind : List Held → Walked) → w behind ≡ behind ends.items) (RefusesAny w) }
+        MatchResult result (λ ends. (later : List Held → Walked) → w later ≡ later ends.items) (RefusesAny w) }
     ensures long { IfOk result (λ ends. All (λ h. length h ≡ length held) ends.items) }
     ensures sets { IfOk result (λ _. sets.new.items ≡ sets.old.items ++ sets_in_arms held (arms_list_of arms.now)) }
 {
@@ -173,7 +173,7 @@ pub fn walk_thread(
 ) -> Result<Vec<MutexSet>, LockError>
     requires { mutexes ≤ MOST_MUTEXES }
     ensures walk { let w = walk_thread (map variable_of variables.now) mutexes (thread_of thread.now) in
-        MatchResult result (λ _. (end : Held) × (w ≡ Behind end)) (Refuses w) }
+        MatchResult result (λ _. (end : Held) × (w ≡ After end)) (Refuses w) }
     ensures sets { IfOk result (λ sets. sets.items ≡ thread_sets mutexes (thread_of thread.now)) }
 {
     let mut sets = Vec::new(alloc);

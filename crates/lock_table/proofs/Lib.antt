@@ -1,1 +1,1 @@
-pub mod Missing
+mod MissingLockSearch

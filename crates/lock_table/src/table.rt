@@ -70,6 +70,7 @@ impl LockTable {
     }
 
     /// Frees the lock, whoever holds it.
+    /// Whether a hart may release the lock is for the caller: it isn't asked here.
     pub fn give(&mut self, lock: u32)
         requires { lock < length self.old }
         ensures { self.new ≡ slice_set self.old lock None }

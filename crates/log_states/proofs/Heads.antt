@@ -1,6 +1,6 @@
 -- The head of what a boundary has still to do.
 use Rattle.std.proofs.Common.{◌≡◌, ◌≢◌, ℕ, List, [], ◌∷◌, length, ap, arith}
-use Rattle.rv64_isa.specs.Rows.{Effect, GoesOn, Loads, Stores, Cleans, Fences, Calls}
+use Rattle.rv64_isa.specs.Rows.{Effect, Continues, Loads, Stores, Cleans, Fences, Calls}
 
 abbrev pub head : List Effect → Effect
 head [] = Calls
@@ -11,7 +11,7 @@ tail [] = []
 tail (e ∷ es) = es
 
 abbrev pub kind : Effect → ℕ
-kind (GoesOn registers pc) = 0
+kind (Continues registers pc) = 0
 kind (Loads address bytes signed register) = 1
 kind (Stores address bytes value) = 2
 kind (Cleans address) = 3
@@ -19,7 +19,7 @@ kind Fences = 4
 kind Calls = 5
 
 abbrev pub address_of : Effect → ℕ
-address_of (GoesOn registers pc) = 0
+address_of (Continues registers pc) = 0
 address_of (Loads address bytes signed register) = address
 address_of (Stores address bytes value) = address
 address_of (Cleans address) = address
@@ -27,7 +27,7 @@ address_of Fences = 0
 address_of Calls = 0
 
 abbrev pub stored_by : Effect → ℕ
-stored_by (GoesOn registers pc) = 0
+stored_by (Continues registers pc) = 0
 stored_by (Loads address bytes signed register) = 0
 stored_by (Stores address bytes value) = value
 stored_by (Cleans address) = 0

@@ -1,17 +1,18 @@
-pub mod Numbers
-pub mod Lists
-pub mod Words
-pub mod Raising
-pub mod Heads
-pub mod Storing
-pub mod Passing
-pub mod Keeping
-pub mod Settling
-pub mod Beginning
-pub mod Resuming
-pub mod Machines
-pub mod Going
-pub mod Apart
-pub mod Standing
+pub mod Public
+mod Numbers
+mod Lists
+mod Words
+mod UnstoredLogStays
+mod Heads
+mod BoundaryStores
+mod BoundaryCleansAndFences
+mod EventsKeepLog
+mod FencesMakeDurable
+mod BoundaryStarts
+mod RecoveredRecords
+mod Machines
+mod BoundaryEffectsInLog
+mod StoresOutsideLog
+mod LogInvariantHolds
 mod Worked
-pub mod Committing
+mod BoundaryCommits

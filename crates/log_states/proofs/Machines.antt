@@ -6,26 +6,26 @@ use Rattle.std.proofs.lemmas.List.{append-nil}
 use Rattle.ido_base.specs.declared.event.Event.TheVariants.{Step}
 use Rattle.ido_base.specs.declared.event.Reply.TheVariants.{Moved, Waits}
 use Rattle.ido_base.specs.Words.{Word, Entry, word_of, word_at, entry_of, stored, drained, after_crash, durable_value}
-use Rattle.ido_base.specs.Growth.{AreChanged, AreEntries, IsRaised}
+use Rattle.ido_base.specs.Growth.{AreChanged, AreEntries, IsPersisted}
 use Rattle.ido_base.specs.Layout.{in_range, aligned, byte_number}
 use Rattle.ido_base.specs.Locks.{is_held_by, least_held, missing_from}
-use Rattle.ido_base.proofs.Growth.{changed_refl, changed_by_raised, evictions_raise, write_backs_raise, raised_refl}
+use Rattle.ido_base.proofs.Public.{changed_refl, changed_by_persisted, evictions_raise, write_backs_raise, persisted_refl}
 use Rattle.rv64_isa.specs.declared.object.Slot.{Slot}
 use Rattle.rv64_isa.specs.declared.object.Slot.TheVariants.{Row, NoRow}
 use Rattle.rv64_isa.specs.declared.phase.Phase.{Phase}
 use Rattle.rv64_isa.specs.declared.phase.Phase.TheVariants.{Take, Wait, Resume, Run, Done, Ended}
-use Rattle.rv64_isa.specs.Rows.{Effect, GoesOn, Loads, Stores, Cleans, Fences, Calls, row, read, next}
+use Rattle.rv64_isa.specs.Rows.{Effect, Continues, Loads, Stores, Cleans, Fences, Calls, row, read, next}
 use Rattle.rv64_isa.specs.Programs.{fetched}
 use Rattle.rv64_isa.specs.Machine.{Hart, World, Outcome, moved, with_hart, with_holder, drain_one, access, fenced, acquired, released, ended, called, applied}
 use Rattle.rv64_isa.specs.Machine.{executed, hart_step, taken, waited, taking_from, record_of, over_after, done_if_over, run_step, phase_step, stepped}
 use Rattle.rv64_isa.specs.Machine.{happens, after_event, after_crash_of}
-use Rattle.rv64_isa.specs.Frames.{IsSound}
+use Rattle.rv64_isa.specs.Frames.{IsWellFormedWorld}
 use Rattle.rv64_isa.specs.Schedule.{has_moved, is_running, effect_at}
-use Rattle.rv64_isa.proofs.Frames.{get-set_same, get-set_other, steps_touch, step_goes}
+use Rattle.rv64_isa.proofs.Public.{get-set_same, get-set_other, steps_touch, step_goes}
 use Rattle.log_states.specs.Logs.{log_word, IsUnstored}
 use Rattle.log_states.specs.Stages.{Moves, Stored, Cleaned, Fenced, Drained, Elsewhere}
-use Rattle.log_states.specs.Machines.{moment_of, MovesTo, is_boundary_effect, IsElsewhere, OwnStepsMove, StepsMove, EvictionsMove, CrashesCrash}
-use Rattle.log_states.proofs.Keeping.{stores_elsewhere}
+use Rattle.log_states.specs.Machines.{config_of, MovesTo, is_boundary_effect, IsElsewhere, OwnStepsMove, StepsMove, EvictionsMove, CrashesCrash}
+use Rattle.log_states.proofs.EventsKeepLog.{stores_elsewhere}
 
 pub none_some : {A : Type 0} (x : A) → ◌≡◌ {A = Option A} None (Some x) → ⊥
 none_some {A} x e = subst (λ (o : Option A). is_none o) e tt
@@ -42,15 +42,15 @@ some_same {A} x y e = ap (λ (o : Option A). or_else o) e
     or_else (Some z) = z
 
 -- nothing has changed for the log
-pub no_move : (h : ℕ) (w : World) (hart : Hart) (rest : List Effect) (after : World) (behind : Hart) → slice_get after.harts h ≡ Some behind →
-    after.words ≡ w.words → behind.queue ≡ hart.queue →
+pub no_move : (h : ℕ) (w : World) (hart : Hart) (rest : List Effect) (after : World) (further : Hart) → slice_get after.harts h ≡ Some further →
+    after.words ≡ w.words → further.queue ≡ hart.queue →
     MovesTo h w hart rest after rest
-no_move h w hart rest after behind there words queue = record {
-  next = behind;
+no_move h w hart rest after further there words queue = record {
+  next = further;
   there = there;
   moves = Elsewhere [] refl (subst (λ (ws : List Word). AreChanged w.words ws) (sym words) (changed_refl w.words))
-      (λ i below. subst (λ (ws : List Word). IsRaised (word_at w.words (log_word h i)) (word_at ws (log_word h i))) (sym words)
-      (raised_refl (word_at w.words (log_word h i))))
+      (λ i below. subst (λ (ws : List Word). IsPersisted (word_at w.words (log_word h i)) (word_at ws (log_word h i))) (sym words)
+      (persisted_refl (word_at w.words (log_word h i))))
       (queue ∙ sym (append-nil hart.queue)) tt;
 }
 
@@ -60,8 +60,8 @@ module _ (h : ℕ) (w : World) (hart : Hart) (here : slice_get w.harts h ≡ Som
   Own : Outcome → Type 0
   Own o = MovesTo h w hart (effect ∷ later) o.0 (if has_moved o.1 then later else effect ∷ later)
 
-  set_there : (ws : List Word) (behind : Hart) → slice_get (with_hart (record w { words = ws }) h behind).harts h ≡ Some behind
-  set_there ws behind = get-set_same w.harts h behind hart here
+  set_there : (ws : List Word) (further : Hart) → slice_get (with_hart (record w { words = ws }) h further).harts h ≡ Some further
+  set_there ws further = get-set_same w.harts h further hart here
 
   own_drain : (queue : List Entry) → hart.queue ≡ queue → Own (drain_one w h hart queue)
   unfolding Own
@@ -81,7 +81,7 @@ module _ (h : ℕ) (w : World) (hart : Hart) (here : slice_get w.harts h ≡ Som
 
   own_applied : is_boundary_effect effect ≡ true → (e : Effect) → e ≡ effect → Own (applied w h hart e)
   unfolding Own
-  own_applied own (GoesOn registers pc) same = absurd (true≢false (sym own ∙ ap is_boundary_effect (sym same)))
+  own_applied own (Continues registers pc) same = absurd (true≢false (sym own ∙ ap is_boundary_effect (sym same)))
   own_applied own (Loads address bytes signed register) same = absurd (true≢false (sym own ∙ ap is_boundary_effect (sym same)))
   own_applied own (Stores address bytes value) same =
       let eight : bytes ≡ 8 = eqb-true bytes 8 (ap is_boundary_effect same ∙ own) in
@@ -112,13 +112,13 @@ module _ (h : ℕ) (w : World) (hart : Hart) (here : slice_get w.harts h ≡ Som
 -- ---- In recovery, a hart that is done
 
 -- whatever is a move stays one where the last release makes the hart done
-settled : (h : ℕ) (w : World) (hart : Hart) (rest behind : List Effect) (v : World) → MovesTo h w hart rest v behind → (g : ℕ) →
-    MovesTo h w hart rest (done_if_over w g (slice_get v.harts g) v) behind
-settled h w hart rest behind v m g = by (slice_get v.harts g) refl
+settled : (h : ℕ) (w : World) (hart : Hart) (rest further : List Effect) (v : World) → MovesTo h w hart rest v further → (g : ℕ) →
+    MovesTo h w hart rest (done_if_over w g (slice_get v.harts g) v) further
+settled h w hart rest further v m g = by (slice_get v.harts g) refl
   where
-    by : (other : Option Hart) → slice_get v.harts g ≡ other → MovesTo h w hart rest (done_if_over w g other v) behind
+    by : (other : Option Hart) → slice_get v.harts g ≡ other → MovesTo h w hart rest (done_if_over w g other v) further
     by None e = m
-    by (Some other) e = cond_both (over_after w v g) _ _ (λ (u : World). MovesTo h w hart rest u behind) (λ _. elim (cases_eq h g) [
+    by (Some other) e = cond_both (over_after w v g) _ _ (λ (u : World). MovesTo h w hart rest u further) (λ _. elim (cases_eq h g) [
       | inl same ↦
           let there : slice_get v.harts h ≡ Some other = ap (λ (i : ℕ). slice_get v.harts i) same ∙ e in
           let is : m.next ≡ other = some_same m.next other (sym m.there ∙ there) in
@@ -126,7 +126,7 @@ settled h w hart rest behind v m g = by (slice_get v.harts g) refl
             next = record other { phase = Done };
             there = ap (λ (i : ℕ). slice_get (set v.harts g (record other { phase = Done })) i) same
                 ∙ get-set_same v.harts g (record other { phase = Done }) other e;
-            moves = subst (λ (x : Hart). Moves h (moment_of w hart rest) (record { words = v.words; queue = x.queue; rest = behind })) is m.moves;
+            moves = subst (λ (x : Hart). Moves h (config_of w hart rest) (record { words = v.words; queue = x.queue; rest = further })) is m.moves;
           }
       | inr ne ↦ record { next = m.next; there = get-set_other v.harts g h (record other { phase = Done }) ne ∙ m.there; moves = m.moves }
     ]) (λ _. m)
@@ -134,7 +134,7 @@ settled h w hart rest behind v m g = by (slice_get v.harts g) refl
 -- ---- The own hart's step
 
 module _ (program : List (List Slot)) (h : ℕ) (w : World) (hart : Hart) (effect : Effect) where
-  -- its instruction's effect
+  -- the step of a hart that executes an instruction is its effect
   pub executes_effect : (P : Outcome → Type 0) → effect_at program h hart ≡ Some effect → P (applied w h hart effect) → P (hart_step program w h hart)
   executes_effect P is p = by (fetched program h hart.pc) is
     where
@@ -149,7 +149,7 @@ module _ (program : List (List Slot)) (h : ℕ) (w : World) (hart : Hart) (effec
       by (Some (NoRow word)) e = absurd (none_some effect e)
       by (Some (Row instr)) e = subst (λ (x : Effect). P (applied w h hart x)) (sym (some_same (row instr hart.registers hart.pc) effect e)) p
 
-  -- it runs
+  -- in a phase that executes instructions the hart's step is that of one
   pub runs_step : (P : Outcome → Type 0) → (phase : Phase) → is_running phase ≡ true → P (run_step program w h hart) → P (phase_step program w h hart phase)
   runs_step P Take runs p = absurd (true≢false (sym runs))
   runs_step P Wait runs p = absurd (true≢false (sym runs))
@@ -192,9 +192,9 @@ module _ (g : ℕ) (w : World) (hart : Hart) (here : slice_get w.harts g ≡ Som
   unfolding Worked
   rests = record { next = hart; there = here; works = Rests refl refl }
 
-  goes_on : (holders : List (Option ℕ)) (behind : Hart) → behind.queue ≡ hart.queue →
-      WorksTo code g w hart (with_hart (record w { holders = holders }) g behind)
-  goes_on holders behind same = record { next = behind; there = get-set_same w.harts g behind hart here; works = Rests refl same }
+  goes_on : (holders : List (Option ℕ)) (further : Hart) → further.queue ≡ hart.queue →
+      WorksTo code g w hart (with_hart (record w { holders = holders }) g further)
+  goes_on holders further same = record { next = further; there = get-set_same w.harts g further hart here; works = Rests refl same }
 
   drains : (queue : List Entry) → hart.queue ≡ queue → Worked (drain_one w g hart queue)
   unfolding Worked
@@ -237,7 +237,7 @@ module _ (g : ℕ) (w : World) (hart : Hart) (here : slice_get w.harts g ≡ Som
 
   applies : (effect : Effect) → code ≡ Some effect → Worked (applied w g hart effect)
   unfolding Worked
-  applies (GoesOn registers pc) is = goes_on w.holders (record hart { registers = registers; pc = pc }) refl
+  applies (Continues registers pc) is = goes_on w.holders (record hart { registers = registers; pc = pc }) refl
   applies (Loads address bytes signed register) is = accesses address bytes _ (goes_on w.holders _ refl)
   applies (Stores address bytes value) is = accesses address bytes _ (record {
     next = record hart { pc = next hart.pc };
@@ -319,13 +319,13 @@ steps_work program w g hart here = subst (λ (x : Option Hart). WorksTo (effect_
 
 -- ---- What that is to a log
 
--- its words are raised
+-- what a step does to a log that it doesn't store to: words are persisted
 unstored_by : (h : ℕ) (effect : Option Effect) (words : List Word) (queue : List Entry) (words_after : List Word) (queue_after : List Entry) →
     Works effect words queue words_after queue_after →
     AreEntries words queue → ((address bytes value : ℕ) → effect ≡ Some (Stores address bytes value) → (i : ℕ) → i < 128 →
     byte_number address / 8 ≢ log_word h i) → IsUnstored h words words_after
 unstored_by h effect words queue words_after queue_after (Rests same q) entries elsewhere =
-    subst (λ (ws : List Word). IsUnstored h words ws) (sym same) (λ i below. raised_refl (word_at words (log_word h i)))
+    subst (λ (ws : List Word). IsUnstored h words ws) (sym same) (λ i below. persisted_refl (word_at words (log_word h i)))
 unstored_by h effect words queue words_after queue_after (Drains entry after q) entries elsewhere =
     let all : AreEntries words (entry ∷ queue_after) = subst (λ (es : List Entry). AreEntries words es) q entries in
     subst (λ (ws : List Word). IsUnstored h words ws) (sym after) (λ i below. (write_backs_raise words entry all.0).each (log_word h i))
@@ -333,11 +333,11 @@ unstored_by h effect words queue words_after queue_after (StoresTo address bytes
     subst (λ (ws : List Word). IsUnstored h words ws) (sym after) (stores_elsewhere h (byte_number address) bytes value words
     (elsewhere address bytes value is))
 unstored_by h effect words queue words_after queue_after (CleansLine line same q) entries elsewhere =
-    subst (λ (ws : List Word). IsUnstored h words ws) (sym same) (λ i below. raised_refl (word_at words (log_word h i)))
+    subst (λ (ws : List Word). IsUnstored h words ws) (sym same) (λ i below. persisted_refl (word_at words (log_word h i)))
 
-entries_behind : (words : List Word) (queue more : List Entry) → AreEntries words (queue ++ more) → AreEntries words more
-entries_behind words [] more h = h
-entries_behind words (e ∷ es) more h = entries_behind words es more h.1
+entries_after : (words : List Word) (queue more : List Entry) → AreEntries words (queue ++ more) → AreEntries words more
+entries_after words [] more h = h
+entries_after words (e ∷ es) more h = entries_after words es more h.1
 
 -- a store elsewhere is one that its hart doesn't make to the log
 elsewhere_of : (program : List (List Slot)) (w : World) (g h : ℕ) (hart : Hart) → slice_get w.harts g ≡ Some hart → IsElsewhere program w g h →
@@ -350,7 +350,7 @@ elsewhere_of program w g h hart here elsewhere address bytes value =
     (λ _ is. absurd (none_some (Stores address bytes value) is))
 
 -- the own hart
-own_elsewhere : (program : List (List Slot)) (w : World) (h : ℕ) (hart : Hart) (rest : List Effect) → IsSound w → slice_get w.harts h ≡ Some hart →
+own_elsewhere : (program : List (List Slot)) (w : World) (h : ℕ) (hart : Hart) (rest : List Effect) → IsWellFormedWorld w → slice_get w.harts h ≡ Some hart →
     IsElsewhere program w h h →
     MovesTo h w hart rest (after_event program w (Step h)) rest
 own_elsewhere program w h hart rest sound here elsewhere = by (steps_work program w h hart here)
@@ -376,12 +376,13 @@ own_elsewhere program w h hart rest sound here elsewhere = by (steps_work progra
           next = x;
           there = there;
           moves = Elsewhere (entry_of w.words line ∷ []) refl (steps_touch program w h sound).words unstored queue
-              (entries_behind (after_event program w (Step h)).words hart.queue (entry_of w.words line ∷ [])
+              (entries_after (after_event program w (Step h)).words hart.queue (entry_of w.words line ∷ [])
               (subst (λ (q : List Entry). AreEntries (after_event program w (Step h)).words q) queue ((step_goes program h w sound).own x there)));
         }
 
 -- another hart
-other_elsewhere : (program : List (List Slot)) (w : World) (g h : ℕ) (hart : Hart) (rest : List Effect) → IsSound w → slice_get w.harts h ≡ Some hart →
+other_elsewhere : (program : List (List Slot)) (w : World) (g h : ℕ) (hart : Hart) (rest : List Effect) → IsWellFormedWorld w →
+    slice_get w.harts h ≡ Some hart →
     h ≢ g → IsElsewhere program w g h →
     (other : Option Hart) → slice_get w.harts g ≡ other → MovesTo h w hart rest (after_event program w (Step g)) rest
 unfolding happens
@@ -412,11 +413,11 @@ steps_move program w g h hart rest sound here elsewhere = elim (cases_eq h g) [
 pub evictions_move : EvictionsMove
 unfolding happens
 evictions_move program w line mask h hart rest here =
-    let raised = evictions_raise w.words line mask in
+    let persisted = evictions_raise w.words line mask in
     record {
       next = hart;
       there = here;
-      moves = Elsewhere [] refl (changed_by_raised w.words _ raised) (λ i below. raised.each (log_word h i))
+      moves = Elsewhere [] refl (changed_by_persisted w.words _ persisted) (λ i below. persisted.each (log_word h i))
           (sym (append-nil hart.queue)) tt;
     }
 

@@ -1,32 +1,32 @@
--- One word of a log: what a store of all its bytes and a raise make of it.
+-- One word of a log: what a store of all its bytes makes of it, and what it is once it is persisted.
 use Rattle.std.proofs.Common.{◌≡◌, ◌≢◌, inl, inr, ℕ, zero, suc, ◌+◌, ◌-◌, ◌/◌, ◌%◌, ◌^◌, ◌<◌, ◌≤◌, List, [], ◌∷◌, length, refl, ap, arith, ◌∙◌, get_or}
 use Rattle.std.proofs.lemmas.Bool.{cases_lt}
 use Rattle.std.proofs.lemmas.List.{get_or_append_left, get_or-append_right}
 use Rattle.std.proofs.Math.ListN.{length-append}
 use Rattle.ido_base.specs.Words.{Word, word_at, last_position, live_value, durable_value, with_value, part, with_part, stored, after_crash}
-use Rattle.ido_base.specs.Growth.{IsRaised}
-use Rattle.ido_base.proofs.Growth.{same_last, word_same, word_other}
+use Rattle.ido_base.specs.Growth.{IsPersisted}
+use Rattle.ido_base.proofs.Public.{same_last, word_same, word_other}
 use Rattle.log_states.specs.Logs.{IsWord, IsDurable}
 use Rattle.log_states.specs.Laws.{DurableIsStable}
 
--- ---- Raised words
+-- ---- Persisted words
 
-pub raised_live : (u v : Word) → IsRaised u v → live_value v ≡ live_value u
-raised_live u v r = ap (λ (xs : List ℕ). get_or xs (length xs - 1) 0) r.values
+pub persisted_live : (u v : Word) → IsPersisted u v → live_value v ≡ live_value u
+persisted_live u v r = ap (λ (xs : List ℕ). get_or xs (length xs - 1) 0) r.values
 
-pub raised_at : (u v : Word) → IsRaised u v → (p : ℕ) → get_or v.values p 0 ≡ get_or u.values p 0
-raised_at u v r p = ap (λ (xs : List ℕ). get_or xs p 0) r.values
+pub persisted_at : (u v : Word) → IsPersisted u v → (p : ℕ) → get_or v.values p 0 ≡ get_or u.values p 0
+persisted_at u v r p = ap (λ (xs : List ℕ). get_or xs p 0) r.values
 
-pub raised_word : (u v : Word) → IsRaised u v → IsWord u → IsWord v
-raised_word u v r w = record {
+pub persisted_word : (u v : Word) → IsPersisted u v → IsWord u → IsWord v
+persisted_word u v r w = record {
   durable = omega (arith, same_last u v r, r.no_higher w.durable);
-  values = λ p. omega (arith, raised_at u v r p, w.values p);
+  values = λ p. omega (arith, persisted_at u v r p, w.values p);
 }
 
-pub raised_durable : (u v : Word) (value : ℕ) → IsRaised u v → IsDurable u value → IsDurable v value
-raised_durable u v value r d = record {
+pub persisted_durable : (u v : Word) (value : ℕ) → IsPersisted u v → IsDurable u value → IsDurable v value
+persisted_durable u v value r d = record {
   durable = omega (arith, same_last u v r, d.durable, r.no_lower, r.no_higher (omega (arith, d.durable)));
-  live = raised_live u v r ∙ d.live;
+  live = persisted_live u v r ∙ d.live;
 }
 
 -- ---- Words stored to whole
@@ -55,13 +55,13 @@ stored_last w new = omega (arith, stored_length w new)
 pub stored_before : (w : Word) (new p : ℕ) → p < length w.values → get_or (with_value w new).values p 0 ≡ get_or w.values p 0
 stored_before w new p below = get_or_append_left w.values (new ∷ []) 0 p below
 
-pub stored_behind : (w : Word) (new p : ℕ) → length w.values ≤ p → get_or (with_value w new).values p 0 ≡ get_or (new ∷ []) (p - length w.values) 0
-stored_behind w new p above = get_or-append_right w.values (new ∷ []) (length w.values) p 0 refl above
+pub stored_after : (w : Word) (new p : ℕ) → length w.values ≤ p → get_or (with_value w new).values p 0 ≡ get_or (new ∷ []) (p - length w.values) 0
+stored_after w new p above = get_or-append_right w.values (new ∷ []) (length w.values) p 0 refl above
 
 pub stored_live : (w : Word) (new : ℕ) → live_value (with_value w new) ≡ new
 stored_live w new =
     let none : length w.values - length w.values ≡ 0 = omega arith in
-    ap (λ (p : ℕ). get_or (with_value w new).values p 0) (stored_last w new) ∙ stored_behind w new (length w.values) (omega arith)
+    ap (λ (p : ℕ). get_or (with_value w new).values p 0) (stored_last w new) ∙ stored_after w new (length w.values) (omega arith)
     ∙ ap (λ (k : ℕ). get_or (new ∷ []) k 0) none
 
 one_below : (new k : ℕ) → new < 2 ^ 64 → get_or (new ∷ []) k 0 < 2 ^ 64
@@ -73,7 +73,7 @@ stored_word w new is fits = record {
   durable = omega (arith, is.durable, stored_last w new);
   values = λ p. elim (cases_lt p (length w.values)) [
     | inl before ↦ omega (arith, stored_before w new p before, is.values p)
-    | inr behind ↦ omega (arith, stored_behind w new p behind, one_below new (p - length w.values) fits)
+    | inr after ↦ omega (arith, stored_after w new p after, one_below new (p - length w.values) fits)
   ];
 }
 

@@ -1,14 +1,14 @@
 -- Worked rows: a boundary of the first thread that holds lock 0, keeps x8 and x9, and resumes at 0x1_0040, in the second bank, where
--- nothing was recorded before it. A crash comes behind each of its effects, with or without an eviction of the point's line.
+-- nothing was recorded before it. A crash comes after each of its effects, with or without an eviction of the point's line.
 use Rattle.std.proofs.Common.{◌≡◌, ℕ, zero, suc, ◌+◌, ◌*◌, ◌/◌, List, [], ◌∷◌, ◌++◌, map, refl, pos, Bool, true, false, take, drop, replicate}
 use Rattle.std.specs.Prelude.{slice_set, if◌then◌else◌}
 use Rattle.ido_base.specs.Words.{Word, word_of, entry_of, stored, evicted, crashed}
 use Rattle.ido_base.specs.Growth.{drained_all}
 use Rattle.ido_base.specs.Layout.{byte_number, line_bytes, log_lines, variable_lines}
-use Rattle.rv64_isa.specs.Rows.{Effect, GoesOn, Loads, Stores, Cleans, Fences, Calls}
+use Rattle.rv64_isa.specs.Rows.{Effect, Continues, Loads, Stores, Cleans, Fences, Calls}
 use Rattle.rv64_isa.specs.Machine.{durable_point, record_of, resume_of, resumed_register}
 use Rattle.boundary_code.specs.Boundaries.{Boundary, boundary_effects}
-use Rattle.log_states.specs.Stages.{Moment, is_committed}
+use Rattle.log_states.specs.Stages.{LogConfig, is_committed}
 use Rattle.log_states.specs.Laws.{recorded_by}
 
 b : Boundary
@@ -28,39 +28,39 @@ in_order : effects ≡
 unfolding effects b registers
 in_order = refl
 
--- a moment goes on by its next effect; at a fence the whole queue is written back first
-made : Moment → Effect → List Effect → Moment
-made m (GoesOn to pc) later = record { words = m.words; queue = m.queue; rest = later }
+-- a log config goes on by its next effect; at a fence the whole queue is written back first
+made : LogConfig → Effect → List Effect → LogConfig
+made m (Continues to pc) later = record { words = m.words; queue = m.queue; rest = later }
 made m (Loads address bytes signed register) later = record { words = m.words; queue = m.queue; rest = later }
 made m (Stores address bytes value) later = record { words = stored m.words (byte_number address) bytes value; queue = m.queue; rest = later }
 made m (Cleans address) later = record { words = m.words; queue = m.queue ++ entry_of m.words (byte_number address / line_bytes) ∷ []; rest = later }
 made m Fences later = record { words = drained_all m.words m.queue; queue = []; rest = later }
 made m Calls later = record { words = m.words; queue = m.queue; rest = later }
 
-after : (count : ℕ) → List Effect → Moment → Moment
+after : (count : ℕ) → List Effect → LogConfig → LogConfig
 unfolding made
 after zero rest m = m
 after (suc count) [] m = m
 after (suc count) (e ∷ es) m = after count es (made m e es)
 
-first : Moment
+first : LogConfig
 unfolding effects
 first = record { words = replicate (8 * (variable_lines + log_lines)) (word_of 0); queue = []; rest = effects }
 
 -- the line of the point is evicted
-with_eviction : Bool → Moment → Moment
+with_eviction : Bool → LogConfig → LogConfig
 with_eviction evicts m = if evicts then record { words = evicted m.words 1024 1; queue = m.queue; rest = m.rest } else m
 
 -- what a crash leaves: the point, the locks, x8, x9 and the bank's offset
-left : Moment → List ℕ
+left : LogConfig → List ℕ
 left m = left_in (crashed m.words)
   where
     left_in : List Word → List ℕ
     left_in words = durable_point words 0 ∷ record_of words 0 ∷ resumed_register words 0 8 ∷ resumed_register words 0 9 ∷ resumed_register words 0 3 ∷ []
 
-behind : (count : ℕ) → Bool → Moment
+evicted_after : (count : ℕ) → Bool → LogConfig
 unfolding after first effects with_eviction
-behind count evicts = with_eviction evicts (after count effects first)
+evicted_after count evicts = with_eviction evicts (after count effects first)
 
 nothing : List ℕ
 nothing = 0 ∷ 0 ∷ 0 ∷ 0 ∷ 0 ∷ []
@@ -68,29 +68,30 @@ nothing = 0 ∷ 0 ∷ 0 ∷ 0 ∷ 0 ∷ []
 everything : List ℕ
 everything = 0x1_0041 ∷ 1 ∷ 7 ∷ 5 ∷ 256 ∷ []
 
--- behind none of the effects, the first, and so on to all nine
+-- after none of the effects, the first, and so on to all nine
 counts : List ℕ
 counts = 0 ∷ 1 ∷ 2 ∷ 3 ∷ 4 ∷ 5 ∷ 6 ∷ 7 ∷ 8 ∷ 9 ∷ []
 
 -- with no eviction the last fence commits
-without_evictions : map (λ count. left (behind count false)) counts ≡
+without_evictions : map (λ count. left (evicted_after count false)) counts ≡
     nothing ∷ nothing ∷ nothing ∷ nothing ∷ nothing ∷ nothing ∷ nothing ∷ nothing ∷ nothing ∷ everything ∷ []
-unfolding left behind after made first effects b registers with_eviction nothing everything counts
+unfolding left evicted_after after made first effects b registers with_eviction nothing everything counts
 without_evictions = refl
 
--- else the eviction may, as soon as the point is stored
-with_evictions : map (λ count. left (behind count true)) counts ≡
+-- with an eviction, the boundary may be committed as soon as the point is stored
+with_evictions : map (λ count. left (evicted_after count true)) counts ≡
     nothing ∷ nothing ∷ nothing ∷ nothing ∷ nothing ∷ nothing ∷ nothing ∷ everything ∷ everything ∷ everything ∷ []
-unfolding left behind after made first effects b registers with_eviction nothing everything counts
+unfolding left evicted_after after made first effects b registers with_eviction nothing everything counts
 with_evictions = refl
 
 uncommitted_without : map
-    (λ count. is_committed 0 (behind count false)) counts ≡ false ∷ false ∷ false ∷ false ∷ false ∷ false ∷ false ∷ false ∷ false ∷ true ∷ []
-unfolding behind after made first effects b registers with_eviction counts
+    (λ count. is_committed 0 (evicted_after count false)) counts ≡ false ∷ false ∷ false ∷ false ∷ false ∷ false ∷ false ∷ false ∷ false ∷ true ∷ []
+unfolding evicted_after after made first effects b registers with_eviction counts
 uncommitted_without = refl
 
-committed_with : map (λ count. is_committed 0 (behind count true)) counts ≡ false ∷ false ∷ false ∷ false ∷ false ∷ false ∷ false ∷ true ∷ true ∷ true ∷ []
-unfolding behind after made first effects b registers with_eviction counts
+committed_with : map (λ count. is_committed 0 (evicted_after count true)) counts
+    ≡ false ∷ false ∷ false ∷ false ∷ false ∷ false ∷ false ∷ true ∷ true ∷ true ∷ []
+unfolding evicted_after after made first effects b registers with_eviction counts
 committed_with = refl
 
 resumes_there : resume_of (recorded_by b 1 0x1_0040 registers).point ≡ 0x1_0040
@@ -106,15 +107,15 @@ no_first_fence = refl
 next : (bank : ℕ) → List Effect
 next bank = boundary_effects (record { thread = 0; mask = 3; live = []; resume = pos 0 }) bank 0x1_0080 (replicate 32 0)
 
-mask_evicted : (line : ℕ) → Moment → Moment
+mask_evicted : (line : ℕ) → LogConfig → LogConfig
 mask_evicted line m = record { words = evicted m.words line 1; queue = m.queue; rest = m.rest }
 
--- in the other bank it changes nothing
-other_bank : left (mask_evicted 1025 (after 1 (next 0) (behind 9 false))) ≡ everything
-unfolding left behind after made first effects b registers with_eviction next mask_evicted everything
+-- where the next mask is in the other bank, its eviction changes nothing
+other_bank : left (mask_evicted 1025 (after 1 (next 0) (evicted_after 9 false))) ≡ everything
+unfolding left evicted_after after made first effects b registers with_eviction next mask_evicted everything
 other_bank = refl
 
--- in the same bank the old point would have the new mask
-same_bank : left (mask_evicted 1029 (after 1 (next 1) (behind 9 false))) ≡ 0x1_0041 ∷ 3 ∷ 7 ∷ 5 ∷ 256 ∷ []
-unfolding left behind after made first effects b registers with_eviction next mask_evicted
+-- where the next mask is in the same bank, the old point would have the new mask
+same_bank : left (mask_evicted 1029 (after 1 (next 1) (evicted_after 9 false))) ≡ 0x1_0041 ∷ 3 ∷ 7 ∷ 5 ∷ 256 ∷ []
+unfolding left evicted_after after made first effects b registers with_eviction next mask_evicted
 same_bank = refl

@@ -3,16 +3,16 @@ use Rattle.std.specs.Prelude.{◌≡◌, ◌≢◌, ◌⊎◌, ℕ, ◌+◌, ◌
 use Rattle.std.specs.Prelude.{if◌then◌else◌}
 use Rattle.std.specs.List.{Contains, list_any}
 use Rattle.ido_base.specs.Words.{Word, Entry, word_at, last_position, stored, crashed}
-use Rattle.ido_base.specs.Growth.{Stable, AreEntries, Reaches}
+use Rattle.ido_base.specs.Growth.{Stable, AreEntries, PersistsThrough}
 use Rattle.ido_base.specs.Layout.{variables_base, variable_lines, line_bytes, bank_bytes, log_lines, point_at, byte_number}
 use Rattle.rv64_isa.specs.declared.object.Slot.{Slot}
 use Rattle.rv64_isa.specs.Rows.{Effect, Stores, read}
 use Rattle.rv64_isa.specs.Machine.{durable_point, live_at, bank_of, resume_of, record_of, resumed_register, numbers_from, start_of}
 use Rattle.rv64_isa.specs.Schedule.{is_point_store}
-use Rattle.log_layout.specs.Roles.{bank_offset, is_kept}
+use Rattle.memory_layout.specs.Roles.{bank_offset, is_kept}
 use Rattle.boundary_code.specs.Boundaries.{Boundary, boundary_effects, AtBank}
 use Rattle.log_states.specs.Logs.{Record, nothing_recorded, IsKeepable, IsRecord, log_word, bank_word, point_in, HasLog, IsUnstored, IsDurable, IsRecorded}
-use Rattle.log_states.specs.Stages.{Moment, Moves, Leads, LogIs, fences_ahead, is_store, is_committed, left_by_crash}
+use Rattle.log_states.specs.Stages.{LogConfig, Moves, LogSteps, LogIs, fences_ahead, is_store, is_committed, left_by_crash}
 
 -- ---- Boundaries
 
@@ -29,7 +29,7 @@ pub record IsRecoverable (b : Boundary) (resume : ℕ) (x : List ℕ) : Type 0 w
   pub somewhere : 0 < resume
   pub below : resume < 2 ^ 64
 
--- as all are that a boundary may keep
+-- every register that a boundary may keep is one of 1 to 31, and not the one of the bank's offset
 abbrev pub KeptAreKeepable : Type 0
 KeptAreKeepable = (register : ℕ) → is_kept register ≡ true → IsKeepable register
 
@@ -39,17 +39,18 @@ pub record IsAtRecord (r : Record) (bank : ℕ) (x : List ℕ) : Type 0 where
   pub is : r.point ≢ 0 → bank_of r.point ≡ bank
 
 -- a log begins a boundary from its record, where this one writes the other bank
-abbrev pub Begins : Type 0
-Begins = (b : Boundary) (old : Record) (bank resume : ℕ) (x : List ℕ) (words : List Word) (queue : List Entry) →
+abbrev pub BoundaryBegins : Type 0
+BoundaryBegins = (b : Boundary) (old : Record) (bank resume : ℕ) (x : List ℕ) (words : List Word) (queue : List Entry) →
     HasLog b.thread words → AreEntries words queue → IsRecord old → IsRecorded b.thread old words → IsAtRecord old bank x → IsRecoverable b resume x →
     LogIs b.thread old (recorded_by b (1 - bank) resume x) (record { words = words; queue = queue; rest = boundary_effects b (1 - bank) resume x })
 
 -- a log that has a record is one on its way that has arrived
 abbrev pub Rests : Type 0
-Rests = (thread : ℕ) (r : Record) (m : Moment) → m.rest ≡ [] → HasLog thread m.words → AreEntries m.words m.queue → IsRecord r → IsRecorded thread r m.words →
+Rests =
+    (thread : ℕ) (r : Record) (m : LogConfig) → m.rest ≡ [] → HasLog thread m.words → AreEntries m.words m.queue → IsRecord r → IsRecorded thread r m.words →
     LogIs thread nothing_recorded r m
 
--- x3 goes with the record: behind a boundary it has the offset of the other bank, but the same bank's where none was written
+-- x3 goes with the record: after a boundary it has the offset of the other bank, but the same bank's where none was written
 abbrev pub OffsetFollows : Type 0
 OffsetFollows = (b : Boundary) (bank resume : ℕ) (x y : List ℕ) → IsRecoverable b resume x → bank < 2 → length y ≡ 32 → read y 0 ≡ 0 →
     let next = if b.mask == 0 then bank else 1 - bank in
@@ -57,13 +58,13 @@ OffsetFollows = (b : Boundary) (bank resume : ℕ) (x y : List ℕ) → IsRecove
 
 -- ---- Every event
 
--- at each moment of a boundary
+-- whatever happens in a boundary, its log stays on its way from the one record to the other
 abbrev pub Keeps : Type 0
-Keeps = (thread : ℕ) (old new : Record) (m n : Moment) → LogIs thread old new m → Moves thread m n → LogIs thread old new n
+Keeps = (thread : ℕ) (old new : Record) (m n : LogConfig) → LogIs thread old new m → Moves thread m n → LogIs thread old new n
 
--- between boundaries
+-- between boundaries the log keeps its record
 abbrev pub StaysRecorded : Type 0
-StaysRecorded = (thread : ℕ) (r : Record) (m n : Moment) → IsRecord r → m.rest ≡ [] → HasLog thread m.words → AreEntries m.words m.queue →
+StaysRecorded = (thread : ℕ) (r : Record) (m n : LogConfig) → IsRecord r → m.rest ≡ [] → HasLog thread m.words → AreEntries m.words m.queue →
     IsRecorded thread r m.words → Moves thread m n →
     HasLog thread n.words × AreEntries n.words n.queue × IsRecorded thread r n.words
 
@@ -72,8 +73,8 @@ abbrev pub DurableIsStable : Type 0
 DurableIsStable = (w : Word) (value : ℕ) → value < 2 ^ 64 → IsDurable w value → Stable w 0 8 value
 
 -- a boundary ends with its record
-abbrev pub Ends : Type 0
-Ends = (thread : ℕ) (old new : Record) (m : Moment) → LogIs thread old new m → m.rest ≡ [] → IsRecorded thread new m.words
+abbrev pub BoundaryEnds : Type 0
+BoundaryEnds = (thread : ℕ) (old new : Record) (m : LogConfig) → LogIs thread old new m → m.rest ≡ [] → IsRecorded thread new m.words
 
 -- a store elsewhere leaves a log as it is, as one to another thread's log does
 abbrev pub StoresElsewhere : Type 0
@@ -87,7 +88,7 @@ LogsAreApart = (thread other i j : ℕ) → other ≢ thread → i < 8 * log_lin
 abbrev pub SlotsAreIn : Type 0
 SlotsAreIn = (thread bank slot : ℕ) → bank_word thread bank slot ≡ log_word thread (8 + 32 * bank + slot)
 
--- and no byte of a variable is in one
+-- no byte of a variable is in a word of a log
 abbrev pub VariablesAreApart : Type 0
 VariablesAreApart = (thread address i : ℕ) → address < variables_base + line_bytes * variable_lines → byte_number address / 8 ≢ log_word thread i
 
@@ -95,72 +96,72 @@ VariablesAreApart = (thread address i : ℕ) → address < variables_base + line
 
 -- the durable point is the old one until the new one's store is durable
 abbrev pub PointIs : Type 0
-PointIs = (thread : ℕ) (old new : Record) (m : Moment) → LogIs thread old new m → durable_point m.words thread ≡ (left_by_crash thread old new m).point
+PointIs = (thread : ℕ) (old new : Record) (m : LogConfig) → LogIs thread old new m → durable_point m.words thread ≡ (left_by_crash thread old new m).point
 
--- which it isn't at the beginning
+-- a boundary isn't committed at its beginning
 abbrev pub BeginsUncommitted : Type 0
 BeginsUncommitted = (b : Boundary) (bank resume : ℕ) (x : List ℕ) (words : List Word) (queue : List Entry) →
     is_committed b.thread (record { words = words; queue = queue; rest = boundary_effects b bank resume x }) ≡ false
 
--- and from then on the new one
+-- a boundary that is committed stays so
 abbrev pub StaysCommitted : Type 0
-StaysCommitted = (thread : ℕ) (old new : Record) (m n : Moment) → LogIs thread old new m → Moves thread m n → is_committed thread m ≡ true →
+StaysCommitted = (thread : ℕ) (old new : Record) (m n : LogConfig) → LogIs thread old new m → Moves thread m n → is_committed thread m ≡ true →
     is_committed thread n ≡ true
 
--- at the latest at its end
+-- at the latest at its end a boundary is committed
 abbrev pub EndsCommitted : Type 0
-EndsCommitted = (thread : ℕ) (old new : Record) (m : Moment) → LogIs thread old new m → m.rest ≡ [] → is_committed thread m ≡ true
+EndsCommitted = (thread : ℕ) (old new : Record) (m : LogConfig) → LogIs thread old new m → m.rest ≡ [] → is_committed thread m ≡ true
 
 -- the last store of a boundary, and no other, is that of its point
 abbrev pub PointStoreIsLast : Type 0
-PointStoreIsLast = (thread : ℕ) (old new : Record) (m : Moment) (address bytes value : ℕ) (later : List Effect) → LogIs thread old new m →
+PointStoreIsLast = (thread : ℕ) (old new : Record) (m : LogConfig) (address bytes value : ℕ) (later : List Effect) → LogIs thread old new m →
     m.rest ≡ Stores address bytes value ∷ later → is_point_store thread (Stores address bytes value) ≡ not (list_any is_store later)
 
--- from then on its position is the last
+-- from the store of its point on, the last position of the point stays the same
 abbrev pub PositionStays : Type 0
-PositionStays = (thread : ℕ) (old new : Record) (m n : Moment) → LogIs thread old new m → Moves thread m n → list_any is_store m.rest ≡ false →
+PositionStays = (thread : ℕ) (old new : Record) (m n : LogConfig) → LogIs thread old new m → Moves thread m n → list_any is_store m.rest ≡ false →
     last_position (point_in n.words thread) ≡ last_position (point_in m.words thread)
 
--- and the boundary is committed where the durable position is no less
+-- once its point is stored, a boundary is committed exactly where the durable position is no less than the last
 abbrev pub CommittedWhere : Type 0
-CommittedWhere = (thread : ℕ) (old new : Record) (m : Moment) → LogIs thread old new m → list_any is_store m.rest ≡ false →
+CommittedWhere = (thread : ℕ) (old new : Record) (m : LogConfig) → LogIs thread old new m → list_any is_store m.rest ≡ false →
     is_committed thread m ≡ nat_le (last_position (point_in m.words thread)) (point_in m.words thread).durable
 
 -- what is durable stays so
 abbrev pub DurableStays : Type 0
-DurableStays = (thread : ℕ) (m n : Moment) (word : ℕ) → Moves thread m n → (word_at m.words word).durable ≤ (word_at n.words word).durable
+DurableStays = (thread : ℕ) (m n : LogConfig) (word : ℕ) → Moves thread m n → (word_at m.words word).durable ≤ (word_at n.words word).durable
 
 -- the fence is still ahead, and the queue still reaches that far
-pub record IsAhead (m n : Moment) (word position : ℕ) : Type 0 where
+pub record AwaitsFence (m n : LogConfig) (word position : ℕ) : Type 0 where
   pub fences : fences_ahead n.rest ≡ fences_ahead m.rest
-  pub reaches : Reaches n.words n.queue word position
+  pub reaches : PersistsThrough n.words n.queue word position
 
--- what the queue reaches it goes on to reach, up to a fence, behind which that is durable
+-- what the queue reaches it goes on to reach, up to a fence, after which that is durable
 abbrev pub ReachGoesOn : Type 0
-ReachGoesOn = (thread : ℕ) (m n : Moment) (word position : ℕ) → Moves thread m n → Reaches m.words m.queue word position →
-    IsAhead m n word position ⊎ (position ≤ (word_at n.words word).durable)
+ReachGoesOn = (thread : ℕ) (m n : LogConfig) (word position : ℕ) → Moves thread m n → PersistsThrough m.words m.queue word position →
+    AwaitsFence m n word position ⊎ (position ≤ (word_at n.words word).durable)
 
--- so it is durable once one more fence is passed
+-- what the queue reaches is durable once one more fence is passed
 abbrev pub FencesSettle : Type 0
-FencesSettle = (thread : ℕ) (m n : Moment) (word position : ℕ) → Leads thread m n → Reaches m.words m.queue word position →
+FencesSettle = (thread : ℕ) (m n : LogConfig) (word position : ℕ) → LogSteps thread m n → PersistsThrough m.words m.queue word position →
     fences_ahead n.rest < fences_ahead m.rest → position ≤ (word_at n.words word).durable
 
 -- a boundary has two
 abbrev pub BoundariesFence : Type 0
 BoundariesFence = (b : Boundary) (bank resume : ℕ) (x : List ℕ) → fences_ahead (boundary_effects b bank resume x) ≡ 2
 
--- and where it is committed, it has passed the first: what was queued before it is durable
-abbrev pub CommittedBehindFence : Type 0
-CommittedBehindFence = (thread : ℕ) (old new : Record) (m : Moment) → LogIs thread old new m → is_committed thread m ≡ true → fences_ahead m.rest < 2
+-- a boundary that is committed has passed its first fence: what was queued before that is durable
+abbrev pub CommittedAfterFence : Type 0
+CommittedAfterFence = (thread : ℕ) (old new : Record) (m : LogConfig) → LogIs thread old new m → is_committed thread m ≡ true → fences_ahead m.rest < 2
 
 -- ---- Crashes and starts
 
 -- a crash leaves the new record where it is committed, and the old one where it isn't
 abbrev pub CrashesLeave : Type 0
-CrashesLeave = (thread : ℕ) (old new : Record) (m : Moment) → LogIs thread old new m →
+CrashesLeave = (thread : ℕ) (old new : Record) (m : LogConfig) → LogIs thread old new m →
     IsRecorded thread (left_by_crash thread old new m) (crashed m.words) × HasLog thread (crashed m.words)
 
--- between boundaries, the record
+-- between boundaries a crash leaves the record
 abbrev pub CrashesKeep : Type 0
 CrashesKeep = (thread : ℕ) (r : Record) (words : List Word) → HasLog thread words → IsRecorded thread r words →
     IsRecorded thread r (crashed words) × HasLog thread (crashed words)
@@ -170,7 +171,7 @@ abbrev pub resumed_registers : List Word → (thread : ℕ) → List ℕ
 resumed_registers words thread = map (resumed_register words thread) (numbers_from 0 32)
 
 -- what recovery makes of a record
-pub record IsResumed (thread : ℕ) (r : Record) (words : List Word) : Type 0 where
+pub record ResumesRecord (thread : ℕ) (r : Record) (words : List Word) : Type 0 where
   pub point : durable_point words thread ≡ r.point
   pub live_point : live_at words (point_at thread) ≡ r.point
   pub locks : record_of words thread ≡ (if r.point == 0 then 0 else r.mask)
@@ -178,11 +179,12 @@ pub record IsResumed (thread : ℕ) (r : Record) (words : List Word) : Type 0 wh
   pub bank : IsAtRecord r (bank_of r.point) (resumed_registers words thread)
 
 abbrev pub RecordIsResumed : Type 0
-RecordIsResumed = (thread : ℕ) (r : Record) (words : List Word) → IsRecord r → IsRecorded thread r words → IsResumed thread r words
+RecordIsResumed = (thread : ℕ) (r : Record) (words : List Word) → IsRecord r → IsRecorded thread r words → ResumesRecord thread r words
 
--- so a crash in a boundary is recovered from as the old record says, or as the new one
+-- a crash in a boundary is recovered from as the old record says, or as the new one
 abbrev pub CrashesResume : Type 0
-CrashesResume = (thread : ℕ) (old new : Record) (m : Moment) → LogIs thread old new m → IsResumed thread (left_by_crash thread old new m) (crashed m.words)
+CrashesResume =
+    (thread : ℕ) (old new : Record) (m : LogConfig) → LogIs thread old new m → ResumesRecord thread (left_by_crash thread old new m) (crashed m.words)
 
 -- the point of a boundary says its bank and where it resumes
 abbrev pub PointSays : Type 0

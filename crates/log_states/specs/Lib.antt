@@ -2,4 +2,4 @@ pub mod Logs
 pub mod Stages
 pub mod Machines
 pub mod Laws
-pub mod Standing
+pub mod LogInvariant

@@ -2,23 +2,23 @@
 use Rattle.std.specs.Prelude.{◌≡◌, ◌≢◌, ℕ, ◌+◌, ◌*◌, ◌^◌, ◌<◌, ◌≤◌, List, [], ◌∷◌, length, slice_index, ◌==◌, if◌then◌else◌}
 use Rattle.std.specs.List.{Contains}
 use Rattle.ido_base.specs.Words.{Word, word_at, last_position, live_value}
-use Rattle.ido_base.specs.Growth.{IsRaised}
+use Rattle.ido_base.specs.Growth.{IsPersisted}
 use Rattle.ido_base.specs.Layout.{log_lines, word_count, word_number, point_at, slot_at}
 use Rattle.rv64_isa.specs.Rows.{read}
 use Rattle.rv64_isa.specs.Machine.{bank_of}
-use Rattle.log_layout.specs.Roles.{bank_offset}
+use Rattle.memory_layout.specs.Roles.{bank_offset}
 
 -- what a boundary writes
 pub record Record : Type 0 where
   -- 0: nothing is recorded; else a resume address plus the number of a bank
   pub point : ℕ
-  -- the locks held behind it, bit i for lock i
+  -- the locks held after the boundary, bit i for lock i
   pub mask : ℕ
   -- the registers that it keeps
   pub live : List ℕ
   pub registers : List ℕ
 
--- between sections
+-- the record between sections
 abbrev pub nothing_recorded : Record
 nothing_recorded = record { point = 0; mask = 0; live = []; registers = [] }
 
@@ -71,7 +71,7 @@ pub record HasLog (thread : ℕ) (words : List Word) : Type 0 where
 
 -- no store is made to the thread's log
 abbrev pub IsUnstored : (thread : ℕ) → (old new : List Word) → Type 0
-IsUnstored thread old new = (i : ℕ) → i < 8 * log_lines → IsRaised (word_at old (log_word thread i)) (word_at new (log_word thread i))
+IsUnstored thread old new = (i : ℕ) → i < 8 * log_lines → IsPersisted (word_at old (log_word thread i)) (word_at new (log_word thread i))
 
 -- ---- What is recorded
 

@@ -5,25 +5,25 @@ use Rattle.ido_base.specs.declared.event.Reply.TheVariants.{Moved, Drained}
 use Rattle.ido_base.specs.Words.{crashed}
 use Rattle.ido_base.specs.Layout.{variables_base, variable_lines, line_bytes, log_lines, log_of, byte_number}
 use Rattle.rv64_isa.specs.declared.object.Slot.{Slot}
-use Rattle.rv64_isa.specs.Rows.{Effect, GoesOn, Loads, Stores, Cleans, Fences, Calls}
+use Rattle.rv64_isa.specs.Rows.{Effect, Continues, Loads, Stores, Cleans, Fences, Calls}
 use Rattle.rv64_isa.specs.Machine.{Hart, World, after_event, reply_to}
-use Rattle.rv64_isa.specs.Frames.{IsSound}
+use Rattle.rv64_isa.specs.Frames.{IsWellFormedWorld}
 use Rattle.rv64_isa.specs.Schedule.{has_moved, is_running, effect_at}
 use Rattle.log_states.specs.Logs.{Record, log_word}
-use Rattle.log_states.specs.Stages.{Moment, Moves, LogIs, is_store}
+use Rattle.log_states.specs.Stages.{LogConfig, Moves, LogIs, is_store}
 
-abbrev pub moment_of : World → Hart → (rest : List Effect) → Moment
-moment_of w hart rest = record { words = w.words; queue = hart.queue; rest = rest }
+abbrev pub config_of : World → Hart → (rest : List Effect) → LogConfig
+config_of w hart rest = record { words = w.words; queue = hart.queue; rest = rest }
 
--- hart h is there behind an event, and the event is a move of its log
+-- hart h is there after an event, and the event is a move of its log
 pub record MovesTo (h : ℕ) (w : World) (hart : Hart) (rest : List Effect) (after : World) (rest_after : List Effect) : Type 0 where
   pub next : Hart
   pub there : slice_get after.harts h ≡ Some next
-  pub moves : Moves h (moment_of w hart rest) (moment_of after next rest_after)
+  pub moves : Moves h (config_of w hart rest) (config_of after next rest_after)
 
 -- an effect such as a boundary has
 abbrev pub is_boundary_effect : Effect → Bool
-is_boundary_effect (GoesOn registers pc) = false
+is_boundary_effect (Continues registers pc) = false
 is_boundary_effect (Loads address bytes signed register) = false
 is_boundary_effect (Stores address bytes value) = bytes == 8
 is_boundary_effect (Cleans address) = true
@@ -51,7 +51,7 @@ OwnStepsMove = (program : List (List Slot)) (w : World) (h : ℕ) (hart : Hart) 
 
 -- a step of any hart, this one or another, that stores elsewhere
 abbrev pub StepsMove : Type 0
-StepsMove = (program : List (List Slot)) (w : World) (g h : ℕ) (hart : Hart) (rest : List Effect) → IsSound w → slice_get w.harts h ≡ Some hart →
+StepsMove = (program : List (List Slot)) (w : World) (g h : ℕ) (hart : Hart) (rest : List Effect) → IsWellFormedWorld w → slice_get w.harts h ≡ Some hart →
     IsElsewhere program w g h →
     MovesTo h w hart rest (after_event program w (Step g)) rest
 
@@ -71,10 +71,10 @@ pub data IsLogEffect (thread : ℕ) (effect : Effect) : Type 0 where
 
 -- a boundary has no other effects
 abbrev pub BoundariesStayIn : Type 0
-BoundariesStayIn = (thread : ℕ) (old new : Record) (m : Moment) (effect : Effect) (later : List Effect) → LogIs thread old new m →
+BoundariesStayIn = (thread : ℕ) (old new : Record) (m : LogConfig) (effect : Effect) (later : List Effect) → LogIs thread old new m →
     m.rest ≡ effect ∷ later → IsLogEffect thread effect × (is_boundary_effect effect ≡ true)
 
--- and so is never stuck: its next instruction is completed, or an entry written back first
+-- a hart with an effect of its log ahead is never stuck: its next instruction is completed, or an entry written back first
 abbrev pub LogEffectsGo : Type 0
 LogEffectsGo = (program : List (List Slot)) (w : World) (h : ℕ) (hart : Hart) (effect : Effect) → IsNext program w h hart effect →
     IsLogEffect h effect → (reply_to program w (Step h) ≡ Moved) ⊎ (reply_to program w (Step h) ≡ Drained)

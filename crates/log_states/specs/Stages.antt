@@ -2,22 +2,22 @@
 use Rattle.std.specs.Prelude.{◌≡◌, ◌≢◌, ℕ, ◌+◌, ◌*◌, ◌/◌, ◌<◌, ◌≤◌, List, [], ◌∷◌, ◌++◌, map, slice_index, Bool, true, false, not, ◌==◌, ◌&&◌, if◌then◌else◌}
 use Rattle.std.specs.List.{Contains, list_any}
 use Rattle.ido_base.specs.Words.{Word, Entry, last_position, live_value, stored, entry_of, drained}
-use Rattle.ido_base.specs.Growth.{AreChanged, AreEntries, Reaches}
+use Rattle.ido_base.specs.Growth.{AreChanged, AreEntries, PersistsThrough}
 use Rattle.ido_base.specs.Layout.{line_bytes, byte_number, word_number, point_at, slot_at}
-use Rattle.rv64_isa.specs.Rows.{Effect, GoesOn, Loads, Stores, Cleans, Fences, Calls}
+use Rattle.rv64_isa.specs.Rows.{Effect, Continues, Loads, Stores, Cleans, Fences, Calls}
 use Rattle.rv64_isa.specs.Machine.{bank_of}
 use Rattle.boundary_code.specs.Boundaries.{commit_effects}
 use Rattle.log_states.specs.Logs.{Record, slots_of, value_of, bank_word, point_in, slot_in, IsRecord, HasLog, IsUnstored, HasBank, IsRecorded}
 
 -- memory, what the thread's hart has queued, and what its boundary has still to do: nothing between boundaries
-pub record Moment : Type 0 where
+pub record LogConfig : Type 0 where
   pub words : List Word
   pub queue : List Entry
   pub rest : List Effect
 
 -- ---- What can happen
 
-pub data Moves (thread : ℕ) (m n : Moment) : Type 0 where
+pub data Moves (thread : ℕ) (m n : LogConfig) : Type 0 where
   -- the boundary stores, cleans, or passes a fence, with an empty queue
   Stored : (address value : ℕ) → m.rest ≡ Stores address 8 value ∷ n.rest → n.words ≡ stored m.words (byte_number address) 8 value →
       n.queue ≡ m.queue → Moves thread m n
@@ -31,9 +31,9 @@ pub data Moves (thread : ℕ) (m n : Moment) : Type 0 where
       AreEntries n.words more → Moves thread m n
 
 -- any number of such moves
-pub data Leads (thread : ℕ) (m : Moment) : Moment → Type 0 where
-  Here : Leads thread m m
-  Then : (by n : Moment) → Leads thread m by → Moves thread by n → Leads thread m n
+pub data LogSteps (thread : ℕ) (m : LogConfig) : LogConfig → Type 0 where
+  Here : LogSteps thread m m
+  Then : (by n : LogConfig) → LogSteps thread m by → Moves thread by n → LogSteps thread m n
 
 -- how many fences a boundary has still to pass
 abbrev pub fences_ahead : List Effect → ℕ
@@ -41,7 +41,7 @@ fences_ahead [] = 0
 fences_ahead (e ∷ es) = fence_in e + fences_ahead es
   where
     fence_in : Effect → ℕ
-    fence_in (GoesOn registers pc) = 0
+    fence_in (Continues registers pc) = 0
     fence_in (Loads address bytes signed register) = 0
     fence_in (Stores address bytes value) = 0
     fence_in (Cleans address) = 0
@@ -57,52 +57,52 @@ abbrev pub cleans_of : (thread : ℕ) → Record → (lines : List ℕ) → List
 cleans_of thread r lines = map (λ line. Cleans (slot_at thread (bank_of r.point) (8 * line))) lines
 
 -- a slot of the new bank, where these slots have still to be stored, and these lines of the bank cleaned
-pub data IsComing (thread : ℕ) (new : Record) (slots lines : List ℕ) (m : Moment) (slot : ℕ) : Type 0 where
+pub data IsComing (thread : ℕ) (new : Record) (slots lines : List ℕ) (m : LogConfig) (slot : ℕ) : Type 0 where
   ToStore : Contains slots slot → IsComing thread new slots lines m slot
   ToClean : live_value (slot_in m.words thread new slot) ≡ value_of new slot → Contains lines (slot / 8) → IsComing thread new slots lines m slot
   Queued : live_value (slot_in m.words thread new slot) ≡ value_of new slot →
-      Reaches m.words m.queue (bank_word thread (bank_of new.point) slot) (last_position (slot_in m.words thread new slot)) →
+      PersistsThrough m.words m.queue (bank_word thread (bank_of new.point) slot) (last_position (slot_in m.words thread new slot)) →
       IsComing thread new slots lines m slot
 
 -- the new bank is being written
-pub record IsWriting (thread : ℕ) (new : Record) (slots lines : List ℕ) (m : Moment) : Type 0 where
+pub record IsWriting (thread : ℕ) (new : Record) (slots lines : List ℕ) (m : LogConfig) : Type 0 where
   pub rest : m.rest ≡ stores_of thread new slots ++ cleans_of thread new lines ++ commit_effects thread new.point
   pub own : (slot : ℕ) → Contains slots slot → Contains (slots_of new) slot
-  -- the clean of a slot's line is behind its store
-  pub behind : (slot : ℕ) → Contains slots slot → Contains lines (slot / 8)
+  -- the clean of a slot's line comes after its store
+  pub after : (slot : ℕ) → Contains slots slot → Contains lines (slot / 8)
   pub exist : (line : ℕ) → Contains lines line → line < 4
   pub each : (slot : ℕ) → Contains (slots_of new) slot → IsComing thread new slots lines m slot
 
--- the point has been stored: behind the old one, wherever that is still durable
+-- the point has been stored: after the old one, wherever that is still durable
 pub record IsPointed (thread : ℕ) (old new : Record) (words : List Word) : Type 0 where
   pub before : (p : ℕ) → (point_in words thread).durable ≤ p → p < last_position (point_in words thread) →
       slice_index (point_in words thread).values p ≡ old.point
   pub last : live_value (point_in words thread) ≡ new.point
-  -- both banks are there
+  -- the banks of both records are there
   pub old_bank : HasBank thread old words
   pub new_bank : HasBank thread new words
 
--- from the first effect of a boundary to behind its last
-pub data Stage (thread : ℕ) (old new : Record) (m : Moment) : Type 0 where
+-- how far a boundary has come, from before its first effect to after its last
+pub data Stage (thread : ℕ) (old new : Record) (m : LogConfig) : Type 0 where
   Writing : (slots lines : List ℕ) → IsWriting thread new slots lines m → IsRecorded thread old m.words → Stage thread old new m
   -- the first fence is passed
   Written : m.rest ≡ Stores (point_at thread) 8 new.point ∷ Cleans (point_at thread) ∷ Fences ∷ [] → IsRecorded thread old m.words →
       HasBank thread new m.words → Stage thread old new m
   Pointed : m.rest ≡ Cleans (point_at thread) ∷ Fences ∷ [] → IsPointed thread old new m.words → Stage thread old new m
   PointQueued : m.rest ≡ Fences ∷ [] → IsPointed thread old new m.words →
-      Reaches m.words m.queue (word_number (point_at thread)) (last_position (point_in m.words thread)) → Stage thread old new m
-  -- the second is passed
+      PersistsThrough m.words m.queue (word_number (point_at thread)) (last_position (point_in m.words thread)) → Stage thread old new m
+  -- the second fence is passed
   Over : m.rest ≡ [] → IsRecorded thread new m.words → Stage thread old new m
 
 -- the one record may be written over the other: in the other bank, where both have one
-pub record Follows (old new : Record) : Type 0 where
+pub record MayOverwrite (old new : Record) : Type 0 where
   pub old_is : IsRecord old
   pub new_is : IsRecord new
   pub apart : old.point ≢ 0 → new.point ≢ 0 → bank_of old.point ≢ bank_of new.point
 
 -- a log on its way from the one record to the other
-pub record LogIs (thread : ℕ) (old new : Record) (m : Moment) : Type 0 where
-  pub follows : Follows old new
+pub record LogIs (thread : ℕ) (old new : Record) (m : LogConfig) : Type 0 where
+  pub follows : MayOverwrite old new
   pub log : HasLog thread m.words
   pub queue : AreEntries m.words m.queue
   pub stage : Stage thread old new m
@@ -110,7 +110,7 @@ pub record LogIs (thread : ℕ) (old new : Record) (m : Moment) : Type 0 where
 -- ---- Commitment
 
 abbrev pub is_store : Effect → Bool
-is_store (GoesOn registers pc) = false
+is_store (Continues registers pc) = false
 is_store (Loads address bytes signed register) = false
 is_store (Stores address bytes value) = true
 is_store (Cleans address) = false
@@ -118,9 +118,9 @@ is_store Fences = false
 is_store Calls = false
 
 -- the boundary has stored its point, and that is durable
-abbrev pub is_committed : (thread : ℕ) → Moment → Bool
+abbrev pub is_committed : (thread : ℕ) → LogConfig → Bool
 is_committed thread m = not (list_any is_store m.rest) && (point_in m.words thread).durable == last_position (point_in m.words thread)
 
 -- what a crash leaves, where the boundary was on its way from the one record to the other
-abbrev pub left_by_crash : (thread : ℕ) → (old new : Record) → Moment → Record
+abbrev pub left_by_crash : (thread : ℕ) → (old new : Record) → LogConfig → Record
 left_by_crash thread old new m = if is_committed thread m then new else old

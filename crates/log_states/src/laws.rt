@@ -1,55 +1,18 @@
 //! Laws of a thread's log, beside whatever the other threads do: nothing is computed here.
-ghost use Rattle.log_states.specs.Laws.{
-  Begins,
-  BeginsUncommitted,
-  BoundariesFence,
-  CommittedBehindFence,
-  CommittedWhere,
-  CrashesKeep,
-  CrashesLeave,
-  CrashesResume,
-  DurableIsStable,
-  DurableStays,
-  EndsCommitted,
-  Ends,
-  FencesSettle,
-  Keeps,
-  KeptAreKeepable,
-  LogsAreApart,
-  OffsetFollows,
-  PointIs,
-  PointSays,
-  PointStoreIsLast,
-  PositionStays,
-  ReachGoesOn,
-  RecordIsResumed,
-  Rests,
-  SlotsAreIn,
-  StartsEmpty,
-  StaysCommitted,
-  StaysRecorded,
-  StoresElsewhere,
-  VariablesAreApart,
-};
-ghost use Rattle.log_states.specs.Machines.{
-  BoundariesStayIn,
-  CrashesCrash,
-  EvictionsMove,
-  LogEffectsGo,
-  OwnStepsMove,
-  StepsMove,
-  StoresNothing,
-  StoresToOtherLog,
-  StoresToVariable,
-};
-ghost use Rattle.log_states.specs.Standing.{BeginsStanding, CrashesStanding, EvictionsKeep, OwnStepsKeep, StartsStanding, StepsKeep};
+ghost use Rattle.log_states.specs.Laws.{BoundaryBegins, BeginsUncommitted, BoundariesFence, CommittedAfterFence, CommittedWhere, CrashesKeep, CrashesLeave};
+ghost use Rattle.log_states.specs.Laws.{CrashesResume, DurableIsStable, DurableStays, EndsCommitted, BoundaryEnds, FencesSettle, Keeps, KeptAreKeepable};
+ghost use Rattle.log_states.specs.Laws.{LogsAreApart, OffsetFollows, PointIs, PointSays, PointStoreIsLast, PositionStays, ReachGoesOn, RecordIsResumed};
+ghost use Rattle.log_states.specs.Laws.{Rests, SlotsAreIn, StartsEmpty, StaysCommitted, StaysRecorded, StoresElsewhere, VariablesAreApart};
+ghost use Rattle.log_states.specs.Machines.{BoundariesStayIn, CrashesCrash, EvictionsMove, LogEffectsGo, OwnStepsMove};
+ghost use Rattle.log_states.specs.Machines.{StepsMove, StoresNothing, StoresToOtherLog, StoresToVariable};
+ghost use Rattle.log_states.specs.LogInvariant.{BeginsStanding, CrashesStanding, EvictionsKeep, OwnStepsKeep, StartsStanding, StepsKeep};
 
 /// A log on its way from one record to the next: a boundary begins from any record, whose bank it leaves alone; every event
 /// keeps that; and the boundary ends with its own record.
 pub fn boundaries_record()
-    ensures begins { Begins }
+    ensures begins { BoundaryBegins }
     ensures event { Keeps }
-    ensures ends { Ends }
+    ensures ends { BoundaryEnds }
     ensures rests { Rests }
 {}
 
@@ -74,13 +37,13 @@ pub fn points_commit()
     ensures durable { CommittedWhere }
 {}
 
-/// What the hart's queue reaches is durable once one more fence is passed. A boundary has two, and is committed behind the first.
+/// What the hart's queue reaches is durable once one more fence is passed. A boundary has two, and is committed after the first.
 pub fn fences_settle()
     ensures durable { DurableStays }
     ensures reach { ReachGoesOn }
     ensures settles { FencesSettle }
     ensures two { BoundariesFence }
-    ensures committed { CommittedBehindFence }
+    ensures committed { CommittedAfterFence }
 {}
 
 /// A crash at any moment leaves the whole record of the durable point.
@@ -121,7 +84,7 @@ pub fn steps_apart()
 {}
 
 /// A thread's log in a machine stands from the start on, whatever happens: when a boundary begins, at each of its instructions, at every other
-/// step and eviction, and behind a crash.
+/// step and eviction, and after a crash.
 pub fn logs_stand()
     ensures start { StartsStanding }
     ensures begins { BeginsStanding }

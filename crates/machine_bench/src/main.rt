@@ -1,4 +1,7 @@
 //! Machine events a second: one hart that loops over a store, a load, a clean and a fence.
+//!
+//! It makes 40 million events. To measure: `cd crates/machine_bench && rt run && time out/machine_bench`. On one core of an Intel Xeon
+//! at 2.5 GHz it takes 0.34 s, some 118 million events a second; an unverified simulator in C with the same bookkeeping takes 0.25 s.
 #![tactic(auto)]
 
 use ido_base::event::Event;

@@ -12,17 +12,16 @@ use Rattle.rv64_isa.specs.declared.object.CodeItem.{CodeItem}
 use Rattle.rv64_isa.specs.declared.object.CodeItem.TheVariants.{Instruction, BranchTo, MarkNext, ResumeNext}
 use Rattle.rv64_isa.specs.declared.object.Label.{Label}
 use Rattle.rv64_isa.specs.declared.object.Slot.TheVariants.{Row}
-use Rattle.rv64_isa.specs.Rows.{Effect, GoesOn, Loads, Stores, Cleans, Fences, Calls, row, read, next}
+use Rattle.rv64_isa.specs.Rows.{Effect, Continues, Loads, Stores, Cleans, Fences, Calls, row, read, next}
 use Rattle.rv64_link.specs.LabelledCode.{is_fence, one_if, fences_of, fences_in}
-use Rattle.rv64_link.specs.Linked.{AreInstructions}
-use Rattle.rv64_link.proofs.Instructions.{no_instructions, more_instructions}
-use Rattle.rv64_link.proofs.Places.{within, some_at}
+use Rattle.rv64_link.specs.LinkedCode.{AreInstructions}
+use Rattle.rv64_link.proofs.Public.{no_instructions, more_instructions, within, some_at}
 use Rattle.boundary_code.specs.Boundaries.{Boundary, AtBank, HasEffects, boundary_effects, bank_effects, commit_effects, lines_in_use, resume_address}
-use Rattle.operator_code.specs.Straight.{effects, seen, left_by}
+use Rattle.operator_code.specs.StraightLineCode.{effects, seen, left_by}
 use Rattle.operator_code.specs.declared.branches.Test.{Test}
 use Rattle.node_code.specs.Sites.{Linking, IsPart, Site, begin_of, end_of}
-use Rattle.node_code.specs.links.Listing.{plain, asking, boundary_items, lock_items, unlock_items, computing_items, choice_items}
-use Rattle.node_code.proofs.Lying.{item_at}
+use Rattle.node_code.specs.links.ItemLists.{plain, asking, boundary_items, lock_items, unlock_items, computing_items, choice_items}
+use Rattle.node_code.proofs.ItemAddresses.{item_at}
 
 -- ---- Items
 
@@ -35,7 +34,7 @@ fences_cons x xs = sum_by-cons fences_of x xs
 -- ---- Effects
 
 abbrev is_fences : Effect → Bool
-is_fences (GoesOn registers to) = false
+is_fences (Continues registers to) = false
 is_fences (Loads address bytes signed register) = false
 is_fences (Stores address bytes value) = false
 is_fences (Cleans address) = false
@@ -50,10 +49,10 @@ seen_append : (es fs : List Effect) → fences_seen (es ++ fs) ≡ fences_seen e
 seen_append [] fs = omega arith
 seen_append (e ∷ es) fs = let h = seen_append es fs in omega (arith, h)
 
-on_is_none : (pc to : ℕ) (x : List ℕ) → fences_seen (seen pc (GoesOn x to)) ≡ 0
+on_is_none : (pc to : ℕ) (x : List ℕ) → fences_seen (seen pc (Continues x to)) ≡ 0
 on_is_none pc to x = by (to == next pc)
   where
-    by : (b : Bool) → fences_seen (if b then [] else GoesOn x to ∷ []) ≡ 0
+    by : (b : Bool) → fences_seen (if b then [] else Continues x to ∷ []) ≡ 0
     by true = refl
     by false = refl
 
@@ -83,10 +82,6 @@ fences_are_seen (i ∷ is) x pc =
     let both = seen_append (seen pc (row i x pc)) (effects is (left_by x (row i x pc)) (pc + 4)) in
     let sum : fences_in (plain (i ∷ is)) ≡ one_if (is_fence (Row i)) + fences_in (plain is) = fences_cons (Instruction i) (plain is) in
     omega (arith, here, rest, both, sum)
-
--- code of which nothing is seen has none
-pub none_unseen : (code : List Instr) (x : List ℕ) (pc : ℕ) → effects code x pc ≡ [] → fences_in (plain code) ≡ 0
-none_unseen code x pc e = sym (fences_are_seen code x pc) ∙ ap fences_seen e
 
 -- ---- Boundaries
 
@@ -206,7 +201,7 @@ pub part_instructions : (part : List CodeItem) (site : Site part) →
     AreInstructions site.linking.program.start site.linking.program.code (begin_of part site) (end_of part site) (fences_in part)
 part_instructions part site =
     let p : IsPart site.items site.position part = site.is_part in
-    let whole : length site.items ≡ length (p.before ++ (part ++ p.behind)) = ap length p.split in
-    let both = length-append p.before (part ++ p.behind) in
+    let whole : length site.items ≡ length (p.before ++ (part ++ p.after)) = ap length p.split in
+    let both = length-append p.before (part ++ p.after) in
     let at : site.position ≡ length p.before = p.at in
     instructions_from site.items site.linking site.position part (item_at site.items site.position part p) (omega (arith, whole, both, at))

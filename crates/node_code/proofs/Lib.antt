@@ -1,12 +1,13 @@
-pub mod Lying
-pub mod Words
-pub mod Running
-pub mod Legs
-pub mod Making
-pub mod Keeping
-pub mod Asking
-pub mod Jumping
-pub mod Computing
-pub mod Places
-pub mod Halves
-pub mod Fences
+pub mod Public
+mod ItemAddresses
+mod Words
+mod LinkedPartRuns
+mod LegComposition
+mod StorePieces
+mod BoundaryPieces
+mod CallPieces
+mod JumpPieces
+mod ComputingPieces
+mod PiecePlaces
+mod TwoPartPieces
+mod Fences

@@ -7,10 +7,10 @@ use Rattle.rv64_isa.specs.declared.object.CodeItem.{CodeItem}
 use Rattle.rv64_link.specs.LabelledCode.{least_words_of, most_words_of}
 use Rattle.node_code.specs.Sites.{Linking, IsPart, Site, begin_of, end_of}
 use Rattle.node_code.specs.Pieces.{words_in}
-use Rattle.node_code.specs.links.Listing.{plain}
-use Rattle.node_code.proofs.Lying.{Lies, lay_of}
+use Rattle.node_code.specs.links.ItemLists.{plain}
+use Rattle.node_code.proofs.ItemAddresses.{Lies, lay_of}
 
--- so many words from the one position on up to the other, between the least and the most that the items take
+-- how many words lie from the one position on up to the other, between the least and the most that the items take
 pub record Counts (at : ℕ → ℕ) (k : ℕ) (items : List CodeItem) : Type 0 where
   pub words : ℕ
   pub ends : at (k + length items) ≡ at k + 4 * words

@@ -1,4 +1,4 @@
 pub mod Sites
 pub mod Pieces
-pub mod Joined
+pub mod JoinedPieces
 pub mod links

@@ -9,25 +9,25 @@ use Rattle.rv64_isa.specs.declared.object.CodeItem.{CodeItem}
 use Rattle.rv64_isa.specs.declared.object.CodeItem.TheVariants.{Instruction}
 use Rattle.rv64_isa.specs.Rows.{Stores, Cleans, row, read}
 use Rattle.rv64_link.specs.LabelledCode.{most_words_of, stands_here, is_mark, is_resume, positions_from, fences_in}
-use Rattle.rv64_link.specs.Linked.{Stands}
-use Rattle.log_layout.specs.Roles as roles
-use Rattle.log_layout.specs.Roles.{is_temporary}
+use Rattle.rv64_link.specs.LinkedCode.{IsInstructionAt}
+use Rattle.memory_layout.specs.Roles as roles
+use Rattle.memory_layout.specs.Roles.{is_temporary}
 use Rattle.boundary_code.specs.Boundaries.{Boundary, AtBank, boundary_effects}
 use Rattle.operator_code.specs.declared.branches.Test.{Test}
-use Rattle.operator_code.specs.Computing.{AreRegisters, passes}
-use Rattle.code_runs.specs.Running as r
-use Rattle.code_runs.specs.Running.{Surroundings, moment}
-use Rattle.code_runs.specs.Walks.{Sight, Mark, Does, Goes, seen_effects, marked}
+use Rattle.operator_code.specs.ComputingCode.{AreRegisters, passes}
+use Rattle.code_runs.specs.ComputingRuns as r
+use Rattle.code_runs.specs.ComputingRuns.{Environment, config}
+use Rattle.code_runs.specs.CodeTraces.{Observation, Mark, Does, GoesThrough, seen_effects, marked}
 use Rattle.node_code.specs.declared.kept.Kept as kept
 use Rattle.node_code.specs.Sites.{Site, mark_waits, begin_of, end_of, label_of}
 
--- the items are what was there, with a piece behind
+-- the items are what was there, and a piece after that
 pub record Appends (old new : List CodeItem) (Is : List CodeItem → Type 0) : Type 0 where
   pub piece : List CodeItem
   pub appended : new ≡ old ++ piece
   pub is : Is piece
 
--- no label stands in a piece, and no mark waits behind it
+-- no label stands in a piece, and no mark waits after it
 pub record IsClosed (piece : List CodeItem) : Type 0 where
   pub waits : mark_waits false piece ≡ false
   pub labels : (label : ℕ) → list_any (stands_here label) piece ≡ false
@@ -44,28 +44,29 @@ abbrev pub words_in : (piece : List CodeItem) → Site piece → ℕ
 words_in piece at = (end_of piece at - begin_of piece at) / 4
 
 -- from registers at an address the piece's code leads to an address, in no more steps than it has words
-abbrev pub Leads : {piece : List CodeItem} → Site piece → (x : List ℕ) → (from to : ℕ) → List Sight → (has : List ℕ → Type 0) → Type 0
-Leads {piece} at x from to sights has = Goes at.linking.setting (record { registers = x; from = from; to = to; most = words_in piece at }) sights has
+abbrev pub PieceLeads : {piece : List CodeItem} → Site piece → (x : List ℕ) → (from to : ℕ) → List Observation → (has : List ℕ → Type 0) → Type 0
+PieceLeads {piece} at x from to observations has =
+    GoesThrough at.linking.environment (record { registers = x; from = from; to = to; most = words_in piece at }) observations has
 
 -- ---- Stores
 
 -- the store, and the clean of its line where it stands there
-abbrev pub store_sights : (address bytes value : ℕ) → (cleans : Bool) → List Sight
-store_sights address bytes value cleans = Mark ∷ Does (Stores address bytes value) ∷ (if cleans then Does (Cleans address) ∷ [] else [])
+abbrev pub store_observations : (address bytes value : ℕ) → (cleans : Bool) → List Observation
+store_observations address bytes value cleans = Mark ∷ Does (Stores address bytes value) ∷ (if cleans then Does (Cleans address) ∷ [] else [])
 
 -- the pending store is made, by the first instruction
 pub record Makes (kind : Kind) (cleans : Bool) (piece : List CodeItem) (at : Site piece) : Type 0 where
   pub makes : (x : List ℕ) → AreRegisters x → read x roles.pending_address < 2 ^ 64 →
-      Leads at x (begin_of piece at) (end_of piece at) (store_sights (read x roles.pending_address) (bytes_of kind) (read x roles.pending_value)
+      PieceLeads at x (begin_of piece at) (end_of piece at) (store_observations (read x roles.pending_address) (bytes_of kind) (read x roles.pending_value)
       cleans) (λ y. y ≡ x)
   pub instr : Instr
-  pub stands : Stands at.linking.program.start at.linking.program.code (begin_of piece at) instr
+  pub stands : IsInstructionAt at.linking.program.start at.linking.program.code (begin_of piece at) instr
   pub first : (x : List ℕ) → read x roles.pending_address < 2 ^ 64 →
       row instr x (begin_of piece at) ≡ Stores (read x roles.pending_address) (bytes_of kind) (read x roles.pending_value)
   pub marks : marks_in piece at ≡ begin_of piece at ∷ []
   pub resumes : resumes_in piece at ≡ []
 
-pub record IsStore (kind : Kind) (cleans : Bool) (piece : List CodeItem) : Type 0 where
+pub record IsStorePiece (kind : Kind) (cleans : Bool) (piece : List CodeItem) : Type 0 where
   pub closed : IsClosed piece
   pub few : sum_by most_words_of piece ≤ 2
   pub fences : fences_in piece ≡ 0
@@ -73,30 +74,30 @@ pub record IsStore (kind : Kind) (cleans : Bool) (piece : List CodeItem) : Type 
 
 -- ---- Boundaries
 
--- the boundary that keeps these, and resumes so many bytes behind its end
+-- the boundary that keeps these, and resumes so many bytes after its end
 abbrev pub boundary_of : kept.Kept → (resume : ℕ) → Boundary
 boundary_of k resume = record { thread = k.thread; mask = k.mask; live = k.live.now; resume = pos resume }
 
-abbrev pub boundary_sights : Boundary → (bank resume : ℕ) → (x : List ℕ) → List Sight
-boundary_sights b bank resume x = seen_effects (boundary_effects b (1 - bank) resume x)
+abbrev pub boundary_observations : Boundary → (bank resume : ℕ) → (x : List ℕ) → List Observation
+boundary_observations b bank resume x = seen_effects (boundary_effects b (1 - bank) resume x)
 
--- the bank that the point names behind a boundary: where its mask is 0 none was written
-abbrev pub bank_behind : Boundary → (bank : ℕ) → ℕ
-bank_behind b bank = if b.mask == 0 then bank else 1 - bank
+-- the bank that the point names after a boundary: where its mask is 0 none was written
+abbrev pub bank_after : Boundary → (bank : ℕ) → ℕ
+bank_after b bank = if b.mask == 0 then bank else 1 - bank
 
--- registers y behind a boundary at which they were x: only x3 and the temporaries may differ
-pub record IsLeft (b : Boundary) (bank : ℕ) (x y : List ℕ) : Type 0 where
-  pub at_bank : AtBank (bank_behind b bank) y
+-- registers y after a boundary at which they were x: only x3 and the temporaries may differ
+pub record LeavesRegisters (b : Boundary) (bank : ℕ) (x y : List ℕ) : Type 0 where
+  pub at_bank : AtBank (bank_after b bank) y
   pub others : (r : ℕ) → is_temporary r ≡ false → r ≢ roles.bank_offset → read y r ≡ read x r
 
 -- the point gets the address of the piece's end, from where the thread may be resumed
 pub record Keeps (b : Boundary) (piece : List CodeItem) (at : Site piece) : Type 0 where
   pub keeps : (x : List ℕ) (bank : ℕ) → AtBank bank x →
-      Leads at x (begin_of piece at) (end_of piece at) (boundary_sights b bank (end_of piece at) x) (IsLeft b bank x)
+      PieceLeads at x (begin_of piece at) (end_of piece at) (boundary_observations b bank (end_of piece at) x) (LeavesRegisters b bank x)
   pub marks : marks_in piece at ≡ []
   pub resumes : resumes_in piece at ≡ end_of piece at ∷ []
 
-pub record IsBoundary (b : Boundary) (piece : List CodeItem) : Type 0 where
+pub record IsBoundaryPiece (b : Boundary) (piece : List CodeItem) : Type 0 where
   pub closed : IsClosed piece
   pub few : sum_by most_words_of piece ≤ length b.live + 35
   pub fences : fences_in piece ≡ 2
@@ -121,46 +122,46 @@ pub record Asks (number mutex : ℕ) (x y : List ℕ) : Type 0 where
   pub lock : read y roles.lock ≡ mutex
   pub others : (r : ℕ) → r ≢ roles.lock → r ≢ roles.call → read y r ≡ read x r
 
--- the call is the mark; behind it stands a boundary
+-- the call is the mark; after it stands a boundary
 pub record Locks (b : Boundary) (mutex : ℕ) (piece : List CodeItem) (at : Site piece) : Type 0 where
   pub call : ℕ
-  pub asks : (x : List ℕ) → AreRegisters x → Leads at x (begin_of piece at) call [] (Asks takes mutex x)
-  pub stands : Stands at.linking.program.start at.linking.program.code call Ecall
-  pub keeps : (x : List ℕ) (bank : ℕ) → AtBank bank x → Leads at x (call + 4) (end_of piece at) (boundary_sights b bank (end_of piece at) x)
-      (IsLeft b bank x)
+  pub asks : (x : List ℕ) → AreRegisters x → PieceLeads at x (begin_of piece at) call [] (Asks takes mutex x)
+  pub stands : IsInstructionAt at.linking.program.start at.linking.program.code call Ecall
+  pub keeps : (x : List ℕ) (bank : ℕ) → AtBank bank x → PieceLeads at x (call + 4) (end_of piece at) (boundary_observations b bank (end_of piece at) x)
+      (LeavesRegisters b bank x)
   pub marks : marks_in piece at ≡ call ∷ []
   pub resumes : resumes_in piece at ≡ end_of piece at ∷ []
 
-pub record IsLock (b : Boundary) (mutex : ℕ) (piece : List CodeItem) : Type 0 where
+pub record IsLockPiece (b : Boundary) (mutex : ℕ) (piece : List CodeItem) : Type 0 where
   pub closed : IsClosed piece
   pub few : sum_by most_words_of piece ≤ length b.live + 38
   pub fences : fences_in piece ≡ 2
   pub at : (at : Site piece) → Locks b mutex piece at
 
--- first the mark and a boundary, then the call, which is no mark; the point gets the address behind the call, where the thread may be resumed if it still
+-- first the mark and a boundary, then the call, which is no mark; the point gets the address after the call, where the thread may be resumed if it still
 -- holds a mutex
 pub record Unlocks (b : Boundary) (mutex : ℕ) (piece : List CodeItem) (at : Site piece) : Type 0 where
   pub call : ℕ
   pub asks : (x : List ℕ) (bank : ℕ) → AtBank bank x →
-      Leads at x (begin_of piece at) call (Mark ∷ boundary_sights b bank (end_of piece at) x)
-      (λ y. (z : List ℕ) × IsLeft b bank x z × Asks gives mutex z y)
-  pub stands : Stands at.linking.program.start at.linking.program.code call Ecall
-  pub behind : end_of piece at ≡ call + 4
+      PieceLeads at x (begin_of piece at) call (Mark ∷ boundary_observations b bank (end_of piece at) x)
+      (λ y. (z : List ℕ) × LeavesRegisters b bank x z × Asks gives mutex z y)
+  pub stands : IsInstructionAt at.linking.program.start at.linking.program.code call Ecall
+  pub after : end_of piece at ≡ call + 4
   pub plain : marked at.linking.program.nodes call ≡ []
   pub marks : marks_in piece at ≡ begin_of piece at ∷ []
   pub resumes : resumes_in piece at ≡ (if b.mask == 0 then [] else end_of piece at ∷ [])
 
-pub record IsUnlock (b : Boundary) (mutex : ℕ) (piece : List CodeItem) : Type 0 where
+pub record IsUnlockPiece (b : Boundary) (mutex : ℕ) (piece : List CodeItem) : Type 0 where
   pub closed : IsClosed piece
   pub few : sum_by most_words_of piece ≤ length b.live + 38
   pub fences : fences_in piece ≡ 2
   pub at : (at : Site piece) → Unlocks b mutex piece at
 
-pub record Ends (piece : List CodeItem) (at : Site piece) : Type 0 where
+pub record IsEndPiece (piece : List CodeItem) (at : Site piece) : Type 0 where
   pub call : ℕ
-  pub asks : (x : List ℕ) → AreRegisters x → Leads at x (begin_of piece at) call (Mark ∷ []) (λ y. read y roles.call ≡ ends)
-  pub stands : Stands at.linking.program.start at.linking.program.code call Ecall
-  pub behind : end_of piece at ≡ call + 4
+  pub asks : (x : List ℕ) → AreRegisters x → PieceLeads at x (begin_of piece at) call (Mark ∷ []) (λ y. read y roles.call ≡ ends)
+  pub stands : IsInstructionAt at.linking.program.start at.linking.program.code call Ecall
+  pub after : end_of piece at ≡ call + 4
   pub plain : marked at.linking.program.nodes call ≡ []
   pub marks : marks_in piece at ≡ begin_of piece at ∷ []
   pub resumes : resumes_in piece at ≡ []
@@ -169,21 +170,21 @@ pub record IsEnd (piece : List CodeItem) : Type 0 where
   pub closed : IsClosed piece
   pub few : sum_by most_words_of piece ≤ 2
   pub fences : fences_in piece ≡ 0
-  pub at : (at : Site piece) → Ends piece at
+  pub at : (at : Site piece) → IsEndPiece piece at
 
 -- ---- Evaluation
 
 -- the code stands at the address, and a run of it to its end, by at most one step a word, leads from the one registers to the other
-pub record Computed (around : Surroundings) (code : List Instr) (address : ℕ) (x y : List ℕ) : Type 0 where
-  pub run : r.Leads around (moment x address) (moment y (address + 4 * length code))
+pub record Computed (around : Environment) (code : List Instr) (address : ℕ) (x y : List ℕ) : Type 0 where
+  pub run : r.RunsTo around (config x address) (config y (address + 4 * length code))
   pub short : run.steps ≤ length code
 
 -- the mark, and code that only computes: where that leads to its end, the piece does
 pub record Computes (code : List Instr) (piece : List CodeItem) (at : Site piece) : Type 0 where
-  pub stands : r.Stands at.linking.setting.around (begin_of piece at) code
+  pub stands : r.HasCodeAt at.linking.environment.around (begin_of piece at) code
   pub room : begin_of piece at + 4 * length code < 2 ^ 64
-  pub computes : (x y : List ℕ) → Computed at.linking.setting.around code (begin_of piece at) x y →
-      Leads at x (begin_of piece at) (end_of piece at) (Mark ∷ []) (λ z. z ≡ y)
+  pub computes : (x y : List ℕ) → Computed at.linking.environment.around code (begin_of piece at) x y →
+      PieceLeads at x (begin_of piece at) (end_of piece at) (Mark ∷ []) (λ z. z ≡ y)
   pub marks : marks_in piece at ≡ begin_of piece at ∷ []
   pub resumes : resumes_in piece at ≡ []
 
@@ -193,12 +194,12 @@ pub record IsComputing (code : List Instr) (piece : List CodeItem) : Type 0 wher
   pub fences : fences_in piece ≡ fences_in (map Instruction code)
   pub at : (at : Site piece) → Computes code piece at
 
--- the mark, code that only computes, and a branch to the label, which is taken where the test is passed behind the code
+-- the mark, code that only computes, and a branch to the label, which is taken where the test is passed after the code
 pub record Chooses (code : List Instr) (test : Test) (label : ℕ) (piece : List CodeItem) (at : Site piece) : Type 0 where
-  pub stands : r.Stands at.linking.setting.around (begin_of piece at) code
+  pub stands : r.HasCodeAt at.linking.environment.around (begin_of piece at) code
   pub room : begin_of piece at + 4 * length code < 2 ^ 64
-  pub chooses : (x y : List ℕ) → Computed at.linking.setting.around code (begin_of piece at) x y →
-      Leads at x (begin_of piece at) (if passes test y then label_of piece at label else end_of piece at) (Mark ∷ []) (λ z. z ≡ y)
+  pub chooses : (x y : List ℕ) → Computed at.linking.environment.around code (begin_of piece at) x y →
+      PieceLeads at x (begin_of piece at) (if passes test y then label_of piece at label else end_of piece at) (Mark ∷ []) (λ z. z ≡ y)
   pub marks : marks_in piece at ≡ begin_of piece at ∷ []
   pub resumes : resumes_in piece at ≡ []
 
@@ -212,7 +213,7 @@ pub record IsChoice (code : List Instr) (test : Test) (label : ℕ) (piece : Lis
 
 -- registers stay as they are, and nothing is seen
 pub record Jumps (label : ℕ) (piece : List CodeItem) (at : Site piece) : Type 0 where
-  pub jumps : (x : List ℕ) → Leads at x (begin_of piece at) (label_of piece at label) [] (λ y. y ≡ x)
+  pub jumps : (x : List ℕ) → PieceLeads at x (begin_of piece at) (label_of piece at label) [] (λ y. y ≡ x)
   pub marks : marks_in piece at ≡ []
   pub resumes : resumes_in piece at ≡ []
 
@@ -224,7 +225,7 @@ pub record IsJump (label : ℕ) (piece : List CodeItem) : Type 0 where
 
 -- to the label where the test is passed, else to the piece's end
 pub record Branches (test : Test) (label : ℕ) (piece : List CodeItem) (at : Site piece) : Type 0 where
-  pub branches : (x : List ℕ) → Leads at x (begin_of piece at) (if passes test x then label_of piece at label else end_of piece at) [] (λ y. y ≡ x)
+  pub branches : (x : List ℕ) → PieceLeads at x (begin_of piece at) (if passes test x then label_of piece at label else end_of piece at) [] (λ y. y ≡ x)
   pub marks : marks_in piece at ≡ []
   pub resumes : resumes_in piece at ≡ []
 

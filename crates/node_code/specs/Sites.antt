@@ -3,10 +3,10 @@ use Rattle.std.specs.Prelude.{◌≡◌, ℕ, ◌+◌, ◌*◌, ◌^◌, ◌<◌
 use Rattle.rv64_isa.specs.declared.object.CodeItem.{CodeItem}
 use Rattle.rv64_isa.specs.declared.object.CodeItem.TheVariants.{Instruction, BranchTo, JumpTo, Here, MarkNext, ResumeNext}
 use Rattle.rv64_link.specs.LabelledCode.{label_position}
-use Rattle.rv64_link.specs.Linked.{IsLinked}
-use Rattle.code_runs.specs.Walks.{Program, Setting, Meets}
+use Rattle.rv64_link.specs.LinkedCode.{IsLinked}
+use Rattle.code_runs.specs.CodeTraces.{Program, MarkedEnvironment, Meets}
 
--- a mark that stands behind the items, or stood before them, still waits for its instruction
+-- a mark that stands after the items, or stood before them, still waits for its instruction
 abbrev pub mark_waits : Bool → List CodeItem → Bool
 mark_waits waits [] = waits
 mark_waits waits (Instruction instr ∷ items) = mark_waits false items
@@ -21,14 +21,14 @@ pub record Linking (items : List CodeItem) : Type 0 where
   pub program : Program
   pub linked : IsLinked program.start items program.code program.nodes program.resumes
   pub room : program.start + 4 * length program.code < 2 ^ 64
-  pub setting : Setting
-  pub meets : Meets program setting
+  pub environment : MarkedEnvironment
+  pub meets : Meets program environment
 
 -- the part of items that begins at a position
 pub record IsPart (items : List CodeItem) (position : ℕ) (part : List CodeItem) : Type 0 where
   pub before : List CodeItem
-  pub behind : List CodeItem
-  pub split : items ≡ before ++ (part ++ behind)
+  pub after : List CodeItem
+  pub split : items ≡ before ++ (part ++ after)
   pub at : position ≡ length before
 
 -- a part of a thread's items where no mark waits for its first instruction

@@ -2,10 +2,10 @@
 ghost use Rattle.std.specs.Prelude.{◌≡◌, ◌<◌, ◌++◌, ◌∷◌, [], IsTrue, IfOk, OnOk, pos, ◌≤ℤ◌, negsuc};
 ghost use Rattle.std.specs.List.{list_all};
 ghost use Rattle.ido_base.specs.declared.limits.TheConstants.{MOST_THREADS};
-ghost use Rattle.log_layout.specs.Roles.{is_kept};
-ghost use Rattle.node_code.specs.Pieces.{Appends, IsBoundary, boundary_of};
-ghost use Rattle.node_code.specs.links.Listing.{boundary_items};
-ghost use Rattle.node_code.specs.links.Kept.{IsCodeOf};
+ghost use Rattle.memory_layout.specs.Roles.{is_kept};
+ghost use Rattle.node_code.specs.Pieces.{Appends, IsBoundaryPiece, boundary_of};
+ghost use Rattle.node_code.specs.links.ItemLists.{boundary_items};
+ghost use Rattle.node_code.specs.links.BoundaryCode.{IsCodeOf};
 
 use crate::items::push_plain;
 use crate::kept::Kept;
@@ -15,7 +15,7 @@ use rv64_isa::instr::Instr;
 use rv64_isa::object::CodeItem;
 use std::alloc::Global;
 
-/// The code of a boundary that resumes so many bytes behind its end.
+/// The code of a boundary that resumes so many bytes after its end.
 pub(crate) fn boundary_code(
     alloc: Global,
     kept: &Kept,
@@ -28,7 +28,7 @@ pub(crate) fn boundary_code(
     boundary(alloc, kept.thread, kept.mask, kept.live, i32::from(resume))
 }
 
-/// Appends a boundary's code, behind which recovery may resume.
+/// Appends a boundary's code, after which recovery may resume.
 pub(crate) fn append_boundary(items: &mut Vec<CodeItem>, code: &[Instr]) -> Result<(), OutOfMemory>
     ensures { OnOk result (items.new.items ≡ items.old.items ++ boundary_items code.now) }
 {
@@ -37,7 +37,7 @@ pub(crate) fn append_boundary(items: &mut Vec<CodeItem>, code: &[Instr]) -> Resu
     Ok(())
 }
 
-/// Appends a boundary that keeps these, behind which the thread may be resumed.
+/// Appends a boundary that keeps these, after which the thread may be resumed.
 pub fn push_boundary(
     alloc: Global,
     items: &mut Vec<CodeItem>,
@@ -45,7 +45,7 @@ pub fn push_boundary(
 ) -> Result<(), OutOfMemory>
     requires thread { kept.now.thread < MOST_THREADS }
     requires live { IsTrue (list_all is_kept kept.now.live.now) }
-    ensures { OnOk result (Appends items.old.items items.new.items (IsBoundary (boundary_of kept.now 0))) }
+    ensures { OnOk result (Appends items.old.items items.new.items (IsBoundaryPiece (boundary_of kept.now 0))) }
 {
     let code = boundary_code(alloc, kept, 0)?;
     append_boundary(items, &code)

@@ -2,9 +2,9 @@
 ghost use Rattle.std.specs.Prelude.{◌≡◌, ◌<◌, ◌++◌, ◌∷◌, [], IsTrue, OnOk};
 ghost use Rattle.std.specs.List.{list_all};
 ghost use Rattle.ido_base.specs.declared.limits.TheConstants.{MOST_THREADS};
-ghost use Rattle.log_layout.specs.Roles.{is_kept};
-ghost use Rattle.node_code.specs.Pieces.{Appends, IsLock, IsUnlock, IsEnd, boundary_of};
-ghost use Rattle.node_code.specs.links.Listing.{plain, asking, lock_items, unlock_items, end_items};
+ghost use Rattle.memory_layout.specs.Roles.{is_kept};
+ghost use Rattle.node_code.specs.Pieces.{Appends, IsLockPiece, IsUnlockPiece, IsEnd, boundary_of};
+ghost use Rattle.node_code.specs.links.ItemLists.{plain, asking, lock_items, unlock_items, end_items};
 
 use crate::boundaries::{append_boundary, boundary_code};
 use crate::items::{load_small, push_plain};
@@ -30,7 +30,7 @@ const GIVES: u16 = 2;
 /// The number of the call that ends the thread.
 const ENDS: u16 = 3;
 
-/// Bytes from the end of an unlock's boundary to the instruction behind its call.
+/// Bytes from the end of an unlock's boundary to the instruction after its call.
 const GIVING_BYTES: u16 = 12;
 
 /// The registers of a call of one mutex are set.
@@ -55,7 +55,7 @@ fn append_lock(items: &mut Vec<CodeItem>, mutex: u16, boundary: &[Instr]) -> Res
     append_boundary(items, boundary)
 }
 
-/// The boundary, behind which a mutex is given back.
+/// The boundary, after which a mutex is given back.
 fn append_unlock(
     items: &mut Vec<CodeItem>,
     mutex: u16,
@@ -85,7 +85,7 @@ fn append_end(items: &mut Vec<CodeItem>) -> Result<(), OutOfMemory>
     Ok(())
 }
 
-/// Appends the code that takes a mutex. Behind the call, which is the mark, stands a boundary that keeps these.
+/// Appends the code that takes a mutex. After the call, which is the mark, stands a boundary that keeps these.
 pub fn push_lock(
     alloc: Global,
     items: &mut Vec<CodeItem>,
@@ -95,13 +95,13 @@ pub fn push_lock(
     requires thread { kept.now.thread < MOST_THREADS }
     requires live { IsTrue (list_all is_kept kept.now.live.now) }
     requires mutex { mutex < 2048 }
-    ensures { OnOk result (Appends items.old.items items.new.items (IsLock (boundary_of kept.now 0) mutex)) }
+    ensures { OnOk result (Appends items.old.items items.new.items (IsLockPiece (boundary_of kept.now 0) mutex)) }
 {
     let boundary = boundary_code(alloc, kept, 0)?;
     append_lock(items, mutex, &boundary)
 }
 
-/// Appends the code that gives a mutex back. Before the call stands a boundary that keeps these, and resumes behind the
+/// Appends the code that gives a mutex back. Before the call stands a boundary that keeps these, and resumes after the
 /// call; its first instruction is the mark. A boundary that leaves the thread with no mutex is resumed nowhere.
 pub fn push_unlock(
     alloc: Global,
@@ -112,7 +112,7 @@ pub fn push_unlock(
     requires thread { kept.now.thread < MOST_THREADS }
     requires live { IsTrue (list_all is_kept kept.now.live.now) }
     requires mutex { mutex < 2048 }
-    ensures { OnOk result (Appends items.old.items items.new.items (IsUnlock (boundary_of kept.now 12) mutex)) }
+    ensures { OnOk result (Appends items.old.items items.new.items (IsUnlockPiece (boundary_of kept.now 12) mutex)) }
 {
     let boundary = boundary_code(alloc, kept, GIVING_BYTES)?;
     append_unlock(items, mutex, kept.mask, &boundary)

@@ -1,7 +1,7 @@
 //! Code that only computes.
 ghost use Rattle.std.specs.Prelude.{◌≡◌, ◌++◌, OnOk};
 ghost use Rattle.node_code.specs.Pieces.{Appends, IsComputing, IsChoice};
-ghost use Rattle.node_code.specs.links.Listing.{computing_items, choice_items};
+ghost use Rattle.node_code.specs.links.ItemLists.{computing_items, choice_items};
 
 use crate::items::{load_small, push_item, push_plain};
 use ido_base::memory::OutOfMemory;
@@ -51,7 +51,7 @@ pub fn push_computing(items: &mut Vec<CodeItem>, code: &[Instr]) -> Result<(), O
     append_computing(items, code)
 }
 
-/// Appends code that only computes, and a branch to the label, which is taken where the test is passed behind the code. The
+/// Appends code that only computes, and a branch to the label, which is taken where the test is passed after the code. The
 /// first instruction is the mark.
 pub fn push_choice(
     items: &mut Vec<CodeItem>,

@@ -1,6 +1,6 @@
 //! Code with labels, put together.
 ghost use Rattle.std.specs.Prelude.{◌≡◌, ◌<◌, ◌^◌, ◌++◌, ◌∷◌, [], OnOk};
-ghost use Rattle.node_code.specs.links.Listing.{plain};
+ghost use Rattle.node_code.specs.links.ItemLists.{plain};
 
 use ido_base::memory::OutOfMemory;
 use operator_code::instructions::immediate;

@@ -1,13 +1,13 @@
 //! What a boundary keeps.
 use rv64_isa::field::Register;
 
-/// What a boundary keeps of a thread, so that it may be resumed behind it.
+/// What a boundary keeps of a thread, so that it may be resumed after it.
 #[derive(Clone, Copy)]
 pub struct Kept<'a> {
     /// The number of the thread, below 8.
     pub thread: u32,
-    /// The mutexes that are held behind the boundary, bit i for mutex i. 0 ends a section.
+    /// The mutexes that are held after the boundary, bit i for mutex i. 0 ends a section.
     pub mask: u64,
-    /// The registers that are live behind it, each that of a local or one of the pending store.
+    /// The registers that are live after it, each that of a local or one of the pending store.
     pub live: &'a [Register],
 }

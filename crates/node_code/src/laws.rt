@@ -1,5 +1,5 @@
-//! What is true of pieces that stand one behind another.
-ghost use Rattle.node_code.specs.Joined.{PiecesStand, PiecesClose, HalvesStand};
+//! What is true of pieces that stand one after another.
+ghost use Rattle.node_code.specs.JoinedPieces.{PiecesStand, PiecesClose, HalvesStand};
 
 /// Pieces stand one after another wherever they are linked.
 pub fn pieces_stand()

@@ -1,4 +1,7 @@
 //! The code of what the nodes of a flow graph do, wherever it stands in a thread's linked code.
+//!
+//! What a piece does is said of every place where it stands and every linking of the items it is among: from which registers it
+//! leads where, what is observed, its marks, its resume addresses, and how many words it takes at most.
 #![tactic(auto)]
 
 mod boundaries;

@@ -2,8 +2,8 @@
 ghost use Rattle.std.specs.Prelude.{◌≡◌, ◌++◌, OnOk};
 ghost use Rattle.ido_ints.specs.Kinds.{bytes_of};
 ghost use Rattle.rv64_isa.specs.Rows.{store_bytes};
-ghost use Rattle.node_code.specs.Pieces.{Appends, IsStore};
-ghost use Rattle.node_code.specs.links.Listing.{store_items};
+ghost use Rattle.node_code.specs.Pieces.{Appends, IsStorePiece};
+ghost use Rattle.node_code.specs.links.ItemLists.{store_items};
 
 use ido_base::memory::OutOfMemory;
 use ido_ints::Kind;
@@ -42,7 +42,7 @@ fn append_store(items: &mut Vec<CodeItem>, kind: StoreKind, cleans: bool) -> Res
 
 /// Appends the code that makes the pending store of a variable of this kind, and cleans its line at once or not.
 pub fn push_store(items: &mut Vec<CodeItem>, kind: Kind, cleans: bool) -> Result<(), OutOfMemory>
-    ensures { OnOk result (Appends items.old.items items.new.items (IsStore kind cleans)) }
+    ensures { OnOk result (Appends items.old.items items.new.items (IsStorePiece kind cleans)) }
 {
     append_store(items, store_kind(kind), cleans)
 }

@@ -1,4 +1,2 @@
-pub mod FieldLaws
-pub mod Objects
-pub mod Loop
+mod Objects
 mod Worked

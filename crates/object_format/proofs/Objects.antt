@@ -1,9 +1,8 @@
 -- The two laws: what is read is spelled so, and what is spelled so is read.
-use Rattle.std.proofs.Common.{◌≡◌, ℕ, ◌-◌, ◌%◌, ◌^◌, ◌<◌, ◌≤◌, true, cond, List, [], ◌∷◌, ◌++◌, length}
+use Rattle.std.proofs.Common.{◌≡◌, ℕ, ◌-◌, ◌%◌, ◌^◌, ◌<◌, ◌≤◌, List, [], ◌∷◌, ◌++◌, length}
 use Rattle.std.proofs.Common.{All, map, Result, Ok, Err, refl, sym, ap, subst, ◌∙◌, append_assoc, arith}
-use Rattle.std.specs.Prelude.{IfOk, is_some, nat_eq, ◌==◌}
+use Rattle.std.specs.Prelude.{IfOk, is_some, ◌==◌}
 use Rattle.std.specs.Global.{Vec}
-use Rattle.std.specs.Cmp.Lexicographic.{pointwise}
 use Rattle.std.specs.List.{flat_map, AllByRecursion}
 use Rattle.std.proofs.lemmas.Bool.{eqb-true}
 use Rattle.std.proofs.lemmas.List.{append-nil, nil_from_length}
@@ -11,49 +10,17 @@ use Rattle.std.proofs.lemmas.List.Elements.{All-from_recursion}
 use Rattle.ido_base.specs.declared.limits.TheConstants.{MOST_THREADS, MOST_MUTEXES, MOST_VARIABLE_BYTES, MOST_CODE_WORDS}
 use Rattle.rv64_isa.specs.Formats.{decoded}
 use Rattle.rv64_isa.specs.declared.object.Object.{Object}
+use Rattle.file_fields.specs.declared.error.ReadError.{ReadError}
+use Rattle.file_fields.specs.Fields.{Rest, ◌>>=◌, bytes_at, number_at, kept, number_within, repeated, magic_at, version_at, ended}
+use Rattle.file_fields.specs.Numbers.{number}
+use Rattle.file_fields.specs.links.ReaderResults.{Gives}
+use Rattle.file_fields.proofs.Public.{IsBytes, bind_ok, test_ok, kept_ok, ok_is, Takes, then, bytes_take, bytes_again, number_takes, number_again}
+use Rattle.file_fields.proofs.Public.{within_takes, within_again, magic_takes, magic_again, version_takes, version_again, repeated_take, repeated_again}
 use Rattle.object_format.specs.Contents.{Contents, contents_of, items_of, IsInstructionWord, IsThreadCode, IsWithinLimits, word_bytes, least_words}
-use Rattle.object_format.specs.Spelling.{magic, version, number, thread_text, spelling}
-use Rattle.object_format.specs.Reading as r
-use Rattle.object_format.specs.Reading.{Fault, Reads, Head, ◌>>=◌, bytes_at, number_at, kept, number_within, repeated}
-use Rattle.object_format.specs.Reading.{magic_at, version_at, initial_at, word_at, thread_at, head_at, ended, read}
-use Rattle.object_format.specs.declared.error.ReadError.{ReadError}
-use Rattle.object_format.specs.links.Gives.{Gives}
-use Rattle.object_format.proofs.FieldLaws.{IsBytes, and_parts, bind_ok, test_ok, kept_ok, ok_is, Takes, then, bytes_take, bytes_again}
-use Rattle.object_format.proofs.FieldLaws.{number_takes, number_again, within_takes, within_again, repeated_take, repeated_again}
+use Rattle.object_format.specs.ObjectEncoder.{magic, version, thread_text, spelling}
+use Rattle.object_format.specs.ObjectDecoder.{Head, initial_at, word_at, thread_at, head_at, read}
 
 -- ---- The head
-
-pointwise_is : (xs ys : List ℕ) → pointwise nat_eq xs ys ≡ true → xs ≡ ys
-pointwise_is [] [] e = refl
-pointwise_is [] (y ∷ ys) e = absurd cc
-pointwise_is (x ∷ xs) [] e = absurd cc
-pointwise_is (x ∷ xs) (y ∷ ys) e =
-    let both = and_parts (x == y) (pointwise nat_eq xs ys) e in
-    rw (eqb-true x y both.0, pointwise_is xs ys both.1) refl
-
-magic_takes : (total : ℕ) (bytes rest : List ℕ) → IsBytes bytes → magic_at total bytes ≡ Ok rest → Takes bytes magic rest
-unfolding magic_at
-magic_takes total bytes rest fits e =
-    let b = bind_ok (bytes_at total 8 bytes) (λ field. cond (pointwise nat_eq field.0 magic) (Ok field.1) (Err r.Magic)) rest e in
-    let t = bytes_take total 8 bytes b.0 fits b.1 in
-    let g = test_ok (pointwise nat_eq b.0.0 magic) r.Magic b.0.1 rest b.2 in
-    subst (λ text. Takes bytes text rest) (pointwise_is b.0.0 magic g.0) (subst (λ y. Takes bytes b.0.0 y) g.1 t.0)
-
-magic_again : (total : ℕ) (rest : List ℕ) → magic_at total (magic ++ rest) ≡ Ok rest
-unfolding magic_at
-magic_again total rest = rw (bytes_again total 8 magic rest refl) refl
-
-version_takes : (total : ℕ) (bytes rest : List ℕ) → IsBytes bytes → version_at total bytes ≡ Ok rest → Takes bytes (number version) rest
-unfolding version_at
-version_takes total bytes rest fits e =
-    let b = bind_ok (number_at total bytes) (λ n. cond (n.0 == version) (Ok n.1) (Err r.Version)) rest e in
-    let t = number_takes total bytes b.0 fits b.1 in
-    let g = test_ok (b.0.0 == version) r.Version b.0.1 rest b.2 in
-    subst (λ n. Takes bytes (number n) rest) (eqb-true b.0.0 version g.0) (subst (λ y. Takes bytes (number b.0.0) y) g.1 t.0)
-
-version_again : (total : ℕ) (rest : List ℕ) → version_at total (number version ++ rest) ≡ Ok rest
-unfolding version_at
-version_again total rest = rw (number_again total version rest (omega arith)) refl
 
 pub record IsInitial (bytes : List ℕ) : Type 0 where
   pub few : length bytes ≤ MOST_VARIABLE_BYTES
@@ -90,10 +57,10 @@ head_text h = magic ++ (number version ++ (number h.threads ++ (number h.mutexes
 head_takes : (total : ℕ) (bytes : List ℕ) (x : Head × List ℕ) → IsBytes bytes → head_at total bytes ≡ Ok x → Takes bytes (head_text x.0) x.1 × IsHead x.0
 unfolding head_at
 head_takes total bytes x fits e =
-    let a = bind_ok (magic_at total bytes)
-    (λ m. version_at total m >>= λ v. number_within total 0 MOST_THREADS v >>= λ threads. number_within total 0 MOST_MUTEXES threads.1 >>= λ mutexes.
+    let a = bind_ok (magic_at total magic bytes)
+    (λ m. version_at total version m >>= λ v. number_within total 0 MOST_THREADS v >>= λ threads. number_within total 0 MOST_MUTEXES threads.1 >>= λ mutexes.
     initial_at total mutexes.1 >>= λ initial. Ok (record { threads = threads.0; mutexes = mutexes.0; initial = initial.0 }, initial.1)) x e in
-    let b = bind_ok (version_at total a.0)
+    let b = bind_ok (version_at total version a.0)
     (λ v. number_within total 0 MOST_THREADS v >>= λ threads. number_within total 0 MOST_MUTEXES threads.1 >>= λ mutexes.
     initial_at total mutexes.1 >>= λ initial. Ok (record { threads = threads.0; mutexes = mutexes.0; initial = initial.0 }, initial.1)) x a.2 in
     let c = bind_ok (number_within total 0 MOST_THREADS b.0)
@@ -102,8 +69,8 @@ head_takes total bytes x fits e =
     let d = bind_ok (number_within total 0 MOST_MUTEXES c.0.1)
     (λ mutexes. initial_at total mutexes.1 >>= λ initial. Ok (record { threads = c.0.0; mutexes = mutexes.0; initial = initial.0 }, initial.1)) x c.2 in
     let f = bind_ok (initial_at total d.0.1) (λ initial. Ok (record { threads = c.0.0; mutexes = d.0.0; initial = initial.0 }, initial.1)) x d.2 in
-    let t0 = magic_takes total bytes a.0 fits a.1 in
-    let t1 = version_takes total a.0 b.0 t0.rest_fits b.1 in
+    let t0 = magic_takes total magic bytes a.0 fits a.1 in
+    let t1 = version_takes total version a.0 b.0 t0.rest_fits b.1 in
     let t2 = within_takes total 0 MOST_THREADS b.0 c.0 t1.rest_fits c.1 in
     let t3 = within_takes total 0 MOST_MUTEXES c.0.1 d.0 t2.0.rest_fits d.1 in
     let t4 = initial_takes total d.0.1 f.0 t3.0.rest_fits f.1 in
@@ -120,8 +87,8 @@ head_again : (total : ℕ) (h : Head) (rest : List ℕ) → IsHead h →
 unfolding head_at
 head_again total h rest good =
     rw (
-      magic_again total (number version ++ (number h.threads ++ (number h.mutexes ++ (number (length h.initial) ++ (h.initial ++ rest))))),
-      version_again total (number h.threads ++ (number h.mutexes ++ (number (length h.initial) ++ (h.initial ++ rest)))),
+      magic_again total magic (number version ++ (number h.threads ++ (number h.mutexes ++ (number (length h.initial) ++ (h.initial ++ rest))))),
+      version_again total version (number h.threads ++ (number h.mutexes ++ (number (length h.initial) ++ (h.initial ++ rest)))) (omega arith),
       within_again total 0 MOST_THREADS h.threads (number h.mutexes ++ (number (length h.initial) ++ (h.initial ++ rest))) (omega arith) good.threads
           (omega (arith, good.threads)),
       within_again total 0 MOST_MUTEXES h.mutexes (number (length h.initial) ++ (h.initial ++ rest)) (omega arith) good.mutexes (omega (arith, good.mutexes)),
@@ -177,7 +144,7 @@ object_takes bytes o fits e =
     let b = bind_ok (repeated (thread_at total) a.0.0.threads a.0.1)
     (λ code. ended total code.1 (record { code = code.0; initial = a.0.0.initial; mutexes = a.0.0.mutexes })) o a.2 in
     let made : Contents = record { code = b.0.0; initial = a.0.0.initial; mutexes = a.0.0.mutexes } in
-    let g = test_ok (length b.0.1 == 0) (r.Rest (total - length b.0.1)) made o b.2 in
+    let g = test_ok (length b.0.1 == 0) (Rest (total - length b.0.1)) made o b.2 in
     let t = head_takes total bytes a.0 fits a.1 in
     let u = repeated_take thread_text IsThreadCode (thread_at total) (thread_takes total) a.0.0.threads a.0.1 b.0 t.0.rest_fits b.1 in
     let nothing : b.0.1 ≡ [] = nil_from_length b.0.1 (eqb-true _ _ g.0) in

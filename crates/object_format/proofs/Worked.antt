@@ -1,10 +1,10 @@
 -- What the definitions compute.
 use Rattle.std.specs.Prelude.{◌≡◌, ℕ, List, [], ◌∷◌, ◌++◌, take, drop, refl, Ok, Err}
 use Rattle.rv64_isa.specs.Formats.{decoded}
+use Rattle.file_fields.specs.Fields.{Magic, Version, Cut, Field, Rest, magic_at, version_at, number_within, repeated, number_at}
 use Rattle.object_format.specs.Contents.{Contents}
-use Rattle.object_format.specs.Spelling.{spelling}
-use Rattle.object_format.specs.Reading.{Magic, Version, Cut, Field, Rest, read, head_at, magic_at, version_at}
-use Rattle.object_format.specs.Reading.{number_within, initial_at, thread_at, repeated, word_at, number_at}
+use Rattle.object_format.specs.ObjectEncoder.{spelling}
+use Rattle.object_format.specs.ObjectDecoder.{read, head_at, initial_at, thread_at, word_at}
 
 -- one thread, `addi x5, x0, 1` and `ecall`
 two_words : Contents
@@ -28,7 +28,7 @@ cut_inside_the_last_word : read (head_bytes ++ take 11 code_bytes) ≡ Err (Cut 
 unfolding two_words head_bytes code_bytes read head_at magic_at version_at number_within initial_at thread_at repeated word_at number_at decoded
 cut_inside_the_last_word = refl
 
--- a fault of a whole field comes before the cut behind it
+-- a fault of a whole field comes before the cut after it
 no_words : read (head_bytes ++ 0 ∷ 0 ∷ 0 ∷ 0 ∷ 1 ∷ []) ≡ Err (Field 24)
 unfolding two_words head_bytes code_bytes read head_at magic_at version_at number_within initial_at thread_at repeated word_at number_at decoded
 no_words = refl

@@ -2,7 +2,7 @@
 use Rattle.std.specs.Prelude.{◌≡◌, ℕ, ◌%◌, ◌^◌, ◌<◌, ◌≤◌, List, length, map, IsTrue, is_some}
 use Rattle.std.specs.List.{AllByRecursion}
 use Rattle.std.specs.Global.{Vec}
-use Rattle.ido_base.specs.declared.limits.TheConstants.{MOST_THREADS, MOST_MUTEXES, MOST_VARIABLE_BYTES, MOST_CODE_WORDS}
+use Rattle.ido_base.specs.declared.limits.TheConstants.{MOST_THREADS, MOST_MUTEXES, MOST_VARIABLE_BYTES, MOST_CODE_WORDS, WORD_BYTES}
 use Rattle.rv64_isa.specs.Formats.{decoded}
 use Rattle.rv64_isa.specs.declared.object.Object.{Object}
 
@@ -24,7 +24,7 @@ contents_of object = record { code = map items_of object.code.items; initial = o
 
 -- initial bytes are whole words
 abbrev pub word_bytes : ℕ
-word_bytes = 8
+word_bytes = WORD_BYTES
 
 abbrev pub least_words : ℕ
 least_words = 1

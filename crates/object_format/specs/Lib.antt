@@ -1,4 +1,6 @@
+pub use Rattle.file_fields.specs.Fields
+pub use Rattle.file_fields.specs.Numbers
 pub mod Contents
-pub mod Spelling
-pub mod Reading
+pub mod ObjectEncoder
+pub mod ObjectDecoder
 pub mod links

@@ -1,7 +1,6 @@
 //! Compiled programs as bytes, both ways.
 #![tactic(auto)]
 
-pub mod error;
 mod fields;
 mod limits;
 pub mod reading;

@@ -1,15 +1,17 @@
 //! Bytes read as an object.
-ghost use Rattle.std.specs.Prelude.{◌≡◌, ◌≤◌, ◌∷◌, ◌++◌, [], length, map, IfOk, OnOk, Ok};
+ghost use Rattle.std.specs.Prelude.{◌≡◌, ◌≤◌, ℕ, List, length, map, IfOk, Ok};
 ghost use Rattle.ido_base.specs.declared.limits.TheConstants.{MOST_INPUT_BYTES};
+ghost use Rattle.file_fields.specs.Fields.{repeated};
+ghost use Rattle.file_fields.specs.links.ReaderResults.{Gives};
 ghost use Rattle.object_format.specs.Contents.{Contents, contents_of, items_of, IsWithinLimits};
-ghost use Rattle.object_format.specs.Spelling.{spelling};
-ghost use Rattle.object_format.specs.Reading.{repeated, word_at, thread_at, head_at, read};
-ghost use Rattle.object_format.specs.links.Gives.{Gives};
+ghost use Rattle.object_format.specs.ObjectEncoder.{spelling};
+ghost use Rattle.object_format.specs.ObjectDecoder.{word_at, thread_at, head_at, read};
 ghost use Rattle.object_format.specs.links.Heads.{head_of};
 
-use crate::error::ReadError;
-use crate::fields::{initial_at, magic_at, number_within, place_of, version_at, word_at};
+use crate::fields::{initial_at, word_at};
 use crate::limits::LEAST_WORDS;
+use file_fields::error::ReadError;
+use file_fields::reading::{Reader, magic_at, number_within, place_of, repeated, version_at};
 use ido_base::limits::{MOST_CODE_WORDS, MOST_MUTEXES, MOST_THREADS};
 use ido_base::memory::OutOfMemory;
 use rv64_isa::object::Object;
@@ -23,12 +25,12 @@ struct Head<'a> {
     initial: &'a [u8],
 }
 
-#[tactic(auto, unfolding(crate::specs::Reading::head_at))]
+#[tactic(auto, unfolding(crate::specs::ObjectDecoder::head_at))]
 fn head_at(total: u32, bytes: &[u8]) -> Result<(Head<'_>, &[u8]), ReadError>
     ensures { Gives (λ x. (head_of x.0, x.1.now)) result (head_at total bytes.now) }
 {
-    let rest = magic_at(total, bytes)?;
-    let rest = version_at(total, rest)?;
+    let rest = magic_at(total, b"IDO-OBJ\n", bytes)?;
+    let rest = version_at(total, 1, rest)?;
     let (threads, rest) = number_within(total, 0, MOST_THREADS, rest)?;
     let (mutexes, rest) = number_within(total, 0, MOST_MUTEXES, rest)?;
     let (initial, rest) = initial_at(total, rest)?;
@@ -40,7 +42,27 @@ fn head_at(total: u32, bytes: &[u8]) -> Result<(Head<'_>, &[u8]), ReadError>
     Ok((head, rest))
 }
 
-/// So many words of instructions.
+/// Reads words of instructions.
+#[derive(Drop)]
+struct WordReader {
+    total: u32,
+}
+
+impl Reader for WordReader {
+    type Item = u32;
+
+    ghost Value = { ℕ };
+
+    ghost view = { λ word. word };
+
+    ghost reading = { λ reader. word_at reader.total };
+
+    fn read<'a>(&self, bytes: &'a [u8]) -> Result<(u32, &'a [u8]), ReadError> {
+        word_at(self.total, bytes)
+    }
+}
+
+/// The first `count` words of instructions, and the bytes after them.
 fn words_at(
     alloc: Global,
     total: u32,
@@ -49,23 +71,37 @@ fn words_at(
 ) -> Result<(Vec<u32>, &[u8]), ReadError>
     ensures { Gives (λ x. (x.0.items, x.1.now)) result (repeated (word_at total) count bytes.now) }
 {
-    let mut words = Vec::new(alloc);
-    let mut rest = bytes;
-    for _ in 0..count {
-        let (word, behind) = word_at(total, rest)?;
-        push(&mut words, word)?;
-        rest = behind;
-    }
-    Ok((words, rest))
+    repeated(alloc, &WordReader { total }, u64::from(count), bytes)
 }
 
 /// The code of a thread.
-#[tactic(auto, unfolding(crate::specs::Reading::thread_at))]
+#[tactic(auto, unfolding(crate::specs::ObjectDecoder::thread_at))]
 fn thread_at(alloc: Global, total: u32, bytes: &[u8]) -> Result<(Vec<u32>, &[u8]), ReadError>
     ensures { Gives (λ x. (x.0.items, x.1.now)) result (thread_at total bytes.now) }
 {
     let (count, rest) = number_within(total, LEAST_WORDS, MOST_CODE_WORDS, bytes)?;
     words_at(alloc, total, count, rest)
+}
+
+/// Reads the code of threads.
+#[derive(Drop)]
+struct ThreadReader {
+    alloc: Global,
+    total: u32,
+}
+
+impl Reader for ThreadReader {
+    type Item = Vec<u32>;
+
+    ghost Value = { List ℕ };
+
+    ghost view = { items_of };
+
+    ghost reading = { λ reader. thread_at reader.total };
+
+    fn read<'a>(&self, bytes: &'a [u8]) -> Result<(Vec<u32>, &'a [u8]), ReadError> {
+        thread_at(self.alloc, self.total, bytes)
+    }
 }
 
 /// The code of so many threads.
@@ -77,22 +113,12 @@ fn threads_at(
 ) -> Result<(Vec<Vec<u32>>, &[u8]), ReadError>
     ensures { Gives (λ x. (map items_of x.0.items, x.1.now)) result (repeated (thread_at total) count bytes.now) }
 {
-    let mut threads = Vec::new(alloc);
-    let mut rest = bytes;
-    for _ in 0..count {
-        let (words, behind) = thread_at(alloc, total, rest)?;
-        push(&mut threads, words)?;
-        rest = behind;
-    }
-    Ok((threads, rest))
-}
-
-/// Adds an element.
-fn push<T: Drop>(items: &mut Vec<T>, item: T) -> Result<(), OutOfMemory>
-    ensures { OnOk result (items.new.items ≡ items.old.items ++ item ∷ []) }
-{
-    items.push(item)?;
-    Ok(())
+    repeated(
+        alloc,
+        &ThreadReader { alloc, total },
+        u64::from(count),
+        bytes,
+    )
 }
 
 /// A copy of bytes.
@@ -104,7 +130,7 @@ fn copy(alloc: Global, bytes: &[u8]) -> Result<Vec<u8>, OutOfMemory>
 }
 
 /// The object of all bytes, or their first fault.
-#[tactic(auto, unfolding(crate::specs::Reading::read))]
+#[tactic(auto, unfolding(crate::specs::ObjectDecoder::read))]
 fn read(alloc: Global, bytes: &[u8]) -> Result<Object, ReadError>
     requires { length bytes.now ≤ MOST_INPUT_BYTES }
     ensures { Gives contents_of result (read bytes.now) }

@@ -1,36 +1,13 @@
 //! An object written as bytes.
 ghost use Rattle.std.specs.Prelude.{◌≡◌, ◌++◌, ◌<◌, ◌^◌, length, map, IfOk, OnOk, flat_map, All};
+ghost use Rattle.file_fields.specs.Numbers.{number};
 ghost use Rattle.object_format.specs.Contents.{contents_of, items_of};
-ghost use Rattle.object_format.specs.Spelling.{HasLengths, number, magic, thread_text, spelling};
+ghost use Rattle.object_format.specs.ObjectEncoder.{HasLengths, magic, thread_text, spelling};
 
+use file_fields::writing::{put, put_number, put_numbers};
 use ido_base::memory::OutOfMemory;
 use rv64_isa::object::Object;
 use std::alloc::Global;
-
-/// Adds bytes.
-fn put(out: &mut Vec<u8>, bytes: &[u8]) -> Result<(), OutOfMemory>
-    ensures { OnOk result (out.new.items ≡ out.old.items ++ bytes.now) }
-{
-    out.extend_from_slice(bytes)?;
-    Ok(())
-}
-
-/// Adds a number.
-fn put_number(out: &mut Vec<u8>, n: u32) -> Result<(), OutOfMemory>
-    ensures { OnOk result (out.new.items ≡ out.old.items ++ number n) }
-{
-    put(out, &n.to_le_bytes())
-}
-
-/// Adds words.
-fn put_words(out: &mut Vec<u8>, words: &[u32]) -> Result<(), OutOfMemory>
-    ensures { OnOk result (out.new.items ≡ out.old.items ++ flat_map number words.now) }
-{
-    for word in words {
-        put_number(out, *word)?;
-    }
-    Ok(())
-}
 
 /// Adds the code of a thread.
 fn put_thread(out: &mut Vec<u8>, words: &[u32]) -> Result<(), OutOfMemory>
@@ -38,7 +15,7 @@ fn put_thread(out: &mut Vec<u8>, words: &[u32]) -> Result<(), OutOfMemory>
     ensures { OnOk result (out.new.items ≡ out.old.items ++ thread_text words.now) }
 {
     put_number(out, words.len() as u32)?;
-    put_words(out, words)
+    put_numbers(out, words)
 }
 
 /// Adds the code of threads.

@@ -13,10 +13,10 @@ use Rattle.rv64_isa.specs.declared.instr.Instr.TheVariants.{Lui, OpImmediate, Sh
 use Rattle.rv64_isa.specs.declared.instr.ImmediateOperation.TheVariants.{Addi, Addiw}
 use Rattle.rv64_isa.specs.declared.instr.ShiftOperation.TheVariants.{Slli}
 use Rattle.rv64_isa.specs.declared.instr.Operation.TheVariants.{Add, Addw, Sll}
-use Rattle.rv64_isa.specs.Rows.{GoesOn, row, read, written, next, upper}
+use Rattle.rv64_isa.specs.Rows.{Continues, row, read, written, next, upper}
 use Rattle.rv64_isa.specs.Arithmetic.{sign_extended, result_of}
-use Rattle.operator_code.specs.Straight.{IsConstant}
-use Rattle.operator_code.proofs.Runs.{Runs, stop, go, along, constant_runs}
+use Rattle.operator_code.specs.StraightLineCode.{IsConstant}
+use Rattle.operator_code.proofs.Runs.{RunsFrom, stop, go, along, constant_runs}
 use Rattle.operator_code.proofs.Registers.{read_same, Signed12, Signed32}
 
 -- ---- Powers of 2 and remainders
@@ -101,7 +101,7 @@ pub written_is : (x : List ℕ) (r v : ℕ) → 0 < r → written x r v ≡ slic
 written_is x r v some = let t : (r == 0) ≡ false = grind (arith, nat_tests) in rw (t, written) refl
 
 -- code of one instruction
-pub one : (r v : ℕ) (i : Instr) → ((x : List ℕ) (pc : ℕ) → read x 0 ≡ 0 → row i x pc ≡ GoesOn (slice_set x r v) (next pc)) → IsConstant r v (i ∷ [])
+pub one : (r v : ℕ) (i : Instr) → ((x : List ℕ) (pc : ℕ) → read x 0 ≡ 0 → row i x pc ≡ Continues (slice_set x r v) (next pc)) → IsConstant r v (i ∷ [])
 one r v i e = record {
   unseen = λ x pc l z. (go i [] x (slice_set x r v) pc [] (slice_set x r v) (e x pc z) (stop (slice_set x r v) (pc + 4))).sees;
   changes = λ x pc l z. (go i [] x (slice_set x r v) pc [] (slice_set x r v) (e x pc z) (stop (slice_set x r v) (pc + 4))).leaves;
@@ -109,13 +109,13 @@ one r v i e = record {
 
 -- one more instruction, which computes the register's next value from its last
 pub more : (r v w : ℕ) (code : List Instr) (i : Instr) → r < 32 → IsConstant r v code →
-    ((x : List ℕ) (pc : ℕ) → read x r ≡ v → row i x pc ≡ GoesOn (slice_set x r w) (next pc)) → IsConstant r w (code ++ i ∷ [])
+    ((x : List ℕ) (pc : ℕ) → read x r ≡ v → row i x pc ≡ Continues (slice_set x r w) (next pc)) → IsConstant r w (code ++ i ∷ [])
 more r v w code i small c e = record {
   unseen = λ x pc l z. (both x pc l z).sees;
   changes = λ x pc l z. (both x pc l z).leaves ∙ set-set x r v w;
 }
   where
-    both : (x : List ℕ) (pc : ℕ) → length x ≡ 32 → read x 0 ≡ 0 → Runs (code ++ i ∷ []) x pc [] (slice_set (slice_set x r v) r w)
+    both : (x : List ℕ) (pc : ℕ) → length x ≡ 32 → read x 0 ≡ 0 → RunsFrom (code ++ i ∷ []) x pc [] (slice_set (slice_set x r v) r w)
     both x pc l z =
         let y : List ℕ = slice_set x r v in
         let w' : List ℕ = slice_set y r w in
@@ -125,35 +125,35 @@ more r v w code i small c e = record {
 pub addi_row : (r low : ℕ) → 0 < r → IsConstant r (sign_extended 12 64 low % 2 ^ 64) (OpImmediate Addi r 0 low ∷ [])
 unfolding row result_of
 addi_row r low some = one r (sign_extended 12 64 low % 2 ^ 64) (OpImmediate Addi r 0 low)
-    (λ x pc z. ap (λ (y : List ℕ). GoesOn y (next pc)) (written_is x r (result_of Add (read x 0) (sign_extended 12 64 low)) some) ∙
-    ap (λ (n : ℕ). GoesOn (slice_set x r (result_of Add n (sign_extended 12 64 low))) (next pc)) z ∙
-    ap (λ (n : ℕ). GoesOn (slice_set x r (n % 2 ^ 64)) (next pc)) (let e : 0 + sign_extended 12 64 low ≡ sign_extended 12 64 low = omega arith in e))
+    (λ x pc z. ap (λ (y : List ℕ). Continues y (next pc)) (written_is x r (result_of Add (read x 0) (sign_extended 12 64 low)) some) ∙
+    ap (λ (n : ℕ). Continues (slice_set x r (result_of Add n (sign_extended 12 64 low))) (next pc)) z ∙
+    ap (λ (n : ℕ). Continues (slice_set x r (n % 2 ^ 64)) (next pc)) (let e : 0 + sign_extended 12 64 low ≡ sign_extended 12 64 low = omega arith in e))
 
 pub lui_row : (r u : ℕ) → 0 < r → IsConstant r (upper u) (Lui r u ∷ [])
 unfolding row
-lui_row r u some = one r (upper u) (Lui r u) (λ x pc z. ap (λ (y : List ℕ). GoesOn y (next pc)) (written_is x r (upper u) some))
+lui_row r u some = one r (upper u) (Lui r u) (λ x pc z. ap (λ (y : List ℕ). Continues y (next pc)) (written_is x r (upper u) some))
 
 pub slli_row : (r v count : ℕ) (code : List Instr) → 0 < r → r < 32 → count < 64 → IsConstant r v code →
     IsConstant r (v * 2 ^ count % 2 ^ 64) (code ++ ShiftImmediate Slli r r count ∷ [])
 unfolding row result_of
 slli_row r v count code some small few c = more r v (v * 2 ^ count % 2 ^ 64) code (ShiftImmediate Slli r r count) small c
-    (λ x pc e. ap (λ (y : List ℕ). GoesOn y (next pc)) (written_is x r (result_of Sll (read x r) count) some) ∙
-    ap (λ (n : ℕ). GoesOn (slice_set x r (result_of Sll n count)) (next pc)) e ∙
-    ap (λ (n : ℕ). GoesOn (slice_set x r (v * 2 ^ n % 2 ^ 64)) (next pc)) (mod-eq_of_lt few))
+    (λ x pc e. ap (λ (y : List ℕ). Continues y (next pc)) (written_is x r (result_of Sll (read x r) count) some) ∙
+    ap (λ (n : ℕ). Continues (slice_set x r (result_of Sll n count)) (next pc)) e ∙
+    ap (λ (n : ℕ). Continues (slice_set x r (v * 2 ^ n % 2 ^ 64)) (next pc)) (mod-eq_of_lt few))
 
 pub add_row : (r v low : ℕ) (code : List Instr) → 0 < r → r < 32 → IsConstant r v code →
     IsConstant r ((v + sign_extended 12 64 low) % 2 ^ 64) (code ++ OpImmediate Addi r r low ∷ [])
 unfolding row result_of
 add_row r v low code some small c = more r v ((v + sign_extended 12 64 low) % 2 ^ 64) code (OpImmediate Addi r r low) small c
-    (λ x pc e. ap (λ (y : List ℕ). GoesOn y (next pc)) (written_is x r (result_of Add (read x r) (sign_extended 12 64 low)) some) ∙
-    ap (λ (n : ℕ). GoesOn (slice_set x r (result_of Add n (sign_extended 12 64 low))) (next pc)) e)
+    (λ x pc e. ap (λ (y : List ℕ). Continues y (next pc)) (written_is x r (result_of Add (read x r) (sign_extended 12 64 low)) some) ∙
+    ap (λ (n : ℕ). Continues (slice_set x r (result_of Add n (sign_extended 12 64 low))) (next pc)) e)
 
 pub addiw_row : (r v low : ℕ) (code : List Instr) → 0 < r → r < 32 → IsConstant r v code →
     IsConstant r (sign_extended 32 64 ((v + sign_extended 12 64 low) % 2 ^ 32)) (code ++ OpImmediate Addiw r r low ∷ [])
 unfolding row result_of
 addiw_row r v low code some small c = more r v (sign_extended 32 64 ((v + sign_extended 12 64 low) % 2 ^ 32)) code (OpImmediate Addiw r r low) small c
-    (λ x pc e. ap (λ (y : List ℕ). GoesOn y (next pc)) (written_is x r (result_of Addw (read x r) (sign_extended 12 64 low)) some) ∙
-    ap (λ (n : ℕ). GoesOn (slice_set x r (result_of Addw n (sign_extended 12 64 low))) (next pc)) e)
+    (λ x pc e. ap (λ (y : List ℕ). Continues y (next pc)) (written_is x r (result_of Addw (read x r) (sign_extended 12 64 low)) some) ∙
+    ap (λ (n : ℕ). Continues (slice_set x r (result_of Addw n (sign_extended 12 64 low))) (next pc)) e)
 
 -- LUI and ADDIW together
 pub word_parts : (n x s : ℕ) → n < 2 ^ 32 → Signed32 ((n + 2048) % 2 ^ 32 / 4096 * 2 ^ 12) → x ≡ upper ((n + 2048) % 2 ^ 32 / 4096) →

@@ -10,12 +10,12 @@ use Rattle.rv64_isa.specs.declared.instr.Condition.{Condition}
 use Rattle.rv64_isa.specs.declared.instr.Condition.TheVariants.{Beq, Bne, Blt, Bge, Bltu, Bgeu}
 use Rattle.rv64_isa.specs.Rows.{read}
 use Rattle.rv64_isa.specs.Arithmetic.{result_of, signed_less, flag, is_taken}
-use Rattle.operator_code.specs.Computing.{IsFlag}
-use Rattle.operator_code.specs.links.Performing.{made}
-use Rattle.operator_code.specs.links.Listing.{flag_code}
+use Rattle.operator_code.specs.ComputingCode.{IsFlag}
+use Rattle.operator_code.specs.links.OperatorInstructions.{made}
+use Rattle.operator_code.specs.links.InstructionLists.{flag_code}
 use Rattle.operator_code.proofs.Registers.{read_same, read_other}
-use Rattle.operator_code.proofs.Composing.{Sets, one, two, as_value, op_sets, immediate_sets}
-use Rattle.operator_code.proofs.Negating.{below_one, above_zero}
+use Rattle.operator_code.proofs.InstructionPairs.{Sets, one, two, as_value, op_sets, immediate_sets}
+use Rattle.operator_code.proofs.UnaryOperators.{below_one, above_zero}
 
 turned_flag : (b : Bool) → bit_xor (flag b) 1 ≡ flag (not b)
 turned_flag true = refl

@@ -1,20 +1,21 @@
-pub mod Runs
-pub mod Registers
-pub mod Constants
-pub mod Zeros
-pub mod Steps
-pub mod Composing
-pub mod Extending
-pub mod Converting
-pub mod Wrapping
-pub mod Negating
-pub mod Residues
-pub mod Comparing
-pub mod Flags
-pub mod Halves
-pub mod Shifting
-pub mod Dividing
-pub mod Performing
-pub mod ByConstant
-pub mod Losing
+pub mod Public
+mod Runs
+mod Registers
+mod Constants
+mod Zeros
+mod ConstantSteps
+mod InstructionPairs
+mod RegisterExtensions
+mod ConversionCode
+mod WrappingArithmetic
+mod UnaryOperators
+mod Residues
+mod Comparisons
+mod Flags
+mod SignCases
+mod RightShifts
+mod Divisions
+mod BinaryOperators
+mod ConstantOperands
+mod LossyConversions
 mod Worked

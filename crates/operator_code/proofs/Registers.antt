@@ -1,4 +1,4 @@
--- Reads of registers behind writes, and immediates.
+-- Reads of registers after writes, and immediates.
 use Rattle.std.proofs.Common.{◌≡◌, ◌≢◌, ℕ, ◌+◌, ◌-◌, ◌^◌, ◌<◌, ◌≤◌, List, length, refl, ◌∙◌, arith, eq-eqb, Bool, true, false, ◌==◌, ◌⊎◌, inl, inr, ap, ◌%◌}
 use Rattle.std.specs.Prelude.{slice_set, nat_le}
 use Rattle.std.proofs.lemmas.List.{get_or-set_same, get_or-set_other, length-set}

@@ -7,10 +7,9 @@ use Rattle.std.proofs.lemmas.Int.{ints}
 use Rattle.ido_ints.specs.declared.kinds.Kind.{Kind}
 use Rattle.ido_ints.specs.Kinds.{bits_of}
 use Rattle.ido_ints.specs.Reduction.{residue, reduced, register_of}
-use Rattle.ido_ints.proofs.Congruence.{Same_refl, Same_trans, Same-mod}
-use Rattle.ido_ints.proofs.Registers.{residue-is, residue-Same, register-reduced_32}
+use Rattle.ido_ints.proofs.Public.{Same_refl, Same_trans, Same-mod, residue-is, residue-Same, register-reduced_32}
 use Rattle.rv64_isa.specs.Arithmetic.{word_result}
-use Rattle.operator_code.proofs.Extending.{low_32, word_form}
+use Rattle.operator_code.proofs.RegisterExtensions.{low_32, word_form}
 
 pub residue_pos : (w n : ℕ) → n < 2 ^ w → residue w (pos n) ≡ n
 residue_pos w n h = residue-is w (pos n) n h (Same_refl (2 ^ w) (pos n))

@@ -2,23 +2,23 @@
 use Rattle.std.proofs.Common.{◌≡◌, ℕ, ◌+◌, ◌*◌, List, [], ◌∷◌, ◌++◌, length, refl, ap, sym, ◌∙◌, arith, eq-eqb, append_assoc}
 use Rattle.std.specs.Prelude.{slice_set}
 use Rattle.rv64_isa.specs.declared.instr.Instr.{Instr}
-use Rattle.rv64_isa.specs.Rows.{Effect, GoesOn, Stores, Cleans, Fences, row, read, next}
-use Rattle.operator_code.specs.Straight.{seen, left_by, effects, registers_after, IsConstant}
+use Rattle.rv64_isa.specs.Rows.{Effect, Continues, Stores, Cleans, Fences, row, read, next}
+use Rattle.operator_code.specs.StraightLineCode.{seen, left_by, effects, registers_after, IsConstant}
 
--- what is seen of the code from registers x at the address, and the registers behind it
-pub record Runs (code : List Instr) (x : List ℕ) (pc : ℕ) (es : List Effect) (y : List ℕ) : Type 0 where
+-- what is seen of the code from registers x at the address, and the registers after it
+pub record RunsFrom (code : List Instr) (x : List ℕ) (pc : ℕ) (es : List Effect) (y : List ℕ) : Type 0 where
   pub sees : effects code x pc ≡ es
   pub leaves : registers_after code x pc ≡ y
 
-pub stop : (x : List ℕ) (pc : ℕ) → Runs [] x pc [] x
+pub stop : (x : List ℕ) (pc : ℕ) → RunsFrom [] x pc [] x
 stop x pc = record { sees = refl; leaves = refl }
 
-seen_next : (y : List ℕ) (pc : ℕ) → seen pc (GoesOn y (next pc)) ≡ []
+seen_next : (y : List ℕ) (pc : ℕ) → seen pc (Continues y (next pc)) ≡ []
 seen_next y pc = rw (eq-eqb (next pc) (next pc) refl) refl
 
 -- an instruction before code
-pub go : (i : Instr) (is : List Instr) (x y : List ℕ) (pc : ℕ) (fs : List Effect) (z : List ℕ) → row i x pc ≡ GoesOn y (next pc) →
-    Runs is y (pc + 4) fs z → Runs (i ∷ is) x pc fs z
+pub go : (i : Instr) (is : List Instr) (x y : List ℕ) (pc : ℕ) (fs : List Effect) (z : List ℕ) → row i x pc ≡ Continues y (next pc) →
+    RunsFrom is y (pc + 4) fs z → RunsFrom (i ∷ is) x pc fs z
 go i is x y pc fs z e more = record {
   sees =
       ap (λ (f : Effect). seen pc f ++ effects is (left_by x f) (pc + 4)) e ∙
@@ -27,22 +27,22 @@ go i is x y pc fs z e more = record {
 }
 
 pub store : (i : Instr) (is : List Instr) (x : List ℕ) (pc address bytes value : ℕ) (fs : List Effect) (z : List ℕ) →
-    row i x pc ≡ Stores address bytes value → Runs is x (pc + 4) fs z →
-    Runs (i ∷ is) x pc (Stores address bytes value ∷ fs) z
+    row i x pc ≡ Stores address bytes value → RunsFrom is x (pc + 4) fs z →
+    RunsFrom (i ∷ is) x pc (Stores address bytes value ∷ fs) z
 store i is x pc address bytes value fs z e more = record {
   sees = ap (λ (f : Effect). seen pc f ++ effects is (left_by x f) (pc + 4)) e ∙ ap (λ (es : List Effect). Stores address bytes value ∷ es) more.sees;
   leaves = ap (λ (f : Effect). registers_after is (left_by x f) (pc + 4)) e ∙ more.leaves;
 }
 
 pub clean : (i : Instr) (is : List Instr) (x : List ℕ) (pc address : ℕ) (fs : List Effect) (z : List ℕ) → row i x pc ≡ Cleans address →
-    Runs is x (pc + 4) fs z → Runs (i ∷ is) x pc (Cleans address ∷ fs) z
+    RunsFrom is x (pc + 4) fs z → RunsFrom (i ∷ is) x pc (Cleans address ∷ fs) z
 clean i is x pc address fs z e more = record {
   sees = ap (λ (f : Effect). seen pc f ++ effects is (left_by x f) (pc + 4)) e ∙ ap (λ (es : List Effect). Cleans address ∷ es) more.sees;
   leaves = ap (λ (f : Effect). registers_after is (left_by x f) (pc + 4)) e ∙ more.leaves;
 }
 
-pub fence : (i : Instr) (is : List Instr) (x : List ℕ) (pc : ℕ) (fs : List Effect) (z : List ℕ) → row i x pc ≡ Fences → Runs is x (pc + 4) fs z →
-    Runs (i ∷ is) x pc (Fences ∷ fs) z
+pub fence : (i : Instr) (is : List Instr) (x : List ℕ) (pc : ℕ) (fs : List Effect) (z : List ℕ) → row i x pc ≡ Fences → RunsFrom is x (pc + 4) fs z →
+    RunsFrom (i ∷ is) x pc (Fences ∷ fs) z
 fence i is x pc fs z e more = record {
   sees = ap (λ (f : Effect). seen pc f ++ effects is (left_by x f) (pc + 4)) e ∙ ap (λ (es : List Effect). Fences ∷ es) more.sees;
   leaves = ap (λ (f : Effect). registers_after is (left_by x f) (pc + 4)) e ∙ more.leaves;
@@ -65,9 +65,9 @@ registers-append (i ∷ a) b x pc =
     registers-append a b x' (pc + 4) ∙ ap (λ (n : ℕ). registers_after b (registers_after a x' (pc + 4)) n)
     (let e : pc + 4 + 4 * length a ≡ pc + 4 * length (i ∷ a) = omega arith in e)
 
--- code behind code
-pub along : (a b : List Instr) (x y z : List ℕ) (pc : ℕ) (es fs : List Effect) → Runs a x pc es y → Runs b y (pc + 4 * length a) fs z →
-    Runs (a ++ b) x pc (es ++ fs) z
+-- code after code
+pub along : (a b : List Instr) (x y z : List ℕ) (pc : ℕ) (es fs : List Effect) → RunsFrom a x pc es y → RunsFrom b y (pc + 4 * length a) fs z →
+    RunsFrom (a ++ b) x pc (es ++ fs) z
 along a b x y z pc es fs first second = record {
   sees =
       effects-append a b x pc ∙
@@ -77,10 +77,6 @@ along a b x y z pc es fs first second = record {
   leaves = registers-append a b x pc ∙ ap (λ (w : List ℕ). registers_after b w (pc + 4 * length a)) first.leaves ∙ second.leaves;
 }
 
--- the same run by equal names
-pub as_seen : (code : List Instr) (x y z : List ℕ) (pc : ℕ) (es fs : List Effect) → es ≡ fs → y ≡ z → Runs code x pc es y → Runs code x pc fs z
-as_seen code x y z pc es fs e f run = record { sees = run.sees ∙ e; leaves = run.leaves ∙ f }
-
 pub constant_runs : (r value : ℕ) (code : List Instr) (x : List ℕ) (pc : ℕ) → IsConstant r value code → length x ≡ 32 → read x 0 ≡ 0 →
-    Runs code x pc [] (slice_set x r value)
+    RunsFrom code x pc [] (slice_set x r value)
 constant_runs r value code x pc c l z = record { sees = c.unseen x pc l z; leaves = c.changes x pc l z }

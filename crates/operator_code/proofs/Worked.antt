@@ -4,12 +4,12 @@ use Rattle.std.specs.Prelude.{replicate, slice_set, pos, negsuc}
 use Rattle.ido_ints.specs.declared.kinds.Kind.TheVariants.{SignedChar, UnsignedInt, Int, Long}
 use Rattle.ido_ints.specs.declared.operators.Binary.TheVariants.{ShiftLeft, Less}
 use Rattle.ido_ints.specs.Reduction.{residue, from_least_on}
-use Rattle.ido_ints.specs.Typed.{typed, converted, register_form_of}
+use Rattle.ido_ints.specs.TypedNumbers.{typed, converted, register_form_of}
 use Rattle.rv64_isa.specs.Rows.{row, read}
 use Rattle.rv64_isa.specs.Arithmetic.{result_of}
-use Rattle.operator_code.specs.Straight.{effects, registers_after}
-use Rattle.operator_code.specs.Computing.{left_kind, given_by}
-use Rattle.operator_code.specs.links.Listing.{extension}
+use Rattle.operator_code.specs.StraightLineCode.{effects, registers_after}
+use Rattle.operator_code.specs.ComputingCode.{left_kind, given_by}
+use Rattle.operator_code.specs.links.InstructionLists.{extension}
 
 -- x6 holds the register form of the `unsigned int` 2^31
 held : List ℕ

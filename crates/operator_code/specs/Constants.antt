@@ -2,14 +2,14 @@
 use Rattle.std.specs.Prelude.{◌-◌, ◌%◌, ◌<◌, ◌^◌, ℕ, List, [], ◌∷◌, ℤ, Bool, true, false, nat_lt, ◌||◌}
 use Rattle.ido_ints.specs.declared.operators.Binary.{Binary}
 use Rattle.ido_ints.specs.declared.operators.Binary.TheVariants.{Add, Sub, And, Xor, Or, ShiftLeft, ShiftRight}
-use Rattle.ido_ints.specs.Typed.{register_form_of}
+use Rattle.ido_ints.specs.TypedNumbers.{register_form_of}
 use Rattle.rv64_isa.specs.declared.instr.Instr.{Instr}
 use Rattle.rv64_isa.specs.declared.instr.Instr.TheVariants.{OpImmediate, ShiftImmediate, ShiftImmediateWord}
 use Rattle.rv64_isa.specs.Rows.{read}
 use Rattle.operator_code.specs.declared.operation.BinaryOperation.{BinaryOperation}
 use Rattle.operator_code.specs.declared.immediates.ImmediateForm.{ImmediateForm}
 use Rattle.operator_code.specs.declared.immediates.ImmediateForm.TheVariants.{Number, Shift, ShiftWord}
-use Rattle.operator_code.specs.Computing.{AreRegisters, Computes, AreOperands, given_by}
+use Rattle.operator_code.specs.ComputingCode.{AreRegisters, Computes, AreOperands, given_by}
 
 -- the instruction with these registers
 abbrev pub instruction_in : ImmediateForm → (rd rs : ℕ) → Instr

@@ -1,5 +1,5 @@
-pub mod Computing
+pub mod ComputingCode
 pub mod Constants
 pub mod Sequences
-pub mod Straight
+pub mod StraightLineCode
 pub mod links

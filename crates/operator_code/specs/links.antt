@@ -1,4 +1,4 @@
 pub mod Digits
 pub mod Immediates
-pub mod Listing
-pub mod Performing
+pub mod InstructionLists
+pub mod OperatorInstructions

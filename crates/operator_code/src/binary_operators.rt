@@ -1,9 +1,9 @@
 //! Binary operators.
 ghost use Rattle.std.specs.Prelude.{◌≡◌, ◌<◌, ◌↔◌, true, IsSome, IfSome};
-ghost use Rattle.operator_code.specs.Computing.{is_strict, IsBinary, IsFlag};
+ghost use Rattle.operator_code.specs.ComputingCode.{is_strict, IsBinary, IsFlag};
 ghost use Rattle.operator_code.specs.Sequences.{listed};
-ghost use Rattle.operator_code.specs.links.Listing.{flag_code};
-ghost use Rattle.operator_code.specs.links.Performing.{by_sign, instruction_of};
+ghost use Rattle.operator_code.specs.links.InstructionLists.{flag_code};
+ghost use Rattle.operator_code.specs.links.OperatorInstructions.{by_sign, instruction_of};
 
 use crate::branches::{Test, order};
 use crate::instructions::{immediate, op};
@@ -15,6 +15,7 @@ use rv64_isa::instr::{Condition, ImmediateOperation, Operation};
 
 /// What the operator gives for the operands in `rs1` and `rs2`, which are converted already, into `rd`. None for `&&`
 /// and `||`, which don't always evaluate both.
+/// Nothing is observed of the code, not even a load or a jump, and `rd` alone changes.
 pub fn binary(
     operation: BinaryOperation,
     rd: Register,

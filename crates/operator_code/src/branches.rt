@@ -1,8 +1,8 @@
 //! Tests: the conditions of branches.
 ghost use Rattle.std.specs.Prelude.{◌≡◌, ◌↔◌, true, not, ℕ, IsSome, IfSome};
 ghost use Rattle.rv64_isa.specs.Arithmetic.{is_taken};
-ghost use Rattle.operator_code.specs.links.Performing.{below, not_below, made, test_of};
-ghost use Rattle.operator_code.specs.Computing.{is_comparison, IsComparison, IsNonzero, IsOpposite};
+ghost use Rattle.operator_code.specs.links.OperatorInstructions.{below, not_below, made, test_of};
+ghost use Rattle.operator_code.specs.ComputingCode.{is_comparison, IsComparison, IsNonzero, IsOpposite};
 
 use crate::operation::BinaryOperation;
 use ido_ints::{Binary, Kind};
@@ -100,7 +100,7 @@ fn below(kind: Kind) -> Condition
     }
 }
 
-/// Its opposite.
+/// The opposite of the order of the kind's register forms.
 fn not_below(kind: Kind) -> Condition
     ensures { result ≡ not_below kind }
 {

@@ -1,8 +1,8 @@
 //! Constants of 64 bits in a register.
 ghost use Rattle.std.specs.Prelude.{◌≡◌, ◌<◌, ◌≤◌, ◌+◌, ◌-◌, ◌*◌, ◌/◌, ◌^◌, ◌||◌, nat_lt, length, IfOk, OnOk};
-ghost use Rattle.operator_code.specs.Straight.{IsConstant};
+ghost use Rattle.operator_code.specs.StraightLineCode.{IsConstant};
 ghost use Rattle.operator_code.specs.links.Digits.{IsConstantOfBits};
-ghost use Rattle.operator_code.specs.links.Listing.{word_code, with_digit};
+ghost use Rattle.operator_code.specs.links.InstructionLists.{word_code, with_digit};
 
 use crate::instructions::{immediate, lui, shift};
 use ido_base::memory::OutOfMemory;

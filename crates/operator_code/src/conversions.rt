@@ -1,9 +1,9 @@
 //! Copies and conversions.
 ghost use Rattle.std.specs.Prelude.{◌≡◌, ◌↔◌, ◌<◌, ◌^◌, IsTrue};
-ghost use Rattle.operator_code.specs.Computing.{IsCopy, IsConversion, KeepsForm};
+ghost use Rattle.operator_code.specs.ComputingCode.{IsCopy, IsConversion, KeepsForm};
 ghost use Rattle.operator_code.specs.Sequences.{listed};
-ghost use Rattle.operator_code.specs.links.Performing.{keeps};
-ghost use Rattle.operator_code.specs.links.Listing.{extension, up_and_back};
+ghost use Rattle.operator_code.specs.links.OperatorInstructions.{keeps};
+ghost use Rattle.operator_code.specs.links.InstructionLists.{extension, up_and_back};
 
 use crate::instructions::{immediate, shift};
 use crate::sequences::Sequence;
@@ -80,7 +80,7 @@ fn extend(to: Kind, rd: Register, rs: Register) -> Sequence
     }
 }
 
-/// Up by a count, and back.
+/// A shift up by a count, and back.
 fn shifts(back: ShiftOperation, rd: Register, rs: Register, count: u8) -> Sequence
     requires { count < 2 ^ 6 }
     ensures { listed result ≡ up_and_back back count rd rs }

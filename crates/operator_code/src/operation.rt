@@ -1,7 +1,7 @@
 //! Binary operators with the kinds of their operands.
 ghost use Rattle.std.specs.Prelude.{◌≡◌};
-ghost use Rattle.operator_code.specs.Computing.{is_shift, left_kind, right_kind};
-ghost use Rattle.operator_code.specs.links.Performing.{by_width};
+ghost use Rattle.operator_code.specs.ComputingCode.{is_shift, left_kind, right_kind};
+ghost use Rattle.operator_code.specs.links.OperatorInstructions.{by_width};
 
 use ido_ints::{Binary, Kind, common, promote};
 use rv64_isa::instr::Operation;

@@ -1,6 +1,6 @@
 //! Unary operators.
 ghost use Rattle.std.specs.Prelude.{◌≡◌, ◌<◌};
-ghost use Rattle.operator_code.specs.Computing.{IsUnary, IsTruth};
+ghost use Rattle.operator_code.specs.ComputingCode.{IsUnary, IsTruth};
 ghost use Rattle.operator_code.specs.Sequences.{listed};
 
 use crate::conversions::copy;

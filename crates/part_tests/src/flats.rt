@@ -1,4 +1,4 @@
-//! Flat forms of one thread, with one mutex and one variable of kind `int`.
+//! Flat forms of one thread, with one mutex and variables of kind `int`.
 use c_tree::expr::{Expr, Lvalue, Placed};
 use c_tree::flat::{Flat, Statement, Thread};
 use c_tree::program::Variable;
@@ -11,6 +11,29 @@ pub(crate) const HERE: Place = Place(0);
 
 pub(crate) const KIND: Kind = Kind::Int;
 
+/// An operator with two operands.
+pub(crate) fn binary(
+    a: Global,
+    operator: Binary,
+    left: Expr,
+    right: Expr,
+) -> Result<Expr, AllocError> {
+    Ok(Expr::Binary {
+        operator,
+        left: Box::new(a, left)?,
+        right: Box::new(a, right)?,
+    })
+}
+
+/// The target takes the value.
+pub(crate) fn assign(place: Place, target: Lvalue, expr: Expr) -> Statement {
+    Statement::Assign {
+        place,
+        target,
+        value: Placed { place, expr },
+    }
+}
+
 /// The target takes the sum.
 pub(crate) fn sum(
     a: Global,
@@ -18,16 +41,7 @@ pub(crate) fn sum(
     left: Expr,
     right: Expr,
 ) -> Result<Statement, AllocError> {
-    let expr = Expr::Binary {
-        operator: Binary::Add,
-        left: Box::new(a, left)?,
-        right: Box::new(a, right)?,
-    };
-    Ok(Statement::Assign {
-        place: HERE,
-        target,
-        value: Placed { place: HERE, expr },
-    })
+    Ok(assign(HERE, target, binary(a, Binary::Add, left, right)?))
 }
 
 fn name(a: Global) -> Result<Name, AllocError> {
@@ -37,12 +51,12 @@ fn name(a: Global) -> Result<Name, AllocError> {
     })
 }
 
-/// The form of a thread with so many locals.
+/// The form of a thread with so many locals, and of variables with these numbers.
 pub(crate) fn flat(
     a: Global,
     locals: usize,
     body: Vec<Statement>,
-    initial: i128,
+    initials: &[i128],
 ) -> Result<Flat, AllocError> {
     let thread = Thread {
         name: name(a)?,
@@ -50,16 +64,19 @@ pub(crate) fn flat(
         body,
         closing: HERE,
     };
-    let variable = Variable {
-        name: name(a)?,
-        guard: 0,
-        kind: KIND,
-        length: None,
-        initial: vec![in a; initial]?,
-    };
+    let mut variables = Vec::new(a);
+    for initial in initials {
+        variables.push(Variable {
+            name: name(a)?,
+            guard: 0,
+            kind: KIND,
+            length: None,
+            initial: vec![in a; *initial]?,
+        })?;
+    }
     Ok(Flat {
         mutexes: vec![in a; name(a)?]?,
-        variables: vec![in a; variable]?,
+        variables,
         threads: vec![in a; thread]?,
     })
 }

@@ -1,59 +1,103 @@
-//! A source and the graph of its flat form, stepped beside each other: a sum past the greatest `int`.
-use crate::flats::{HERE, KIND, flat, sum};
+//! A source and the graph of its flat form, stepped beside each other: what C leaves open, worked by hand.
+use crate::flats::{HERE, KIND, assign, binary, flat};
 use c_tree::expr::{Expr, Lvalue};
 use c_tree::flat::Statement;
 use flow_lower::lower;
 use flow_machine::FlowState;
-use ido_ints::Value;
+use ido_ints::{Binary, Kind, Unary, Value};
 use source_machine::{SourceState, Stepped};
+use std::alloc::{AllocError, Global};
 use std::test::Fail;
 
-/// What each step answers, and the variable behind it, of `lock(m); x = x + 1; unlock(m);` and the end.
-const STEPS: [(Stepped, i128); 6] = [
-    (Stepped::Did, 2147483647),
-    (Stepped::Did, 2147483647),
-    (Stepped::Did, -2147483648),
-    (Stepped::Did, -2147483648),
-    (Stepped::Did, -2147483648),
-    (Stepped::Ended, -2147483648),
+/// The least `int`, and the greatest.
+const LEAST: i128 = -2147483648;
+
+const GREATEST: i128 = 2147483647;
+
+/// What the variables a, b, c, d, z and e begin with.
+const INITIAL: [i128; 6] = [GREATEST, 7, 0, 0, 0, 1];
+
+/// What each step answers, and the variables after it, of
+/// `lock(m); a = a + 1; c = b / z; d = b % z; b = a / (z - 1); e = -1 < 1u; unlock(m);`, of the end, and of one step more.
+const STEPS: [(Stepped, [i128; 6]); 14] = [
+    (Stepped::Did, [GREATEST, 7, 0, 0, 0, 1]),
+    (Stepped::Did, [GREATEST, 7, 0, 0, 0, 1]),
+    (Stepped::Did, [LEAST, 7, 0, 0, 0, 1]),
+    (Stepped::Did, [LEAST, 7, 0, 0, 0, 1]),
+    (Stepped::Did, [LEAST, 7, -1, 0, 0, 1]),
+    (Stepped::Did, [LEAST, 7, -1, 0, 0, 1]),
+    (Stepped::Did, [LEAST, 7, -1, 7, 0, 1]),
+    (Stepped::Did, [LEAST, 7, -1, 7, 0, 1]),
+    (Stepped::Did, [LEAST, LEAST, -1, 7, 0, 1]),
+    (Stepped::Did, [LEAST, LEAST, -1, 7, 0, 1]),
+    (Stepped::Did, [LEAST, LEAST, -1, 7, 0, 0]),
+    (Stepped::Did, [LEAST, LEAST, -1, 7, 0, 0]),
+    (Stepped::Did, [LEAST, LEAST, -1, 7, 0, 0]),
+    (Stepped::Ended, [LEAST, LEAST, -1, 7, 0, 0]),
 ];
+
+fn read(variable: u32) -> Expr {
+    Expr::Variable {
+        place: HERE,
+        variable,
+        kind: KIND,
+    }
+}
+
+fn one(kind: Kind) -> Expr {
+    Expr::Constant {
+        value: Value::reduce(kind, 1),
+    }
+}
+
+/// The variable takes the operator's value.
+fn keep(
+    a: Global,
+    variable: u32,
+    operator: Binary,
+    left: Expr,
+    right: Expr,
+) -> Result<Statement, AllocError> {
+    let target = Lvalue::Variable {
+        place: HERE,
+        variable,
+        kind: KIND,
+    };
+    Ok(assign(HERE, target, binary(a, operator, left, right)?))
+}
 
 #[test]
 fn in_step_with_the_source(rt: HostRuntime) -> Result<(), Fail> {
     let a = rt.alloc();
-    let read = Expr::Variable {
-        place: HERE,
-        variable: 0,
-        kind: KIND,
+    let minus_one = Expr::Unary {
+        operator: Unary::Minus,
+        operand: Box::new(a, one(KIND))?,
     };
-    let one = Expr::Constant {
-        value: Value::reduce(KIND, 1),
-    };
-    let target = Lvalue::Variable {
-        place: HERE,
-        variable: 0,
-        kind: KIND,
-    };
+    let below = binary(a, Binary::Sub, read(4), one(KIND))?;
     let body = vec![in a;
         Statement::Lock {
             place: HERE,
             mutex: 0,
         },
-        sum(a, target, read, one)?,
+        keep(a, 0, Binary::Add, read(0), one(KIND))?,
+        keep(a, 2, Binary::Div, read(1), read(4))?,
+        keep(a, 3, Binary::Rem, read(1), read(4))?,
+        keep(a, 1, Binary::Div, read(0), below)?,
+        keep(a, 5, Binary::Less, minus_one, one(Kind::UnsignedInt))?,
         Statement::Unlock {
             place: HERE,
             mutex: 0,
         },
     ]?;
-    let flat = flat(a, 0, body, 2147483647)?;
+    let flat = flat(a, 0, body, &INITIAL)?;
     let graph = lower(a, &flat)?;
     let mut source = SourceState::start(a, &flat)?;
     let mut flow = FlowState::start(a, &graph, &flat)?;
-    for (answer, number) in STEPS {
+    for (answer, numbers) in STEPS {
         assert!(rt; source.threads() > 0 && flow.threads() > 0);
         assert_eq!(rt; (source.step(0), flow.step(0)), (answer, answer));
-        assert_eq!(rt; source.variables(), [number].as_slice());
-        assert_eq!(rt; flow.variables(), [number].as_slice());
+        assert_eq!(rt; source.variables(), numbers.as_slice());
+        assert_eq!(rt; flow.variables(), numbers.as_slice());
     }
     assert!(rt; flow.threads() > 0);
     assert_eq!(rt; (flow.ended_sections(0), flow.between(0)), (1, true));

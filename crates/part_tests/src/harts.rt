@@ -325,3 +325,32 @@ fn single_steps(rt: HostRuntime) -> Result<(), Fail> {
     }
     Ok(())
 }
+
+/// Code of one word at 0x10000: where the hart stands, and why it can't go on from there.
+const PLACES: [(u64, Cause); 6] = [
+    (0x0001_0004, Cause::NoCode { pc: 0x0001_0004 }),
+    (0x0001_0002, Cause::NoCode { pc: 0x0001_0002 }),
+    (0x0001_0001, Cause::NoCode { pc: 0x0001_0001 }),
+    (0xfffc, Cause::NoCode { pc: 0xfffc }),
+    (0, Cause::NoCode { pc: 0 }),
+    (0x1_0001_0000, Cause::NoCode { pc: 0x1_0001_0000 }),
+];
+
+#[test]
+fn no_code(rt: HostRuntime) -> Result<(), Fail> {
+    for (pc, cause) in PLACES {
+        // addi x7, x5, -1
+        let program = program_of(rt.alloc(), &[0xfff2_8393])?;
+        let mut memory = LineMemory::new(rt.alloc(), &BYTES, 1)?;
+        let mut locks = LockTable::new(rt.alloc(), 0)?;
+        let mut phase = Phase::Run;
+        let mut hart = Hart::new(pc);
+        let found = step(0, &program, &mut phase, &mut hart, &mut memory, &mut locks);
+        assert_eq!(rt;
+            (found, hart.registers[7], hart.pc),
+            (Reply::Stuck(cause), 0, pc),
+            "{pc:#x}"
+        );
+    }
+    Ok(())
+}

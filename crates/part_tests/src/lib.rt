@@ -15,6 +15,8 @@ mod harts;
 #[cfg(test)]
 mod lives;
 #[cfg(test)]
+mod locations;
+#[cfg(test)]
 mod regions;
 #[cfg(test)]
 mod registers;

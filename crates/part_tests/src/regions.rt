@@ -18,7 +18,7 @@ const SCALAR: Location = Location {
     hi: 0,
 };
 
-/// Another one.
+/// Another location.
 const OTHER: Location = Location {
     variable: 1,
     lo: 0,
@@ -98,7 +98,7 @@ fn section<'a>(
     })
 }
 
-/// Boundaries behind the lock, before the last store and before the unlock.
+/// Boundaries after the lock, before the last store and before the unlock.
 fn cuts(a: Global, [lock, last, unlock]: [bool; 3]) -> Result<Cuts, AllocError> {
     Ok(Cuts {
         before: Vec::from_array(a, [false, false, false, last, unlock, false])?,

@@ -12,17 +12,17 @@ use Rattle.ido_ints.specs.declared.kinds.Kind.{Kind}
 use Rattle.ido_base.specs.Locks.{is_held_by}
 use Rattle.c_tree.specs.Flats as f
 use Rattle.source_machine.specs.Mutexes.{held_by}
-use Rattle.lock_discipline.proofs.Masks.{mask_of-bound}
-use Rattle.log_layout.specs.declared.roles.TheConstants.{LOCALS}
-use Rattle.log_layout.specs.Roles.{is_kept}
+use Rattle.lock_discipline.proofs.Public.{mask_of-bound}
+use Rattle.memory_layout.specs.declared.roles.TheConstants.{LOCALS}
+use Rattle.memory_layout.specs.Roles.{is_kept}
 use Rattle.flow_graph.specs.declared.graph.Part.{Part}
 use Rattle.flow_graph.specs.Nodes.{Graph}
 use Rattle.flow_graph.specs.Lowering.{thread_count, part, parts}
-use Rattle.flow_graph.proofs.Lockstep.{lowered_threads}
+use Rattle.flow_graph.proofs.Public.{lowered_threads}
 use Rattle.log_states.specs.Logs.{IsKeepable}
 use Rattle.thread_code.specs.Plans.{Plan, Thread, IsThread, IsPlan, IsKept, of_local, of_address, of_value}
 use Rattle.recovered_threads.specs.Laws.{BoundariesRecover}
-use Rattle.recovered_threads.proofs.Holding.{mask_is}
+use Rattle.recovered_threads.proofs.RecordedLocks.{mask_is}
 
 -- ---- Registers that have a slot
 
@@ -69,10 +69,11 @@ module _ (p : Plan) (plan : IsPlan p) (t : Thread) (is : IsThread p t) where
 
 pub boundaries_recover : BoundariesRecover
 boundaries_recover p code s bank resume x plan orderly b = record {
-  mask = subst (λ (mask : ℕ). mask < 2 ^ 64) (sym (mask_is p s plan orderly code.thread code.of b.walker b.there b.own))
+  mask = subst (λ (mask : ℕ). mask < 2 ^ 64) (sym (mask_is p s plan orderly code.thread code.of b.graph_thread b.there b.own))
       (lt_of_lt_of_le (mask_of-bound (held_by code.thread.number s.holders)) (pow_mono {i = length (held_by code.thread.number s.holders)} {j = 64}
       (omega (arith, length-map s.holders (λ o. is_held_by code.thread.number o), orderly.locks, plan.formed.shared.mutexes))));
-  live = λ register has. keepable register (kept_is p plan code.thread code.of b.walker.at register ((code.is.kept b.walker.at b.own register).0 has));
+  live =
+      λ register has. keepable register (kept_is p plan code.thread code.of b.graph_thread.at register ((code.is.kept b.graph_thread.at b.own register).0 has));
   registers = λ register has. b.registers register;
   aligned = b.aligned;
   somewhere = b.somewhere;

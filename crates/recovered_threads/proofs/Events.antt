@@ -12,26 +12,27 @@ use Rattle.rv64_isa.specs.declared.object.Slot.{Slot}
 use Rattle.rv64_isa.specs.declared.object.Slot.TheVariants.{Row, NoRow}
 use Rattle.rv64_isa.specs.declared.phase.Phase.{Phase}
 use Rattle.rv64_isa.specs.declared.phase.Phase.TheVariants.{Take, Wait, Resume, Run, Done, Ended}
-use Rattle.rv64_isa.specs.Rows.{Effect, GoesOn, Loads, Stores, Cleans, Fences, Calls, row, read, next}
+use Rattle.rv64_isa.specs.Rows.{Effect, Continues, Loads, Stores, Cleans, Fences, Calls, row, read, next}
 use Rattle.rv64_isa.specs.Programs.{fetched}
 use Rattle.rv64_isa.specs.Machine.{Hart, World, Outcome, moved, with_holder, drain_one, access, cleaned, fenced, acquired, released, ended, called, applied}
 use Rattle.rv64_isa.specs.Machine.{executed}
 use Rattle.rv64_isa.specs.Machine.{hart_step, over_after, done_if_over, stepped, happens, after_event}
-use Rattle.rv64_isa.specs.Frames.{IsSound, Touches, IsHeldOn, Stays, Takes, Gives}
-use Rattle.rv64_isa.proofs.Frames.{get-set_same, steps_touch}
-use Rattle.flow_graph.proofs.Lockstep.{get_cases}
+use Rattle.rv64_isa.specs.Frames.{IsWellFormedWorld, Touches, IsHeldOn, Stays, Takes, Gives}
+use Rattle.rv64_isa.proofs.Public.{get-set_same, steps_touch}
+use Rattle.flow_graph.proofs.Public.{get_cases}
 use Rattle.log_states.specs.Logs.{Record, nothing_recorded}
 use Rattle.log_states.specs.Machines.{IsElsewhere}
-use Rattle.log_states.proofs.Standing.{steps_keep, evictions_keep}
-use Rattle.hart_runs.specs.Calls.{IsIn}
-use Rattle.hart_runs.proofs.Worlds.{by_phase}
-use Rattle.recovered_threads.specs.Telling.{locks_of}
-use Rattle.recovered_threads.specs.Recovering.{HoldsAll, HoldsOnly, Gathers, HasGathered, AreGathering, IsReady, AreGathered, AreRecovering, gathering}
-use Rattle.recovered_threads.specs.Recovering.{gathered, StoresApart}
-use Rattle.recovered_threads.specs.Recovering.{Awaits, all_have, one_takes}
-use Rattle.recovered_threads.specs.Laws.{AreApart, EventsRecover}
-use Rattle.recovered_threads.proofs.Changes.{same_there, same_or_other}
-use Rattle.recovered_threads.proofs.Gathering.{gathers_on, gathered_on, takes_never_wait, waits_for_takers, gathered_go_on}
+use Rattle.log_states.proofs.Public.{steps_keep, evictions_keep}
+use Rattle.hart_runs.specs.Calls.{IsInPhase}
+use Rattle.hart_runs.proofs.Public.{by_phase}
+use Rattle.recovered_threads.specs.RecordDescriptions.{locks_of}
+use Rattle.recovered_threads.specs.RecoveryStates.{HoldsAll, HoldsOnly, Gathers, HasGathered, AreGathering}
+use Rattle.recovered_threads.specs.RecoveryStates.{IsRecoveredHart, AreGathered, AreRecovering, gathering}
+use Rattle.recovered_threads.specs.RecoveryStates.{gathered, StoresApart}
+use Rattle.recovered_threads.specs.RecoveryStates.{Awaits, all_have, one_takes}
+use Rattle.recovered_threads.specs.Laws.{AreRecordsApart, EventsRecover}
+use Rattle.recovered_threads.proofs.ChangedWorlds.{same_there, same_or_other}
+use Rattle.recovered_threads.proofs.GatheringSteps.{gathers_on, gathered_on, takes_never_wait, waits_for_takers, gathered_go_on}
 
 -- ---- A step of a hart that executes instructions leaves it executing, or done, or ended
 
@@ -100,7 +101,7 @@ module _ (w : World) (h : ℕ) (hart : Hart) (here : slice_get w.harts h ≡ Som
       (λ _. cond_both (number == 3) _ _ (λ (x : Outcome). HasGoneOn h x.0) (λ _. ends (least_held w.holders h)) (λ _. stays)))
 
   applies : (effect : Effect) → HasGoneOn h (applied w h hart effect).0
-  applies (GoesOn registers pc) = moves w (record hart { registers = registers; pc = pc }) refl runs
+  applies (Continues registers pc) = moves w (record hart { registers = registers; pc = pc }) refl runs
   applies (Loads address bytes signed register) = accesses address bytes _ (moves w _ refl runs)
   applies (Stores address bytes value) =
       accesses address bytes _ (moves (record w { words = stored w.words (byte_number address) bytes value }) (record hart { pc = next hart.pc }) refl runs)
@@ -132,7 +133,7 @@ running_goes program w h hart here runs =
 
 -- ---- A ready hart along the events of others
 
-module _ (program : List (List Slot)) (w : World) (g h : ℕ) (r : Record) (sound : IsSound w) (other : h ≢ g) where
+module _ (program : List (List Slot)) (w : World) (g h : ℕ) (r : Record) (sound : IsWellFormedWorld w) (other : h ≢ g) where
   abbrev after : World
   after = after_event program w (Step g)
 
@@ -155,7 +156,7 @@ module _ (program : List (List Slot)) (w : World) (g h : ℕ) (r : Record) (soun
       by (Takes old new) = absurd (other (sym (same_Some g h (same_there (slice_get after.holders lock) (Some g) (Some h) new there))))
       by (Gives old new) = absurd (none-some h (same_there (slice_get after.holders lock) None (Some h) new there))
 
-  ready_stays : IsElsewhere program w g h → IsReady w h r → IsReady after h r
+  ready_stays : IsElsewhere program w g h → IsRecoveredHart w h r → IsRecoveredHart after h r
   ready_stays elsewhere is = record {
     inside = is.inside;
     all = still_all is.all;
@@ -175,7 +176,7 @@ gone_gathered v h r Run g = tt
 gone_gathered v h r Done g = tt
 gone_gathered v h r Ended g = tt
 
-module _ (program : List (List Slot)) (w : World) (records : ℕ → Record) (sound : IsSound w) where
+module _ (program : List (List Slot)) (w : World) (records : ℕ → Record) (sound : IsWellFormedWorld w) where
   running_gathered : (g : ℕ) (hart : Hart) → slice_get w.harts g ≡ Some hart → hart.phase ≡ Run → ((h : ℕ) → h ≢ g → IsElsewhere program w g h) →
       AreGathered w records →
       AreGathered (after_event program w (Step g)) records
@@ -223,9 +224,9 @@ module _ (program : List (List Slot)) (w : World) (records : ℕ → Record) (so
   awaited g are (all_have none moves resumes after) = gathered after
   awaited g are (one_takes taking takes does) = same_world g _ does refl (gathering are)
 
-  module _ (g : ℕ) (hart : Hart) (here : slice_get w.harts g ≡ Some hart) (apart : AreApart (length w.harts) records)
+  module _ (g : ℕ) (hart : Hart) (here : slice_get w.harts g ≡ Some hart) (apart : AreRecordsApart (length w.harts) records)
       (elsewhere : (h : ℕ) → h ≢ g → IsElsewhere program w g h) where
-    in_phase : (phase : Phase) → hart.phase ≡ phase → IsIn w g phase
+    in_phase : (phase : Phase) → hart.phase ≡ phase → IsInPhase w g phase
     in_phase phase is = record { hart = hart; here = here; phase_is = is }
 
     step_gathering : (phase : Phase) → hart.phase ≡ phase → AreGathering w records → Gathers w g (records g) phase →
@@ -250,12 +251,12 @@ module _ (program : List (List Slot)) (w : World) (records : ℕ → Record) (so
     steps (gathering are) = step_gathering hart.phase refl are (are.each g hart here)
     steps (gathered are) = step_gathered hart.phase refl are (are.each g hart here)
 
-  -- there is no such hart
+  -- a step of a hart that isn't there changes nothing
   no_hart : (g : ℕ) → slice_get w.harts g ≡ None → AreRecovering w records → AreRecovering (after_event program w (Step g)) records
   unfolding happens
   no_hart g none are = subst (λ (v : World). AreRecovering v records) (sym (ap (λ (o : Option Hart). (stepped program w g o).0) none)) are
 
-  by_event : (event : Event) → AreApart (length w.harts) records → event ≢ Crash → StoresApart program w event → AreRecovering w records →
+  by_event : (event : Event) → AreRecordsApart (length w.harts) records → event ≢ Crash → StoresApart program w event → AreRecovering w records →
       AreRecovering (after_event program w event) records
   by_event (Step g) apart some elsewhere are = elim (get_cases w.harts g) [
     | inl none ↦ no_hart g none are

@@ -1,14 +1,15 @@
-pub mod Standings
-pub mod Holding
-pub mod Changes
-pub mod Gathering
-pub mod Crashing
-pub mod Kept
-pub mod Resuming
-pub mod Committing
-pub mod Events
-pub mod Orderly
-pub mod Boundaries
-pub mod Unlocks
-pub mod Telling
+pub mod Public
+mod NodesBeforeSteps
+mod RecordedLocks
+mod ChangedWorlds
+mod GatheringSteps
+mod RecoveryAfterCrash
+mod GatheredLocks
+mod ResumedHarts
+mod CommittedRecords
+mod Events
+mod OrderlyStates
+mod Boundaries
+mod LivenessAtUnlocks
+mod LogsDescribeState
 mod Worked

@@ -8,14 +8,14 @@ use Rattle.lock_discipline.specs.Masks.{mask_of}
 use Rattle.rv64_isa.specs.declared.object.Slot.{Slot}
 use Rattle.rv64_isa.specs.declared.phase.Phase.TheVariants.{Take, Resume, Done}
 use Rattle.rv64_isa.specs.Machine.{World, bank_of, resume_of, start_of, after_event}
-use Rattle.rv64_isa.proofs.Frames.{starts_stand}
+use Rattle.rv64_isa.proofs.Public.{starts_simulate}
 use Rattle.log_states.specs.Logs.{Record, nothing_recorded}
 use Rattle.log_states.specs.Stages.{is_committed}
-use Rattle.log_states.specs.Machines.{moment_of}
-use Rattle.log_states.proofs.Standing.{starts_standing}
-use Rattle.recovered_threads.specs.Telling.{locks_of}
-use Rattle.recovered_threads.specs.Recovering.{HoldsAll, HoldsOnly, Gathers, AreGathering}
-use Rattle.recovered_threads.proofs.Crashing.{crashes_gather}
+use Rattle.log_states.specs.Machines.{config_of}
+use Rattle.log_states.proofs.Public.{starts_standing}
+use Rattle.recovered_threads.specs.RecordDescriptions.{locks_of}
+use Rattle.recovered_threads.specs.RecoveryStates.{HoldsAll, HoldsOnly, Gathers, AreGathering}
+use Rattle.recovered_threads.proofs.RecoveryAfterCrash.{crashes_gather}
 
 -- a point in the second bank, with locks 0 and 2
 abbrev two_locks : Record
@@ -44,7 +44,7 @@ mask_two = refl
 abbrev with_holders : List (Option ℕ) → World
 with_holders holders = record { words = []; harts = []; holders = holders; recovering = true }
 
--- it holds both, and another hart the one between them
+-- hart 0 holds both locks, and another hart the one between them
 has_both : HoldsAll (with_holders (Some 0 ∷ Some 1 ∷ Some 0 ∷ [])) 0 two_locks
 has_both zero holder there has = sym (same_Some (Some 0) holder there)
 has_both (suc zero) holder there has = absurd (true≢false (sym has))
@@ -81,7 +81,7 @@ crash_at_start : (program : List (List Slot)) (locks : ℕ) (initial : List ℕ)
     AreGathering (after_event program (start_of program locks initial) Crash) (λ n. nothing_recorded)
 crash_at_start program locks initial =
     let w : World = start_of program locks initial in
-    let count : length w.harts ≡ length program = (starts_stand program locks initial).1 in
+    let count : length w.harts ≡ length program = (starts_simulate program locks initial).1 in
     crashes_gather program w (λ n. nothing_recorded) (λ n. nothing_recorded) (λ n. nothing_recorded) (λ n. []) (sym count)
     (λ h below. starts_standing program locks h initial (omega (arith, below, count)))
-    (λ h below. same_both (is_committed h (moment_of w (starts_standing program locks h initial (omega (arith, below, count))).hart [])) nothing_recorded)
+    (λ h below. same_both (is_committed h (config_of w (starts_standing program locks h initial (omega (arith, below, count))).hart [])) nothing_recorded)

@@ -1,4 +1,4 @@
-pub mod Telling
-pub mod Recovering
+pub mod RecordDescriptions
+pub mod RecoveryStates
 pub mod Machines
 pub mod Laws

@@ -5,26 +5,26 @@ use Rattle.rv64_isa.specs.Machine.{World}
 use Rattle.flow_graph.specs.Actions.{FlowState}
 use Rattle.log_states.specs.Logs.{Record}
 use Rattle.log_states.specs.Stages.{left_by_crash}
-use Rattle.log_states.specs.Machines.{moment_of}
-use Rattle.log_states.specs.Standing.{LogStands}
+use Rattle.log_states.specs.Machines.{config_of}
+use Rattle.log_states.specs.LogInvariant.{LogInv}
 use Rattle.thread_code.specs.Plans.{Plan}
-use Rattle.recovered_threads.specs.Telling.{Code, Codes, Tells, AllTell}
-use Rattle.recovered_threads.specs.Recovering.{AreGathering}
+use Rattle.recovered_threads.specs.RecordDescriptions.{Code, Codes, Describes, AllDescribe}
+use Rattle.recovered_threads.specs.RecoveryStates.{AreGathering}
 
--- the log of the thread is on its way from one record to another, and the one that a crash would leave tells of the kept state
-pub record LogTells (p : Plan) (code : Code p) (kept : FlowState) (w : World) : Type 0 where
+-- the log of the thread is on its way from one record to another, and the one that a crash would leave describes the kept state
+pub record LogDescribes (p : Plan) (code : Code p) (kept : FlowState) (w : World) : Type 0 where
   pub old : Record
   pub new : Record
   pub rest : List Effect
-  pub log : LogStands code.thread.number old new w rest
-  pub tells : Tells p code kept (left_by_crash code.thread.number old new (moment_of w log.hart rest))
+  pub log : LogInv code.thread.number old new w rest
+  pub describes : Describes p code kept (left_by_crash code.thread.number old new (config_of w log.hart rest))
 
--- those of all threads
-abbrev pub LogsTell : (p : Plan) → Codes p → FlowState → World → Type 0
-LogsTell p codes kept w = (n : ℕ) (below : n < length p.graph.threads) → LogTells p (codes.each n below) kept w
+-- the logs of all threads describe the kept state
+abbrev pub LogsDescribe : (p : Plan) → Codes p → FlowState → World → Type 0
+LogsDescribe p codes kept w = (n : ℕ) (below : n < length p.graph.threads) → LogDescribes p (codes.each n below) kept w
 
--- harts gather the locks of records that tell of the kept state
+-- harts gather the locks of records that describe the kept state
 pub record RecoversTo (p : Plan) (codes : Codes p) (kept : FlowState) (w : World) : Type 0 where
   pub records : ℕ → Record
   pub gathering : AreGathering w records
-  pub tell : AllTell p codes kept records
+  pub describe : AllDescribe p codes kept records

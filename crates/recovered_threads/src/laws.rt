@@ -1,33 +1,8 @@
 //! What is true of records and of recovery: nothing is computed here.
-ghost use Rattle.recovered_threads.specs.Laws.{
-  BoundariesRecover,
-  CommitsTell,
-  CrashesAgain,
-  CrashesGather,
-  CrashesRecover,
-  DurableLocksAreApart,
-  DurableLocksAreHeld,
-  DurablePointsSettle,
-  EventsRecover,
-  GatheredAreKept,
-  GatheredGoOn,
-  HartsGoOn,
-  LocksAreHeld,
-  LogsHaveLocks,
-  OthersTell,
-  PointsHaveLocks,
-  PointsSettle,
-  ReadyAsKept,
-  RecoveringTells,
-  RecordsAreApart,
-  StartsOrderly,
-  StartsTell,
-  StartsTold,
-  StepsOrderly,
-  TakesNeverWait,
-  UnlocksEnter,
-  WaitsForTakers,
-};
+ghost use Rattle.recovered_threads.specs.Laws.{BoundariesRecover, CommitsDescribe, CrashesAgain, CrashesGather, CrashesRecover, DurableLocksAreApart};
+ghost use Rattle.recovered_threads.specs.Laws.{DurableLocksAreHeld, DurablePointsSettle, EventsRecover, GatheredAreKept, GatheredGoOn, HartsGoOn, LocksAreHeld};
+ghost use Rattle.recovered_threads.specs.Laws.{LogsHaveLocks, OthersDescribe, PointsHaveLocks, PointsSettle, ReadyAsKept, RecoveringDescribes, RecordsAreApart};
+ghost use Rattle.recovered_threads.specs.Laws.{StartsOrderly, StartsDescribe, StartsTold, StepsOrderly, TakesNeverWait, UnlocksEnter, WaitsForTakers};
 
 /// Every state that a plan's graph reaches is orderly, and in the first one nothing is recorded.
 pub fn states_are_orderly()
@@ -58,18 +33,18 @@ pub fn locks_are_gathered()
     ensures ready { ReadyAsKept }
 {}
 
-/// A hart goes on where its record says, with registers that stand for what its thread sees in the kept state.
+/// A hart goes on where its record says, with registers that represent what its thread sees in the kept state.
 pub fn harts_go_on()
     ensures { HartsGoOn }
 {}
 
-/// A boundary can be recovered from, and where it is committed, its record tells of the state that is kept with it; the other threads'
-/// records go on to tell.
-pub fn commits_tell()
+/// A boundary can be recovered from, and where it is committed, its record describes the state that is kept with it; the other threads'
+/// records go on to describe the kept state.
+pub fn commits_describe()
     ensures recoverable { BoundariesRecover }
-    ensures own { CommitsTell }
+    ensures own { CommitsDescribe }
     ensures unlocks { UnlocksEnter }
-    ensures others { OthersTell }
+    ensures others { OthersDescribe }
 {}
 
 /// All durable points are 0 exactly where no mutex is held in the kept state.
@@ -77,13 +52,13 @@ pub fn points_settle()
     ensures { PointsSettle }
 {}
 
-/// In a machine whose logs tell of the kept state, a thread's durable log has the locks that it holds there, and all durable points are 0
-/// exactly where no mutex is held. Logs tell at the start; a crash leaves harts that recover to the kept state, and theirs tell all along.
-pub fn logs_tell()
-    ensures start { StartsTell }
+/// In a machine whose logs describe the kept state, a thread's durable log has the locks that it holds there, and all durable points are 0
+/// exactly where no mutex is held. Logs do so at the start; a crash leaves harts that recover to the kept state, and theirs do so all along.
+pub fn logs_describe()
+    ensures start { StartsDescribe }
     ensures held { DurableLocksAreHeld }
     ensures apart { DurableLocksAreApart }
     ensures settled { DurablePointsSettle }
     ensures crash { CrashesRecover }
-    ensures recovering { RecoveringTells }
+    ensures recovering { RecoveringDescribes }
 {}

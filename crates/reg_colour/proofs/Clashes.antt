@@ -11,27 +11,18 @@ use Rattle.flow_graph.specs.Liveness.{Spans, Colouring, Clash, HasNoClash, IsFir
 use Rattle.reg_colour.specs.declared.checking.Found.{Found}
 use Rattle.reg_colour.specs.declared.intervals.Interval.{Interval}
 use Rattle.reg_colour.specs.links.Intervals.{Intervals, AreIntervals, Holds}
-use Rattle.reg_colour.specs.links.Clashing.{IsUpTo, IsLesser, IsLeast, IsLeastOf, AreDisjoint, IsFirstShared, ClashAt, ClashOf, ClashBoth, ClashIn, locals_of}
-use Rattle.reg_colour.proofs.Bridge.{held_from, spans_from}
-use Rattle.reg_colour.proofs.Counting.{held_in, in_held}
-use Rattle.reg_colour.proofs.Least.{lesser}
+use Rattle.reg_colour.specs.links.LeastClash.{IsUpTo, IsLesser, IsLeast, IsLeastOf, AreDisjoint, IsFirstShared, ClashAt, ClashOf, ClashBoth, ClashIn, locals_of}
+use Rattle.reg_colour.proofs.IntervalCorrectness.{held_from, spans_from}
+use Rattle.reg_colour.proofs.IntervalCounts.{held_in, in_held}
+use Rattle.reg_colour.proofs.LeastOfTwo.{lesser}
 
--- the same is looked for, in other words
+-- the least of those that are found stays so where what is looked for is said in equal words
 pub reworded : (P R : ℕ → ℕ → ℕ → Type 0) (found : Option Found) → ((node a b : ℕ) → P node a b → R node a b) → ((node a b : ℕ) → R node a b → P node a b) →
     IsLeastOf P found → IsLeastOf R found
 reworded P R None to from p = λ node a b r. p node a b (from node a b r)
 reworded P R (Some x) to from p = record { is_one = to x.node x.a x.b p.is_one; least = λ node a b r. p.least node a b (from node a b r) }
 
 -- ---- Two locals
-
--- registers that differ
-pub no_clash : (xs : Intervals) (given : List ℕ) (a b p q : ℕ) → slice_get given a ≡ Some p → slice_get given b ≡ Some q → (p ≡ q → ⊥) → (node x y : ℕ) →
-    ClashBoth (locals_of xs given) a b node x y → ⊥
-no_clash xs given a b p q at_a at_b differ node x y c =
-    let k = c.clash in
-    let e : slice_get given a ≡ Some k.register = subst (λ (n : ℕ). slice_get given n ≡ Some k.register) c.first k.of_first in
-    let f : slice_get given b ≡ Some k.register = subst (λ (n : ℕ). slice_get given n ≡ Some k.register) c.second k.of_second in
-    differ cc
 
 pub disjoint : (xs : Intervals) (given : List ℕ) (a b : ℕ) (i j : Option Interval) → slice_get xs a ≡ Some i → slice_get xs b ≡ Some j → AreDisjoint i j →
     (node x y : ℕ) → ClashBoth (locals_of xs given) a b node x y → ⊥
@@ -72,9 +63,6 @@ pub record ClashOfBelow (xs : Intervals) (given : List ℕ) (local below node a 
   pub is : ClashOf (locals_of xs given) local node a b
   pub less : b < below
 
-pub none_below : (xs : Intervals) (given : List ℕ) (local : ℕ) → IsLeastOf (ClashOfBelow xs given local (local + 1)) None
-none_below xs given local = λ node a b c. omega (arith, c.less, c.is.own, c.is.clash.different)
-
 pub one_below : (xs : Intervals) (given : List ℕ) (local b : ℕ) (found other z : Option Found) → IsLeastOf (ClashOfBelow xs given local b) found →
     IsLeastOf (ClashBoth (locals_of xs given) local b) other →
     IsLesser found other z → IsLeastOf (ClashOfBelow xs given local (b + 1)) z
@@ -102,9 +90,6 @@ all_below xs given local b found le = reworded (ClashOfBelow xs given local b) (
 pub record ClashUpTo (xs : Intervals) (given : List ℕ) (below node a b : ℕ) : Type 0 where
   pub is : ClashAt (locals_of xs given) node a b
   pub less : a < below
-
-pub none_first : (xs : Intervals) (given : List ℕ) → IsLeastOf (ClashUpTo xs given 0) None
-none_first xs given = λ node a b c. omega (arith, c.less)
 
 pub one_first : (xs : Intervals) (given : List ℕ) (local : ℕ) (found other z : Option Found) → IsLeastOf (ClashUpTo xs given local) found →
     IsLeastOf (ClashOf (locals_of xs given) local) other → IsLesser found other z →
@@ -134,9 +119,6 @@ pub record ClashBelow (g : Graph) (colours : Colouring) (threads node a b : ℕ)
   pub thread : ℕ
   pub below : thread < threads
   pub is : ClashIn g colours thread node a b
-
-pub none_in : (g : Graph) (colours : Colouring) → IsLeastOf (ClashBelow g colours 0) None
-none_in g colours = λ node a b c. omega (arith, c.below)
 
 of_thread : (g : Graph) (colours : Colouring) (t : ℕ) (part : Part) (own : List ℕ) (xs : Intervals) → slice_get g.threads t ≡ Some part →
     slice_get colours t ≡ Some own → AreIntervals g part xs →

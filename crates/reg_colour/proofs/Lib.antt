@@ -1,9 +1,9 @@
-pub mod Pigeonhole
-pub mod Pushing
-pub mod Touching
-pub mod Counting
-pub mod Scans
-pub mod Bridge
-pub mod Threads
-pub mod Least
-pub mod Clashes
+mod Pigeonhole
+mod AppendedIntervals
+mod AssigningNodes
+mod IntervalCounts
+mod Scans
+mod IntervalCorrectness
+mod Threads
+mod LeastOfTwo
+mod Clashes

@@ -3,11 +3,10 @@ use Rattle.std.proofs.Common.{◌≡◌, ◌∙◌, ◌≢◌, ◌⊎◌, ℕ, �
 use Rattle.std.proofs.lemmas.Bool.{cases_eq, cases_order}
 use Rattle.std.proofs.lemmas.List.{get_or-set_same, get_or-set_other, length-set}
 use Rattle.std.proofs.lemmas.Option.{slice_get_within}
-use Rattle.flow_graph.specs.declared.graph.Part.{Part}
 use Rattle.reg_colour.specs.declared.intervals.Interval.{Interval}
-use Rattle.reg_colour.specs.links.Intervals.{Intervals, IntervalAt, Holds, AreHolding, AreWithin}
-use Rattle.reg_colour.specs.links.Scanning.{AreApart, IsFull, HaveRoom, IsCrowd, IsPassed, IsHeldUp, ScannedTo}
-use Rattle.reg_colour.proofs.Counting.{held_within}
+use Rattle.reg_colour.specs.links.Intervals.{Intervals, IntervalAt, Holds, AreHolding}
+use Rattle.reg_colour.specs.links.LinearScan.{AreRegistersApart, IsFull, HaveRoom, IsCrowd, IsPassed, IsHeldUp, ScannedTo}
+use Rattle.reg_colour.proofs.IntervalCounts.{held_within}
 use Rattle.reg_colour.proofs.Pigeonhole.{not_more, not_fewer}
 
 -- ---- One interval
@@ -80,7 +79,7 @@ next_node xs node up_to given free le s =
 -- ---- One more interval has a register
 
 -- the local's interval begins at the node, and the register is free there
-pub record Begins (xs : Intervals) (node k register : ℕ) (free : List ℕ) : Type 0 where
+pub record IntervalBegins (xs : Intervals) (node k register : ℕ) (free : List ℕ) : Type 0 where
   pub interval : Interval
   pub at : IntervalAt xs k interval
   pub starts : interval.first ≡ node
@@ -88,7 +87,8 @@ pub record Begins (xs : Intervals) (node k register : ℕ) (free : List ℕ) : T
   pub exists : register < length free
   pub is_free : get_or free register 0 ≤ node
 
-free_then : (xs : Intervals) (node k r : ℕ) (given free : List ℕ) (b : Begins xs node k r free) → ScannedTo xs node k given free → (l : ℕ) (i : Interval) →
+free_then : (xs : Intervals) (node k r : ℕ) (given free : List ℕ) (b : IntervalBegins xs node k r free) → ScannedTo xs node k given free →
+    (l : ℕ) (i : Interval) →
     IntervalAt xs l i → IsPassed node (k + 1) l i →
     i.end ≤ get_or (set free r b.interval.end) (get_or (set given k r) l 0) 0
 free_then xs node k r given free b s l i at p =
@@ -119,7 +119,7 @@ free_then xs node k r given free b s l i at p =
           ]
     ]
 
-held_then : (xs : Intervals) (node k r : ℕ) (given free : List ℕ) (b : Begins xs node k r free) → ScannedTo xs node k given free → (q : ℕ) →
+held_then : (xs : Intervals) (node k r : ℕ) (given free : List ℕ) (b : IntervalBegins xs node k r free) → ScannedTo xs node k given free → (q : ℕ) →
     0 < get_or (set free r b.interval.end) q 0 →
     IsHeldUp xs node (k + 1) (set given k r) q (get_or (set free r b.interval.end) q 0)
 held_then xs node k r given free b s q some =
@@ -151,7 +151,7 @@ held_then xs node k r given free b s q some =
     ]
 
 -- an interval that has been passed and has the register has ended
-ended : (xs : Intervals) (node k r : ℕ) (given free : List ℕ) (b : Begins xs node k r free) → ScannedTo xs node k given free → (l : ℕ) (i : Interval) →
+ended : (xs : Intervals) (node k r : ℕ) (given free : List ℕ) (b : IntervalBegins xs node k r free) → ScannedTo xs node k given free → (l : ℕ) (i : Interval) →
     IntervalAt xs l i → IsPassed node k l i →
     get_or given l 0 ≡ r → i.end ≤ b.interval.first
 ended xs node k r given free b s l i at p e =
@@ -159,7 +159,7 @@ ended xs node k r given free b s l i at p e =
     let was : get_or free (get_or given l 0) 0 ≡ get_or free r 0 = ap (λ (x : ℕ). get_or free x 0) e in
     omega (arith, old, was, b.is_free, b.starts)
 
-apart_then : (xs : Intervals) (node k r : ℕ) (given free : List ℕ) (b : Begins xs node k r free) → ScannedTo xs node k given free →
+apart_then : (xs : Intervals) (node k r : ℕ) (given free : List ℕ) (b : IntervalBegins xs node k r free) → ScannedTo xs node k given free →
     (l m : ℕ) (i j : Interval) → l < m → IntervalAt xs l i → IntervalAt xs m j →
     IsPassed node (k + 1) l i → IsPassed node (k + 1) m j → get_or (set given k r) l 0 ≡ get_or (set given k r) m 0 → (i.end ≤ j.first) ⊎ (j.end ≤ i.first)
 apart_then xs node k r given free b s l m i j lt at_l at_m p q same =
@@ -198,7 +198,7 @@ exist_then k r given small old l lt =
           omega (arith, val, before)
     ]
 
-pub has_one : (xs : Intervals) (node k r : ℕ) (given free : List ℕ) (b : Begins xs node k r free) → ScannedTo xs node k given free →
+pub has_one : (xs : Intervals) (node k r : ℕ) (given free : List ℕ) (b : IntervalBegins xs node k r free) → ScannedTo xs node k given free →
     ScannedTo xs node (k + 1) (set given k r) (set free r b.interval.end)
 has_one xs node k r given free b s = record {
   count = length-set given k r ∙ s.count;
@@ -209,7 +209,7 @@ has_one xs node k r given free b s = record {
   apart = apart_then xs node k r given free b s;
 }
 
--- ---- There is room
+-- ---- There is room at a node
 
 -- where the locals whose intervals hold a node have different registers
 room : (xs : Intervals) (node : ℕ) (given : List ℕ) → ((l : ℕ) → Holds xs node l → get_or given l 0 < 18) →
@@ -226,10 +226,10 @@ room xs node given exist apart wanted h =
     (λ a p. exist a ((h.each a).0 p)) in
     omega (arith, n, h.count)
 
-pub room_apart : (xs : Intervals) (given : List ℕ) → AreApart xs given → (node : ℕ) → HaveRoom xs node
+pub room_apart : (xs : Intervals) (given : List ℕ) → AreRegistersApart xs given → (node : ℕ) → HaveRoom xs node
 room_apart xs given s node = room xs node given (λ l h. s.exist l (omega (arith, held_within xs node l h, s.count))) (s.apart node)
 
--- those that hold a node that has been passed have different registers
+-- locals whose intervals hold a node that has been passed have different registers
 apart_passed : (xs : Intervals) (node up_to at : ℕ) (given free : List ℕ) → ScannedTo xs node up_to given free →
     ((l : ℕ) (i : Interval) → IntervalAt xs l i → i.first ≤ at → IsPassed node up_to l i) →
     (a b : ℕ) → a < b → Holds xs at a → Holds xs at b → get_or given a 0 ≡ get_or given b 0 → ⊥
@@ -244,7 +244,7 @@ room_before xs node given free s earlier lt =
     room xs earlier given (λ l h. s.exist l (omega (arith, held_within xs earlier l h, s.count)))
     (apart_passed xs node 0 earlier given free s (λ l i at le. inl (omega arith)))
 
--- ---- There is no room
+-- ---- There is no room at a node
 
 -- the local's interval begins at the node, and no register is free
 pub full : (xs : Intervals) (node k : ℕ) (given free : List ℕ) (i : Interval) → ScannedTo xs node k given free → IntervalAt xs k i → i.first ≡ node →
@@ -272,32 +272,6 @@ full xs node k given free i s at starts filled busy wanted h =
 pub crowd : (xs : Intervals) (node wanted : ℕ) (given free : List ℕ) → ScannedTo xs node 0 given free → IsFull xs node → AreHolding xs node wanted →
     IsCrowd xs (record { node = node; wanted = wanted })
 crowd xs node wanted given free s f h = record { holding = h; crowded = f wanted h; first = room_before xs node given free s }
-
--- ---- The ends of a scan
-
-never : (xs : Intervals) (part : Part) (l : ℕ) (i : Interval) → AreWithin part xs → IntervalAt xs l i → IsPassed part.first 0 l i → ⊥
-never xs part l i within at (inl a) = let r = within.each l i at in omega (arith, r.0, a)
-never xs part l i within at (inr b) = omega (arith, b.1)
-
-pub begun : (xs : Intervals) (part : Part) (given free : List ℕ) → AreWithin part xs → length given ≡ length xs → length free ≡ 18 →
-    ((l : ℕ) → get_or given l 0 ≡ 0) → ((r : ℕ) → get_or free r 0 ≡ 0) →
-    ScannedTo xs part.first 0 given free
-begun xs part given free within long every zeros unused = record {
-  count = long;
-  every = every;
-  exist = λ l lt. omega (arith, zeros l);
-  free_later = λ l i at p. absurd (never xs part l i within at p);
-  held = λ r some. absurd (omega (arith, unused r, some));
-  apart = λ a b i j lt at_a at_b p q same. absurd (never xs part a i within at_a p);
-}
-
-pub scanned : (xs : Intervals) (part : Part) (node : ℕ) (given free : List ℕ) → AreWithin part xs → part.end ≤ node → ScannedTo xs node 0 given free →
-    AreApart xs given
-scanned xs part node given free within le s = record {
-  count = s.count;
-  exist = s.exist;
-  apart = λ at. apart_passed xs node 0 at given free s (λ l i is from. inl (let r = within.each l i is in omega (arith, r.1, le)));
-}
 
 -- ---- In other names
 

@@ -1,6 +1,6 @@
 -- Registers of one more thread, and of all.
 use Rattle.std.proofs.Common.{◌≡◌, ◌∙◌, ◌⊎◌, ℕ, ◌+◌, ◌<◌, ◌≤◌, List, [], ◌∷◌, ◌++◌, length, get_or, Contains}
-use Rattle.std.proofs.Common.{slice_get, Option, Some, None, Vec, Global, inl, inr, refl, sym, ap, subst, arith}
+use Rattle.std.proofs.Common.{slice_get, Option, Some, None, Vec, Global, inl, inr, sym, ap, subst, arith}
 use Rattle.std.proofs.lemmas.Bool.{cases_eq}
 use Rattle.std.proofs.lemmas.Option.{slice_get_within, get_or_from_slice_get, slice_get-get_or}
 use Rattle.std.proofs.lemmas.List.{length-append, map-append}
@@ -10,16 +10,13 @@ use Rattle.flow_graph.specs.Nodes.{Node, Graph}
 use Rattle.flow_graph.specs.Liveness.{AreSpanning, Colouring, HasRoom, IsFirstCrowded, HasNoClash, AreRegisters}
 use Rattle.reg_colour.specs.declared.scan.Crowd.{Crowd}
 use Rattle.reg_colour.specs.links.Threads.{IsColoured, IsCrowdOf, AreColoured, HaveRoomBefore, IsLeastCrowd, ColouredTo, IsEarlier, lists_of}
-use Rattle.reg_colour.proofs.Pushing.{pushed}
+use Rattle.reg_colour.proofs.AppendedIntervals.{pushed}
 
 listed : (ps : List Part) (thread : ℕ) (part : Part) → slice_get ps thread ≡ Some part → Contains ps part
 listed ps thread part e = (thread, slice_get_within ps thread part e, get_or_from_slice_get ps thread part part e)
 
 same_part : (ps : List Part) (k : ℕ) (p q : Part) → slice_get ps k ≡ Some p → slice_get ps k ≡ Some q → p ≡ q
 same_part ps k p q a b = cc
-
-pub no_thread : (g : Graph) → ColouredTo g 0 [] None
-no_thread g = record { count = refl; each = λ thread part own p e. cc }
 
 -- ---- One more thread
 

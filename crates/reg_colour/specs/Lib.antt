@@ -1,2 +1,2 @@
-pub mod Refusing
+pub mod RefusedColourings
 pub mod links

@@ -1,5 +1,5 @@
 -- What links the code to the definitions.
 pub mod Intervals
-pub mod Scanning
+pub mod LinearScan
 pub mod Threads
-pub mod Clashing
+pub mod LeastClash

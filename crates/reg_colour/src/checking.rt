@@ -4,8 +4,8 @@ ghost use Rattle.flow_graph.specs.Nodes.{graph_of};
 ghost use Rattle.flow_graph.specs.Liveness.{HasNoClash};
 ghost use Rattle.flow_graph.specs.LocalSets.{AreLive};
 ghost use Rattle.flow_graph.specs.Colours.{colouring_of};
-ghost use Rattle.reg_colour.specs.Refusing.{IsWrong};
-ghost use Rattle.reg_colour.specs.links.Clashing.{IsUpTo, IsLesser, IsLeastOf, AreDisjoint, IsFirstShared, ClashAt, ClashOf, ClashBoth, locals_of};
+ghost use Rattle.reg_colour.specs.RefusedColourings.{IsWrong};
+ghost use Rattle.reg_colour.specs.links.LeastClash.{IsUpTo, IsLesser, IsLeastOf, AreDisjoint, IsFirstShared, ClashAt, ClashOf, ClashBoth, locals_of};
 
 use crate::intervals::{Interval, intervals};
 use flow_graph::colours::Colours;

@@ -4,7 +4,7 @@ ghost use Rattle.flow_graph.specs.Nodes.{graph_of};
 ghost use Rattle.flow_graph.specs.Liveness.{HasRoom, HasNoClash, AreRegisters};
 ghost use Rattle.flow_graph.specs.LocalSets.{AreLive};
 ghost use Rattle.flow_graph.specs.Colours.{colouring_of};
-ghost use Rattle.reg_colour.specs.Refusing.{IsRefused};
+ghost use Rattle.reg_colour.specs.RefusedColourings.{IsRefusedColouring};
 ghost use Rattle.reg_colour.specs.links.Threads.{IsThread, IsEarlier};
 
 use crate::intervals::intervals;
@@ -49,7 +49,7 @@ impl<T: Drop> From<AllocFailed<T>> for ColourRefusal {
     }
 }
 
-/// The one of them at the earlier node.
+/// Of two crowds the one at the earlier node.
 fn earlier(found: Option<Crowd>, crowd: Crowd) -> Crowd
     ensures { IsEarlier found crowd result }
 {
@@ -82,7 +82,7 @@ pub fn colour(alloc: Global, graph: &Graph, live: &LiveSets) -> Result<Colours, 
     ensures registers { IfOk result (λ colours. AreRegisters (graph_of graph.now) (colouring_of colours)) }
     ensures apart { IfOk result (λ colours. HasNoClash (graph_of graph.now) (colouring_of colours)) }
     ensures room { IfOk result (λ _. HasRoom (graph_of graph.now)) }
-    ensures refused { IfErr result (IsRefused (graph_of graph.now)) }
+    ensures refused { IfErr result (IsRefusedColouring (graph_of graph.now)) }
 {
     let mut threads = Vec::new(alloc);
     let mut crowd = None;

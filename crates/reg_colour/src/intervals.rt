@@ -3,7 +3,7 @@ ghost use Rattle.std.specs.Prelude.{◌≡◌, ◌⊎◌, ◌↔◌, length, IfO
 ghost use Rattle.flow_graph.specs.Nodes.{graph_of};
 ghost use Rattle.flow_graph.specs.Liveness.{IsLive, IsAssigned};
 ghost use Rattle.flow_graph.specs.LocalSets.{AreLive};
-ghost use Rattle.reg_colour.specs.links.Intervals.{IsUntouched, IsFirstTouched, IsLastTouched, IsIntervalOf, AreIntervals, IsIn, IsBegun, AreHolding};
+ghost use Rattle.reg_colour.specs.links.Intervals.{IsUnassigned, IsFirstTouched, IsLastTouched, IsIntervalOf, AreIntervals, IsInInterval, IsBegun, AreHolding};
 
 use flow_graph::graph::{Graph, Part};
 use flow_graph::live_sets::LiveSets;
@@ -19,7 +19,7 @@ pub(crate) struct Interval {
 
 /// Whether the interval, if there is one, holds the node.
 fn is_in(interval: Option<Interval>, node: usize) -> bool
-    ensures { IsTrue result ↔ IsIn interval node }
+    ensures { IsTrue result ↔ IsInInterval interval node }
 {
     match interval {
         Some(interval) => interval.first <= node && node < interval.end,
@@ -68,7 +68,7 @@ fn is_touched(graph: &Graph, live: &LiveSets, node: usize, local: usize) -> bool
 /// The first node of the thread that touches the local.
 fn first_touched(graph: &Graph, live: &LiveSets, part: Part, local: usize) -> Option<usize>
     requires { AreLive (graph_of graph.now) live.now }
-    ensures { MatchOption result (IsUntouched (graph_of graph.now) part local) (IsFirstTouched (graph_of graph.now) part local) }
+    ensures { MatchOption result (IsUnassigned (graph_of graph.now) part local) (IsFirstTouched (graph_of graph.now) part local) }
 {
     for node in part.first..part.end {
         if is_touched(graph, live, node, local) {
@@ -81,7 +81,7 @@ fn first_touched(graph: &Graph, live: &LiveSets, part: Part, local: usize) -> Op
 /// The last node of the thread that touches the local.
 fn last_touched(graph: &Graph, live: &LiveSets, part: Part, local: usize) -> Option<usize>
     requires { AreLive (graph_of graph.now) live.now }
-    ensures { MatchOption result (IsUntouched (graph_of graph.now) part local) (IsLastTouched (graph_of graph.now) part local) }
+    ensures { MatchOption result (IsUnassigned (graph_of graph.now) part local) (IsLastTouched (graph_of graph.now) part local) }
 {
     for node in (part.first..part.end).rev() {
         if is_touched(graph, live, node, local) {

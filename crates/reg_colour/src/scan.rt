@@ -1,7 +1,7 @@
 //! A linear scan over the intervals of a thread's locals.
 ghost use Rattle.std.specs.Prelude.{◌≡◌, ◌+◌, IfOk, MatchBool, MatchOption};
 ghost use Rattle.reg_colour.specs.links.Intervals.{AreFilled, AreWithin};
-ghost use Rattle.reg_colour.specs.links.Scanning.{IsBusy, IsFree, ScannedTo, IsFull, IsScanned};
+ghost use Rattle.reg_colour.specs.links.LinearScan.{IsBusy, IsFree, ScannedTo, IsFull, IsScanned};
 
 use crate::intervals::{Interval, end_from, holding};
 use flow_graph::graph::Part;

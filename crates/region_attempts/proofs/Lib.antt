@@ -1,12 +1,13 @@
-pub mod Whole
-pub mod Alike
-pub mod Walking
-pub mod Nodes
-pub mod Region
-pub mod Reading
-pub mod Keeping
-pub mod Flushing
-pub mod Following
-pub mod Paths
-pub mod Living
-pub mod Worked
+pub mod Public
+mod WholeAttempts
+mod StepBisimulation
+mod GraphRuns
+mod Nodes
+mod Region
+mod AttemptReads
+mod AttemptsStayInRegion
+mod RegionEndCleans
+mod GraphFollowsSource
+mod Paths
+mod ExecutionsStayInRegion
+mod Worked

@@ -10,18 +10,15 @@ use Rattle.c_tree.specs.Programs.{Variable}
 use Rattle.c_tree.specs.Flats as f
 use Rattle.c_tree.specs.Source as m
 use Rattle.c_tree.specs.Source.{Pending}
-use Rattle.c_tree.specs.Locking.{Held, holds, expr_uses, target_uses, guard_of, AreGuarded}
+use Rattle.c_tree.specs.LockDiscipline.{Held, holds, expr_uses, target_uses, guard_of, AreGuarded}
 use Rattle.source_machine.specs.Mutexes.{first_lock, first_unlock, locks, unlocks}
-use Rattle.source_machine.proofs.Guarding.{guarded_first, guarded_rest, guarded_left, guarded_right}
-use Rattle.source_machine.proofs.Changes.{locks_found, unlocks_found}
+use Rattle.source_machine.proofs.Public.{guarded_first, guarded_rest, guarded_left, guarded_right, locks_found, unlocks_found}
 use Rattle.flow_graph.specs.Nodes.{Action, Eval, Store, Test, Lock, Unlock, End, Node}
-use Rattle.flow_graph.specs.Actions.{Seen, Walker, Effect, Makes, Takes, Gives, Ends, effect_of, element_in}
+use Rattle.flow_graph.specs.Actions.{Seen, GraphThread, Effect, Makes, Takes, Gives, Ends, effect_of, element_in}
 use Rattle.flow_graph.specs.Lockstep.{Standing, threads_standings}
 use Rattle.flow_graph.specs.Paths.{Element, element, expr_elements, target_elements, reads_of, stored_element, write_of}
-use Rattle.flow_graph.proofs.Standing.{Does, chooses, repeats}
-use Rattle.flow_graph.proofs.Shapes.{ShapedAs}
-use Rattle.flow_graph.proofs.Lying.{contains_none}
-use Rattle.region_attempts.proofs.Alike.{action_uses, IsThere}
+use Rattle.flow_graph.proofs.Public.{ActionLeads, chooses, repeats, ShapedAs, contains_none}
+use Rattle.region_attempts.proofs.StepBisimulation.{action_uses, IsThere}
 
 -- ---- What is read is guarded
 
@@ -90,7 +87,7 @@ not_owing : (left more : List f.Statement) → (let s : Standing = record { left
     let t : Standing = record { left = more; owes = false } in s ≡ t) → ⊥
 not_owing left more h = let b : true ≡ false = ap (λ (s : Standing). s.owes) h in cc
 
-owing_by : (all : List Standing) (a : Action) (left : List f.Statement) → Does all a (record { left = left; owes = true }) → StoresHere a
+owing_by : (all : List Standing) (a : Action) (left : List f.Statement) → ActionLeads all a (record { left = left; owes = true }) → StoresHere a
 owing_by all (Eval target value next) left d = absurd (not_owing left _ d.is)
 owing_by all (Store variable kind next) left d = record { variable = variable; kind = kind; next = next; is = refl }
 owing_by all (Test condition holds fails) left d = elim d [
@@ -103,20 +100,20 @@ owing_by all End left d = absurd (not_owing left _ d)
 
 -- a store is pending at a node that stores
 pub owing_at : (all : List Standing) (a : Action) (left : List f.Statement) (p : Option Pending) (store : Pending) → p ≡ Some store →
-    Does all a (record { left = left; owes = is_some p }) → StoresHere a
+    ActionLeads all a (record { left = left; owes = is_some p }) → StoresHere a
 owing_at all a left p store is d =
-    owing_by all a left (subst (λ (b : Bool). Does all a (record { left = left; owes = b })) (ap is_some is) d)
+    owing_by all a left (subst (λ (b : Bool). ActionLeads all a (record { left = left; owes = b })) (ap is_some is) d)
 
 owes_by : (all : List Standing) (a : Action) (left : List f.Statement) (p : Option Pending) → StoresHere a →
-    Does all a (record { left = left; owes = is_some p }) → (store : Pending) × (p ≡ Some store)
+    ActionLeads all a (record { left = left; owes = is_some p }) → (store : Pending) × (p ≡ Some store)
 owes_by all a left None s d =
-    let stores = subst (λ (z : Action). Does all z (record { left = left; owes = false })) s.is d in
+    let stores = subst (λ (z : Action). ActionLeads all z (record { left = left; owes = false })) s.is d in
     let b : false ≡ true = ap (λ (z : Standing). z.owes) stores.is in cc
 owes_by all a left (Some store) s d = (store, refl)
 
--- and at a node that stores one is pending
+-- at a node that stores a store is pending
 pub owes_at : (all : List Standing) (a : Action) (left : List f.Statement) (p : Option Pending) → StoresHere a →
-    Does all a (record { left = left; owes = is_some p }) → (store : Pending) × (p ≡ Some store)
+    ActionLeads all a (record { left = left; owes = is_some p }) → (store : Pending) × (p ≡ Some store)
 owes_at all a left p s d = owes_by all a left p s d
 
 -- a node that writes stores
@@ -161,7 +158,7 @@ left_of s = s.left
 none_left : (store : Pending) (mutex : ℕ) (p : Option Pending) (left : List f.Statement) → p ≡ Some store → lock_by p left ≡ Some mutex → ⊥
 none_left store mutex p left is h = let none = ap (λ (o : Option Pending). lock_by o left) is in cc
 
-locking_by : (all : List Standing) (a : Action) (left : List f.Statement) (mutex : ℕ) → Does all a (record { left = left; owes = false }) →
+locking_by : (all : List Standing) (a : Action) (left : List f.Statement) (mutex : ℕ) → ActionLeads all a (record { left = left; owes = false }) →
     first_lock left ≡ Some mutex → (next : ℕ) × (a ≡ Lock mutex next)
 locking_by all (Eval target value next) left mutex d h = absurd (no_lock left _ mutex (ap left_of d.is) refl h)
 locking_by all (Store variable kind next) left mutex d h = let b : false ≡ true = ap (λ (z : Standing). z.owes) d.is in cc
@@ -176,7 +173,7 @@ locking_by all (Lock other next) left mutex d h =
 locking_by all (Unlock other next) left mutex d h = absurd (no_lock left _ mutex (ap left_of d.is) refl h)
 locking_by all End left mutex d h = absurd (no_lock left [] mutex (ap left_of d) refl h)
 
-unlocking_by : (all : List Standing) (a : Action) (left : List f.Statement) (mutex : ℕ) → Does all a (record { left = left; owes = false }) →
+unlocking_by : (all : List Standing) (a : Action) (left : List f.Statement) (mutex : ℕ) → ActionLeads all a (record { left = left; owes = false }) →
     first_unlock left ≡ Some mutex → (next : ℕ) × (a ≡ Unlock mutex next)
 unlocking_by all (Eval target value next) left mutex d h = absurd (no_unlock left _ mutex (ap left_of d.is) refl h)
 unlocking_by all (Store variable kind next) left mutex d h = let b : false ≡ true = ap (λ (z : Standing). z.owes) d.is in cc
@@ -192,21 +189,21 @@ unlocking_by all (Unlock other next) left mutex d h =
 unlocking_by all End left mutex d h = absurd (no_unlock left [] mutex (ap left_of d) refl h)
 
 locking_if : (all : List Standing) (a : Action) (left : List f.Statement) (mutex : ℕ) (p : Option Pending) →
-    Does all a (record { left = left; owes = is_some p }) → lock_by p left ≡ Some mutex → (next : ℕ) × (a ≡ Lock mutex next)
+    ActionLeads all a (record { left = left; owes = is_some p }) → lock_by p left ≡ Some mutex → (next : ℕ) × (a ≡ Lock mutex next)
 locking_if all a left mutex None d h = locking_by all a left mutex d h
 locking_if all a left mutex (Some store) d h = cc
 
 unlocking_if : (all : List Standing) (a : Action) (left : List f.Statement) (mutex : ℕ) (p : Option Pending) →
-    Does all a (record { left = left; owes = is_some p }) → unlock_by p left ≡ Some mutex → (next : ℕ) × (a ≡ Unlock mutex next)
+    ActionLeads all a (record { left = left; owes = is_some p }) → unlock_by p left ≡ Some mutex → (next : ℕ) × (a ≡ Unlock mutex next)
 unlocking_if all a left mutex None d h = unlocking_by all a left mutex d h
 unlocking_if all a left mutex (Some store) d h = cc
 
 locks_if : (all : List Standing) (left : List f.Statement) (mutex next : ℕ) (p : Option Pending) →
-    Does all (Lock mutex next) (record { left = left; owes = is_some p }) → lock_by p left ≡ Some mutex
+    ActionLeads all (Lock mutex next) (record { left = left; owes = is_some p }) → lock_by p left ≡ Some mutex
 locks_if all left mutex next None d = ap first_lock (ap left_of d.is)
 locks_if all left mutex next (Some store) d = let b : true ≡ false = ap (λ (z : Standing). z.owes) d.is in cc
 
-module _ (x : f.Flat) (s : m.State) (t : ℕ) (walker : Walker) (node : Node) (th : IsThere x s t walker node) where
+module _ (x : f.Flat) (s : m.State) (t : ℕ) (graph_thread : GraphThread) (node : Node) (th : IsThere x s t graph_thread node) where
   -- a thread that locks next stands at a node that locks
   pub locking_at : (mutex : ℕ) → locks s t ≡ Some mutex → (next : ℕ) × (node.action ≡ Lock mutex next)
   locking_at mutex h = locking_if (threads_standings x.threads) node.action th.thread.left mutex th.thread.pending th.does
@@ -216,11 +213,11 @@ module _ (x : f.Flat) (s : m.State) (t : ℕ) (walker : Walker) (node : Node) (t
   unlocking_at mutex h = unlocking_if (threads_standings x.threads) node.action th.thread.left mutex th.thread.pending th.does
       (sym (unlocks_found s t th.thread th.there) ∙ h)
 
-  -- and at one that locks the thread locks next
+  -- at a node that locks the thread locks next
   pub locks_at : (mutex next : ℕ) → node.action ≡ Lock mutex next → locks s t ≡ Some mutex
   locks_at mutex next is = locks_found s t th.thread th.there
       ∙ locks_if (threads_standings x.threads) th.thread.left mutex next th.thread.pending
-      (subst (λ (a : Action). Does (threads_standings x.threads) a (record { left = th.thread.left; owes = is_some th.thread.pending })) is th.does)
+      (subst (λ (a : Action). ActionLeads (threads_standings x.threads) a (record { left = th.thread.left; owes = is_some th.thread.pending })) is th.does)
 
 -- ---- The end
 

@@ -6,54 +6,54 @@ use Rattle.c_tree.specs.Flats as f
 use Rattle.flow_graph.specs.Nodes.{Graph}
 use Rattle.flow_graph.specs.Lowering.{lowered}
 use Rattle.flow_graph.specs.Liveness.{NodeAt}
-use Rattle.flow_graph.specs.Actions.{Walker, FlowState, graph_step}
-use Rattle.flow_graph.specs.Cutting as cutting
-use Rattle.flow_graph.specs.Cutting.{IsBoundary}
+use Rattle.flow_graph.specs.Actions.{GraphThread, FlowState, graph_step}
+use Rattle.flow_graph.specs.IdempotentCuts as cutting
+use Rattle.flow_graph.specs.IdempotentCuts.{IsBoundary}
 use Rattle.flow_graph.specs.Paths.{Element, Visit, solo_path}
-use Rattle.flow_graph.proofs.Paths.{path_runs}
-use Rattle.resumption.specs.Moments.{attempt_of}
-use Rattle.region_attempts.specs.Standing.{flow_kept, node_behind}
+use Rattle.flow_graph.proofs.Public.{path_runs}
+use Rattle.recovery_semantics.specs.Configs.{attempt_of}
+use Rattle.region_attempts.specs.GraphStates.{flow_kept, node_after}
 use Rattle.region_attempts.specs.Laws.{InsideIsRegion, WritersStore}
 use Rattle.region_attempts.proofs.Region.{number, made_there, number_is, is_number, free}
-use Rattle.region_attempts.proofs.Reading.{kept_matches, kept_good, node_there, stores_there}
+use Rattle.region_attempts.proofs.AttemptReads.{kept_matches, kept_good, node_there, stores_there}
 
--- a visit of a path is one of so many, and its walker stands in its state
+-- a visit of a path is one of so many, and its graph thread stands in its state
 record IsVisited (t n i : ℕ) (v : Visit) : Type 0 where
   within : i < n
-  found : slice_get v.before.walkers t ≡ Some v.walker
+  found : slice_get v.before.graph_threads t ≡ Some v.graph_thread
 
-abbrev path_by : Graph → FlowState → (t n : ℕ) → Option Walker → Option FlowState → List Visit
+abbrev path_by : Graph → FlowState → (t n : ℕ) → Option GraphThread → Option FlowState → List Visit
 path_by graph s t n o p = elim o [
   | None ↦ []
-  | Some walker ↦ elim p [
+  | Some graph_thread ↦ elim p [
     | None ↦ []
-    | Some next ↦ record { walker = walker; before = s } ∷ solo_path graph next t n
+    | Some next ↦ record { graph_thread = graph_thread; before = s } ∷ solo_path graph next t n
   ]
 ]
 
-visited_by : (graph : Graph) (s : FlowState) (t n : ℕ) (o : Option Walker) (p : Option FlowState) → slice_get s.walkers t ≡ o →
+visited_by : (graph : Graph) (s : FlowState) (t n : ℕ) (o : Option GraphThread) (p : Option FlowState) → slice_get s.graph_threads t ≡ o →
     ((next : FlowState) (i : ℕ) (v : Visit) → slice_get (solo_path graph next t n) i ≡ Some v → IsVisited t n i v) →
     (i : ℕ) (v : Visit) → slice_get (path_by graph s t n o p) i ≡ Some v → IsVisited t (suc n) i v
 visited_by graph s t n None p found more i v h = cc
-visited_by graph s t n (Some walker) None found more i v h = cc
-visited_by graph s t n (Some walker) (Some next) found more zero v h =
-    let is : (let made : Visit = record { walker = walker; before = s } in made ≡ v) = cc in
+visited_by graph s t n (Some graph_thread) None found more i v h = cc
+visited_by graph s t n (Some graph_thread) (Some next) found more zero v h =
+    let is : (let made : Visit = record { graph_thread = graph_thread; before = s } in made ≡ v) = cc in
     subst (IsVisited t (suc n) 0) is (record { within = omega arith; found = found })
-visited_by graph s t n (Some walker) (Some next) found more (suc i) v h =
+visited_by graph s t n (Some graph_thread) (Some next) found more (suc i) v h =
     let one = more next i v h in
     let within = one.within in
     record { within = omega (arith, within); found = one.found }
 
 visited : (graph : Graph) (t n : ℕ) (s : FlowState) (i : ℕ) (v : Visit) → slice_get (solo_path graph s t n) i ≡ Some v → IsVisited t n i v
 visited graph t zero s i v h = cc
-visited graph t (suc n) s i v h = visited_by graph s t n (slice_get s.walkers t) (graph_step graph s t) refl (visited graph t n) i v h
+visited graph t (suc n) s i v h = visited_by graph s t n (slice_get s.graph_threads t) (graph_step graph s t) refl (visited graph t n) i v h
 
--- so the walker stands where so many of its own steps lead
+-- the graph thread of a visit stands where as many of its own steps lead as come before the visit
 stands_there : (x : f.Flat) (kept : FlowState) (t n i : ℕ) (v : Visit) → slice_get (solo_path (lowered x) kept t n) i ≡ Some v →
-    node_behind x kept t i ≡ Some v.walker.at
+    node_after x kept t i ≡ Some v.graph_thread.at
 stands_there x kept t n i v h =
-    ap (λ (s : FlowState). option_map (λ (z : Walker). z.at) (slice_get s.walkers t)) (path_runs (lowered x) t n kept i v h).after
-    ∙ ap (option_map (λ (z : Walker). z.at)) (visited (lowered x) t n kept i v h).found
+    ap (λ (s : FlowState). option_map (λ (z : GraphThread). z.at) (slice_get s.graph_threads t)) (path_runs (lowered x) t n kept i v h).after
+    ∙ ap (option_map (λ (z : GraphThread). z.at)) (visited (lowered x) t n kept i v h).found
 
 same_number : {k n : ℕ} {o : Option ℕ} → o ≡ Some k → o ≡ Some n → k ≡ n
 same_number h i = cc
@@ -64,14 +64,14 @@ inside_is_region x b old schedule t w i by stays begins =
     let match = kept_matches x w old.kept schedule by in
     let n = (attempt_of old t).longest in
     record {
-      begins = λ first h. begins first.walker.at (stands_there x kept t n 0 first h);
+      begins = λ first h. begins first.graph_thread.at (stands_there x kept t n 0 first h);
       inside = λ p one next h k boundary.
           let low : suc p < n = (visited (lowered x) t n kept (suc p) next k).within in
           let below : p < n = omega (arith, low) in
           let from = same_number (stands_there x kept t n p one h) (is_number x w old t i kept match p below) in
           let to = same_number (stands_there x kept t n (suc p) next k) (is_number x w old t i kept match (suc p) low) in
           free x w old t i kept match b stays p low (subst (λ (z : ℕ). IsBoundary (lowered x) b (number x w old t i kept match p) z) to
-          (subst (λ (z : ℕ). IsBoundary (lowered x) b z next.walker.at) from boundary));
+          (subst (λ (z : ℕ). IsBoundary (lowered x) b z next.graph_thread.at) from boundary));
     }
 
 pub writers_store : WritersStore

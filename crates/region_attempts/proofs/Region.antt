@@ -10,19 +10,18 @@ use Rattle.c_tree.specs.WellFormed.{IsWellFormed}
 use Rattle.flow_graph.specs.Nodes.{Action, Lock, Unlock, Node, Graph, successors}
 use Rattle.flow_graph.specs.Lowering.{lowered, threads_nodes}
 use Rattle.flow_graph.specs.Liveness.{NodeAt}
-use Rattle.flow_graph.specs.Actions.{Walker, FlowState, Ends, effect_of, seen_by}
+use Rattle.flow_graph.specs.Actions.{GraphThread, FlowState, Ends, effect_of, seen_by}
 use Rattle.flow_graph.specs.Lockstep.{Matches}
-use Rattle.flow_graph.specs.Cutting.{Boundaries, IsEdge, IsLock, locks, IsUnlock, unlocks, HasBefore, IsBoundary, Begins}
-use Rattle.flow_graph.specs.Cutting.{at_boundary, IsInside, stays, goes_on, ReadsAt, WritesAt, IsWrittenBefore, AreCuts}
-use Rattle.flow_graph.proofs.Shapes.{ShapedAs, node_shaped}
-use Rattle.flow_graph.proofs.Keeping.{Stepped, stepped, moved, goes_by, after_is, not_again, Done, nodes_at}
-use Rattle.resumption.specs.Attempts.{solo}
-use Rattle.resumption.specs.Moments.{Moment, Invariant, attempt_of}
-use Rattle.resumption.proofs.Paths.{none_some}
-use Rattle.region_attempts.specs.Standing.{flow_solo, node_behind}
-use Rattle.region_attempts.specs.Staying.{Resumes, begins, behind_unlock, StaysInside}
-use Rattle.region_attempts.proofs.Alike.{IsThere, is_there}
-use Rattle.region_attempts.proofs.Walking.{OwnStep, own_step, inner_runs, matched_run}
+use Rattle.flow_graph.specs.IdempotentCuts.{Boundaries, IsEdge, IsLock, locks, IsUnlock, unlocks, HasBefore, IsBoundary, BeginsRegion}
+use Rattle.flow_graph.specs.IdempotentCuts.{at_boundary, IsInside, stays, goes_on, ReadsAt, WritesAt, IsWrittenBefore, AreCuts}
+use Rattle.flow_graph.proofs.Public.{ShapedAs, node_shaped, Stepped, stepped, moved, goes_by, after_is, not_again, Done, nodes_at}
+use Rattle.recovery_semantics.specs.Attempts.{solo}
+use Rattle.recovery_semantics.specs.Configs.{Config, Invariant, attempt_of}
+use Rattle.recovery_semantics.proofs.Public.{none_some}
+use Rattle.region_attempts.specs.GraphStates.{flow_solo, node_after}
+use Rattle.region_attempts.specs.AttemptsInRegion.{Resumes, begins, past_unlock, StaysInside}
+use Rattle.region_attempts.proofs.StepBisimulation.{IsThere, is_there}
+use Rattle.region_attempts.proofs.GraphRuns.{OwnStep, own_step, inner_runs, matched_run}
 use Rattle.region_attempts.proofs.Nodes.{locks_at, ends_only}
 
 -- ---- Lists of nodes
@@ -76,16 +75,16 @@ module _ (x : f.Flat) (b : Boundaries) (cuts : AreCuts (lowered x) b) (first : �
   abbrev Before : Type 0
   Before = IsWrittenBefore g (first ∷ rest) i read
 
-  at_begin : Begins g b first → Before
+  at_begin : BeginsRegion g b first → Before
   at_begin h = cuts.idempotent first rest h inside i j read written lower reads writes meet
 
-  behind_by : (from : ℕ) → IsUnlock g from → (q : ℕ) (l : Location) → q < suc i → WritesAt g (from ∷ first ∷ rest) q l → IsTrue (same l read) → Before
-  behind_by from u zero l low wr is =
+  after_by : (from : ℕ) → IsUnlock g from → (q : ℕ) (l : Location) → q < suc i → WritesAt g (from ∷ first ∷ rest) q l → IsTrue (same l read) → Before
+  after_by from u zero l low wr is =
       let here : from ≡ wr.node = let h = wr.there in cc in
       let at : NodeAt g from wr.is = ap (slice_get g.nodes) here ∙ wr.at in
       let none = unlock_writes_none x from wr.is u at in
       absurd (none_some l (sym none ∙ wr.writes))
-  behind_by from u (suc q) l low wr is = record {
+  after_by from u (suc q) l low wr is = record {
     earlier = q;
     written = l;
     before = omega (arith, low);
@@ -93,22 +92,22 @@ module _ (x : f.Flat) (b : Boundaries) (cuts : AreCuts (lowered x) b) (first : �
     is = is;
   }
 
-  behind : (from : ℕ) → IsUnlock g from → IsEdge g from first → ¬ (HasBefore b first) → Before
-  behind from u edge free =
+  after : (from : ℕ) → IsUnlock g from → IsEdge g from first → ¬ (HasBefore b first) → Before
+  after from u edge free =
       let longer = goes_on from first rest edge (λ p. ⊎_elim (λ h. not_lock g from h.locks u) free p) inside in
       let before = cuts.idempotent from (first ∷ rest) (at_boundary (cuts.before_unlocks from u)) longer (suc i) (suc j) read written (omega (arith, lower))
       (record { node = reads.node; is = reads.is; there = reads.there; at = reads.at; reads = reads.reads })
       (record { node = writes.node; is = writes.is; there = writes.there; at = writes.at; writes = writes.writes }) meet in
-      behind_by from u before.earlier before.written before.before before.writes before.is
+      after_by from u before.earlier before.written before.before before.writes before.is
 
-  -- so it is behind an unlock too
+  -- what is overwritten was written before where a region begins, and after an unlock too
   pub written_before : Resumes g b first → Before
   written_before (begins h) = at_begin h
-  written_before (behind_unlock from u edge) = ⊎_elim (λ h. at_begin (at_boundary h)) (λ free. behind from u edge free) (decide_true (slice_get b.before first))
+  written_before (past_unlock from u edge) = ⊎_elim (λ h. at_begin (at_boundary h)) (λ free. after from u edge free) (decide_true (slice_get b.before first))
 
 -- ---- The longest attempt
 
-module _ (x : f.Flat) (w : IsWellFormed x) (old : Moment) (t : ℕ) (i : Invariant x old) (kept : FlowState) (match : Matches x kept old.kept) where
+module _ (x : f.Flat) (w : IsWellFormed x) (old : Config) (t : ℕ) (i : Invariant x old) (kept : FlowState) (match : Matches x kept old.kept) where
   abbrev pub longest : ℕ
   longest = (attempt_of old t).longest
 
@@ -123,63 +122,65 @@ module _ (x : f.Flat) (w : IsWellFormed x) (old : Moment) (t : ℕ) (i : Invaria
   made_there k l = stepped (lowered x) (flow_solo x kept t k) (own k l).next t (own k l).is
 
   abbrev pub number : ℕ → ℕ
-  number k = unwrap_or (node_behind x kept t k) 0
+  number k = unwrap_or (node_after x kept t k) 0
 
-  pub behind_is : (k : ℕ) (l : k < longest) → node_behind x kept t k ≡ Some (made_there k l).walker.at
-  behind_is k l = ap (option_map (λ (z : Walker). z.at)) (made_there k l).found
+  pub boundary_after_is : (k : ℕ) (l : k < longest) → node_after x kept t k ≡ Some (made_there k l).graph_thread.at
+  boundary_after_is k l = ap (option_map (λ (z : GraphThread). z.at)) (made_there k l).found
 
-  pub number_is : (k : ℕ) (l : k < longest) → number k ≡ (made_there k l).walker.at
-  number_is k l = ap (λ (o : Option ℕ). unwrap_or o 0) (behind_is k l)
+  pub number_is : (k : ℕ) (l : k < longest) → number k ≡ (made_there k l).graph_thread.at
+  number_is k l = ap (λ (o : Option ℕ). unwrap_or o 0) (boundary_after_is k l)
 
-  pub is_number : (k : ℕ) → k < longest → node_behind x kept t k ≡ Some (number k)
-  is_number k l = behind_is k l ∙ ap Some (sym (number_is k l))
+  pub is_number : (k : ℕ) → k < longest → node_after x kept t k ≡ Some (number k)
+  is_number k l = boundary_after_is k l ∙ ap Some (sym (number_is k l))
 
-  pub there_at : (k : ℕ) (l : k < longest) → IsThere x (solo old.kept t k) t (made_there k l).walker (made_there k l).node
+  pub there_at : (k : ℕ) (l : k < longest) → IsThere x (solo old.kept t k) t (made_there k l).graph_thread (made_there k l).node
   there_at k l =
       let st = made_there k l in
-      is_there x w t (flow_solo x kept t k) (solo old.kept t k) (matched_run x w (replicate k t) kept old.kept match) st.walker st.node st.found st.at
+      is_there x w t (flow_solo x kept t k) (solo old.kept t k) (matched_run x w (replicate k t) kept old.kept match) st.graph_thread st.node st.found st.at
 
-  ended_once : (k : ℕ) (l : k < longest) (n : suc k < longest) → (made_there (suc k) n).walker ≡ moved (made_there k l).walker Ends →
+  ended_once : (k : ℕ) (l : k < longest) (n : suc k < longest) → (made_there (suc k) n).graph_thread ≡ moved (made_there k l).graph_thread Ends →
       (made_there k l).effect ≡ Ends → ⊥
   ended_once k l n is over =
       let a = made_there k l in
       let c = made_there (suc k) n in
-      let same_at : c.walker.at ≡ a.walker.at = ap (λ (z : Walker). z.at) is in
+      let same_at : c.graph_thread.at ≡ a.graph_thread.at = ap (λ (z : GraphThread). z.at) is in
       let same_node : c.node ≡ a.node = let h = c.at in let j = a.at in let e = ap (slice_get (lowered x).nodes) same_at in cc in
-      let does : effect_of a.node.action (seen_by (flow_solo x kept t (suc k)) c.walker) ≡ Some c.effect =
-      subst (λ (z : Node). effect_of z.action (seen_by (flow_solo x kept t (suc k)) c.walker) ≡ Some c.effect) same_node c.does in
-      let again : c.effect ≡ Ends = ends_only a.node.action (seen_by (flow_solo x kept t k) a.walker) (seen_by (flow_solo x kept t (suc k)) c.walker) c.effect
+      let does : effect_of a.node.action (seen_by (flow_solo x kept t (suc k)) c.graph_thread) ≡ Some c.effect =
+      subst (λ (z : Node). effect_of z.action (seen_by (flow_solo x kept t (suc k)) c.graph_thread) ≡ Some c.effect) same_node c.does in
+      let again : c.effect ≡ Ends =
+      ends_only a.node.action (seen_by (flow_solo x kept t k) a.graph_thread) (seen_by (flow_solo x kept t (suc k)) c.graph_thread) c.effect
       (a.does ∙ ap Some over) does in
-      let ended : c.walker.ended ≡ true = ap (λ (z : Walker). z.ended) is in
-      not_again (flow_solo x kept t (suc k)) (own (suc k) n).next t c.walker c.walker.ended ended
-      (subst (Done (flow_solo x kept t (suc k)) (own (suc k) n).next t c.walker) again c.is)
+      let ended : c.graph_thread.ended ≡ true = ap (λ (z : GraphThread). z.ended) is in
+      not_again (flow_solo x kept t (suc k)) (own (suc k) n).next t c.graph_thread c.graph_thread.ended ended
+      (subst (Done (flow_solo x kept t (suc k)) (own (suc k) n).next t c.graph_thread) again c.is)
 
   pub edge : (k : ℕ) → suc k < longest → IsEdge (lowered x) (number k) (number (suc k))
   edge k n =
       let l : k < longest = omega (arith, n) in
       let a = made_there k l in
       let c = made_there (suc k) n in
-      let there : slice_get (own k l).next.walkers t ≡ Some c.walker = ap (λ (s : FlowState). slice_get s.walkers t) (sym (own k l).after) ∙ c.found in
-      let is = after_is (lowered x) (flow_solo x kept t k) (own k l).next t a c.walker there in
-      elim (goes_by a.node.action (seen_by (flow_solo x kept t k) a.walker) a.walker a.effect a.does) [
+      let there : slice_get (own k l).next.graph_threads t ≡ Some c.graph_thread =
+      ap (λ (s : FlowState). slice_get s.graph_threads t) (sym (own k l).after) ∙ c.found in
+      let is = after_is (lowered x) (flow_solo x kept t k) (own k l).next t a c.graph_thread there in
+      elim (goes_by a.node.action (seen_by (flow_solo x kept t k) a.graph_thread) a.graph_thread a.effect a.does) [
         | inl goes ↦
-            let to : Contains (successors a.node.action) c.walker.at =
-            subst (λ (z : Walker). Contains (successors a.node.action) z.at) (sym is) goes in
-            let found : IsEdge (lowered x) a.walker.at c.walker.at = record { is = a.node; at = a.at; goes = to } in
-            let from_number : IsEdge (lowered x) (number k) c.walker.at =
-            subst (λ (z : ℕ). IsEdge (lowered x) z c.walker.at) (sym (number_is k l)) found in
+            let to : Contains (successors a.node.action) c.graph_thread.at =
+            subst (λ (z : GraphThread). Contains (successors a.node.action) z.at) (sym is) goes in
+            let found : IsEdge (lowered x) a.graph_thread.at c.graph_thread.at = record { is = a.node; at = a.at; goes = to } in
+            let from_number : IsEdge (lowered x) (number k) c.graph_thread.at =
+            subst (λ (z : ℕ). IsEdge (lowered x) z c.graph_thread.at) (sym (number_is k l)) found in
             subst (λ (z : ℕ). IsEdge (lowered x) (number k) z) (sym (number_is (suc k) n)) from_number
-        | inr over ↦ absurd (ended_once k l n (is ∙ ap (moved a.walker) over) over)
+        | inr over ↦ absurd (ended_once k l n (is ∙ ap (moved a.graph_thread) over) over)
       ]
 
-  -- it stands at no lock
+  -- the attempt comes to no lock
   pub no_lock_there : (k : ℕ) → k < longest → IsLock (lowered x) (number k) → ⊥
   no_lock_there k l (locks node mutex next at is) =
       let a = made_there k l in
       let here : NodeAt (lowered x) (number k) a.node = ap (slice_get (lowered x).nodes) (number_is k l) ∙ a.at in
       let action : a.node.action ≡ Lock mutex next = ap (λ (z : Node). z.action) (one_node (lowered x) (number k) a.node node here at) ∙ is in
       let step = (i.tried t).inner k l in
-      none_some mutex (sym step.locks_none ∙ locks_at x (solo old.kept t k) t a.walker a.node (there_at k l) mutex next action)
+      none_some mutex (sym step.locks_none ∙ locks_at x (solo old.kept t k) t a.graph_thread a.node (there_at k l) mutex next action)
 
   module _ (b : Boundaries) (stays_in : StaysInside x b kept old t) where
     pub free : (k : ℕ) → suc k < longest → ¬ (IsBoundary (lowered x) b (number k) (number (suc k)))

@@ -1,23 +1,23 @@
--- Worked rows: `mutex m; persistent(m) int x; thread t { lock(m); x = x + 1; unlock(m); }`, whose region behind the lock ends before the store.
+-- Worked rows: `mutex m; persistent(m) int x; thread t { lock(m); x = x + 1; unlock(m); }`, whose region after the lock ends before the store.
 use Rattle.std.proofs.Common.{◌≡◌, refl, ℕ, List, [], ◌∷◌, sym, ◌∙◌, subst, arith, Some, None, true, false}
 use Rattle.std.specs.Prelude.{pos, codes}
 use Rattle.ido_base.specs.declared.place.Place.{Place}
 use Rattle.ido_ints.specs.declared.kinds.Kind.TheVariants as kind
 use Rattle.ido_ints.specs.declared.operators.Binary.TheVariants as binary
-use Rattle.ido_ints.specs.Typed.{typed}
+use Rattle.ido_ints.specs.TypedNumbers.{typed}
 use Rattle.ido_ints.specs.Reduction.{residue, from_least_on}
 use Rattle.c_tree.specs.Exprs as e
 use Rattle.c_tree.specs.Flats as f
 use Rattle.c_tree.specs.Source.{start, after_from}
 use Rattle.flow_graph.specs.Lowering.{lowered}
 use Rattle.flow_graph.specs.Actions.{FlowState, graph_step}
-use Rattle.flow_graph.specs.Cutting.{Boundaries, locks, unlocks, behind_lock}
+use Rattle.flow_graph.specs.IdempotentCuts.{Boundaries, locks, unlocks, past_lock}
 use Rattle.flow_graph.specs.Paths.{element}
-use Rattle.resumption.specs.Histories.{memory_of}
-use Rattle.resumption.specs.Moments.{Moment}
-use Rattle.region_attempts.specs.Standing.{flow_kept, node_of, node_behind}
-use Rattle.region_attempts.specs.Staying.{Resumes, begins, behind_unlock, StaysInside, HasCome}
-use Rattle.region_attempts.specs.Laws.{ReadsHere, ReadBehind}
+use Rattle.recovery_semantics.specs.ElementHistories.{memory_of}
+use Rattle.recovery_semantics.specs.Configs.{Config}
+use Rattle.region_attempts.specs.GraphStates.{flow_kept, node_of, node_after}
+use Rattle.region_attempts.specs.AttemptsInRegion.{Resumes, begins, past_unlock, StaysInside, HasCome}
+use Rattle.region_attempts.specs.Laws.{ReadsHere, ReadAfter}
 
 abbrev at : ℕ → Place
 at place = record { 0 = place }
@@ -38,7 +38,7 @@ x = record {
   } ∷ [];
 }
 
--- behind the lock 0, before the store 2 and before the unlock 3
+-- after the lock 0, before the store 2 and before the unlock 3
 abbrev b : Boundaries
 b = record {
   before = false ∷ false ∷ true ∷ true ∷ false ∷ [];
@@ -46,10 +46,10 @@ b = record {
 }
 
 -- the lock is kept, and the thread has tried so many steps
-abbrev tried : (pending : List ℕ) → (done longest : ℕ) → Moment
+abbrev tried : (pending : List ℕ) → (done longest : ℕ) → Config
 tried pending done longest = record {
   kept = after_from (start x) (0 ∷ []);
-  pending = pending;
+  uncommitted = pending;
   memory = memory_of (start x);
   attempts = record { done = done; longest = longest } ∷ [];
 }
@@ -63,37 +63,37 @@ evaluates_next : node_of kept 0 ≡ Some 1
 unfolding lowered graph_step
 evaluates_next = refl
 
-stores_next : node_behind x kept 0 1 ≡ Some 2
+stores_next : node_after x kept 0 1 ≡ Some 2
 unfolding lowered graph_step residue from_least_on
 stores_next = refl
 
-unlocks_next : node_behind x kept 0 2 ≡ Some 3
+unlocks_next : node_after x kept 0 2 ≡ Some 3
 unfolding lowered graph_step residue from_least_on
 unlocks_next = refl
 
--- a region begins behind the lock
+-- a region begins after the lock
 resumes : Resumes (lowered x) b 1
 unfolding lowered
-resumes = begins (behind_lock 0 (record { locks = locks _ 0 1 refl refl; stands = refl }) (record { is = _; at = refl; goes = (0, omega arith, refl) }))
+resumes = begins (past_lock 0 (record { locks = locks _ 0 1 refl refl; stands = refl }) (record { is = _; at = refl; goes = (0, omega arith, refl) }))
 
--- and behind the unlock the thread can be resumed
+-- after the unlock the thread can be resumed
 resumes_again : Resumes (lowered x) b 4
 unfolding lowered
-resumes_again = behind_unlock 3 (unlocks _ 0 4 refl refl) (record { is = _; at = refl; goes = (0, omega arith, refl) })
+resumes_again = past_unlock 3 (unlocks _ 0 4 refl refl) (record { is = _; at = refl; goes = (0, omega arith, refl) })
 
 -- ---- What it reads
 
 reads_here : ReadsHere x kept (tried [] 0 0) 0 (element 0 0)
 unfolding lowered graph_step
-reads_here = record { going = refl; walker = _; found = refl; node = _; at = refl; reads = (0, omega arith, refl) }
+reads_here = record { going = refl; graph_thread = _; found = refl; node = _; at = refl; reads = (0, omega arith, refl) }
 
--- it is read by the step that is made
-read_behind : ReadBehind x kept (tried (0 ∷ []) 1 1) 0 0 (element 0 0)
+-- the element is read by the step that is made
+read_after : ReadAfter x kept (tried (0 ∷ []) 1 1) 0 0 (element 0 0)
 unfolding lowered graph_step
-read_behind = record {
+read_after = record {
   going = refl;
   within = omega arith;
-  walker = _;
+  graph_thread = _;
   found = refl;
   node = _;
   at = refl;
@@ -102,7 +102,7 @@ read_behind = record {
 
 -- ---- How far an attempt goes
 
--- behind the evaluation it has come to the boundary before the store
+-- after the evaluation it has come to the boundary before the store
 has_come : HasCome x b kept (tried (0 ∷ []) 1 1) 0
 unfolding lowered graph_step residue from_least_on
 has_come = record { node = 2; steps = omega arith; at = refl; stands = refl }

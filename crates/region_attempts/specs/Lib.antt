@@ -1,4 +1,4 @@
-pub mod Standing
-pub mod Staying
-pub mod Flushing
+pub mod GraphStates
+pub mod AttemptsInRegion
+pub mod PendingCleans
 pub mod Laws

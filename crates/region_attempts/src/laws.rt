@@ -1,33 +1,17 @@
 //! Laws of attempts at regions: nothing is computed here.
-ghost use Rattle.region_attempts.specs.Laws.{
-  AttemptsAreWhole,
-  EventsStay,
-  GraphFollows,
-  GraphSettles,
-  GraphStands,
-  InsideIsRegion,
-  LivesStay,
-  NextResumes,
-  NothingIsWritten,
-  ReadersGuard,
-  ReadersGuardStill,
-  ReadsAreAsMade,
-  ReadsAreRight,
-  ReadsStayRight,
-  StartStays,
-  StoresAreCleaned,
-  WritersStore,
-};
+ghost use Rattle.region_attempts.specs.Laws.{AttemptsAreWhole, EventsStay, GraphFollows, GraphSettles, GraphMatches, InsideIsRegion};
+ghost use Rattle.region_attempts.specs.Laws.{ExecutionsStay, NextResumes, NothingIsWritten, ReadersGuard, ReadersGuardStill};
+ghost use Rattle.region_attempts.specs.Laws.{ReadsAreAsMade, ReadsAreRight, ReadsStayRight, StartStays, StoresAreCleaned, WritersStore};
 
-/// The graph's states match the source's, as of what is kept and now; a thread's walker is what its own steps alone leave; and the graph
-/// follows each event: where a thread's steps are kept, its walker is kept as it is now.
+/// The graph's states match the source's, as of what is kept and now; a thread's graph thread is what its own steps alone leave; and the graph
+/// follows each event: where a thread's steps are kept, its graph thread is kept as it is now.
 pub fn graph_stands()
-    ensures stands { GraphStands }
+    ensures stands { GraphMatches }
     ensures follows { GraphFollows }
     ensures settles { GraphSettles }
 {}
 
-/// At the start each attempt stays within its region, and every event keeps that, where no attempt is taken over a boundary and steps
+/// At the start each attempt stays within its region, and every event keeps that, where no attempt goes on past a boundary and steps
 /// are kept only at one.
 pub fn attempts_stay_inside()
     ensures start { StartStays }
@@ -50,7 +34,7 @@ pub fn next_resumes()
 {}
 
 /// What a thread reads in an attempt that stays within its region is the source's number, whatever earlier attempts have overwritten:
-/// at the node where it stands, and still behind its steps; and until it goes on from the node behind that one it is the number of the
+/// at the node where it stands, and still after its steps; and until it goes on from the node after that one it is the number of the
 /// state in which the step that reads it is made.
 pub fn reads_are_right()
     ensures guard { ReadersGuard }
@@ -71,8 +55,8 @@ pub fn stores_are_cleaned()
     ensures { StoresAreCleaned }
 {}
 
-/// Whatever happens from the start on, where boundaries are minded: the kept schedule leads to what is kept, and each attempt stays
+/// Whatever happens from the start on, where boundaries are respected: the kept schedule leads to what is kept, and each attempt stays
 /// within its region.
-pub fn lives_stay()
-    ensures { LivesStay }
+pub fn executions_stay()
+    ensures { ExecutionsStay }
 {}

@@ -1,7 +1,7 @@
-pub mod Arriving
-pub mod Paths
-pub mod Spreads
-pub mod Nodes
-pub mod Least
-pub mod Finding
-pub mod Collected
+mod ReachedByMarks
+mod RegionPaths
+mod PropagationPasses
+mod Nodes
+mod LeastNumbers
+mod FoundConflicts
+mod CollectedLocations

@@ -10,15 +10,14 @@ use Rattle.flow_graph.specs.declared.graph.Node as code
 use Rattle.flow_graph.specs.declared.graph.Graph as declared
 use Rattle.flow_graph.specs.Nodes.{graph_of, Action, Eval, Store, Test, Lock, Unlock, End, Node, Graph, node_of, next_of, other_of, successors}
 use Rattle.flow_graph.specs.Liveness.{NodeAt}
-use Rattle.flow_graph.specs.Cutting.{Boundaries, IsEdge, IsLock, locks, IsUnlock, unlocks, HasBefore, HasBehind, Begins, behind_lock, at_boundary}
-use Rattle.flow_graph.proofs.Words.{same_or_other}
-use Rattle.region_checker.proofs.Spreads.{marked_within}
-use Rattle.region_checker.specs.declared.error.CheckError.{CheckError}
-use Rattle.region_checker.specs.declared.error.CheckError.TheVariants as error
-use Rattle.region_checker.specs.declared.ways.Way.{Way}
-use Rattle.region_checker.specs.Conflicts.{LacksBehind, LacksBefore, AreThereBelow, AreThere}
-use Rattle.region_checker.specs.links.Spreading.{IsMarked, Marks, IsOn, Leads, GoesOn, AreWays}
-use Rattle.region_checker.specs.links.Hitting.{is_lock, is_unlock, writes_over, writes_same, WritesOver, WritesSame, stops_of, AreBegun, Misses, IsFirstMissing}
+use Rattle.flow_graph.specs.IdempotentCuts.{Boundaries, IsEdge, IsLock, locks, IsUnlock, unlocks, HasBefore}
+use Rattle.flow_graph.specs.IdempotentCuts.{HasBoundaryAfter, BeginsRegion, past_lock, at_boundary}
+use Rattle.flow_graph.proofs.Public.{same_or_other}
+use Rattle.region_checker.proofs.PropagationPasses.{marked_within}
+use Rattle.region_checker.specs.declared.paths.Path.{Path}
+use Rattle.region_checker.specs.Conflicts.{LacksAfter, LacksBefore}
+use Rattle.region_checker.specs.links.MarkPropagation.{IsMarked, Marks, IsOn, PathLeads, IsInnerEdge, ArePaths}
+use Rattle.region_checker.specs.links.ConflictSearch.{is_lock, is_unlock, writes_over, writes_same, WritesOver, WritesSame, stops_of, AreBegun}
 
 -- a node of the graph is one of the code's
 pub record IsOf (nodes : List code.Node) (n : ℕ) (x : Node) : Type 0 where
@@ -127,13 +126,7 @@ is_unlock_at g n x at (unlocks y mutex next at' is) =
     let same : y ≡ x = one_node g.nodes n y x at' at in
     subst (λ (z : Node). IsTrue (is_unlock z.action)) same (subst (λ (a : Action). IsTrue (is_unlock a)) (sym is) refl)
 
-pub lock_within : (g : Graph) (n : ℕ) → IsLock g n → n < length g.nodes
-lock_within g n (locks x mutex next at is) = slice_get_within g.nodes n x at
-
-pub unlock_within : (g : Graph) (n : ℕ) → IsUnlock g n → n < length g.nodes
-unlock_within g n (unlocks x mutex next at is) = slice_get_within g.nodes n x at
-
--- a lock's only way is to the next node
+-- a lock's only path leads to the next node
 lock_goes : (a : Action) (to : ℕ) → IsTrue (is_lock a) → Contains (successors a) to → next_of a ≡ Some to
 lock_goes (Lock mutex next) to h (i, lt, is) = elim (same_or_other i 0) [
   | inl e ↦ ap (λ (n : ℕ). Some n) (ap (λ k. get_or (next ∷ []) k to) (sym e) ∙ is)
@@ -145,7 +138,7 @@ lock_goes (Test condition holds fails) to h k = absurd (false_true h)
 lock_goes (Unlock mutex next) to h k = absurd (false_true h)
 lock_goes End to h k = absurd (false_true h)
 
--- ---- Ways of a node
+-- ---- Paths from a node
 
 goes_one : (next to : ℕ) → Contains (next ∷ []) to → Some next ≡ Some to
 goes_one next to (i, lt, is) = elim (same_or_other i 0) [
@@ -170,70 +163,71 @@ goes_first next to rest e = (0, omega arith, some_same next to e)
 goes_second : (holds fails to : ℕ) → Some fails ≡ Some to → Contains (holds ∷ fails ∷ []) to
 goes_second holds fails to e = (1, omega arith, some_same fails to e)
 
-no_way : (to : ℕ) → None ≡ Some to → ⊥
-no_way to e = cc
+no_path : (to : ℕ) → None ≡ Some to → ⊥
+no_path to e = cc
 
-pub to_ways : (a : Action) (to : ℕ) → Contains (successors a) to → (next_of a ≡ Some to) ⊎ (other_of a ≡ Some to)
-to_ways (Eval target value next) to k = inl (goes_one next to k)
-to_ways (Store variable kind next) to k = inl (goes_one next to k)
-to_ways (Test condition holds fails) to k = goes_two holds fails to k
-to_ways (Lock mutex next) to k = inl (goes_one next to k)
-to_ways (Unlock mutex next) to k = inl (goes_one next to k)
-to_ways End to k = absurd (omega (arith, k.1))
+pub to_paths : (a : Action) (to : ℕ) → Contains (successors a) to → (next_of a ≡ Some to) ⊎ (other_of a ≡ Some to)
+to_paths (Eval target value next) to k = inl (goes_one next to k)
+to_paths (Store variable kind next) to k = inl (goes_one next to k)
+to_paths (Test condition holds fails) to k = goes_two holds fails to k
+to_paths (Lock mutex next) to k = inl (goes_one next to k)
+to_paths (Unlock mutex next) to k = inl (goes_one next to k)
+to_paths End to k = absurd (omega (arith, k.1))
 
-pub from_ways : (a : Action) (to : ℕ) → (next_of a ≡ Some to) ⊎ (other_of a ≡ Some to) → Contains (successors a) to
-from_ways (Eval target value next) to (inl e) = goes_first next to [] e
-from_ways (Eval target value next) to (inr e) = absurd (no_way to e)
-from_ways (Store variable kind next) to (inl e) = goes_first next to [] e
-from_ways (Store variable kind next) to (inr e) = absurd (no_way to e)
-from_ways (Test condition holds fails) to (inl e) = goes_first holds to (fails ∷ []) e
-from_ways (Test condition holds fails) to (inr e) = goes_second holds fails to e
-from_ways (Lock mutex next) to (inl e) = goes_first next to [] e
-from_ways (Lock mutex next) to (inr e) = absurd (no_way to e)
-from_ways (Unlock mutex next) to (inl e) = goes_first next to [] e
-from_ways (Unlock mutex next) to (inr e) = absurd (no_way to e)
-from_ways End to (inl e) = absurd (no_way to e)
-from_ways End to (inr e) = absurd (no_way to e)
+pub from_paths : (a : Action) (to : ℕ) → (next_of a ≡ Some to) ⊎ (other_of a ≡ Some to) → Contains (successors a) to
+from_paths (Eval target value next) to (inl e) = goes_first next to [] e
+from_paths (Eval target value next) to (inr e) = absurd (no_path to e)
+from_paths (Store variable kind next) to (inl e) = goes_first next to [] e
+from_paths (Store variable kind next) to (inr e) = absurd (no_path to e)
+from_paths (Test condition holds fails) to (inl e) = goes_first holds to (fails ∷ []) e
+from_paths (Test condition holds fails) to (inr e) = goes_second holds fails to e
+from_paths (Lock mutex next) to (inl e) = goes_first next to [] e
+from_paths (Lock mutex next) to (inr e) = absurd (no_path to e)
+from_paths (Unlock mutex next) to (inl e) = goes_first next to [] e
+from_paths (Unlock mutex next) to (inr e) = absurd (no_path to e)
+from_paths End to (inl e) = absurd (no_path to e)
+from_paths End to (inr e) = absurd (no_path to e)
 
--- the ways of a node behind which no boundary stands
+-- the paths from a node after which no boundary stands
 pub record Inside (b : Boundaries) (from to : Option ℕ) : Type 0 where
   pub each : (n : ℕ) → (to ≡ Some n) ↔ ((from ≡ Some n) × ¬ (HasBefore b n))
 
-pub ways_go : (g : Graph) (b : Boundaries) (n : ℕ) (x : Node) (way : Way) → NodeAt g n x → ¬ (HasBehind g b n) → Inside b (next_of x.action) way.next →
-    Inside b (other_of x.action) way.other →
-    (to : ℕ) → IsOn way to ↔ GoesOn g b n to
-ways_go g b n x way at open_ p q to = (
+pub paths_go : (g : Graph) (b : Boundaries) (n : ℕ) (x : Node) (path : Path) → NodeAt g n x → ¬ (HasBoundaryAfter g b n) →
+    Inside b (next_of x.action) path.next →
+    Inside b (other_of x.action) path.other →
+    (to : ℕ) → IsOn path to ↔ IsInnerEdge g b n to
+paths_go g b n x path at open_ p q to = (
   λ on. elim on [
     | inl e ↦ (
         let d = (p.each to).0 e in
-        record { edge = record { is = x; at = at; goes = from_ways x.action to (inl d.0) }; free = λ d'. elim d' [ inl h ↦ open_ h | inr h ↦ d.1 h ] })
+        record { edge = record { is = x; at = at; goes = from_paths x.action to (inl d.0) }; free = λ d'. elim d' [ inl h ↦ open_ h | inr h ↦ d.1 h ] })
     | inr e ↦ (
         let d = (q.each to).0 e in
-        record { edge = record { is = x; at = at; goes = from_ways x.action to (inr d.0) }; free = λ d'. elim d' [ inl h ↦ open_ h | inr h ↦ d.1 h ] })
+        record { edge = record { is = x; at = at; goes = from_paths x.action to (inr d.0) }; free = λ d'. elim d' [ inl h ↦ open_ h | inr h ↦ d.1 h ] })
   ],
   λ go.
       let same : go.edge.is ≡ x = one_node g.nodes n go.edge.is x go.edge.at at in
       let goes : Contains (successors x.action) to = subst (λ (y : Node). Contains (successors y.action) to) same go.edge.goes in
-      elim (to_ways x.action to goes) [
+      elim (to_paths x.action to goes) [
         | inl e ↦ inl ((p.each to).1 (e, λ h. go.free (inr h)))
         | inr e ↦ inr ((q.each to).1 (e, λ h. go.free (inr h)))
       ],
 )
 
-pub ways_closed : (g : Graph) (b : Boundaries) (n : ℕ) (way : Way) → HasBehind g b n → way.next ≡ None → way.other ≡ None → (to : ℕ) →
-    IsOn way to ↔ GoesOn g b n to
-ways_closed g b n way h e e' to = (
-  λ on. elim on [ inl s ↦ absurd (no_way to (sym e ∙ s)) | inr s ↦ absurd (no_way to (sym e' ∙ s)) ],
+pub paths_closed : (g : Graph) (b : Boundaries) (n : ℕ) (path : Path) → HasBoundaryAfter g b n → path.next ≡ None → path.other ≡ None → (to : ℕ) →
+    IsOn path to ↔ IsInnerEdge g b n to
+paths_closed g b n path h e e' to = (
+  λ on. elim on [ inl s ↦ absurd (no_path to (sym e ∙ s)) | inr s ↦ absurd (no_path to (sym e' ∙ s)) ],
   λ go. absurd (go.free (inl h)),
 )
 
 -- ---- What is missing
 
-pub lacks_behind : (g : Graph) (b : Boundaries) (n : ℕ) (x : Node) (stands : Bool) → NodeAt g n x → IsTrue (is_lock x.action) →
+pub lacks_after : (g : Graph) (b : Boundaries) (n : ℕ) (x : Node) (stands : Bool) → NodeAt g n x → IsTrue (is_lock x.action) →
     IsTrue stands ↔ (slice_get b.after_lock n ≡ Some true) →
-    MatchBool (not stands) (LacksBehind g b n) (¬ (LacksBehind g b n))
-lacks_behind g b n x true at is d = λ l. l.lacks (record { locks = l.locks; stands = d.0 refl })
-lacks_behind g b n x false at is d = record { locks = lock_at g n x at is; lacks = λ h. false_true (d.1 h.stands) }
+    MatchBool (not stands) (LacksAfter g b n) (¬ (LacksAfter g b n))
+lacks_after g b n x true at is d = λ l. l.lacks (record { locks = l.locks; stands = d.0 refl })
+lacks_after g b n x false at is d = record { locks = lock_at g n x at is; lacks = λ h. false_true (d.1 h.stands) }
 
 pub lacks_before : (g : Graph) (b : Boundaries) (n : ℕ) (x : Node) (stands : Bool) → NodeAt g n x → IsTrue (is_unlock x.action) →
     IsTrue stands ↔ (slice_get b.before n ≡ Some true) →
@@ -245,40 +239,16 @@ pub off : (t : Bool) (P : Type 0) → t ≡ false → ¬ P → MatchBool t P (¬
 off true P e fails = absurd (cc)
 off false P e fails = fails
 
-pub first_missing : (g : Graph) (b : Boundaries) (n : ℕ) (e : CheckError) → AreThereBelow g b n → Misses g b n (Some e) → IsFirstMissing g b e
-first_missing g b n (error.MissingAfterAcquire at) below m = record {
-  lacks = subst (λ (k : ℕ). LacksBehind g b k) (sym m.0) m.1;
-  first = subst (λ (k : ℕ). AreThereBelow g b k) (sym m.0) below;
-}
-first_missing g b n (error.MissingBeforeRelease at) below m = record {
-  lacks = subst (λ (k : ℕ). LacksBefore g b k) (sym m.0) m.1;
-  first = subst (λ (k : ℕ). AreThereBelow g b k) (sym m.0) below;
-}
-first_missing g b n (error.Anti read store) below m = absurd m
-first_missing g b n error.Memory below m = absurd m
-
-pub there_more : (g : Graph) (b : Boundaries) (n : ℕ) → AreThereBelow g b n → ¬ (LacksBehind g b n ⊎ LacksBefore g b n) → AreThereBelow g b (n + 1)
-there_more g b n below none k lt d = elim (same_or_other k n) [
-  | inl e ↦ none (subst (λ (m : ℕ). LacksBehind g b m ⊎ LacksBefore g b m) e d)
-  | inr other ↦ below k (omega (arith, lt)) d
-]
-
-pub there_all : (g : Graph) (b : Boundaries) (n : ℕ) → length g.nodes ≤ n → AreThereBelow g b n → AreThere g b
-there_all g b n le below k d = elim d [
-  | inl h ↦ below k (omega (arith, lock_within g k h.locks)) (inl h)
-  | inr h ↦ below k (omega (arith, unlock_within g k h.unlocks)) (inr h)
-]
-
 -- ---- Where regions begin
 
 -- the first of the nodes have marked where regions begin
 pub record BeganUpTo (g : Graph) (b : Boundaries) (count : ℕ) (begins : List Bool) : Type 0 where
   pub long : length begins ≡ length g.nodes
-  pub only : (n : ℕ) → IsMarked begins n → Begins g b n
+  pub only : (n : ℕ) → IsMarked begins n → BeginsRegion g b n
   pub before : (n : ℕ) → n < count → n < length g.nodes → HasBefore b n → IsMarked begins n
-  pub behind : (from n : ℕ) → from < count → n < length g.nodes → HasBehind g b from → IsEdge g from n → IsMarked begins n
+  pub after : (from n : ℕ) → from < count → n < length g.nodes → HasBoundaryAfter g b from → IsEdge g from n → IsMarked begins n
 
-pub lock_next : (g : Graph) (b : Boundaries) (n to : ℕ) (x : Node) → NodeAt g n x → HasBehind g b n → IsEdge g n to → next_of x.action ≡ Some to
+pub lock_next : (g : Graph) (b : Boundaries) (n to : ℕ) (x : Node) → NodeAt g n x → HasBoundaryAfter g b n → IsEdge g n to → next_of x.action ≡ Some to
 lock_next g b n to x at h edge =
     let same : edge.is ≡ x = one_node g.nodes n edge.is x edge.at at in
     lock_goes x.action to (is_lock_at g n x at h.locks) (subst (λ (y : Node). Contains (successors y.action) to) same edge.goes)
@@ -300,42 +270,42 @@ began_none g b begins long none = record {
   long = long ∙ sym (length_nodes g);
   only = λ n m. absurd (none n m);
   before = λ n lt. absurd (omega (arith, lt));
-  behind = λ from n lt. absurd (omega (arith, lt));
+  after = λ from n lt. absurd (omega (arith, lt));
 }
 
-pub record Begun (g : Graph) (b : Boundaries) (number : ℕ) (before behind : Option ℕ) : Type 0 where
+pub record Begun (g : Graph) (b : Boundaries) (number : ℕ) (before after : Option ℕ) : Type 0 where
   pub is_before : (n : ℕ) → (before ≡ Some n) ↔ ((n ≡ number) × HasBefore b n)
-  pub is_behind : (n : ℕ) → (behind ≡ Some n) ↔ (HasBehind g b number × IsEdge g number n)
+  pub is_after : (n : ℕ) → (after ≡ Some n) ↔ (HasBoundaryAfter g b number × IsEdge g number n)
 
-pub began_more : (g : Graph) (b : Boundaries) (number : ℕ) (before behind : Option ℕ) (old mid new : List Bool) (first second : Bool) →
-    Begun g b number before behind →
-    Marks (λ n. before ≡ Some n) old mid first → Marks (λ n. behind ≡ Some n) mid new second → BeganUpTo g b number old → BeganUpTo g b (number + 1) new
-began_more g b number before behind old mid new first second is p q r = record {
+pub began_more : (g : Graph) (b : Boundaries) (number : ℕ) (before after : Option ℕ) (old mid new : List Bool) (first second : Bool) →
+    Begun g b number before after →
+    Marks (λ n. before ≡ Some n) old mid first → Marks (λ n. after ≡ Some n) mid new second → BeganUpTo g b number old → BeganUpTo g b (number + 1) new
+began_more g b number before after old mid new first second is p q r = record {
   long = q.long ∙ p.long ∙ r.long;
   only = λ n m. elim ((q.has n).0 m) [
     | inl there ↦ elim ((p.has n).0 there) [
       | inl was ↦ r.only n was
       | inr at ↦ at_boundary ((is.is_before n).0 at.1).1
     ]
-    | inr at ↦ let d = (is.is_behind n).0 at.1 in behind_lock number d.0 d.1
+    | inr at ↦ let d = (is.is_after n).0 at.1 in past_lock number d.0 d.1
   ];
   before = λ n lt within h. elim (same_or_other n number) [
     | inl e ↦ (q.has n).1 (inl ((p.has n).1 (inr (omega (arith, within, r.long), (is.is_before n).1 (e, h)))))
     | inr other ↦ (q.has n).1 (inl ((p.has n).1 (inl (r.before n (omega (arith, lt)) within h))))
   ];
-  behind = λ from n lt within h edge. elim (same_or_other from number) [
+  after = λ from n lt within h edge. elim (same_or_other from number) [
     | inl e ↦ (
-        let here : HasBehind g b number = subst (λ (k : ℕ). HasBehind g b k) e h in
+        let here : HasBoundaryAfter g b number = subst (λ (k : ℕ). HasBoundaryAfter g b k) e h in
         let edge_here : IsEdge g number n = subst (λ (k : ℕ). IsEdge g k n) e edge in
-        (q.has n).1 (inr (omega (arith, within, r.long, p.long), (is.is_behind n).1 (here, edge_here))))
-    | inr other ↦ (q.has n).1 (inl ((p.has n).1 (inl (r.behind from n (omega (arith, lt)) within h edge))))
+        (q.has n).1 (inr (omega (arith, within, r.long, p.long), (is.is_after n).1 (here, edge_here))))
+    | inr other ↦ (q.has n).1 (inl ((p.has n).1 (inl (r.after from n (omega (arith, lt)) within h edge))))
   ];
 }
 
 marked_where : (g : declared.Graph) (b : Boundaries) (count : ℕ) (begins : List Bool) (n : ℕ) → length g.nodes.items ≤ count →
     BeganUpTo (graph_of g) b count begins → n < length (graph_of g).nodes →
-    Begins (graph_of g) b n → IsMarked begins n
-marked_where g b count begins n le r lt (behind_lock from h edge) = r.behind from n (omega (arith, lock_in g from h.locks, le)) lt h edge
+    BeginsRegion (graph_of g) b n → IsMarked begins n
+marked_where g b count begins n le r lt (past_lock from h edge) = r.after from n (omega (arith, lock_in g from h.locks, le)) lt h edge
 marked_where g b count begins n le r lt (at_boundary h) = r.before n (omega (arith, lt, length_nodes g, le)) lt h
 
 pub began_all : (g : declared.Graph) (b : Boundaries) (count : ℕ) (begins : List Bool) → length g.nodes.items ≤ count → BeganUpTo (graph_of g) b count begins →
@@ -348,52 +318,52 @@ began_all g b count begins le r = record {
   );
 }
 
--- ---- Ways, node after node
+-- ---- Paths, node after node
 
-get_push : (ways : List Way) (way : Way) → slice_get (ways ++ way ∷ []) (length ways) ≡ Some way
-get_push [] way = refl
-get_push (x ∷ ways) way = get_push ways way
+get_push : (paths : List Path) (path : Path) → slice_get (paths ++ path ∷ []) (length paths) ≡ Some path
+get_push [] path = refl
+get_push (x ∷ paths) path = get_push paths path
 
-get_below : (ways : List Way) (way : Way) (n : ℕ) → n < length ways → slice_get (ways ++ way ∷ []) n ≡ slice_get ways n
-get_below [] way n lt = absurd (omega (arith, lt))
-get_below (x ∷ ways) way zero lt = refl
-get_below (x ∷ ways) way (suc n) lt = get_below ways way n (omega (arith, lt))
+get_below : (paths : List Path) (path : Path) (n : ℕ) → n < length paths → slice_get (paths ++ path ∷ []) n ≡ slice_get paths n
+get_below [] path n lt = absurd (omega (arith, lt))
+get_below (x ∷ paths) path zero lt = refl
+get_below (x ∷ paths) path (suc n) lt = get_below paths path n (omega (arith, lt))
 
-pub record AreWaysUpTo (g : Graph) (b : Boundaries) (count : ℕ) (ways : List Way) : Type 0 where
-  pub long : length ways ≡ count
-  pub each : (from to : ℕ) → from < count → Leads ways from to ↔ GoesOn g b from to
+pub record ArePathsUpTo (g : Graph) (b : Boundaries) (count : ℕ) (paths : List Path) : Type 0 where
+  pub long : length paths ≡ count
+  pub each : (from to : ℕ) → from < count → PathLeads paths from to ↔ IsInnerEdge g b from to
 
-pub ways_none : (g : Graph) (b : Boundaries) → AreWaysUpTo g b 0 []
-ways_none g b = record { long = refl; each = λ from to lt. absurd (omega (arith, lt)) }
+pub paths_none : (g : Graph) (b : Boundaries) → ArePathsUpTo g b 0 []
+paths_none g b = record { long = refl; each = λ from to lt. absurd (omega (arith, lt)) }
 
-pub ways_more : (g : Graph) (b : Boundaries) (count : ℕ) (ways : List Way) (way : Way) → AreWaysUpTo g b count ways →
-    ((to : ℕ) → IsOn way to ↔ GoesOn g b count to) → AreWaysUpTo g b (count + 1) (ways ++ way ∷ [])
-ways_more g b count ways way r on = record {
-  long = length_push ways way ∙ ap (λ k. k + 1) r.long;
+pub paths_more : (g : Graph) (b : Boundaries) (count : ℕ) (paths : List Path) (path : Path) → ArePathsUpTo g b count paths →
+    ((to : ℕ) → IsOn path to ↔ IsInnerEdge g b count to) → ArePathsUpTo g b (count + 1) (paths ++ path ∷ [])
+paths_more g b count paths path r on = record {
+  long = length_push paths path ∙ ap (λ k. k + 1) r.long;
   each = λ from to lt. elim (same_or_other from count) [
     | inl e ↦ (
-        let there : slice_get (ways ++ way ∷ []) from ≡ Some way = ap (λ k. slice_get (ways ++ way ∷ []) k) (e ∙ sym r.long) ∙ get_push ways way in (
+        let there : slice_get (paths ++ path ∷ []) from ≡ Some path = ap (λ k. slice_get (paths ++ path ∷ []) k) (e ∙ sym r.long) ∙ get_push paths path in (
           λ l.
-              let both : Some l.way ≡ Some way = sym l.at ∙ there in
-              let same : l.way ≡ way = cc in
-              subst (λ (k : ℕ). GoesOn g b k to) (sym e) ((on to).0 (subst (λ (w : Way). IsOn w to) same l.goes)),
-          λ go. record { way = way; at = there; goes = (on to).1 (subst (λ (k : ℕ). GoesOn g b k to) e go) },
+              let both : Some l.path ≡ Some path = sym l.at ∙ there in
+              let same : l.path ≡ path = cc in
+              subst (λ (k : ℕ). IsInnerEdge g b k to) (sym e) ((on to).0 (subst (λ (w : Path). IsOn w to) same l.goes)),
+          λ go. record { path = path; at = there; goes = (on to).1 (subst (λ (k : ℕ). IsInnerEdge g b k to) e go) },
         ))
     | inr other ↦ (
         let less : from < count = omega (arith, lt) in
-        let there = get_below ways way from (omega (arith, less, r.long)) in (
-          λ l. (r.each from to less).0 (record { way = l.way; at = sym there ∙ l.at; goes = l.goes }),
-          λ go. let l = (r.each from to less).1 go in record { way = l.way; at = there ∙ l.at; goes = l.goes },
+        let there = get_below paths path from (omega (arith, less, r.long)) in (
+          λ l. (r.each from to less).0 (record { path = l.path; at = sym there ∙ l.at; goes = l.goes }),
+          λ go. let l = (r.each from to less).1 go in record { path = l.path; at = there ∙ l.at; goes = l.goes },
         ))
   ];
 }
 
-pub ways_all : (g : declared.Graph) (b : Boundaries) (count : ℕ) (ways : List Way) → length g.nodes.items ≤ count → count ≤ length g.nodes.items →
-    AreWaysUpTo (graph_of g) b count ways → AreWays (graph_of g) b ways
-ways_all g b count ways le le' r = record {
+pub paths_all : (g : declared.Graph) (b : Boundaries) (count : ℕ) (paths : List Path) → length g.nodes.items ≤ count → count ≤ length g.nodes.items →
+    ArePathsUpTo (graph_of g) b count paths → ArePaths (graph_of g) b paths
+paths_all g b count paths le le' r = record {
   count = omega (arith, r.long, length_nodes g);
   each = λ from to. (
-    λ l. (r.each from to (omega (arith, slice_get_within ways from l.way l.at, r.long))).0 l,
+    λ l. (r.each from to (omega (arith, slice_get_within paths from l.path l.at, r.long))).0 l,
     λ go. (r.each from to (omega (arith, node_in g from go.edge.is go.edge.at, le))).1 go,
   );
 }

@@ -3,15 +3,16 @@ use Rattle.std.specs.Prelude.{◌≡◌, ◌⊎◌, ◌<◌, ◌≤◌, ℕ, Lis
 use Rattle.ido_base.specs.declared.location.Location.{Location}
 use Rattle.ido_base.specs.Locations.{overlap}
 use Rattle.flow_graph.specs.Nodes.{Graph}
-use Rattle.flow_graph.specs.Cutting.{Boundaries, IsLock, IsUnlock, HasBehind, HasBefore, Begins, IsInside, ReadsAt, WritesAt, IsWrittenBefore}
+use Rattle.flow_graph.specs.IdempotentCuts.{Boundaries, IsLock, IsUnlock, HasBoundaryAfter, HasBefore}
+use Rattle.flow_graph.specs.IdempotentCuts.{BeginsRegion, IsInside, ReadsAt, WritesAt, IsWrittenBefore}
 use Rattle.region_checker.specs.declared.error.CheckError.{CheckError}
 use Rattle.region_checker.specs.declared.error.CheckError.TheVariants as error
 
 -- ---- Boundaries that are missing
 
-pub record LacksBehind (g : Graph) (b : Boundaries) (node : ℕ) : Type 0 where
+pub record LacksAfter (g : Graph) (b : Boundaries) (node : ℕ) : Type 0 where
   pub locks : IsLock g node
-  pub lacks : ¬ (HasBehind g b node)
+  pub lacks : ¬ (HasBoundaryAfter g b node)
 
 pub record LacksBefore (g : Graph) (b : Boundaries) (node : ℕ) : Type 0 where
   pub unlocks : IsUnlock g node
@@ -19,11 +20,11 @@ pub record LacksBefore (g : Graph) (b : Boundaries) (node : ℕ) : Type 0 where
 
 -- no node below that one lacks a boundary
 abbrev pub AreThereBelow : Graph → Boundaries → (node : ℕ) → Type 0
-AreThereBelow g b node = (n : ℕ) → n < node → ¬ (LacksBehind g b n ⊎ LacksBefore g b n)
+AreThereBelow g b node = (n : ℕ) → n < node → ¬ (LacksAfter g b n ⊎ LacksBefore g b n)
 
 -- no node lacks one
 abbrev pub AreThere : Graph → Boundaries → Type 0
-AreThere g b = (n : ℕ) → ¬ (LacksBehind g b n ⊎ LacksBefore g b n)
+AreThere g b = (n : ℕ) → ¬ (LacksAfter g b n ⊎ LacksBefore g b n)
 
 -- ---- Conflicts
 
@@ -31,7 +32,7 @@ AreThere g b = (n : ℕ) → ¬ (LacksBehind g b n ⊎ LacksBefore g b n)
 pub record Conflict (g : Graph) (b : Boundaries) (read store : ℕ) : Type 0 where
   pub from : ℕ
   pub path : List ℕ
-  pub begins : Begins g b from
+  pub begins : BeginsRegion g b from
   pub inside : IsInside g b (from ∷ path)
   pub i : ℕ
   pub j : ℕ
@@ -53,8 +54,8 @@ pub record IsFirstConflict (g : Graph) (b : Boundaries) (read store : ℕ) : Typ
 
 -- ---- Refusals
 
-pub record IsFirstBehind (g : Graph) (b : Boundaries) (node : ℕ) : Type 0 where
-  pub lacks : LacksBehind g b node
+pub record IsFirstAfter (g : Graph) (b : Boundaries) (node : ℕ) : Type 0 where
+  pub lacks : LacksAfter g b node
   pub first : AreThereBelow g b node
 
 pub record IsFirstBefore (g : Graph) (b : Boundaries) (node : ℕ) : Type 0 where
@@ -62,8 +63,8 @@ pub record IsFirstBefore (g : Graph) (b : Boundaries) (node : ℕ) : Type 0 wher
   pub first : AreThereBelow g b node
 
 -- the first fault is this one; want of memory may come at any time
-abbrev pub IsRefused : Graph → Boundaries → CheckError → Type 0
-IsRefused g b (error.MissingAfterAcquire node) = IsFirstBehind g b node
-IsRefused g b (error.MissingBeforeRelease node) = IsFirstBefore g b node
-IsRefused g b (error.Anti read store) = AreThere g b × IsFirstConflict g b read store
-IsRefused g b error.Memory = Unit {0}
+abbrev pub IsRefusedCut : Graph → Boundaries → CheckError → Type 0
+IsRefusedCut g b (error.MissingAfterAcquire node) = IsFirstAfter g b node
+IsRefusedCut g b (error.MissingBeforeRelease node) = IsFirstBefore g b node
+IsRefusedCut g b (error.Anti read store) = AreThere g b × IsFirstConflict g b read store
+IsRefusedCut g b error.Memory = Unit {0}

@@ -1,3 +1,3 @@
 -- What links the code to the definitions.
-pub mod Spreading
-pub mod Hitting
+pub mod MarkPropagation
+pub mod ConflictSearch

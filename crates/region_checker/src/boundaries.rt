@@ -1,9 +1,9 @@
 //! Boundaries that stand, and those that are missing.
 ghost use Rattle.std.specs.Prelude.{◌≡◌, ◌↔◌, ◌<◌, length, slice_get, IsTrue, MatchBool, MatchOption, Some, true};
 ghost use Rattle.flow_graph.specs.Nodes.{node_of, graph_of};
-ghost use Rattle.flow_graph.specs.Cutting.{boundaries_of, HasBefore, HasBehind};
-ghost use Rattle.region_checker.specs.Conflicts.{AreThere, LacksBehind, LacksBefore};
-ghost use Rattle.region_checker.specs.links.Hitting.{is_lock, is_unlock, IsFirstMissing, Misses};
+ghost use Rattle.flow_graph.specs.IdempotentCuts.{boundaries_of, HasBefore, HasBoundaryAfter};
+ghost use Rattle.region_checker.specs.Conflicts.{AreThere, LacksAfter, LacksBefore};
+ghost use Rattle.region_checker.specs.links.ConflictSearch.{is_lock, is_unlock, IsFirstMissing, Misses};
 
 use crate::error::CheckError;
 use flow_graph::cuts::Cuts;
@@ -44,9 +44,9 @@ pub(crate) fn has_before(cuts: &Cuts, node: usize) -> bool
     stands(&cuts.before, node)
 }
 
-/// Whether the node takes a mutex and a boundary stands behind it.
-pub(crate) fn has_behind(graph: &Graph, cuts: &Cuts, number: usize) -> bool
-    ensures { IsTrue result ↔ HasBehind (graph_of graph.now) (boundaries_of cuts.now) number }
+/// Whether the node takes a mutex and a boundary stands after it.
+pub(crate) fn has_after(graph: &Graph, cuts: &Cuts, number: usize) -> bool
+    ensures { IsTrue result ↔ HasBoundaryAfter (graph_of graph.now) (boundaries_of cuts.now) number }
 {
     match graph.nodes.get(number) {
         Some(node) => is_lock(node) && stands(&cuts.after_lock, number),
@@ -54,11 +54,11 @@ pub(crate) fn has_behind(graph: &Graph, cuts: &Cuts, number: usize) -> bool
     }
 }
 
-/// Whether the node takes a mutex and no boundary stands behind it.
-fn lacks_behind(graph: &Graph, cuts: &Cuts, number: usize) -> bool
+/// Whether the node takes a mutex and no boundary stands after it.
+fn lacks_after(graph: &Graph, cuts: &Cuts, number: usize) -> bool
     requires { number < length graph.now.nodes.items }
-    ensures { MatchBool result (LacksBehind (graph_of graph.now) (boundaries_of cuts.now) number)
-        (¬ (LacksBehind (graph_of graph.now) (boundaries_of cuts.now) number)) }
+    ensures { MatchBool result (LacksAfter (graph_of graph.now) (boundaries_of cuts.now) number)
+        (¬ (LacksAfter (graph_of graph.now) (boundaries_of cuts.now) number)) }
 {
     is_lock(&graph.nodes[number]) && !stands(&cuts.after_lock, number)
 }
@@ -77,7 +77,7 @@ fn missing_at(graph: &Graph, cuts: &Cuts, number: usize) -> Option<CheckError>
     requires { number < length graph.now.nodes.items }
     ensures { Misses (graph_of graph.now) (boundaries_of cuts.now) number result }
 {
-    if lacks_behind(graph, cuts, number) {
+    if lacks_after(graph, cuts, number) {
         Some(CheckError::MissingAfterAcquire { node: number })
     } else if lacks_before(graph, cuts, number) {
         Some(CheckError::MissingBeforeRelease { node: number })

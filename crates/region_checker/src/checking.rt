@@ -1,14 +1,14 @@
 //! The check of cuts.
 ghost use Rattle.std.specs.Prelude.{◌≡◌, ℕ, IfOk, IfErr, MatchOption};
 ghost use Rattle.flow_graph.specs.Nodes.{graph_of};
-ghost use Rattle.flow_graph.specs.Cutting.{boundaries_of, AreCuts};
-ghost use Rattle.region_checker.specs.Conflicts.{IsRefused};
-ghost use Rattle.region_checker.specs.links.Hitting.{IsFirstFound, with_read};
+ghost use Rattle.flow_graph.specs.IdempotentCuts.{boundaries_of, AreCuts};
+ghost use Rattle.region_checker.specs.Conflicts.{IsRefusedCut};
+ghost use Rattle.region_checker.specs.links.ConflictSearch.{IsFirstFound, with_read};
 
 use crate::boundaries::missing;
 use crate::conflicts::{first_read, first_store};
 use crate::error::{CheckError, Idempotent};
-use crate::ways::regions_of;
+use crate::paths::regions_of;
 use flow_graph::cuts::Cuts;
 use flow_graph::graph::Graph;
 use ido_base::memory::OutOfMemory;
@@ -49,12 +49,12 @@ fn first_conflict(
     }
 }
 
-/// Whether a boundary stands behind each lock and before each unlock, and each region may be run again. The first boundary that
+/// Whether a boundary stands after each lock and before each unlock, and each region may be run again. The first boundary that
 /// is missing is reported; where none is, the first store that overwrites what its region has read, and its first such read. Only for
 /// that is each location looked for in the whole graph.
 pub fn check(alloc: Global, graph: &Graph, cuts: &Cuts) -> Result<Idempotent, CheckError>
     ensures accepted { IfOk result (λ _. AreCuts (graph_of graph.now) (boundaries_of cuts.now)) }
-    ensures refused { IfErr result (IsRefused (graph_of graph.now) (boundaries_of cuts.now)) }
+    ensures refused { IfErr result (IsRefusedCut (graph_of graph.now) (boundaries_of cuts.now)) }
 {
     if let Some(error) = missing(graph, cuts) {
         return Err(error);

@@ -1,15 +1,15 @@
 //! Stores that overwrite what their region has read.
 ghost use Rattle.std.specs.Prelude.{◌≡◌, ◌↔◌, ◌<◌, ℕ, length, IfOk, IsTrue, Some};
 ghost use Rattle.flow_graph.specs.Nodes.{graph_of};
-ghost use Rattle.flow_graph.specs.Cutting.{Boundaries};
-ghost use Rattle.region_checker.specs.links.Spreading.{IsOn};
-ghost use Rattle.region_checker.specs.links.Hitting.{AreFitting, ForRegions, WritesOver, IsOver, IsHit, IsHitSome, ExposesOver};
-ghost use Rattle.region_checker.specs.links.Hitting.{IsExposedAt, Follows, HitsAny, IsBehind, IsBehindAt, IsLeastOf, lesser};
+ghost use Rattle.flow_graph.specs.IdempotentCuts.{Boundaries};
+ghost use Rattle.region_checker.specs.links.MarkPropagation.{IsOn};
+ghost use Rattle.region_checker.specs.links.ConflictSearch.{AreFitting, ForRegions, WritesOver, IsOver, IsHit, IsHitSome, ExposesOver};
+ghost use Rattle.region_checker.specs.links.ConflictSearch.{IsExposedAt, LeadsToStore, HitsAny, IsPastMarked, IsAfterAt, IsLeastOf, lesser};
 
 use crate::exposure::{exposed, none, unwritten};
 use crate::locations::{all_read, writes_over};
 use crate::marks::{mark, spread};
-use crate::ways::{Regions, Way};
+use crate::paths::{Path, Regions};
 use flow_graph::graph::Graph;
 use ido_base::location::Location;
 use ido_base::memory::OutOfMemory;
@@ -52,43 +52,43 @@ fn earlier(one: Option<usize>, other: Option<usize>) -> Option<usize>
     }
 }
 
-/// The first node behind this way that may write one of these elements.
-fn first_on(graph: &Graph, way: &Way, location: Location) -> Option<usize>
-    ensures { IsLeastOf (IsOver (graph_of graph.now) location (IsOn way.now)) result }
+/// The first node to which these paths lead that may write one of these elements.
+fn first_on(graph: &Graph, path: &Path, location: Location) -> Option<usize>
+    ensures { IsLeastOf (IsOver (graph_of graph.now) location (IsOn path.now)) result }
 {
     earlier(
-        over(graph, way.next, location),
-        over(graph, way.other, location),
+        over(graph, path.next, location),
+        over(graph, path.other, location),
     )
 }
 
-/// The first node behind the one of this number, if it is marked, that may write one of these elements.
+/// The first node after the one of this number, if it is marked, that may write one of these elements.
 fn first_from(
     graph: &Graph,
-    ways: &[Way],
+    paths: &[Path],
     marks: &[bool],
     number: usize,
     location: Location,
 ) -> Option<usize>
-    requires exists { number < length ways.now }
-    requires long { length marks.now ≡ length ways.now }
-    ensures { IsLeastOf (IsOver (graph_of graph.now) location (IsBehindAt ways.now marks.now number)) result }
+    requires exists { number < length paths.now }
+    requires long { length marks.now ≡ length paths.now }
+    ensures { IsLeastOf (IsOver (graph_of graph.now) location (IsAfterAt paths.now marks.now number)) result }
 {
     if marks[number] {
-        first_on(graph, &ways[number], location)
+        first_on(graph, &paths[number], location)
     } else {
         None
     }
 }
 
-/// The first node behind a marked one that may write one of these elements.
-fn first_behind(graph: &Graph, ways: &[Way], marks: &[bool], location: Location) -> Option<usize>
-    requires { length marks.now ≡ length ways.now }
-    ensures { IsLeastOf (IsOver (graph_of graph.now) location (IsBehind ways.now marks.now)) result }
+/// The first node after a marked one that may write one of these elements.
+fn first_after(graph: &Graph, paths: &[Path], marks: &[bool], location: Location) -> Option<usize>
+    requires { length marks.now ≡ length paths.now }
+    ensures { IsLeastOf (IsOver (graph_of graph.now) location (IsPastMarked paths.now marks.now)) result }
 {
     let mut first = None;
-    for number in 0..ways.len() {
-        first = earlier(first, first_from(graph, ways, marks, number, location));
+    for number in 0..paths.len() {
+        first = earlier(first, first_from(graph, paths, marks, number, location));
     }
     first
 }
@@ -104,7 +104,7 @@ fn first_hit(
     ensures { IfOk result (λ store. ForRegions (graph_of graph.now) regions.now (λ b. IsLeastOf (IsHit (graph_of graph.now) b location) store)) }
 {
     let exposed = exposed(alloc, graph, regions, location)?;
-    Ok(first_behind(graph, &regions.ways, &exposed, location))
+    Ok(first_after(graph, &regions.paths, &exposed, location))
 }
 
 /// The first store over anything that was read before in its region.
@@ -124,20 +124,20 @@ pub(crate) fn first_store(
     Ok(first)
 }
 
-/// Whether the way leads to the node.
-fn leads_to(way: &Way, node: usize) -> bool
-    ensures { IsTrue result ↔ IsOn way.now node }
+/// Whether one of the paths leads to the node.
+fn leads_to(path: &Path, node: usize) -> bool
+    ensures { IsTrue result ↔ IsOn path.now node }
 {
-    way.next == Some(node) || way.other == Some(node)
+    path.next == Some(node) || path.other == Some(node)
 }
 
-/// Whether a way leads from a marked node to that one.
-fn is_behind(ways: &[Way], marks: &[bool], node: usize) -> bool
-    requires { length marks.now ≡ length ways.now }
-    ensures { IsTrue result ↔ IsBehind ways.now marks.now node }
+/// Whether a path leads from a marked node to the given one.
+fn is_after(paths: &[Path], marks: &[bool], node: usize) -> bool
+    requires { length marks.now ≡ length paths.now }
+    ensures { IsTrue result ↔ IsPastMarked paths.now marks.now node }
 {
-    for (number, way) in ways.iter().enumerate() {
-        if marks[number] && leads_to(way, node) {
+    for (number, path) in paths.iter().enumerate() {
+        if marks[number] && leads_to(path, node) {
             return true;
         }
     }
@@ -154,13 +154,13 @@ fn follows(
 ) -> Result<bool, OutOfMemory>
     requires fit { AreFitting graph.now.nodes.items regions.now }
     requires exists { read < length graph.now.nodes.items }
-    ensures { IfOk result (λ yes. ForRegions (graph_of graph.now) regions.now (λ b. IsTrue yes ↔ Follows (graph_of graph.now) b (λ n. n ≡ read) store)) }
+    ensures { IfOk result (λ yes. ForRegions (graph_of graph.now) regions.now (λ b. IsTrue yes ↔ LeadsToStore (graph_of graph.now) b (λ n. n ≡ read) store)) }
 {
     let mut marks = none(alloc, graph)?;
     let stops = none(alloc, graph)?;
     mark(&mut marks, Some(read));
-    let followed = spread(marks, &regions.ways, &stops);
-    Ok(is_behind(&regions.ways, &followed, store))
+    let followed = spread(marks, &regions.paths, &stops);
+    Ok(is_after(&regions.paths, &followed, store))
 }
 
 /// Whether a region leads to the one node in which the location wasn't written, and the other node may write over it.

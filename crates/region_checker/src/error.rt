@@ -4,14 +4,14 @@ ghost use Rattle.std.specs.Prelude.{◌≡◌};
 use ido_base::memory::OutOfMemory;
 use thiserror::Error;
 
-/// The cuts are right: boundaries stand behind each lock and before each unlock, and each region may be run again.
+/// The cuts are right: boundaries stand after each lock and before each unlock, and each region may be run again.
 #[derive(Clone, Copy, Debug, PartialEq, Eq, Drop)]
 pub struct Idempotent;
 
 /// Why cuts are refused.
 #[derive(Clone, Copy, Debug, PartialEq, Eq, Drop, Error)]
 pub enum CheckError {
-    /// No boundary stands behind the lock at this node.
+    /// No boundary stands after the lock at this node.
     #[error("no boundary stands behind the lock at node {node}")]
     MissingAfterAcquire { node: usize },
     /// No boundary stands before the unlock at this node.

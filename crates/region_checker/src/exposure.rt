@@ -2,12 +2,12 @@
 ghost use Rattle.std.specs.Prelude.{◌≡◌, ◌↔◌, ◌<◌, length, replicate, slice_get, Contains, IsTrue, IfOk, Some, false};
 ghost use Rattle.flow_graph.specs.Nodes.{graph_of};
 ghost use Rattle.flow_graph.specs.declared.graph.Node as code;
-ghost use Rattle.region_checker.specs.links.Spreading.{IsMarked};
-ghost use Rattle.region_checker.specs.links.Hitting.{AreFitting, ForRegions, AreUnwritten, AreExposed, stops_of, AreReadAt};
+ghost use Rattle.region_checker.specs.links.MarkPropagation.{IsMarked};
+ghost use Rattle.region_checker.specs.links.ConflictSearch.{AreFitting, ForRegions, AreUnwritten, AreExposed, stops_of, AreReadAt};
 
 use crate::locations::{reads, writes_same};
 use crate::marks::spread;
-use crate::ways::Regions;
+use crate::paths::Regions;
 use flow_graph::graph::{Graph, Node};
 use ido_base::location::Location;
 use ido_base::memory::OutOfMemory;
@@ -38,7 +38,7 @@ pub(crate) fn unwritten(
 {
     let stops = stops(alloc, &graph.nodes, location)?;
     let begins = Vec::from_slice(alloc, &regions.begins)?;
-    Ok(spread(begins, &regions.ways, &stops))
+    Ok(spread(begins, &regions.paths, &stops))
 }
 
 /// Whether the node is marked and reads the location.
@@ -88,5 +88,5 @@ pub(crate) fn exposed(
     let unwritten = unwritten(alloc, graph, regions, location)?;
     let read = read_at(alloc, &graph.nodes, &unwritten, location)?;
     let stops = none(alloc, graph)?;
-    Ok(spread(read, &regions.ways, &stops))
+    Ok(spread(read, &regions.paths, &stops))
 }

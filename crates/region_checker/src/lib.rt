@@ -8,7 +8,7 @@ mod error;
 mod exposure;
 mod locations;
 mod marks;
-mod ways;
+mod paths;
 
 pub use checking::check;
 pub use error::{CheckError, Idempotent};

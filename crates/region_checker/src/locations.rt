@@ -1,12 +1,11 @@
 //! The elements that nodes read and write.
 ghost use Rattle.std.specs.Prelude.{◌≡◌, ◌↔◌, ℕ, length, Contains, IfOk, IsTrue};
 ghost use Rattle.flow_graph.specs.Nodes.{graph_of, node_of};
-ghost use Rattle.region_checker.specs.links.Hitting.{AreAllRead, IsAdded, writes_same, writes_over};
+ghost use Rattle.region_checker.specs.links.ConflictSearch.{AreAllRead, IsAdded, writes_same, writes_over};
 ghost use Rattle.ido_base.specs.declared.location.Location.{Location};
 
-use flow_alias::{overlap, same};
 use flow_graph::graph::{Graph, Node};
-use ido_base::location::Location;
+use ido_base::location::{Location, overlap, same};
 use ido_base::memory::OutOfMemory;
 use std::alloc::Global;
 

@@ -1,8 +1,8 @@
-//! Marks of nodes, spread along the ways of regions.
+//! Marks of nodes, spread along the paths of regions.
 ghost use Rattle.std.specs.Prelude.{◌≡◌, ◌<◌, length, Some};
-ghost use Rattle.region_checker.specs.links.Spreading.{IsOn, IsBeyond, Marks, Passes, AreSpread};
+ghost use Rattle.region_checker.specs.links.MarkPropagation.{IsOn, IsBeyond, Marks, IsMarkPass, AreSpread};
 
-use crate::ways::Way;
+use crate::paths::Path;
 
 /// Marks the node, if there is that one. Whether the mark is new.
 pub(crate) fn mark(marks: &mut [bool], node: Option<usize>) -> bool
@@ -21,51 +21,51 @@ pub(crate) fn mark(marks: &mut [bool], node: Option<usize>) -> bool
     }
 }
 
-/// Marks the nodes to which the ways lead. Whether any mark is new.
-fn mark_behind(marks: &mut [bool], way: &Way) -> bool
-    ensures { Marks (IsOn way.now) marks.old marks.new result }
+/// Marks the nodes to which the paths lead. Whether any mark is new.
+fn mark_after(marks: &mut [bool], path: &Path) -> bool
+    ensures { Marks (IsOn path.now) marks.old marks.new result }
 {
-    let next = mark(marks, way.next);
-    let other = mark(marks, way.other);
+    let next = mark(marks, path.next);
+    let other = mark(marks, path.other);
     next || other
 }
 
-/// Marks the nodes behind the one of this number, if it is marked and doesn't stop it. Whether any mark is new.
-fn mark_from(marks: &mut [bool], ways: &[Way], stops: &[bool], number: usize) -> bool
-    requires exists { number < length ways.now }
-    requires ways { length ways.now ≡ length marks.old }
+/// Marks the nodes after the one of this number, if it is marked and doesn't stop it. Whether any mark is new.
+fn mark_from(marks: &mut [bool], paths: &[Path], stops: &[bool], number: usize) -> bool
+    requires exists { number < length paths.now }
+    requires paths { length paths.now ≡ length marks.old }
     requires stops { length stops.now ≡ length marks.old }
-    ensures { Marks (IsBeyond ways.now stops.now marks.old number) marks.old marks.new result }
+    ensures { Marks (IsBeyond paths.now stops.now marks.old number) marks.old marks.new result }
 {
     if !marks[number] || stops[number] {
         return false;
     }
-    mark_behind(marks, &ways[number])
+    mark_after(marks, &paths[number])
 }
 
-/// Marks the nodes behind each marked one that doesn't stop it, from the first node to the last. Whether any mark is new.
-fn spread_once(marks: &mut [bool], ways: &[Way], stops: &[bool]) -> bool
-    requires ways { length ways.now ≡ length marks.old }
+/// Marks the nodes after each marked one that doesn't stop it, from the first node to the last. Whether any mark is new.
+fn spread_once(marks: &mut [bool], paths: &[Path], stops: &[bool]) -> bool
+    requires paths { length paths.now ≡ length marks.old }
     requires stops { length stops.now ≡ length marks.old }
-    ensures { Passes ways.now stops.now (length ways.now) marks.old marks.new result }
+    ensures { IsMarkPass paths.now stops.now (length paths.now) marks.old marks.new result }
 {
     let mut grows = false;
-    for number in 0..ways.len() {
-        if mark_from(marks, ways, stops, number) {
+    for number in 0..paths.len() {
+        if mark_from(marks, paths, stops, number) {
             grows = true;
         }
     }
     grows
 }
 
-/// Marks the nodes to which ways lead from marked ones, on which no node before them stops it. Passes go from the first node to
+/// Marks the nodes to which paths lead from marked ones, on which no node before them stops it. Passes go from the first node to
 /// the last, and so with the text: as many as loops are nested come to an end, and one more.
-pub(crate) fn spread(mut marks: Vec<bool>, ways: &[Way], stops: &[bool]) -> Vec<bool>
-    requires ways { length ways.now ≡ length marks.items }
+pub(crate) fn spread(mut marks: Vec<bool>, paths: &[Path], stops: &[bool]) -> Vec<bool>
+    requires paths { length paths.now ≡ length marks.items }
     requires stops { length stops.now ≡ length marks.items }
-    ensures spread { AreSpread ways.now stops.now marks.items result.items }
+    ensures spread { AreSpread paths.now stops.now marks.items result.items }
     ensures long { length result.items ≡ length marks.items }
 {
-    while spread_once(&mut marks, ways, stops) {}
+    while spread_once(&mut marks, paths, stops) {}
     marks
 }

@@ -1,19 +1,19 @@
--- The nodes behind a node, and the boundaries on the way to them.
+-- The nodes after a node, and the boundaries on the way to them.
 use Rattle.std.proofs.Common.{◌≡◌, ◌⊎◌, ◌↔◌, inl, inr, ℕ, zero, suc, ◌||◌, ◌&&◌, Bool, true, false, List, [], ◌∷◌, Option, Some, refl, ap, sym, subst, ◌∙◌}
 use Rattle.std.proofs.Common.{arith}
 use Rattle.std.specs.Prelude.{slice_get, Contains, IsTrue}
 use Rattle.flow_graph.specs.Nodes.{Action, Eval, Store, Test, Lock, Unlock, End, Node, Graph, next_of, other_of, successors}
 use Rattle.flow_graph.specs.Liveness.{NodeAt}
-use Rattle.flow_graph.specs.Cutting.{Boundaries, IsEdge, IsBoundary, IsLock, HasBehind, HasBefore}
-use Rattle.flow_graph.specs.Cutting as b
-use Rattle.region_cutter.specs.links.Trying as t
+use Rattle.flow_graph.specs.IdempotentCuts.{Boundaries, IsEdge, IsBoundary, IsLock, HasBoundaryAfter}
+use Rattle.flow_graph.specs.IdempotentCuts as b
+use Rattle.region_cutter.specs.links.BoundaryTrials as t
 use Rattle.region_cutter.specs.links.Lines.{Leaves, LeadsOver, GoesOnPast, IsPast}
-use Rattle.region_cutter.proofs.Starting.{locked}
+use Rattle.region_cutter.proofs.BoundariesEverywhere.{locked}
 
--- ---- The nodes behind one
+-- ---- The nodes after one
 
-Behind : Action → ℕ → Type 0
-Behind a to = (next_of a ≡ Some to) ⊎ (other_of a ≡ Some to)
+After : Action → ℕ → Type 0
+After a to = (next_of a ≡ Some to) ⊎ (other_of a ≡ Some to)
 
 one : (l to : ℕ) → Contains (l ∷ []) to → l ≡ to
 one l to (zero, lt, is) = is
@@ -27,13 +27,13 @@ two l m to (suc (suc i), lt, is) = absurd (omega arith)
 some : (l to : ℕ) → l ≡ to → Some l ≡ Some to
 some l to e = ap (λ (x : ℕ). Some x) e
 
-pub behind_from : (a : Action) (to : ℕ) → Contains (successors a) to → (next_of a ≡ Some to) ⊎ (other_of a ≡ Some to)
-behind_from (Eval target value next) to k = inl (some next to (one next to k))
-behind_from (Store variable kind next) to k = inl (some next to (one next to k))
-behind_from (Test condition holds fails) to k = elim (two holds fails to k) [ inl e ↦ inl (some holds to e) | inr e ↦ inr (some fails to e) ]
-behind_from (Lock mutex next) to k = inl (some next to (one next to k))
-behind_from (Unlock mutex next) to k = inl (some next to (one next to k))
-behind_from End to k = absurd (omega (arith, k.1))
+pub after_from : (a : Action) (to : ℕ) → Contains (successors a) to → (next_of a ≡ Some to) ⊎ (other_of a ≡ Some to)
+after_from (Eval target value next) to k = inl (some next to (one next to k))
+after_from (Store variable kind next) to k = inl (some next to (one next to k))
+after_from (Test condition holds fails) to k = elim (two holds fails to k) [ inl e ↦ inl (some holds to e) | inr e ↦ inr (some fails to e) ]
+after_from (Lock mutex next) to k = inl (some next to (one next to k))
+after_from (Unlock mutex next) to k = inl (some next to (one next to k))
+after_from End to k = absurd (omega (arith, k.1))
 
 first : (l : ℕ) (rest : List ℕ) (to : ℕ) → Some l ≡ Some to → Contains (l ∷ rest) to
 first l rest to e = (0, omega arith, let same : l ≡ to = cc in same)
@@ -41,31 +41,31 @@ first l rest to e = (0, omega arith, let same : l ≡ to = cc in same)
 second : (l m to : ℕ) → Some m ≡ Some to → Contains (l ∷ m ∷ []) to
 second l m to e = (1, omega arith, let same : m ≡ to = cc in same)
 
-pub behind_to : (a : Action) (to : ℕ) → (next_of a ≡ Some to) ⊎ (other_of a ≡ Some to) → Contains (successors a) to
-behind_to (Eval target value next) to (inl e) = first next [] to e
-behind_to (Eval target value next) to (inr e) = absurd (cc)
-behind_to (Store variable kind next) to (inl e) = first next [] to e
-behind_to (Store variable kind next) to (inr e) = absurd (cc)
-behind_to (Test condition holds fails) to (inl e) = first holds (fails ∷ []) to e
-behind_to (Test condition holds fails) to (inr e) = second holds fails to e
-behind_to (Lock mutex next) to (inl e) = first next [] to e
-behind_to (Lock mutex next) to (inr e) = absurd (cc)
-behind_to (Unlock mutex next) to (inl e) = first next [] to e
-behind_to (Unlock mutex next) to (inr e) = absurd (cc)
-behind_to End to (inl e) = absurd (cc)
-behind_to End to (inr e) = absurd (cc)
+pub after_to : (a : Action) (to : ℕ) → (next_of a ≡ Some to) ⊎ (other_of a ≡ Some to) → Contains (successors a) to
+after_to (Eval target value next) to (inl e) = first next [] to e
+after_to (Eval target value next) to (inr e) = absurd (cc)
+after_to (Store variable kind next) to (inl e) = first next [] to e
+after_to (Store variable kind next) to (inr e) = absurd (cc)
+after_to (Test condition holds fails) to (inl e) = first holds (fails ∷ []) to e
+after_to (Test condition holds fails) to (inr e) = second holds fails to e
+after_to (Lock mutex next) to (inl e) = first next [] to e
+after_to (Lock mutex next) to (inr e) = absurd (cc)
+after_to (Unlock mutex next) to (inl e) = first next [] to e
+after_to (Unlock mutex next) to (inr e) = absurd (cc)
+after_to End to (inl e) = absurd (cc)
+after_to End to (inr e) = absurd (cc)
 
 pub edge_to : (g : Graph) (n to : ℕ) (x : Node) → NodeAt g n x → (next_of x.action ≡ Some to) ⊎ (other_of x.action ≡ Some to) → IsEdge g n to
-edge_to g n to x at e = record { is = x; at = at; goes = behind_to x.action to e }
+edge_to g n to x at e = record { is = x; at = at; goes = after_to x.action to e }
 
 pub same_node : (g : Graph) (n : ℕ) (x y : Node) → NodeAt g n x → NodeAt g n y → x ≡ y
 same_node g n x y at at' = let both : Some x ≡ Some y = sym at ∙ at' in cc
 
 pub edge_from : (g : Graph) (n to : ℕ) (x : Node) → NodeAt g n x → IsEdge g n to → (next_of x.action ≡ Some to) ⊎ (other_of x.action ≡ Some to)
 edge_from g n to x at e = subst (λ (y : Node). (next_of y.action ≡ Some to) ⊎ (other_of y.action ≡ Some to)) (same_node g n e.is x e.at at)
-    (behind_from e.is.action to e.goes)
+    (after_from e.is.action to e.goes)
 
--- ---- Boundaries behind locks
+-- ---- Boundaries after locks
 
 pub is_lock : (g : Graph) (n : ℕ) (x : Node) → NodeAt g n x → IsLock g n → t.locks x.action ≡ true
 is_lock g n x at (b.locks y mutex next at' is) = ap (λ (z : Node). t.locks z.action) (same_node g n x y at at') ∙ ap t.locks is
@@ -78,15 +78,15 @@ pub and : (a c : Bool) → a ≡ true → c ≡ true → (a && c) ≡ true
 and true c e h = h
 and false c e h = absurd (cc)
 
-pub has_behind_is : (g : Graph) (bs : Boundaries) (n : ℕ) (x : Node) (takes stands : Bool) → NodeAt g n x → takes ≡ t.locks x.action →
+pub has_after_is : (g : Graph) (bs : Boundaries) (n : ℕ) (x : Node) (takes stands : Bool) → NodeAt g n x → takes ≡ t.locks x.action →
     (IsTrue stands ↔ (slice_get bs.after_lock n ≡ Some true)) →
-    IsTrue (takes && stands) ↔ HasBehind g bs n
-has_behind_is g bs n x takes stands at e k = (
+    IsTrue (takes && stands) ↔ HasBoundaryAfter g bs n
+has_after_is g bs n x takes stands at e k = (
   λ h. let d = both takes stands h in record { locks = locked g n x x.action at refl (sym e ∙ d.0); stands = k.0 d.1 },
   λ h. and takes stands (e ∙ is_lock g n x at h.locks) (k.1 h.stands),
 )
 
--- ---- A boundary behind a node
+-- ---- A boundary after a node
 
 pub or_either : (a c : Bool) → (a || c) ≡ true → (a ≡ true) ⊎ (c ≡ true)
 or_either true c e = inl refl
@@ -117,39 +117,30 @@ pub and_else : (a c : Bool) (P : Type 0) → a ≡ false → (IsTrue (a && c) �
 and_else true c P e k = absurd (cc)
 and_else false c P e k = k
 
-pub leads_over_is : (bs : Boundaries) (behind stands : Bool) (node : ℕ) → (IsTrue stands ↔ HasBefore bs node) →
-    IsTrue (behind || stands) ↔ LeadsOver bs behind (Some node)
-leads_over_is bs behind stands node k = (
-  λ h. record { node = node; is = refl; over = elim (or_either behind stands h) [ inl e ↦ inl e | inr e ↦ inr (k.0 e) ] },
-  λ h. elim h.over [
-    | inl e ↦ or_left behind stands e
-    | inr has ↦ (let is = h.is in let same : node ≡ h.node = cc in or_right behind stands (k.1 (subst (λ (m : ℕ). HasBefore bs m) (sym same) has)))
-  ],
-)
-
-leaves_by : (g : Graph) (bs : Boundaries) (n : ℕ) (x : Node) (behind : Bool) (to : Option ℕ) → NodeAt g n x → (IsTrue behind ↔ HasBehind g bs n) →
-    ((node : ℕ) → to ≡ Some node → (next_of x.action ≡ Some node) ⊎ (other_of x.action ≡ Some node)) → LeadsOver bs behind to → Leaves g bs n
-leaves_by g bs n x behind to at k is over = record {
+leaves_by : (g : Graph) (bs : Boundaries) (n : ℕ) (x : Node) (after : Bool) (to : Option ℕ) → NodeAt g n x → (IsTrue after ↔ HasBoundaryAfter g bs n) →
+    ((node : ℕ) → to ≡ Some node → (next_of x.action ≡ Some node) ⊎ (other_of x.action ≡ Some node)) → LeadsOver bs after to → Leaves g bs n
+leaves_by g bs n x after to at k is over = record {
   to = over.node;
   edge = edge_to g n over.node x at (is over.node over.is);
   boundary = elim over.over [ inl e ↦ inl (k.0 e) | inr has ↦ inr has ];
 }
 
-leads_by : (g : Graph) (bs : Boundaries) (n : ℕ) (behind : Bool) (to : Option ℕ) (h : Leaves g bs n) → (IsTrue behind ↔ HasBehind g bs n) → to ≡ Some h.to →
-    LeadsOver bs behind to
-leads_by g bs n behind to h k e = record { node = h.to; is = e; over = elim h.boundary [ inl stands ↦ inl (k.1 stands) | inr has ↦ inr has ] }
+leads_by : (g : Graph) (bs : Boundaries) (n : ℕ) (after : Bool) (to : Option ℕ) (h : Leaves g bs n) → (IsTrue after ↔ HasBoundaryAfter g bs n) →
+    to ≡ Some h.to →
+    LeadsOver bs after to
+leads_by g bs n after to h k e = record { node = h.to; is = e; over = elim h.boundary [ inl stands ↦ inl (k.1 stands) | inr has ↦ inr has ] }
 
-pub leaves_is : (g : Graph) (bs : Boundaries) (n : ℕ) (x : Node) (behind one two : Bool) → NodeAt g n x → (IsTrue behind ↔ HasBehind g bs n) →
-    (IsTrue one ↔ LeadsOver bs behind (next_of x.action)) →
-    (IsTrue two ↔ LeadsOver bs behind (other_of x.action)) → IsTrue (one || two) ↔ Leaves g bs n
-leaves_is g bs n x behind one two at k next other = (
+pub leaves_is : (g : Graph) (bs : Boundaries) (n : ℕ) (x : Node) (after one two : Bool) → NodeAt g n x → (IsTrue after ↔ HasBoundaryAfter g bs n) →
+    (IsTrue one ↔ LeadsOver bs after (next_of x.action)) →
+    (IsTrue two ↔ LeadsOver bs after (other_of x.action)) → IsTrue (one || two) ↔ Leaves g bs n
+leaves_is g bs n x after one two at k next other = (
   λ h. elim (or_either one two h) [
-    | inl e ↦ leaves_by g bs n x behind (next_of x.action) at k (λ m is. inl is) (next.0 e)
-    | inr e ↦ leaves_by g bs n x behind (other_of x.action) at k (λ m is. inr is) (other.0 e)
+    | inl e ↦ leaves_by g bs n x after (next_of x.action) at k (λ m is. inl is) (next.0 e)
+    | inr e ↦ leaves_by g bs n x after (other_of x.action) at k (λ m is. inr is) (other.0 e)
   ],
   λ h. elim (edge_from g n h.to x at h.edge) [
-    | inl is ↦ or_left one two (next.1 (leads_by g bs n behind (next_of x.action) h k is))
-    | inr is ↦ or_right one two (other.1 (leads_by g bs n behind (other_of x.action) h k is))
+    | inl is ↦ or_left one two (next.1 (leads_by g bs n after (next_of x.action) h k is))
+    | inr is ↦ or_right one two (other.1 (leads_by g bs n after (other_of x.action) h k is))
   ],
 )
 
@@ -158,11 +149,7 @@ leaves_is g bs n x behind one two at k next other = (
 pub past_is : (g : Graph) (bs : Boundaries) (lines : List (Option ℕ)) (line n : ℕ) (x : Node) → NodeAt g n x → ¬ (Leaves g bs n) → (to : ℕ) →
     IsPast lines line x to ↔ GoesOnPast g bs lines line n to
 past_is g bs lines line n x at stays to = (
-  λ p. (let edge = edge_to g n to x at p.behind in
+  λ p. (let edge = edge_to g n to x at p.after in
       record { edge = edge; inside = λ over. stays (record { to = to; edge = edge; boundary = over }); past = p.past }),
-  λ s. record { behind = edge_from g n to x at s.edge; past = s.past },
+  λ s. record { after = edge_from g n to x at s.edge; past = s.past },
 )
-
--- a node that leads on exists
-pub edge_within : (g : Graph) (n to : ℕ) → IsEdge g n to → (x : Node) × NodeAt g n x
-edge_within g n to e = (e.is, e.at)

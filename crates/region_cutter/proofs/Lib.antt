@@ -1,12 +1,12 @@
-pub mod Lists
-pub mod Starting
-pub mod Trials
-pub mod Searching
-pub mod Edges
-pub mod Lines
-pub mod Passing
-pub mod Exposing
-pub mod Locked
-pub mod Marking
-pub mod Single
-pub mod Worked
+mod Lists
+mod BoundariesEverywhere
+mod TrialPasses
+mod GraphSearchComplete
+mod Edges
+mod Lines
+mod ConflictPaths
+mod TrialParts
+mod LocksAtStores
+mod PassedPlaceMarks
+mod SingleElements
+mod Worked

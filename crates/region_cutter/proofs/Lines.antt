@@ -9,11 +9,11 @@ use Rattle.std.proofs.lemmas.Option.{slice_get_within, slice_get-map}
 use Rattle.ido_base.specs.declared.location.Shape.{Shape}
 use Rattle.flow_graph.specs.declared.graph.Node as code
 use Rattle.flow_graph.specs.Nodes.{Node, Graph, node_of, next_of, other_of}
-use Rattle.flow_graph.specs.Cutting.{Boundaries}
-use Rattle.flow_graph.specs.Cleaning.{StoresInLine, ReachesUncleaned, at_boundary, IsCleanedLater}
-use Rattle.flow_graph.specs.Cleaning as c
-use Rattle.region_cutter.specs.links.Searching.{Comes, there, goes_on}
-use Rattle.region_cutter.specs.links.Lines.{WritesInLine, AreLines, Leaves, GoesOnPast, IsPast, IsCleanedBehind, AreAnswers}
+use Rattle.flow_graph.specs.IdempotentCuts.{Boundaries}
+use Rattle.flow_graph.specs.OmittedCleans.{StoresInLine, ReachesUncleaned, at_boundary, IsCleanedLater}
+use Rattle.flow_graph.specs.OmittedCleans as c
+use Rattle.region_cutter.specs.links.GraphSearch.{ReachesEnd, there, goes_on}
+use Rattle.region_cutter.specs.links.Lines.{WritesInLine, AreLines, Leaves, GoesOnPast, IsPast, IsCleanedAfter, AreAnswers}
 use Rattle.region_cutter.proofs.Lists.{get_below, get_last}
 
 -- ---- Lines of the first nodes
@@ -92,19 +92,19 @@ first_all g nodes shapes lines count is all h = record {
 -- ---- Searches find the paths that leave the line uncleaned
 
 uncleaned : (g : Graph) (b : Boundaries) (shapes : List Shape) (lines : List (Option ℕ)) (line : ℕ) → AreLines g shapes lines → (n : ℕ) →
-    Comes (GoesOnPast g b lines line) (Leaves g b) n → ReachesUncleaned g b shapes line n
+    ReachesEnd (GoesOnPast g b lines line) (Leaves g b) n → ReachesUncleaned g b shapes line n
 uncleaned g b shapes lines line are n (there _ leaves) = at_boundary n leaves.to leaves.edge leaves.boundary
 uncleaned g b shapes lines line are n (goes_on _ to step rest) =
     c.goes_on n to step.edge step.inside (λ s. step.past ((are.each to line).1 s)) (uncleaned g b shapes lines line are to rest)
 
 comes : (g : Graph) (b : Boundaries) (shapes : List Shape) (lines : List (Option ℕ)) (line : ℕ) → AreLines g shapes lines → (n : ℕ) →
-    ReachesUncleaned g b shapes line n → Comes (GoesOnPast g b lines line) (Leaves g b) n
+    ReachesUncleaned g b shapes line n → ReachesEnd (GoesOnPast g b lines line) (Leaves g b) n
 comes g b shapes lines line are n (at_boundary _ to edge over) = there n (record { to = to; edge = edge; boundary = over })
 comes g b shapes lines line are n (c.goes_on _ to edge inside past rest) =
     goes_on n to (record { edge = edge; inside = inside; past = λ e. past ((are.each to line).0 e) }) (comes g b shapes lines line are to rest)
 
 cleaned_is : (g : Graph) (b : Boundaries) (shapes : List Shape) (lines : List (Option ℕ)) → AreLines g shapes lines → (n : ℕ) →
-    IsCleanedBehind g b lines n ↔ IsCleanedLater g b shapes n
+    IsCleanedAfter g b lines n ↔ IsCleanedLater g b shapes n
 cleaned_is g b shapes lines are n = (
   λ k. record { line = k.line; stores = (are.each n k.line).0 k.stores; later = λ r. k.later (comes g b shapes lines k.line are n r) },
   λ k. record { line = k.line; stores = (are.each n k.line).1 k.stores; later = λ r. k.later (uncleaned g b shapes lines k.line are n r) },
@@ -116,7 +116,7 @@ pub answers_none : (g : Graph) (b : Boundaries) (lines : List (Option ℕ)) → 
 answers_none g b lines = record { count = refl; each = λ n lt. absurd (omega arith) }
 
 pub answers_more : (g : Graph) (b : Boundaries) (lines : List (Option ℕ)) (number : ℕ) (later : List Bool) (cleaned : Bool) →
-    AreAnswers g b lines number later → (IsTrue cleaned ↔ IsCleanedBehind g b lines number) →
+    AreAnswers g b lines number later → (IsTrue cleaned ↔ IsCleanedAfter g b lines number) →
     AreAnswers g b lines (number + 1) (later ++ cleaned ∷ [])
 answers_more g b lines number later cleaned h k = record {
   count = omega (arith, length_push later cleaned, h.count);
@@ -130,8 +130,8 @@ answers_more g b lines number later cleaned h k = record {
         let last : slice_get (later ++ cleaned ∷ []) n ≡ Some cleaned = ap (λ m. slice_get (later ++ cleaned ∷ []) m) is ∙ get_last later cleaned in
         let here : n ≡ number = omega (arith, h.count) in (
           λ e. (let some : Some cleaned ≡ Some true = sym last ∙ e in let sure : cleaned ≡ true = cc in
-              subst (λ (m : ℕ). IsCleanedBehind g b lines m) (sym here) (k.0 sure)),
-          λ w. last ∙ ap (λ (v : Bool). Some v) (k.1 (subst (λ (m : ℕ). IsCleanedBehind g b lines m) here w)),
+              subst (λ (m : ℕ). IsCleanedAfter g b lines m) (sym here) (k.0 sure)),
+          λ w. last ∙ ap (λ (v : Bool). Some v) (k.1 (subst (λ (m : ℕ). IsCleanedAfter g b lines m) here w)),
         ))
   ];
 }
@@ -147,7 +147,8 @@ answers_all g b shapes lines later are h n =
 
 -- ---- Nodes on the way exist
 
-pub comes_within : (g : Graph) (b : Boundaries) (lines : List (Option ℕ)) (line n : ℕ) → Comes (GoesOnPast g b lines line) (Leaves g b) n → n < length g.nodes
+pub comes_within : (g : Graph) (b : Boundaries) (lines : List (Option ℕ)) (line n : ℕ) → ReachesEnd (GoesOnPast g b lines line) (Leaves g b) n →
+    n < length g.nodes
 comes_within g b lines line n (there _ leaves) = slice_get_within g.nodes n leaves.edge.is leaves.edge.at
 comes_within g b lines line n (goes_on _ to step rest) = slice_get_within g.nodes n step.edge.is step.edge.at
 
@@ -158,10 +159,10 @@ pub past_both : (lines : List (Option ℕ)) (line : ℕ) (x : Node) (next other 
     (to : ℕ) → ((one ≡ Some to) ⊎ (two ≡ Some to)) ↔ IsPast lines line x to
 past_both lines line x next other one two e f h k to = (
   λ d. elim d [
-    | inl is ↦ (let m = (h to).0 is in record { behind = inl (sym e ∙ m.0); past = m.1 })
-    | inr is ↦ (let m = (k to).0 is in record { behind = inr (sym f ∙ m.0); past = m.1 })
+    | inl is ↦ (let m = (h to).0 is in record { after = inl (sym e ∙ m.0); past = m.1 })
+    | inr is ↦ (let m = (k to).0 is in record { after = inr (sym f ∙ m.0); past = m.1 })
   ],
-  λ p. elim p.behind [
+  λ p. elim p.after [
     | inl is ↦ inl ((h to).1 (e ∙ is, p.past))
     | inr is ↦ inr ((k to).1 (f ∙ is, p.past))
   ],

@@ -6,13 +6,13 @@ use Rattle.ido_base.specs.declared.location.Location.{Location}
 use Rattle.ido_base.specs.declared.location.Shape.{Shape}
 use Rattle.ido_base.specs.Layout.{line_bytes, variable_at}
 use Rattle.ido_ints.specs.declared.kinds.Kind.TheVariants as kind
-use Rattle.ido_ints.specs.Typed.{typed}
+use Rattle.ido_ints.specs.TypedNumbers.{typed}
 use Rattle.c_tree.specs.Exprs as e
 use Rattle.flow_graph.specs.Nodes.{Node, Graph, Lock, Unlock, End}
 use Rattle.flow_graph.specs.Lowering.{plain_node, store_node, test_node}
 use Rattle.flow_graph.specs.Liveness.{NodeAt}
-use Rattle.flow_graph.specs.Cutting.{Boundaries, IsEdge, IsBoundary, IsLock, locks}
-use Rattle.flow_graph.specs.Cleaning.{StoresInLine, ReachesUncleaned, at_boundary, goes_on, IsCleanedLater}
+use Rattle.flow_graph.specs.IdempotentCuts.{Boundaries, IsEdge, IsBoundary, IsLock, locks}
+use Rattle.flow_graph.specs.OmittedCleans.{StoresInLine, ReachesUncleaned, at_boundary, goes_on, IsCleanedLater}
 use Rattle.region_cutter.proofs.Edges.{edge_from, edge_to, same_node}
 
 abbrev here : Place
@@ -37,7 +37,7 @@ end = plain_node here End
 abbrev shapes : List Shape
 shapes = record { bytes = 8; length = 16 } ∷ []
 
--- boundaries behind the lock at node 0 and before others
+-- boundaries after the lock at node 0 and before others
 abbrev between : List Bool → Boundaries
 between before = record { before = before; after_lock = true ∷ [] }
 
@@ -65,7 +65,7 @@ no_lock g n next written at (locks x mutex after at' is) =
 
 no_boundary : (g : Graph) (b : Boundaries) (n to next : ℕ) (written : Location) → NodeAt g n (stores written next) → slice_get b.before to ≡ Some false →
     ¬ (IsBoundary g b n to)
-no_boundary g b n to next written at free (inl behind) = no_lock g n next written at behind.locks
+no_boundary g b n to next written at free (inl after) = no_lock g n next written at after.locks
 no_boundary g b n to next written at free (inr has) = (let both : Some false ≡ Some true = sym free ∙ has in cc)
 
 -- where the next node stores into the line, nothing is left uncleaned
@@ -133,7 +133,7 @@ choice = record { nodes = lock ∷ stores (elements 0 0) 2 ∷ test_node here co
 abbrev choosing : Boundaries
 choosing = between (false ∷ false ∷ false ∷ false ∷ true ∷ false ∷ [])
 
--- on the other way the line is left uncleaned
+-- on the other path the line is left uncleaned
 first_of_a_choice : ¬ (IsCleanedLater choice choosing shapes 1)
 first_of_a_choice c =
     let no_store : ¬ (StoresInLine choice shapes c.line 2) = λ s.

@@ -1,3 +1,3 @@
 pub mod Places
-pub mod Locked
+pub mod LocksAtBoundaries
 pub mod links

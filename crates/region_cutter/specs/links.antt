@@ -1,5 +1,5 @@
-pub mod Trying
-pub mod Searching
+pub mod BoundaryTrials
+pub mod GraphSearch
 pub mod Lines
-pub mod Local
-pub mod Marking
+pub mod RemovalWindows
+pub mod PassedPlaces

@@ -1,14 +1,14 @@
 //! Which stores need no clean of their own line.
 ghost use Rattle.std.specs.Prelude.{◌≡◌, ◌↔◌, ◌<◌, ◌≤◌, ℕ, IfOk, OnOk, IsTrue, length, slice_get, true};
 ghost use Rattle.flow_graph.specs.Nodes.{graph_of, node_of};
-ghost use Rattle.flow_graph.specs.Cutting.{HasBehind, boundaries_of};
-ghost use Rattle.flow_graph.specs.Cleaning.{IsCleanedLater};
+ghost use Rattle.flow_graph.specs.IdempotentCuts.{HasBoundaryAfter, boundaries_of};
+ghost use Rattle.flow_graph.specs.OmittedCleans.{IsCleanedLater};
 ghost use Rattle.ido_base.specs.Layout.{end_from};
 ghost use Rattle.ido_base.specs.declared.limits.TheConstants.{MOST_VARIABLE_BYTES};
-ghost use Rattle.log_layout.specs.Variables.{are_sizes};
+ghost use Rattle.memory_layout.specs.Variables.{are_sizes};
 ghost use Rattle.region_cutter.specs.Places.{WriteElements, WritesAnElement};
-ghost use Rattle.region_cutter.specs.links.Lines.{AreAnswers, AreLines, GoesOnPast, IsCleanedBehind, IsPast, LeadsOver, Leaves, WritesInLine};
-ghost use Rattle.region_cutter.specs.links.Searching.{Comes, Follows};
+ghost use Rattle.region_cutter.specs.links.Lines.{AreAnswers, AreLines, GoesOnPast, IsCleanedAfter, IsPast, LeadsOver, Leaves, WritesInLine};
+ghost use Rattle.region_cutter.specs.links.GraphSearch.{ReachesEnd, IsSearchStep};
 
 use crate::search::Search;
 use crate::start::locks;
@@ -17,7 +17,7 @@ use flow_graph::graph::{Graph, Node};
 use ido_base::limits::LINE_BYTES;
 use ido_base::location::Shape;
 use ido_base::memory::OutOfMemory;
-use log_layout::variables::var_at;
+use memory_layout::variables::var_at;
 use std::alloc::Global;
 
 /// The line into which the node stores, if it stores into one element that is known.
@@ -63,34 +63,34 @@ pub(crate) fn stands(flags: &[bool], node: usize) -> bool
     }
 }
 
-/// Whether the node of this number takes a mutex and a boundary stands behind it.
-pub(crate) fn has_behind(graph: &Graph, cuts: &Cuts, number: usize, node: &Node) -> bool
+/// Whether the node of this number takes a mutex and a boundary stands after it.
+pub(crate) fn has_after(graph: &Graph, cuts: &Cuts, number: usize, node: &Node) -> bool
     requires { slice_get graph.now.nodes.items number ≡ Some node.now }
-    ensures { IsTrue result ↔ HasBehind (graph_of graph.now) (boundaries_of cuts.now) number }
+    ensures { IsTrue result ↔ HasBoundaryAfter (graph_of graph.now) (boundaries_of cuts.now) number }
 {
     let takes = locks(node);
     let stands = stands(&cuts.after_lock, number);
     takes && stands
 }
 
-/// Whether there is that node and a boundary is passed on the way to it: behind the node before it, or before it.
-fn leads_over(cuts: &Cuts, behind: bool, to: Option<usize>) -> bool
-    ensures { IsTrue result ↔ LeadsOver (boundaries_of cuts.now) behind to }
+/// Whether there is that node and a boundary is passed on the way to it: after the node before it, or before it.
+fn leads_over(cuts: &Cuts, after: bool, to: Option<usize>) -> bool
+    ensures { IsTrue result ↔ LeadsOver (boundaries_of cuts.now) after to }
 {
     match to {
-        Some(node) => behind || stands(&cuts.before, node),
+        Some(node) => after || stands(&cuts.before, node),
         None => false,
     }
 }
 
-/// Whether a boundary stands right behind the node of this number.
+/// Whether a boundary stands right after the node of this number.
 fn leaves(graph: &Graph, cuts: &Cuts, number: usize, node: &Node) -> bool
     requires { slice_get graph.now.nodes.items number ≡ Some node.now }
     ensures { IsTrue result ↔ Leaves (graph_of graph.now) (boundaries_of cuts.now) number }
 {
-    let behind = has_behind(graph, cuts, number, node);
-    let next = leads_over(cuts, behind, node.next());
-    let other = leads_over(cuts, behind, node.other());
+    let after = has_after(graph, cuts, number, node);
+    let next = leads_over(cuts, after, node.next());
+    let other = leads_over(cuts, after, node.other());
     next || other
 }
 
@@ -107,14 +107,14 @@ fn unless_cleaned(lines: &[Option<u64>], line: u64, to: Option<usize>) -> Option
     }
 }
 
-/// Goes on with a search from a node behind which no boundary stands.
+/// Goes on with a search from a node after which no boundary stands.
 fn go_on(
     search: &mut Search,
     lines: &[Option<u64>],
     line: u64,
     node: &Node,
 ) -> Result<(), OutOfMemory>
-    ensures { OnOk result (Follows (IsPast lines.now line (node_of node.now)) search.old.seen.items search.old.waiting.items search.new.seen.items
+    ensures { OnOk result (IsSearchStep (IsPast lines.now line (node_of node.now)) search.old.seen.items search.old.waiting.items search.new.seen.items
         search.new.waiting.items) }
 {
     search.come_to_any(unless_cleaned(lines, line, node.next()))?;
@@ -132,7 +132,7 @@ fn reaches_uncleaned(
     from: usize,
 ) -> Result<bool, OutOfMemory>
     ensures { IfOk result (λ yes. IsTrue yes
-        ↔ Comes (GoesOnPast (graph_of graph.now) (boundaries_of cuts.now) lines.now line) (Leaves (graph_of graph.now) (boundaries_of cuts.now)) from) }
+        ↔ ReachesEnd (GoesOnPast (graph_of graph.now) (boundaries_of cuts.now) lines.now line) (Leaves (graph_of graph.now) (boundaries_of cuts.now)) from) }
 {
     let mut search = Search::at(alloc, graph.nodes.len(), from)?;
     while let Some(number) = search.waiting.pop() {
@@ -146,7 +146,7 @@ fn reaches_uncleaned(
 }
 
 /// Whether the node's clean may be left out.
-fn is_cleaned_behind(
+fn is_cleaned_after(
     alloc: Global,
     graph: &Graph,
     cuts: &Cuts,
@@ -154,7 +154,7 @@ fn is_cleaned_behind(
     number: usize,
 ) -> Result<bool, OutOfMemory>
     requires { number < length lines.now }
-    ensures { IfOk result (λ yes. IsTrue yes ↔ IsCleanedBehind (graph_of graph.now) (boundaries_of cuts.now) lines.now number) }
+    ensures { IfOk result (λ yes. IsTrue yes ↔ IsCleanedAfter (graph_of graph.now) (boundaries_of cuts.now) lines.now number) }
 {
     match lines[number] {
         Some(line) => {
@@ -176,7 +176,7 @@ fn answers(
 {
     let mut later = Vec::with_capacity(alloc, lines.len())?;
     for number in 0..lines.len() {
-        let cleaned = is_cleaned_behind(alloc, graph, cuts, lines, number)?;
+        let cleaned = is_cleaned_after(alloc, graph, cuts, lines, number)?;
         later.push(cleaned)?;
     }
     Ok(later)

@@ -1,7 +1,7 @@
 //! Single elements that nodes write.
 ghost use Rattle.std.specs.Prelude.{◌↔◌, ◌<◌, IsTrue, length};
 ghost use Rattle.flow_graph.specs.Nodes.{graph_of, node_of};
-ghost use Rattle.log_layout.specs.Variables.{elements_of};
+ghost use Rattle.memory_layout.specs.Variables.{elements_of};
 ghost use Rattle.region_cutter.specs.Places.{WriteElements, WritesAnElement};
 
 use flow_graph::graph::{Graph, Node};

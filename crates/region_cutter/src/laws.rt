@@ -1,5 +1,5 @@
 //! What holds of boundaries and locks: nothing is computed here.
-ghost use Rattle.region_cutter.specs.Locked.{ChosenAreLocked, NodesAreSteps};
+ghost use Rattle.region_cutter.specs.LocksAtBoundaries.{ChosenAreLocked, NodesAreSteps};
 
 /// In the graph of a flat form that keeps the lock discipline, with the table of its held sets, a boundary that `cut` chose stands before
 /// a store of a variable whose mutex is held there, so that set isn't empty. Each node is a step of a thread, before which the

@@ -1,4 +1,4 @@
-//! Where threads can be resumed: few boundaries, behind each lock, before each unlock and before stores, so that what is run
+//! Where threads can be resumed: few boundaries, after each lock, before each unlock and before stores, so that what is run
 //! again reads nothing that it has overwritten.
 #![tactic(auto)]
 

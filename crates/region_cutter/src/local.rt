@@ -1,31 +1,30 @@
 //! What may change where one boundary is taken away: only paths that pass the node before which it stood, and so only what is near it.
 ghost use Rattle.std.specs.Prelude.{◌≡◌, ◌↔◌, ◌<◌, ◌≤◌, [], ℕ, Contains, IfOk, OnOk, IsTrue, Some, false, length, replicate, slice_get};
 ghost use Rattle.flow_graph.specs.Nodes.{graph_of, node_of};
-ghost use Rattle.flow_graph.specs.Cutting.{Begins, HasBefore, boundaries_of};
-ghost use Rattle.region_cutter.specs.links.Local.{AddsRead, AddsWritten, AllBehind, AreAhead, AreReadOver, AreUnwritten, AreWritten};
-ghost use Rattle.region_cutter.specs.links.Local.{BeginsBy, BeginsIn, Exposes, Inside, InsidePast, IsBehindExposed, IsBehindExposedIn};
-ghost use Rattle.region_cutter.specs.links.Local.{IsExposed, IsExposedAny, IsKnownWithout, IsOverAny, WritesOver, WritesSame};
-ghost use Rattle.region_cutter.specs.links.Marking.{AreMarks};
-ghost use Rattle.region_cutter.specs.links.Searching.{Follows};
+ghost use Rattle.flow_graph.specs.IdempotentCuts.{BeginsRegion, HasBefore, boundaries_of};
+ghost use Rattle.region_cutter.specs.links.RemovalWindows.{AddsRead, AddsWritten, AllAfter, AreAhead, AreReadOver, AreUnwritten, AreWritten};
+ghost use Rattle.region_cutter.specs.links.RemovalWindows.{BeginsBy, BeginsIn, Exposes, Inside, InsidePast, IsAfterExposed, IsAfterExposedIn};
+ghost use Rattle.region_cutter.specs.links.RemovalWindows.{IsExposed, IsExposedAny, IsKnownWithout, IsOverAny, WritesOver, WritesSame};
+ghost use Rattle.region_cutter.specs.links.PassedPlaces.{AreMarks};
+ghost use Rattle.region_cutter.specs.links.GraphSearch.{IsSearchStep};
 
-use crate::cleaning::{has_behind, stands};
+use crate::cleaning::{has_after, stands};
 use crate::marks::Marks;
 use crate::search::Search;
 use crate::window::{Window, window_at};
-use flow_alias::{overlap, same};
 use flow_graph::cuts::Cuts;
 use flow_graph::graph::{Graph, Node};
-use ido_base::location::Location;
+use ido_base::location::{Location, overlap, same};
 use ido_base::memory::OutOfMemory;
 use std::alloc::Global;
 
 /// The node, unless a boundary is passed on the way to it.
-pub(crate) fn inside(cuts: &Cuts, behind: bool, to: Option<usize>) -> Option<usize>
-    ensures { (node : ℕ) → (result ≡ Some node) ↔ ((to ≡ Some node) × (IsTrue behind → ⊥) × ¬ (HasBefore (boundaries_of cuts.now) node)) }
+pub(crate) fn inside(cuts: &Cuts, after: bool, to: Option<usize>) -> Option<usize>
+    ensures { (node : ℕ) → (result ≡ Some node) ↔ ((to ≡ Some node) × (IsTrue after → ⊥) × ¬ (HasBefore (boundaries_of cuts.now) node)) }
 {
     match to {
         Some(node) => {
-            if behind || stands(&cuts.before, node) {
+            if after || stands(&cuts.before, node) {
                 None
             } else {
                 Some(node)
@@ -44,12 +43,12 @@ fn go_on(
     node: &Node,
 ) -> Result<(), OutOfMemory>
     requires { slice_get graph.now.nodes.items number ≡ Some node.now }
-    ensures { OnOk result (Follows (Inside (graph_of graph.now) (boundaries_of cuts.now) number) search.old.seen.items search.old.waiting.items
+    ensures { OnOk result (IsSearchStep (Inside (graph_of graph.now) (boundaries_of cuts.now) number) search.old.seen.items search.old.waiting.items
         search.new.seen.items search.new.waiting.items) }
 {
-    let behind = has_behind(graph, cuts, number, node);
-    search.come_to_any(inside(cuts, behind, node.next()))?;
-    search.come_to_any(inside(cuts, behind, node.other()))?;
+    let after = has_after(graph, cuts, number, node);
+    search.come_to_any(inside(cuts, after, node.next()))?;
+    search.come_to_any(inside(cuts, after, node.other()))?;
     Ok(())
 }
 
@@ -132,12 +131,12 @@ fn writes_same(graph: &Graph, element: Location, number: usize, node: &Node) -> 
 fn begins_at(graph: &Graph, cuts: &Cuts, marks: &Marks, number: usize) -> bool
     requires exists { number < length graph.now.nodes.items }
     requires marks { AreMarks (graph_of graph.now) marks.now }
-    requires locks { AllBehind (graph_of graph.now) (boundaries_of cuts.now) }
-    ensures { IsTrue result ↔ Begins (graph_of graph.now) (boundaries_of cuts.now) number }
+    requires locks { AllAfter (graph_of graph.now) (boundaries_of cuts.now) }
+    ensures { IsTrue result ↔ BeginsRegion (graph_of graph.now) (boundaries_of cuts.now) number }
 {
     let before = stands(&cuts.before, number);
-    let behind = stands(&marks.begun, number);
-    before || behind
+    let after = stands(&marks.begun, number);
+    before || after
 }
 
 /// Comes to the node, if a region begins there.
@@ -150,8 +149,8 @@ fn come_to_begun(
 ) -> Result<(), OutOfMemory>
     requires exists { number < length graph.now.nodes.items }
     requires marks { AreMarks (graph_of graph.now) marks.now }
-    requires locks { AllBehind (graph_of graph.now) (boundaries_of cuts.now) }
-    ensures { OnOk result (Follows (BeginsBy (graph_of graph.now) (boundaries_of cuts.now) number) search.old.seen.items search.old.waiting.items
+    requires locks { AllAfter (graph_of graph.now) (boundaries_of cuts.now) }
+    ensures { OnOk result (IsSearchStep (BeginsBy (graph_of graph.now) (boundaries_of cuts.now) number) search.old.seen.items search.old.waiting.items
         search.new.seen.items search.new.waiting.items) }
 {
     if begins_at(graph, cuts, marks, number) {
@@ -170,9 +169,9 @@ fn begin_search(
 ) -> Result<Search, OutOfMemory>
     requires within { window.end ≤ length graph.now.nodes.items }
     requires marks { AreMarks (graph_of graph.now) marks.now }
-    requires locks { AllBehind (graph_of graph.now) (boundaries_of cuts.now) }
+    requires locks { AllAfter (graph_of graph.now) (boundaries_of cuts.now) }
     ensures { IfOk result (λ search.
-        Follows (BeginsIn (graph_of graph.now) (boundaries_of cuts.now) window) (replicate (length graph.now.nodes.items) false) [] search.seen.items
+        IsSearchStep (BeginsIn (graph_of graph.now) (boundaries_of cuts.now) window) (replicate (length graph.now.nodes.items) false) [] search.seen.items
         search.waiting.items) }
 {
     let mut search = Search::nowhere(alloc, graph.nodes.len())?;
@@ -192,7 +191,7 @@ fn go_on_past(
     node: &Node,
 ) -> Result<(), OutOfMemory>
     requires { slice_get graph.now.nodes.items number ≡ Some node.now }
-    ensures { OnOk result (Follows (InsidePast (graph_of graph.now) (boundaries_of cuts.now) element number) search.old.seen.items search.old.waiting.items
+    ensures { OnOk result (IsSearchStep (InsidePast (graph_of graph.now) (boundaries_of cuts.now) element number) search.old.seen.items search.old.waiting.items
         search.new.seen.items search.new.waiting.items) }
 {
     if !writes_same(graph, element, number, node) {
@@ -212,7 +211,7 @@ fn unwritten(
 ) -> Result<Vec<bool>, OutOfMemory>
     requires within { window.end ≤ length graph.now.nodes.items }
     requires marks { AreMarks (graph_of graph.now) marks.now }
-    requires locks { AllBehind (graph_of graph.now) (boundaries_of cuts.now) }
+    requires locks { AllAfter (graph_of graph.now) (boundaries_of cuts.now) }
     ensures { IfOk result (λ seen. AreUnwritten (graph_of graph.now) (boundaries_of cuts.now) window element seen.items) }
 {
     let mut search = begin_search(alloc, graph, cuts, marks, window)?;
@@ -301,7 +300,7 @@ fn exposes(
 }
 
 /// Goes on from the node, if it exposes the elements.
-fn come_behind_exposed(
+fn come_after_exposed(
     graph: &Graph,
     cuts: &Cuts,
     search: &mut Search,
@@ -313,7 +312,7 @@ fn come_behind_exposed(
 ) -> Result<(), OutOfMemory>
     requires node { slice_get graph.now.nodes.items number ≡ Some node.now }
     requires unwritten { AreUnwritten (graph_of graph.now) (boundaries_of cuts.now) window elements unwritten.now }
-    ensures { OnOk result (Follows (IsBehindExposed (graph_of graph.now) (boundaries_of cuts.now) window elements number) search.old.seen.items
+    ensures { OnOk result (IsSearchStep (IsAfterExposed (graph_of graph.now) (boundaries_of cuts.now) window elements number) search.old.seen.items
         search.old.waiting.items search.new.seen.items search.new.waiting.items) }
 {
     if exposes(graph, cuts, window, unwritten, elements, number, node) {
@@ -322,8 +321,8 @@ fn come_behind_exposed(
     Ok(())
 }
 
-/// A search that has come to each node behind one of the window that exposes the elements.
-fn behind_exposed(
+/// A search that has come to each node after one of the window that exposes the elements.
+fn after_exposed(
     alloc: Global,
     graph: &Graph,
     cuts: &Cuts,
@@ -334,13 +333,13 @@ fn behind_exposed(
     requires within { window.end ≤ length graph.now.nodes.items }
     requires unwritten { AreUnwritten (graph_of graph.now) (boundaries_of cuts.now) window elements unwritten.now }
     ensures { IfOk result (λ search.
-        Follows (IsBehindExposedIn (graph_of graph.now) (boundaries_of cuts.now) window elements) (replicate (length graph.now.nodes.items) false) []
+        IsSearchStep (IsAfterExposedIn (graph_of graph.now) (boundaries_of cuts.now) window elements) (replicate (length graph.now.nodes.items) false) []
         search.seen.items search.waiting.items) }
 {
     let mut search = Search::nowhere(alloc, graph.nodes.len())?;
     for number in window.first..window.end {
         let node = &graph.nodes[number];
-        come_behind_exposed(
+        come_after_exposed(
             graph,
             cuts,
             &mut search,
@@ -365,11 +364,11 @@ fn is_exposed(
 ) -> Result<bool, OutOfMemory>
     requires within { window.end ≤ length graph.now.nodes.items }
     requires marks { AreMarks (graph_of graph.now) marks.now }
-    requires locks { AllBehind (graph_of graph.now) (boundaries_of cuts.now) }
+    requires locks { AllAfter (graph_of graph.now) (boundaries_of cuts.now) }
     ensures { IfOk result (λ yes. IsTrue yes ↔ IsExposed (graph_of graph.now) (boundaries_of cuts.now) window elements) }
 {
     let unwritten = unwritten(alloc, graph, cuts, marks, window, elements)?;
-    let mut search = behind_exposed(alloc, graph, cuts, window, &unwritten, elements)?;
+    let mut search = after_exposed(alloc, graph, cuts, window, &unwritten, elements)?;
     while let Some(number) = search.waiting.pop() {
         let node = &graph.nodes[number];
         if writes_over(graph, elements, number, node) {
@@ -391,7 +390,7 @@ pub(crate) fn exposes_any(
 ) -> Result<bool, OutOfMemory>
     requires within { window.end ≤ length graph.now.nodes.items }
     requires marks { AreMarks (graph_of graph.now) marks.now }
-    requires locks { AllBehind (graph_of graph.now) (boundaries_of cuts.now) }
+    requires locks { AllAfter (graph_of graph.now) (boundaries_of cuts.now) }
     ensures { IfOk result (IsExposedAny (graph_of graph.now) (boundaries_of cuts.now) window writes.now) }
 {
     let reads = reads_over(alloc, graph, window, writes)?;
@@ -414,7 +413,7 @@ pub(crate) fn is_idempotent_without(
 ) -> Result<bool, OutOfMemory>
     requires exists { node < length graph.now.nodes.items }
     requires marks { AreMarks (graph_of graph.now) marks.now }
-    requires locks { AllBehind (graph_of graph.now) (boundaries_of cuts.now) }
+    requires locks { AllAfter (graph_of graph.now) (boundaries_of cuts.now) }
     ensures { IfOk result (IsKnownWithout (graph_of graph.now) (boundaries_of cuts.now) node) }
 {
     let window = window_at(graph, cuts, marks, node);

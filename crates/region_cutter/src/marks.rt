@@ -1,8 +1,8 @@
 //! What is known of a graph's nodes whatever boundaries stand before them.
 ghost use Rattle.std.specs.Prelude.{◌≡◌, ◌↔◌, ◌<◌, [], ℕ, IfOk, OnOk, IsTrue, Some, false, length, replicate, slice_get};
 ghost use Rattle.flow_graph.specs.Nodes.{graph_of, next_of, node_of, other_of};
-ghost use Rattle.region_cutter.specs.links.Marking.{AreMarks, AreBegun, ArePassed, IsBehindLock, IsBehindLockBelow, MarksEdge, MarksRange};
-ghost use Rattle.region_cutter.specs.links.Searching.{Follows};
+ghost use Rattle.region_cutter.specs.links.PassedPlaces.{AreMarks, AreBegun, ArePassed, IsAfterLock, IsAfterLockBelow, MarksEdge, MarksRange};
+ghost use Rattle.region_cutter.specs.links.GraphSearch.{IsSearchStep};
 
 use crate::search::Search;
 use crate::start::locks;
@@ -14,7 +14,7 @@ use std::alloc::Global;
 pub(crate) struct Marks {
     /// Of each node whether an edge goes past the place before it, but for the one from the node before it to the node.
     pub(crate) passed: Vec<bool>,
-    /// Of each node whether it stands behind one that takes a mutex.
+    /// Of each node whether it stands after one that takes a mutex.
     pub(crate) begun: Vec<bool>,
 }
 
@@ -65,15 +65,15 @@ fn if_taken(takes: bool, to: Option<usize>) -> Option<usize>
     if takes { to } else { None }
 }
 
-/// Comes to the nodes behind this one, if it takes a mutex.
-fn come_behind_lock(
+/// Comes to the nodes after this one, if it takes a mutex.
+fn come_after_lock(
     graph: &Graph,
     search: &mut Search,
     number: usize,
     node: &Node,
 ) -> Result<(), OutOfMemory>
     requires { slice_get graph.now.nodes.items number ≡ Some node.now }
-    ensures { OnOk result (Follows (IsBehindLock (graph_of graph.now) number) search.old.seen.items search.old.waiting.items search.new.seen.items
+    ensures { OnOk result (IsSearchStep (IsAfterLock (graph_of graph.now) number) search.old.seen.items search.old.waiting.items search.new.seen.items
         search.new.waiting.items) }
 {
     let takes = locks(node);
@@ -87,7 +87,7 @@ fn begun(alloc: Global, graph: &Graph) -> Result<Vec<bool>, OutOfMemory>
 {
     let mut search = Search::nowhere(alloc, graph.nodes.len())?;
     for (number, node) in graph.nodes.iter().enumerate() {
-        come_behind_lock(graph, &mut search, number, node)?;
+        come_after_lock(graph, &mut search, number, node)?;
     }
     let Search { seen, waiting: _ } = search;
     Ok(seen)

@@ -1,7 +1,7 @@
 //! Whether regions can be run again.
 ghost use Rattle.std.specs.Prelude.{◌↔◌, ℕ, IfOk, IsTrue};
 ghost use Rattle.flow_graph.specs.Nodes.{graph_of};
-ghost use Rattle.flow_graph.specs.Cutting.{HasBehind, IsIdempotent, IsLock, boundaries_of};
+ghost use Rattle.flow_graph.specs.IdempotentCuts.{HasBoundaryAfter, IsIdempotent, IsLock, boundaries_of};
 
 use crate::local::{exposes_any, written};
 use crate::marks::marks_of;
@@ -11,11 +11,11 @@ use flow_graph::graph::Graph;
 use ido_base::memory::OutOfMemory;
 use std::alloc::Global;
 
-/// Whether each region may be run again, where boundaries stand behind all locks: whether none overwrites what it has read, unless it
+/// Whether each region may be run again, where boundaries stand after all locks: whether none overwrites what it has read, unless it
 /// had written it before it read it. It goes from border to border, and takes a search through the nodes between for each location
 /// that they read and may write.
 pub fn is_idempotent(alloc: Global, graph: &Graph, cuts: &Cuts) -> Result<bool, OutOfMemory>
-    requires { (node : ℕ) → IsLock (graph_of graph.now) node → HasBehind (graph_of graph.now) (boundaries_of cuts.now) node }
+    requires { (node : ℕ) → IsLock (graph_of graph.now) node → HasBoundaryAfter (graph_of graph.now) (boundaries_of cuts.now) node }
     ensures { IfOk result (λ yes. IsTrue yes ↔ IsIdempotent (graph_of graph.now) (boundaries_of cuts.now)) }
 {
     let marks = marks_of(alloc, graph)?;

@@ -1,6 +1,6 @@
-//! Searches along the ways of a graph.
+//! Searches along the paths of a graph.
 ghost use Rattle.std.specs.Prelude.{◌≡◌, ◌++◌, [], IfOk, OnOk, Some, false, option_to_list, replicate};
-ghost use Rattle.region_cutter.specs.links.Searching.{Follows};
+ghost use Rattle.region_cutter.specs.links.GraphSearch.{IsSearchStep};
 
 use ido_base::memory::OutOfMemory;
 use std::alloc::Global;
@@ -15,7 +15,7 @@ pub(crate) struct Search {
 impl Search {
     /// A search among so many nodes that begins at this one.
     pub(crate) fn at(alloc: Global, nodes: usize, from: usize) -> Result<Search, OutOfMemory>
-        ensures { IfOk result (λ search. Follows (λ node. from ≡ node) (replicate nodes false) [] search.seen.items search.waiting.items) }
+        ensures { IfOk result (λ search. IsSearchStep (λ node. from ≡ node) (replicate nodes false) [] search.seen.items search.waiting.items) }
     {
         let seen = vec![in alloc; false; nodes]?;
         let mut search = Search {
@@ -40,7 +40,7 @@ impl Search {
 
     /// Comes to the node, if there is that one: goes on from there some time, unless the search has come to it before.
     pub(crate) fn come_to(&mut self, number: usize) -> Result<(), OutOfMemory>
-        ensures { OnOk result (Follows (λ node. number ≡ node) self.old.seen.items self.old.waiting.items self.new.seen.items self.new.waiting.items) }
+        ensures { OnOk result (IsSearchStep (λ node. number ≡ node) self.old.seen.items self.old.waiting.items self.new.seen.items self.new.waiting.items) }
     {
         if number < self.seen.len() && !self.seen[number] {
             self.waiting.push(number)?;
@@ -49,9 +49,10 @@ impl Search {
         Ok(())
     }
 
-    /// The same for a node that may be none.
+    /// Comes to the node, where the number is one: goes on from there some time, unless the search has come to it before.
     pub(crate) fn come_to_any(&mut self, number: Option<usize>) -> Result<(), OutOfMemory>
-        ensures { OnOk result (Follows (λ node. number ≡ Some node) self.old.seen.items self.old.waiting.items self.new.seen.items self.new.waiting.items) }
+        ensures { OnOk result (IsSearchStep (λ node. number ≡ Some node) self.old.seen.items self.old.waiting.items self.new.seen.items
+            self.new.waiting.items) }
     {
         match number {
             Some(number) => self.come_to(number)?,

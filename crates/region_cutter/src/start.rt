@@ -1,8 +1,8 @@
-//! The boundaries that are tried: behind each lock, before each unlock and before each node that writes.
+//! The boundaries that are tried: after each lock, before each unlock and before each node that writes.
 ghost use Rattle.std.specs.Prelude.{◌≡◌, IfOk, map};
 ghost use Rattle.flow_graph.specs.Nodes.{graph_of, node_of};
-ghost use Rattle.flow_graph.specs.Cutting.{boundaries_of};
-ghost use Rattle.region_cutter.specs.links.Trying.{AreEverywhere, locks, may_stand, takes, unlocks};
+ghost use Rattle.flow_graph.specs.IdempotentCuts.{boundaries_of};
+ghost use Rattle.region_cutter.specs.links.BoundaryTrials.{AreEverywhere, locks, may_stand, takes, unlocks};
 
 use flow_graph::cuts::Cuts;
 use flow_graph::graph::{Action, Graph, Node};
@@ -46,14 +46,14 @@ fn before_each(alloc: Global, nodes: &[Node]) -> Result<Vec<bool>, OutOfMemory>
     Ok(before)
 }
 
-fn behind_each(alloc: Global, nodes: &[Node]) -> Result<Vec<bool>, OutOfMemory>
-    ensures { IfOk result (λ behind. behind.items ≡ map takes (map node_of nodes.now)) }
+fn after_each(alloc: Global, nodes: &[Node]) -> Result<Vec<bool>, OutOfMemory>
+    ensures { IfOk result (λ after. after.items ≡ map takes (map node_of nodes.now)) }
 {
-    let mut behind = Vec::with_capacity(alloc, nodes.len())?;
+    let mut after = Vec::with_capacity(alloc, nodes.len())?;
     for node in nodes {
-        behind.push(locks(node))?;
+        after.push(locks(node))?;
     }
-    Ok(behind)
+    Ok(after)
 }
 
 /// Boundaries wherever they may stand.
@@ -61,6 +61,6 @@ pub(crate) fn everywhere(alloc: Global, graph: &Graph) -> Result<Cuts, OutOfMemo
     ensures { IfOk result (λ cuts. AreEverywhere (graph_of graph.now) (boundaries_of cuts)) }
 {
     let before = before_each(alloc, &graph.nodes)?;
-    let after_lock = behind_each(alloc, &graph.nodes)?;
+    let after_lock = after_each(alloc, &graph.nodes)?;
     Ok(Cuts { before, after_lock })
 }

@@ -1,10 +1,10 @@
 //! Trials: a boundary is taken away, and put back where regions could not be run again without it.
 ghost use Rattle.std.specs.Prelude.{◌<◌, IfOk, length};
 ghost use Rattle.flow_graph.specs.Nodes.{graph_of};
-ghost use Rattle.flow_graph.specs.Cutting.{HasBefore, IsIdempotent, boundaries_of};
-ghost use Rattle.region_cutter.specs.links.Local.{AllBehind};
-ghost use Rattle.region_cutter.specs.links.Marking.{AreMarks};
-ghost use Rattle.region_cutter.specs.links.Trying.{AreKept, IsTried, Passes};
+ghost use Rattle.flow_graph.specs.IdempotentCuts.{HasBefore, IsIdempotent, boundaries_of};
+ghost use Rattle.region_cutter.specs.links.RemovalWindows.{AllAfter};
+ghost use Rattle.region_cutter.specs.links.PassedPlaces.{AreMarks};
+ghost use Rattle.region_cutter.specs.links.BoundaryTrials.{AreKept, IsTried, IsTrialPass};
 
 use crate::local::is_idempotent_without;
 use crate::marks::Marks;
@@ -24,7 +24,7 @@ fn try_without(
 ) -> Result<bool, OutOfMemory>
     requires exists { node < length graph.now.nodes.items }
     requires marks { AreMarks (graph_of graph.now) marks.now }
-    requires locks { AllBehind (graph_of graph.now) (boundaries_of cuts.old) }
+    requires locks { AllAfter (graph_of graph.now) (boundaries_of cuts.old) }
     requires stands { HasBefore (boundaries_of cuts.old) node }
     requires idempotent { IsIdempotent (graph_of graph.now) (boundaries_of cuts.old) }
     ensures { IfOk result (λ taken. IsTried (graph_of graph.now) (boundaries_of cuts.old) (boundaries_of cuts.new) node taken) }
@@ -47,7 +47,7 @@ pub(crate) fn take_away(
 ) -> Result<bool, OutOfMemory>
     requires kept { AreKept (graph_of graph.now) (boundaries_of cuts.old) }
     requires marks { AreMarks (graph_of graph.now) marks.now }
-    ensures { IfOk result (λ taken. Passes (graph_of graph.now) (boundaries_of cuts.old) (boundaries_of cuts.new) (length graph.now.nodes.items) taken) }
+    ensures { IfOk result (λ taken. IsTrialPass (graph_of graph.now) (boundaries_of cuts.old) (boundaries_of cuts.new) (length graph.now.nodes.items) taken) }
 {
     let mut any = false;
     for (number, node) in graph.nodes.iter().enumerate() {

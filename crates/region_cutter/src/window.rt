@@ -1,11 +1,11 @@
 //! The nodes near one: no region goes on between them and the others.
 ghost use Rattle.std.specs.Prelude.{◌≡◌, ◌↔◌, ◌<◌, ◌≤◌, IsTrue, Some, length};
 ghost use Rattle.flow_graph.specs.Nodes.{graph_of};
-ghost use Rattle.flow_graph.specs.Cutting.{boundaries_of};
-ghost use Rattle.region_cutter.specs.links.Local.{IsBorder, IsWindow};
-ghost use Rattle.region_cutter.specs.links.Marking.{AreMarks};
+ghost use Rattle.flow_graph.specs.IdempotentCuts.{boundaries_of};
+ghost use Rattle.region_cutter.specs.links.RemovalWindows.{IsBorder, IsWindow};
+ghost use Rattle.region_cutter.specs.links.PassedPlaces.{AreMarks};
 
-use crate::cleaning::{has_behind, stands};
+use crate::cleaning::{has_after, stands};
 use crate::local::inside;
 use crate::marks::Marks;
 use flow_graph::cuts::Cuts;
@@ -27,7 +27,7 @@ fn leads_to(to: Option<usize>, node: usize) -> bool
 
 /// Whether it is known that no region goes on over the place before the node.
 fn is_border(graph: &Graph, cuts: &Cuts, marks: &Marks, place: usize) -> bool
-    requires behind { 0 < place }
+    requires after { 0 < place }
     requires exists { place < length graph.now.nodes.items }
     requires marks { AreMarks (graph_of graph.now) marks.now }
     ensures { IsTrue result → IsBorder (graph_of graph.now) (boundaries_of cuts.now) place }
@@ -37,9 +37,9 @@ fn is_border(graph: &Graph, cuts: &Cuts, marks: &Marks, place: usize) -> bool
     }
     let before = place - 1;
     let node = &graph.nodes[before];
-    let behind = has_behind(graph, cuts, before, node);
-    let next = inside(cuts, behind, node.next());
-    let other = inside(cuts, behind, node.other());
+    let after = has_after(graph, cuts, before, node);
+    let next = inside(cuts, after, node.next());
+    let other = inside(cuts, after, node.other());
     !leads_to(next, place) && !leads_to(other, place)
 }
 

@@ -1,3 +1,4 @@
-pub mod Points
-pub mod Registers
-pub mod Steps
+pub mod Public
+mod Points
+mod Registers
+mod RecoveryStepCases

@@ -3,14 +3,14 @@ use Rattle.std.proofs.Common.{◌≡◌, ℕ, ◌-◌, ◌*◌, ◌%◌, ◌<◌
 use Rattle.std.proofs.lemmas.Bool.{cond-true, cond-false, eq-eqb, ne_eqb}
 use Rattle.ido_base.specs.Layout.{bank_bytes, slot_at}
 use Rattle.ido_base.specs.Words.{Word}
-use Rattle.log_layout.specs.declared.point.Point.TheVariants.{Idle, At}
-use Rattle.log_layout.specs.Points.{point_of}
+use Rattle.memory_layout.specs.declared.point.Point.TheVariants.{Idle, At}
+use Rattle.memory_layout.specs.Points.{point_of}
 use Rattle.rv64_isa.specs.declared.phase.Phase.TheVariants.{Take, Done}
 use Rattle.rv64_isa.specs.Machine.{bank_of, resume_of, durable_at, durable_point, record_of, resumed_register, phase_after_crash}
 use Rattle.resume_recovery.specs.links.Points.{bank_in}
 
 -- a word that isn't 0, and where it says to go on
-pub record IsAt (word address bank : ℕ) : Type 0 where
+pub record IsPointTo (word address bank : ℕ) : Type 0 where
   pub other : (word == 0) ≡ false
   pub resumes : address ≡ resume_of word
   pub in_bank : bank ≡ bank_of word
@@ -25,10 +25,10 @@ idle_is word is = zero_is (by_test (word == 0) is)
     zero_is : (word == 0) ≡ true → word ≡ 0
     zero_is e = grind arith
 
-pub at_is : (word address bank : ℕ) → At address bank ≡ point_of word → IsAt word address bank
+pub at_is : (word address bank : ℕ) → At address bank ≡ point_of word → IsPointTo word address bank
 at_is word address bank is = by_test (word == 0) refl is
   where
-    by_test : (test : Bool) → (word == 0) ≡ test → At address bank ≡ (if test then Idle else At (word - word % 2) (word % 2)) → IsAt word address bank
+    by_test : (test : Bool) → (word == 0) ≡ test → At address bank ≡ (if test then Idle else At (word - word % 2) (word % 2)) → IsPointTo word address bank
     by_test true t e = cc
     by_test false t e = record { other = t; resumes = cc; in_bank = cc }
 
@@ -48,7 +48,7 @@ module _ (words : List Word) (hart : ℕ) where
   pub idle_record : durable_point words hart ≡ 0 → 0 ≡ record_of words hart
   idle_record none = sym (cond-true (eqb (durable_point words hart) 0) 0 _ (eq-eqb _ 0 none))
 
-  pub kept_record : (address bank mask : ℕ) → IsAt (durable_point words hart) address bank → mask ≡ durable_at words (slot_at hart bank 0) →
+  pub kept_record : (address bank mask : ℕ) → IsPointTo (durable_point words hart) address bank → mask ≡ durable_at words (slot_at hart bank 0) →
       mask ≡ record_of words hart
   kept_record address bank mask at is =
       is ∙ ap (λ (b : ℕ). durable_at words (slot_at hart b 0)) at.in_bank ∙ sym (cond-false (eqb (durable_point words hart) 0) 0 _ at.other)

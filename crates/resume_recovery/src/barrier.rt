@@ -1,7 +1,7 @@
 //! Which harts still take locks.
 ghost use Rattle.std.specs.Prelude.{◌≡◌, ◌<◌, ◌^◌, length};
 ghost use Rattle.rv64_isa.specs.Machine.{is_taking};
-ghost use Rattle.resume_recovery.specs.links.Taking.{taking_among};
+ghost use Rattle.resume_recovery.specs.links.LeastLockTaker.{taking_among};
 
 use rv64_isa::phase::Phase;
 

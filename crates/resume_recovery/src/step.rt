@@ -2,12 +2,12 @@
 ghost use Rattle.std.specs.Prelude.{◌≡◌, ◌<◌, ◌^◌, ℕ, List, Option, length, slice_set};
 ghost use Rattle.ido_base.specs.Locks.{missing_from};
 ghost use Rattle.line_memory.specs.declared.memory.LineMemory.{LineMemory};
-ghost use Rattle.line_memory.specs.links.Stands.{threads_of};
+ghost use Rattle.line_memory.specs.links.MemoryRepresentation.{threads_of};
 ghost use Rattle.rv64_isa.specs.declared.phase.Phase.TheVariants.{Take, Wait, Resume, Run};
 ghost use Rattle.rv64_isa.specs.Machine.{Hart as HartModel, World, record_of, taken, waited, taking_from, resumed};
 ghost use Rattle.hart_core.specs.declared.hart.Hart.{Hart};
-ghost use Rattle.hart_core.specs.Steps.{Parts, PartsStand, PartsEnd, IsStep};
-ghost use Rattle.resume_recovery.specs.Steps.{phase_at, phases_of, IsRecoveryStep};
+ghost use Rattle.hart_core.specs.StepsOnParts.{Parts, PartsStand, PartsEnd, IsStep};
+ghost use Rattle.resume_recovery.specs.RecoverySteps.{phase_at, phases_of, IsRecoveryStep};
 
 use crate::barrier::least_taking;
 use crate::record::{record_of, resume_address, resumed_registers};

@@ -6,7 +6,7 @@ use Rattle.std.proofs.lemmas.List.{at_drop_more}
 use Rattle.run_scripts.specs.Pieces.{with_byte, pieces_at}
 use Rattle.run_scripts.specs.links.Lengths.{gap_length, piece_length}
 
--- what stands behind n elements, up to the end
+-- what stands after n elements, up to the end
 pub up_to_end : {A : Type 0} (xs : List A) (n : ℕ) → take (length xs - n) (drop n xs) ≡ drop n xs
 up_to_end xs n = grind (arith, common_steps)
 
@@ -31,21 +31,11 @@ module _ (gap : List ℕ → Bool) where
       at_drop_more (gap_length gap) text i 0 within
       ∙ gap_of (get_or text i 0) (drop (i + 1) text) (sym (at_drop_more gap text i 0 within) ∙ sym (ap gap (up_to_end text i)) ∙ e)
 
-  pub no_gap_at : (text : List ℕ) (i : ℕ) → i < length text → gap (take (length text - i) (drop i text)) ≡ false → gap_length gap (drop i text) ≡ 0
-  no_gap_at text i within e =
-      at_drop_more (gap_length gap) text i 0 within
-      ∙ no_gap_of (get_or text i 0) (drop (i + 1) text) (sym (at_drop_more gap text i 0 within) ∙ sym (ap gap (up_to_end text i)) ∙ e)
-
   pub piece_at : (text : List ℕ) (i : ℕ) → i < length text → gap (take (length text - i) (drop i text)) ≡ false →
       piece_length gap (drop i text) ≡ 1 + piece_length gap (drop (i + 1) text)
   piece_at text i within e =
       at_drop_more (piece_length gap) text i 0 within
       ∙ in_piece (get_or text i 0) (drop (i + 1) text) (sym (at_drop_more gap text i 0 within) ∙ sym (ap gap (up_to_end text i)) ∙ e)
-
-  pub no_piece_at : (text : List ℕ) (i : ℕ) → i < length text → gap (take (length text - i) (drop i text)) ≡ true → piece_length gap (drop i text) ≡ 0
-  no_piece_at text i within e =
-      at_drop_more (piece_length gap) text i 0 within
-      ∙ no_piece_of (get_or text i 0) (drop (i + 1) text) (sym (at_drop_more gap text i 0 within) ∙ sym (ap gap (up_to_end text i)) ∙ e)
 
   -- ---- The pieces of a text
 
@@ -56,18 +46,18 @@ module _ (gap : List ℕ → Bool) where
   pieces_of_byte : (place c : ℕ) (cs : List ℕ) → gap (c ∷ cs) ≡ false → pieces_at gap place (c ∷ cs) ≡ with_byte place c (gap cs) (pieces_at gap (place + 1) cs)
   pieces_of_byte place c cs e = rw (pieces_at, e) refl
 
-  pub pieces_behind_gap : (place : ℕ) (text : List ℕ) → pieces_at gap place text ≡ pieces_at gap (place + gap_length gap text) (drop (gap_length gap text) text)
-  pieces_behind_gap place [] = refl
-  pieces_behind_gap place (c ∷ cs) = by_test (gap (c ∷ cs)) refl (pieces_behind_gap (place + 1) cs)
+  pub pieces_after_gap : (place : ℕ) (text : List ℕ) → pieces_at gap place text ≡ pieces_at gap (place + gap_length gap text) (drop (gap_length gap text) text)
+  pieces_after_gap place [] = refl
+  pieces_after_gap place (c ∷ cs) = by_test (gap (c ∷ cs)) refl (pieces_after_gap (place + 1) cs)
     where
       by_test : (b : Bool) → gap (c ∷ cs) ≡ b → pieces_at gap (place + 1) cs ≡ pieces_at gap (place + 1 + gap_length gap cs) (drop (gap_length gap cs) cs) →
           pieces_at gap place (c ∷ cs) ≡ pieces_at gap (place + gap_length gap (c ∷ cs)) (drop (gap_length gap (c ∷ cs)) (c ∷ cs))
-      by_test true e behind =
+      by_test true e after =
           let n = gap_length gap cs in
           let more : gap_length gap (c ∷ cs) ≡ suc n = gap_of c cs e ∙ omega arith in
           let places : place + 1 + n ≡ place + suc n = omega arith in
-          pieces_of_gap place c cs e ∙ behind ∙ ap (λ p. pieces_at gap p (drop n cs)) places ∙ sym (ap (λ m. pieces_at gap (place + m) (drop m (c ∷ cs))) more)
-      by_test false e behind = sym (ap (λ m. pieces_at gap (place + m) (drop m (c ∷ cs))) (no_gap_of c cs e) ∙ ap (λ p. pieces_at gap p (c ∷ cs)) (omega arith))
+          pieces_of_gap place c cs e ∙ after ∙ ap (λ p. pieces_at gap p (drop n cs)) places ∙ sym (ap (λ m. pieces_at gap (place + m) (drop m (c ∷ cs))) more)
+      by_test false e after = sym (ap (λ m. pieces_at gap (place + m) (drop m (c ∷ cs))) (no_gap_of c cs e) ∙ ap (λ p. pieces_at gap p (c ∷ cs)) (omega arith))
 
   last_byte : (place c : ℕ) (b : Bool) → with_byte place c b [] ≡ record { place = place; bytes = c ∷ [] } ∷ []
   last_byte place c true = refl
@@ -90,31 +80,31 @@ module _ (gap : List ℕ → Bool) where
           → pieces_at gap place (c ∷ d ∷ ds)
           ≡ record { place = place; bytes = take (piece_length gap (c ∷ d ∷ ds)) (c ∷ d ∷ ds) } ∷
           pieces_at gap (place + piece_length gap (c ∷ d ∷ ds)) (drop (piece_length gap (c ∷ d ∷ ds)) (c ∷ d ∷ ds))
-      by_test true f behind =
+      by_test true f after =
           let length_is : piece_length gap (c ∷ d ∷ ds) ≡ 1 = in_piece c (d ∷ ds) e ∙ ap (λ n. 1 + n) (no_piece_of d ds f) in
           pieces_of_byte place c (d ∷ ds) e ∙ ap (λ b. with_byte place c b (pieces_at gap (place + 1) (d ∷ ds))) f
           ∙ sym (ap (λ m. record { place = place; bytes = take m (c ∷ d ∷ ds) } ∷ pieces_at gap (place + m) (drop m (c ∷ d ∷ ds))) length_is)
-      by_test false f behind =
+      by_test false f after =
           let n = piece_length gap (d ∷ ds) in
           let length_is : piece_length gap (c ∷ d ∷ ds) ≡ suc n = in_piece c (d ∷ ds) e ∙ omega arith in
           let places : place + 1 + n ≡ place + suc n = omega arith in
           pieces_of_byte place c (d ∷ ds) e ∙ ap (λ b. with_byte place c b (pieces_at gap (place + 1) (d ∷ ds))) f
-          ∙ ap (with_byte place c false) (behind f)
+          ∙ ap (with_byte place c false) (after f)
           ∙ ap (λ p. record { place = place; bytes = c ∷ take n (d ∷ ds) } ∷ pieces_at gap p (drop n (d ∷ ds))) places
           ∙ sym (ap (λ m. record { place = place; bytes = take m (c ∷ d ∷ ds) } ∷ pieces_at gap (place + m) (drop m (c ∷ d ∷ ds))) length_is)
 
-  -- behind a gap stands a piece, or nothing
-  pub no_gap_behind : (text : List ℕ) → gap_length gap text < length text → gap (drop (gap_length gap text) text) ≡ false
-  no_gap_behind [] within = absurd (omega (arith, within))
-  no_gap_behind (c ∷ cs) within = by_test (gap (c ∷ cs)) refl (no_gap_behind cs)
+  -- after a gap stands a piece, or nothing
+  pub no_gap_after : (text : List ℕ) → gap_length gap text < length text → gap (drop (gap_length gap text) text) ≡ false
+  no_gap_after [] within = absurd (omega (arith, within))
+  no_gap_after (c ∷ cs) within = by_test (gap (c ∷ cs)) refl (no_gap_after cs)
     where
       by_test : (b : Bool) → gap (c ∷ cs) ≡ b → (gap_length gap cs < length cs → gap (drop (gap_length gap cs) cs) ≡ false) →
           gap (drop (gap_length gap (c ∷ cs)) (c ∷ cs)) ≡ false
-      by_test true e behind =
+      by_test true e after =
           let more : gap_length gap (c ∷ cs) ≡ suc (gap_length gap cs) = gap_of c cs e ∙ omega arith in
           let inside : gap_length gap cs < length cs = omega (arith, more, within) in
-          ap (λ m. gap (drop m (c ∷ cs))) more ∙ behind inside
-      by_test false e behind = ap (λ m. gap (drop m (c ∷ cs))) (no_gap_of c cs e) ∙ e
+          ap (λ m. gap (drop m (c ∷ cs))) more ∙ after inside
+      by_test false e after = ap (λ m. gap (drop m (c ∷ cs))) (no_gap_of c cs e) ∙ e
 
   -- ---- From a place on
 
@@ -125,14 +115,14 @@ module _ (gap : List ℕ → Bool) where
       pieces_at gap i (drop i text) ≡ pieces_at gap (i + n) (drop (i + n) text)
   pieces_from_next text i n e =
       let reached : gap_length gap (drop i text) ≡ n = sym (e ∙ ap (gap_length gap) (up_to_end text i)) in
-      pieces_behind_gap i (drop i text) ∙ ap (λ m. pieces_at gap (i + m) (drop m (drop i text))) reached ∙ ap (pieces_at gap (i + n)) (drop_twice text i n)
+      pieces_after_gap i (drop i text) ∙ ap (λ m. pieces_at gap (i + m) (drop m (drop i text))) reached ∙ ap (pieces_at gap (i + n)) (drop_twice text i n)
 
   pub no_gap_at_next : (text : List ℕ) (i n : ℕ) → n ≡ gap_length gap (take (length text - i) (drop i text)) → i + n < length text →
       gap (drop (i + n) text) ≡ false
   no_gap_at_next text i n e within =
       let reached : gap_length gap (drop i text) ≡ n = sym (e ∙ ap (gap_length gap) (up_to_end text i)) in
       let inside : gap_length gap (drop i text) < length (drop i text) = omega (arith, reached, length-drop i text, within) in
-      sym (ap gap (drop_twice text i n)) ∙ sym (ap (λ m. gap (drop m (drop i text))) reached) ∙ no_gap_behind (drop i text) inside
+      sym (ap gap (drop_twice text i n)) ∙ sym (ap (λ m. gap (drop m (drop i text))) reached) ∙ no_gap_after (drop i text) inside
 
   pub pieces_from_place : (text bytes : List ℕ) (i n : ℕ) → i < length text → gap (drop i text) ≡ false →
       n ≡ piece_length gap (take (length text - i) (drop i text)) → n ≤ length (take (length text - i) (drop i text))

@@ -1,10 +1,12 @@
-mod Cuts
-mod Doable
+pub mod Public
+mod EventsWithinRoom
+mod ScriptTargetsExist
 mod Gaps
 mod Lines
 mod Numbers
-mod Reading
-mod Runs
-mod Stepping
-mod Steps
+mod LineReader
+mod MergedRuns
+mod RunLaws
+mod GoalSteps
+mod ScheduleReader
 mod Worked

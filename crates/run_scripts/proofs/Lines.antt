@@ -1,30 +1,18 @@
 -- A script, made line by line.
 use Rattle.std.proofs.Common.{◌≡◌, ℕ, ◌+◌, ◌-◌, ◌<◌, ◌≤◌, List, [], ◌∷◌, ◌++◌, length, take, drop, map, Bool, true, false}
 use Rattle.std.proofs.Common.{nat_le, nat_lt, cond, Option, Some, sym, ◌∙◌, ap, arith, append_assoc, length-append}
-use Rattle.std.specs.Prelude.{◌↔◌}
 use Rattle.std.proofs.lemmas.Grind.{common_steps}
-use Rattle.std.proofs.lemmas.Bool.{lt-ltb, le-ltb, leb-true, leb-false}
+use Rattle.std.proofs.lemmas.Bool.{le-ltb, leb-true, leb-false}
 use Rattle.ido_base.specs.declared.event.Event.{Event}
 use Rattle.ido_base.specs.Cores.{Behaviour, played}
-use Rattle.ido_base.proofs.Cores.{played-append}
-use Rattle.run_scripts.specs.Scripts.{Line, IsDoable}
+use Rattle.ido_base.proofs.Public.{played-append}
+use Rattle.run_scripts.specs.Scripts.{Line}
 use Rattle.run_scripts.specs.declared.script.Line as declared
 use Rattle.run_scripts.specs.links.ScriptViews.{line_of}
-use Rattle.run_scripts.specs.declared.script.Command.{Command}
-use Rattle.run_scripts.specs.declared.script.Command.TheVariants.{Steps, Point, Fence, Evict, Crash}
 use Rattle.run_scripts.specs.Plays.{line_events, script_events, excess_at}
-use Rattle.run_scripts.proofs.Cuts.{take_all, cut}
+use Rattle.run_scripts.proofs.EventsWithinRoom.{take_all, cut}
 
--- what can be asked of a core can be asked of it later
-pub doable_later : (harts now : ℕ) (evictable later : ℕ → ℕ → Type 0) (command : Command) → now ≡ harts →
-    ((line mask : ℕ) → later line mask ↔ evictable line mask) → IsDoable harts evictable command → IsDoable now later command
-doable_later harts now evictable later (Steps hart count) same e h = omega (arith, same, h)
-doable_later harts now evictable later (Point hart) same e h = omega (arith, same, h)
-doable_later harts now evictable later (Fence hart) same e h = omega (arith, same, h)
-doable_later harts now evictable later (Evict line mask) same e h = (e line mask).1 h
-doable_later harts now evictable later Crash same e h = tt
-
--- behind the last line there is none
+-- after the last line there is none
 pub nothing_left : (shown items : List declared.Line) (i : ℕ) → shown ≡ items → length shown ≤ i → map line_of (drop i items) ≡ []
 nothing_left shown items i same past = ap (map line_of) (none items i (omega (arith, past, ap length same)))
   where
@@ -76,13 +64,6 @@ module _ {M : Type 0} (b : Behaviour M) (opening : M) (before now new whole : Li
   module _ (few : nat_le (length (line_events b (played b opening now) line.command)) left ≡ false) where
     below : left < length (line_events b (played b opening now) line.command)
     below = leb-false _ _ few
-
-    pub is_excess : excess_at b (played b opening now) left (line ∷ lines) ≡ Some line.place
-    is_excess =
-        ap (λ t. cond t (Some line.place)
-        (excess_at b (played b (played b opening now) (line_events b (played b opening now) line.command))
-        (left - length (line_events b (played b opening now) line.command)) lines))
-        (lt-ltb left (length (line_events b (played b opening now) line.command)) below)
 
     pub excess_left : (most : ℕ) → length now + left ≡ length before + most → new ≡ before ++ take most whole
     excess_left most full =

@@ -7,13 +7,13 @@ pub record Piece : Type 0 where
   pub place : ℕ
   pub bytes : List ℕ
 
--- an LF, or a CR with an LF behind it
+-- an LF, or a CR with an LF after it
 abbrev pub begins_line_end : List ℕ → Bool
 begins_line_end [] = true
 begins_line_end (c ∷ []) = c == line_feed
 begins_line_end (c ∷ d ∷ cs) = c == line_feed || (c == 13 && d == line_feed)
 
--- a space, an LF, or a CR with an LF behind it
+-- a space, an LF, or a CR with an LF after it
 abbrev pub begins_gap : List ℕ → Bool
 begins_gap [] = true
 begins_gap (c ∷ []) = c == 32 || c == line_feed

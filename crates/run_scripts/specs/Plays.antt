@@ -24,7 +24,7 @@ line_events b m (Fence hart) = steps_until b (λ m. b.finishes_fence m hart) har
 line_events b m (Evict line mask) = events.Evict line mask ∷ []
 line_events b m Crash = events.Crash ∷ []
 
--- the events of lines, each by what the core stands for before it
+-- the events of lines, each by what the core represents before it
 abbrev pub script_events : {M : Type 0} → Behaviour M → M → List Line → List Event
 script_events b m [] = []
 script_events b m (line ∷ lines) = line_events b m line.command ++ script_events b (played b m (line_events b m line.command)) lines

@@ -1,7 +1,8 @@
 -- The report of a state, as it is printed.
-use Rattle.std.specs.Prelude.{ℕ, ◌+◌, List, [], ◌∷◌, ◌++◌, ◌==◌, if◌then◌else◌, ℤ, codes, decimal, flat_map}
+use Rattle.std.specs.Prelude.{ℕ, ◌+◌, List, [], ◌∷◌, ◌++◌, ℤ, codes, decimal, flat_map}
 use Rattle.std.specs.Fmt.{signed_decimal}
 use Rattle.ido_base.specs.Places.{line_feed}
+use Rattle.run_scripts.specs.Runs.{Run, runs_of}
 
 -- a variable: its name, and the number of each element
 pub record Variable : Type 0 where
@@ -10,7 +11,7 @@ pub record Variable : Type 0 where
 
 -- a state: the harts or threads that aren't settled, ascending; the variables in order of declaration; of each thread how many
 -- sections have ended; a schedule
-pub record State : Type 0 where
+pub record ReportedState : Type 0 where
   pub unsettled : List ℕ
   pub variables : List Variable
   pub ended : List ℕ
@@ -40,21 +41,6 @@ ended_lines thread (n ∷ ns) = ended_line thread n ++ ended_lines (thread + 1) 
 
 -- ---- The schedule
 
--- so many steps of one thread
-pub record Run : Type 0 where
-  pub thread : ℕ
-  pub steps : ℕ
-
--- a step of a thread before runs
-abbrev pub with_step : (thread : ℕ) → List Run → List Run
-with_step t [] = record { thread = t; steps = 1 } ∷ []
-with_step t (r ∷ rs) = if r.thread == t then record { thread = t; steps = r.steps + 1 } ∷ rs else record { thread = t; steps = 1 } ∷ r ∷ rs
-
--- the longest runs of a schedule
-abbrev pub runs_of : List ℕ → List Run
-runs_of [] = []
-runs_of (t ∷ ts) = with_step t (runs_of ts)
-
 -- ` T*N`
 unfoldable pub run_text : Run → List ℕ
 run_text r = codes " " ++ decimal r.thread ++ codes "*" ++ decimal r.steps
@@ -73,13 +59,13 @@ hart_text hart = codes " " ++ decimal hart
 unfoldable pub unsettled_line : (harts : List ℕ) → List ℕ
 unsettled_line harts = line (codes "unsettled" ++ flat_map hart_text harts)
 
-unfoldable pub settled_report : State → List ℕ
+unfoldable pub settled_report : ReportedState → List ℕ
 settled_report s = flat_map variable_line s.variables ++ ended_lines 0 s.ended ++ schedule_line s.schedule
 
 -- where a hart isn't settled, nothing is said but which
-abbrev pub report_by : (unsettled : List ℕ) → State → List ℕ
+abbrev pub report_by : (unsettled : List ℕ) → ReportedState → List ℕ
 report_by [] s = settled_report s
 report_by (h ∷ hs) s = unsettled_line (h ∷ hs)
 
-unfoldable pub report : State → List ℕ
+unfoldable pub report : ReportedState → List ℕ
 report s = report_by s.unsettled s

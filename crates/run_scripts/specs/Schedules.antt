@@ -29,14 +29,14 @@ number_limit = 4294967296
 abbrev pub is_digit : (byte : ℕ) → Bool
 is_digit c = nat_lt 47 c && nat_lt c 58
 
--- there is a byte, and each is a decimal digit
+-- the bytes are a numeral: there is one at least, and each is a decimal digit
 abbrev pub is_numeral : List ℕ → Bool
 is_numeral bytes = nat_lt 0 (length bytes) && list_all is_digit bytes
 
 abbrev pub is_star : (byte : ℕ) → Bool
 is_star c = c == 42
 
--- before and behind the first `*`
+-- the bytes before the first `*` and after it
 abbrev pub thread_text : List ℕ → List ℕ
 thread_text bytes = before_first is_star bytes
 
@@ -61,7 +61,7 @@ abbrev pub before_steps : (thread count : ℕ) → Read → Read
 before_steps thread count (Steps ts) = Steps (replicate count thread ++ ts)
 before_steps thread count (Refused fault) = Refused fault
 
--- behind so many steps
+-- what words spell after so many steps
 abbrev pub steps_from : (done : ℕ) → List Piece → Read
 steps_from done [] = Steps []
 steps_from done (w ∷ ws) =

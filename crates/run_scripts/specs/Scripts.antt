@@ -44,42 +44,42 @@ mask_number place n = if nat_le n 255 then None else Some (BadNumber place)
 
 -- ---- A line, from left to right
 
--- a number comes next that the rule doesn't refuse, then what is read from the place behind it on
+-- a number comes next that the rule doesn't refuse, then what is read from the place after it on
 abbrev pub number_then : Rule → (place : ℕ) → List ℕ → ((number place : ℕ) → List ℕ → LineRead) → LineRead
-number_then rule place bytes behind =
+number_then rule place bytes after =
     let n = prefix_len is_digit bytes in
     let number = digits_value 10 (take n bytes) in
     if n == 0 then Fails (BadWord place) else elim (rule place number) [
       | Some fault ↦ Fails fault
-      | None ↦ behind number (place + n) (drop n bytes)
+      | None ↦ after number (place + n) (drop n bytes)
     ]
 
 -- a space comes next, and a number
 abbrev pub argument_then : Rule → (place : ℕ) → List ℕ → ((number place : ℕ) → List ℕ → LineRead) → LineRead
-argument_then rule place [] behind = Fails (BadWord place)
-argument_then rule place (c ∷ cs) behind = if c == 32 then number_then rule (place + 1) cs behind else Fails (BadWord place)
+argument_then rule place [] after = Fails (BadWord place)
+argument_then rule place (c ∷ cs) after = if c == 32 then number_then rule (place + 1) cs after else Fails (BadWord place)
 
 -- the line ends here
 abbrev pub end_then : (place : ℕ) → List ℕ → Command → LineRead
 end_then place [] command = Says command
 end_then place (c ∷ cs) command = Fails (BadWord place)
 
--- `s H N`, `b H`, `f H` and `e LINE MASK`, each behind its letter
+-- `s H N`, `b H`, `f H` and `e LINE MASK`, each after its letter
 abbrev pub steps_line : (harts place : ℕ) → List ℕ → LineRead
 steps_line harts place bytes =
-    argument_then (hart_number harts) place bytes (λ hart p behind. argument_then any_number p behind (λ count q end. end_then q end (Steps hart count)))
+    argument_then (hart_number harts) place bytes (λ hart p after. argument_then any_number p after (λ count q end. end_then q end (Steps hart count)))
 
 abbrev pub point_line : (harts place : ℕ) → List ℕ → LineRead
-point_line harts place bytes = argument_then (hart_number harts) place bytes (λ hart p behind. end_then p behind (Point hart))
+point_line harts place bytes = argument_then (hart_number harts) place bytes (λ hart p after. end_then p after (Point hart))
 
 abbrev pub fence_line : (harts place : ℕ) → List ℕ → LineRead
-fence_line harts place bytes = argument_then (hart_number harts) place bytes (λ hart p behind. end_then p behind (Fence hart))
+fence_line harts place bytes = argument_then (hart_number harts) place bytes (λ hart p after. end_then p after (Fence hart))
 
 abbrev pub evict_line : (harts place : ℕ) → List ℕ → LineRead
 evict_line harts place bytes =
-    argument_then (line_number harts) place bytes (λ line p behind. argument_then mask_number p behind (λ mask q end. end_then q end (Evict line mask)))
+    argument_then (line_number harts) place bytes (λ line p after. argument_then mask_number p after (λ mask q end. end_then q end (Evict line mask)))
 
--- one of these by its letter, or `c`, at a machine of so many harts
+-- a line by its letter, at a machine of so many harts
 abbrev pub line_of : (harts place : ℕ) → List ℕ → LineRead
 line_of harts place [] = Fails (BadWord place)
 line_of harts place (c ∷ cs) =
@@ -107,8 +107,8 @@ before_lines line (Lines lines) = Lines (line ∷ lines)
 before_lines line (Refused fault) = Refused fault
 
 abbrev pub with_line : (place : ℕ) → LineRead → Read → Read
-with_line place (Says command) behind = before_lines (record { place = place; command = command }) behind
-with_line place (Fails fault) behind = Refused fault
+with_line place (Says command) after = before_lines (record { place = place; command = command }) after
+with_line place (Fails fault) after = Refused fault
 
 abbrev pub lines_of : (harts : ℕ) → List Piece → Read
 lines_of harts [] = Lines []

@@ -2,4 +2,5 @@ pub mod Lengths
 pub mod ScriptViews
 pub mod Goals
 pub mod ReportViews
+pub mod RunViews
 pub mod WordLengths

@@ -6,5 +6,6 @@ mod number;
 mod piece;
 pub mod play;
 pub mod report;
+pub mod runs;
 pub mod schedule;
 pub mod script;

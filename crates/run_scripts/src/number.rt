@@ -6,7 +6,7 @@ ghost use Rattle.run_scripts.specs.Schedules.{is_digit, is_numeral};
 /// Numbers are below this.
 pub(crate) const NUMBER_LIMIT: u64 = 1 << 32;
 
-/// The number with this digit behind its own, or the limit where it is no less.
+/// The number with this digit after its own, or the limit where it is no less.
 fn with_digit(number: u64, digit: u8) -> u64
     requires digit { IsTrue (is_digit digit) }
     requires bound { number ≤ 4294967296 }

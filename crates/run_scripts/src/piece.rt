@@ -6,9 +6,9 @@ ghost use Rattle.run_scripts.specs.links.Lengths.{is_gap, gap_length, piece_leng
 /// What stands between the pieces of a text.
 #[derive(Clone, Copy, Debug, Drop)]
 pub(crate) enum Gap {
-    /// Spaces, LFs, and CRs with an LF behind them: the pieces are words.
+    /// Spaces, LFs, and CRs with an LF after them: the pieces are words.
     Blank,
-    /// LFs, and CRs with an LF behind them: the pieces are the lines that aren't empty.
+    /// LFs, and CRs with an LF after them: the pieces are the lines that aren't empty.
     LineEnd,
 }
 
@@ -47,7 +47,7 @@ fn piece_length(gap: Gap, text: &[u8]) -> usize
     at
 }
 
-/// Where the next piece stands, at or behind a place; the end where there is none.
+/// Where the next piece stands, at or after a place; the end where there is none.
 pub(crate) fn next_piece(gap: Gap, text: &[u8], at: usize) -> usize
     requires { at ≤ length text.now }
     ensures pieces { pieces_at (is_gap gap) at (drop at text.now) ≡ pieces_at (is_gap gap) result (drop result text.now) }

@@ -1,10 +1,12 @@
 //! Reports.
-ghost use Rattle.std.specs.Prelude.{◌≡◌, ◌+◌, ◌<◌, ◌≤◌, ◌^◌, ◌∷◌, ◌++◌, [], length, map, OnOk, IfOk, IfSome, IfNone, ◌==◌, flat_map};
-ghost use Rattle.std.specs.List.{prefix_len};
-ghost use Rattle.run_scripts.specs.Reports.{element_text, variable_line, ended_line, ended_lines, run_text, runs_of};
+ghost use Rattle.std.specs.Prelude.{◌≡◌, ◌++◌, map, OnOk, IfOk, flat_map};
+ghost use Rattle.run_scripts.specs.Reports.{element_text, variable_line, ended_line, ended_lines, run_text};
 ghost use Rattle.run_scripts.specs.Reports.{schedule_line, hart_text, unsettled_line, settled_report, report};
+ghost use Rattle.run_scripts.specs.Runs.{runs_of};
 ghost use Rattle.run_scripts.specs.links.ReportViews.{variable_of, state_of};
+ghost use Rattle.run_scripts.specs.links.RunViews.{run_of};
 
+use crate::runs::{Run, first_run};
 use ido_base::memory::OutOfMemory;
 use std::alloc::Global;
 
@@ -104,38 +106,12 @@ fn put_all_ended(alloc: Global, report: &mut Vec<u8>, ended: &[u64]) -> Result<(
     Ok(())
 }
 
-/// How many numbers at the front are this one.
-fn run_length(schedule: &[u32], thread: u32) -> usize
-    ensures value { result ≡ prefix_len (λ t. t == thread) schedule.now }
-    ensures bound { result ≤ length schedule.now }
-{
-    schedule.iter().take_while(|t| **t == thread).count()
-}
-
-/// The first of the longest runs of a schedule, its thread and its steps, and what stands behind it.
-fn first_run(schedule: &[u32]) -> Option<(u32, usize, &[u32])>
-    ensures none { IfNone result (runs_of schedule.now ≡ []) }
-    ensures some { IfSome result (λ r. runs_of schedule.now ≡ record { thread = r.0; steps = r.1 } ∷ runs_of r.2.now) }
-    ensures shorter { IfSome result (λ r. length r.2.now < length schedule.now) }
-{
-    let [thread, behind @ ..] = schedule else {
-        return None;
-    };
-    let more = run_length(behind, *thread);
-    let (_, rest) = behind.split_at(more);
-    Some((*thread, more + 1, rest))
-}
-
 /// Adds ` T*N`.
 #[tactic(auto, unfolding(crate::specs::Reports::run_text))]
-fn put_run(
-    alloc: Global,
-    report: &mut Vec<u8>,
-    thread: u32,
-    steps: usize,
-) -> Result<(), OutOfMemory>
-    ensures { OnOk result (report.new.items ≡ report.old.items ++ run_text (record { thread = thread; steps = steps })) }
+fn put_run(alloc: Global, report: &mut Vec<u8>, run: Run) -> Result<(), OutOfMemory>
+    ensures { OnOk result (report.new.items ≡ report.old.items ++ run_text (run_of run)) }
 {
+    let Run { thread, steps } = run;
     let text = format!(in alloc; " {thread}*{steps}")?;
     put(report, text.as_bytes())
 }
@@ -145,9 +121,9 @@ fn put_runs(alloc: Global, report: &mut Vec<u8>, schedule: &[u32]) -> Result<(),
     ensures { OnOk result (report.new.items ≡ report.old.items ++ flat_map run_text (runs_of schedule.now)) }
 {
     let mut rest = schedule;
-    while let Some((thread, steps, behind)) = first_run(rest) {
-        put_run(alloc, report, thread, steps)?;
-        rest = behind;
+    while let Some((run, after)) = first_run(rest) {
+        put_run(alloc, report, run)?;
+        rest = after;
     }
     Ok(())
 }

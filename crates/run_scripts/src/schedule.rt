@@ -1,6 +1,6 @@
 //! Schedules, as they are written.
 ghost use Rattle.std.specs.Prelude.{◌≡◌, ◌+◌, ◌-◌, ◌*◌, ◌<◌, ◌≤◌, ◌^◌, ◌∷◌, ◌++◌, List, length, drop, min};
-ghost use Rattle.std.specs.Prelude.{replicate, true, false, IfOk, IfErr, IfSome, IfNone, IsTrue, OnOk};
+ghost use Rattle.std.specs.Prelude.{true, false, IfOk, IfErr, IfSome, IfNone, IsTrue};
 ghost use Rattle.std.specs.List.{position_or_len};
 ghost use Rattle.std.specs.Str.Parse.{digits_value};
 ghost use Rattle.ido_base.specs.declared.limits.TheConstants.{MOST_INPUT_BYTES};
@@ -11,6 +11,7 @@ ghost use Rattle.run_scripts.specs.links.WordLengths.{fault_of};
 
 use crate::number::{NUMBER_LIMIT, numeral};
 use crate::piece::{Gap, next_piece, piece_at};
+use crate::runs::{Run, push_steps};
 use ido_base::limits::MOST_STEPS;
 use ido_base::memory::OutOfMemory;
 use ido_base::place::Place;
@@ -52,7 +53,7 @@ fn star_position(word: &[u8]) -> usize
     word.iter().take_while(|c| **c != b'*').count()
 }
 
-/// What stands before the first `*` and behind it.
+/// What stands before the first `*` and after it.
 fn split_at_star(word: &[u8]) -> (&[u8], &[u8])
     ensures thread { result.0.now ≡ thread_text word.now }
     ensures count { result.1.now ≡ count_text word.now }
@@ -65,20 +66,13 @@ fn split_at_star(word: &[u8]) -> (&[u8], &[u8])
     }
 }
 
-/// So many steps of one thread.
-#[derive(Clone, Copy, Debug, Drop)]
-struct Run {
-    thread: u32,
-    count: u64,
-}
-
-/// The run that a word at a place spells behind so many steps.
+/// The run that a word at a place spells after so many steps.
 fn run_of(word: &[u8], place: u32, done: u64) -> Result<Run, ScheduleError>
     requires place { place + length word.now < 2 ^ 32 }
     requires done { done ≤ MOST_STEPS }
     ensures run { IfOk result (λ r. (ws : List Piece) →
-        steps_from done (record { place = place; bytes = word.now } ∷ ws) ≡ before_steps r.thread r.count (steps_from (done + r.count) ws)) }
-    ensures bound { IfOk result (λ r. done + r.count ≤ MOST_STEPS) }
+        steps_from done (record { place = place; bytes = word.now } ∷ ws) ≡ before_steps r.thread r.steps (steps_from (done + r.steps) ws)) }
+    ensures bound { IfOk result (λ r. done + r.steps ≤ MOST_STEPS) }
     ensures refused { IfErr result (λ e.
         IfSome (fault_of e) (λ f. (ws : List Piece) → steps_from done (record { place = place; bytes = word.now } ∷ ws) ≡ Refused f)) }
 {
@@ -100,21 +94,11 @@ fn run_of(word: &[u8], place: u32, done: u64) -> Result<Run, ScheduleError>
     }
     Ok(Run {
         thread: thread as u32,
-        count,
+        steps: count,
     })
 }
 
-/// Adds so many steps of a thread.
-fn push_run(steps: &mut Vec<u32>, run: Run) -> Result<(), OutOfMemory>
-    ensures { OnOk result (steps.new.items ≡ steps.old.items ++ replicate run.count run.thread) }
-{
-    for _ in 0..run.count {
-        steps.push(run.thread)?;
-    }
-    Ok(())
-}
-
-/// Where the runs begin: behind the first word, where that is `schedule`.
+/// Where the runs begin: after the first word, where that is `schedule`.
 fn first_run(text: &[u8]) -> usize
     ensures runs { steps_of_words (words_at 0 text.now) ≡ steps_from 0 (words_at result (drop result text.now)) }
     ensures bound { result ≤ length text.now }
@@ -140,7 +124,7 @@ pub fn read_schedule(alloc: Global, text: &[u8]) -> Result<Vec<u32>, ScheduleErr
     while at < text.len() {
         let word = piece_at(Gap::Blank, text, at);
         let run = run_of(word, at as u32, steps.len() as u64)?;
-        push_run(&mut steps, run)?;
+        push_steps(&mut steps, run.steps, run.thread)?;
         at = next_piece(Gap::Blank, text, at + word.len());
     }
     Ok(steps)

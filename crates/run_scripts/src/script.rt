@@ -145,11 +145,11 @@ fn digit_count(text: &[u8]) -> usize
 fn number(line: &[u8], place: u32, at: usize, rule: Rule) -> Result<Taken, ScriptFault>
     requires within { at ≤ length line.now }
     requires short { place + length line.now < 2 ^ 32 }
-    ensures number { IfOk result (λ x. (behind : ℕ → ℕ → List ℕ → LineRead) →
-        number_then (views.rule_of rule) (place + at) (drop at line.now) behind ≡ behind x.number (place + x.end) (drop x.end line.now)) }
+    ensures number { IfOk result (λ x. (after : ℕ → ℕ → List ℕ → LineRead) →
+        number_then (views.rule_of rule) (place + at) (drop at line.now) after ≡ after x.number (place + x.end) (drop x.end line.now)) }
     ensures bound { IfOk result (λ x. x.end ≤ length line.now) }
     ensures refused { IfErr result (λ e.
-        (behind : ℕ → ℕ → List ℕ → LineRead) → number_then (views.rule_of rule) (place + at) (drop at line.now) behind ≡ Fails (views.fault_of e)) }
+        (after : ℕ → ℕ → List ℕ → LineRead) → number_then (views.rule_of rule) (place + at) (drop at line.now) after ≡ Fails (views.fault_of e)) }
 {
     let here = Place(place + at as u32);
     let rest = &line[at..];
@@ -166,15 +166,15 @@ fn number(line: &[u8], place: u32, at: usize, rule: Rule) -> Result<Taken, Scrip
     }
 }
 
-/// The number that comes next behind a space, where the rule doesn't refuse it.
+/// The number that comes next after a space, where the rule doesn't refuse it.
 fn argument(line: &[u8], place: u32, at: usize, rule: Rule) -> Result<Taken, ScriptFault>
     requires within { at ≤ length line.now }
     requires short { place + length line.now < 2 ^ 32 }
-    ensures number { IfOk result (λ x. (behind : ℕ → ℕ → List ℕ → LineRead) →
-        argument_then (views.rule_of rule) (place + at) (drop at line.now) behind ≡ behind x.number (place + x.end) (drop x.end line.now)) }
+    ensures number { IfOk result (λ x. (after : ℕ → ℕ → List ℕ → LineRead) →
+        argument_then (views.rule_of rule) (place + at) (drop at line.now) after ≡ after x.number (place + x.end) (drop x.end line.now)) }
     ensures bound { IfOk result (λ x. x.end ≤ length line.now) }
     ensures refused { IfErr result (λ e.
-        (behind : ℕ → ℕ → List ℕ → LineRead) → argument_then (views.rule_of rule) (place + at) (drop at line.now) behind ≡ Fails (views.fault_of e)) }
+        (after : ℕ → ℕ → List ℕ → LineRead) → argument_then (views.rule_of rule) (place + at) (drop at line.now) after ≡ Fails (views.fault_of e)) }
 {
     if at < line.len() && line[at] == b' ' {
         number(line, place, at + 1, rule)
@@ -197,7 +197,7 @@ fn end(line: &[u8], place: u32, at: usize) -> Result<(), ScriptFault>
     }
 }
 
-/// The number that comes next behind a space, and with which the line ends.
+/// The number that comes next after a space, and with which the line ends.
 fn last_argument(line: &[u8], place: u32, at: usize, rule: Rule) -> Result<u32, ScriptFault>
     requires within { at ≤ length line.now }
     requires short { place + length line.now < 2 ^ 32 }
@@ -211,7 +211,7 @@ fn last_argument(line: &[u8], place: u32, at: usize, rule: Rule) -> Result<u32, 
     Ok(last.number)
 }
 
-/// The two numbers behind the letter of a line, each behind a space, and with which the line ends.
+/// The two numbers after the letter of a line, each after a space, and with which the line ends.
 fn two_arguments(
     line: &[u8],
     place: u32,
@@ -222,10 +222,10 @@ fn two_arguments(
     requires short { place + length line.now < 2 ^ 32 }
     ensures numbers { IfOk result (λ x.
         (make : ℕ → ℕ → Command) → argument_then (views.rule_of first) (place + 1) (drop 1 line.now)
-        (λ n p behind. argument_then (views.rule_of last) p behind (ending (make n))) ≡ Says (make x.0 x.1)) }
+        (λ n p after. argument_then (views.rule_of last) p after (ending (make n))) ≡ Says (make x.0 x.1)) }
     ensures refused { IfErr result (λ e.
         (make : ℕ → ℕ → Command) → argument_then (views.rule_of first) (place + 1) (drop 1 line.now)
-        (λ n p behind. argument_then (views.rule_of last) p behind (ending (make n))) ≡ Fails (views.fault_of e)) }
+        (λ n p after. argument_then (views.rule_of last) p after (ending (make n))) ≡ Fails (views.fault_of e)) }
 {
     let one = argument(line, place, 1, first)?;
     let other = last_argument(line, place, one.end, last)?;

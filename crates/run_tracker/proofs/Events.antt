@@ -8,17 +8,17 @@ use Rattle.ido_base.specs.declared.event.Event.TheVariants.{Step, Evict, Crash}
 use Rattle.ido_base.specs.Words.{Word, word_at, last_position}
 use Rattle.ido_base.specs.Growth.{AreChanged}
 use Rattle.ido_base.specs.Cores.{played, point_stores, finished_fences}
-use Rattle.ido_base.proofs.Cores.{passed_count-more}
+use Rattle.ido_base.proofs.Public.{passed_count-more}
 use Rattle.rv64_isa.specs.declared.object.Slot.{Slot}
-use Rattle.rv64_isa.specs.Frames.{IsSound}
-use Rattle.rv64_isa.proofs.Frames.{steps_touch, evictions_touch}
+use Rattle.rv64_isa.specs.Frames.{IsWellFormedWorld}
+use Rattle.rv64_isa.proofs.Public.{steps_touch, evictions_touch}
 use Rattle.rv64_isa.specs.Machine.{World, IsValidEvent, after_event, after_events}
 use Rattle.rv64_isa.specs.Schedule.{Steps, no_steps, with_begun, with_bound, with_step, with_all_kept}
 use Rattle.rv64_isa.specs.Schedule.{steps_after, steps_along, passes_mark, stores_point, finishes_fence}
-use Rattle.run_tracker.specs.links.Accounts.{AreOrdered, weight, hart_weight, point_word}
-use Rattle.run_tracker.specs.Lives.{Moment, living}
-use Rattle.run_tracker.proofs.Weights.{weight-begun, weight-bound, weight-all_kept, harts-all_kept}
-use Rattle.run_tracker.proofs.Orders.{ordered_later, ordered-begun, ordered-bound, ordered-all_kept, ordered-none}
+use Rattle.run_tracker.specs.links.AccountRepresentation.{AreOrdered, weight, hart_weight, point_word}
+use Rattle.run_tracker.specs.ObjectLives.{LifeConfig, living}
+use Rattle.run_tracker.proofs.StepTotals.{weight-begun, weight-bound, weight-all_kept, harts-all_kept}
+use Rattle.run_tracker.proofs.BoundStepOrder.{ordered_later, ordered-begun, ordered-bound, ordered-all_kept, ordered-none}
 
 -- ---- One more event
 
@@ -33,23 +33,23 @@ pub along_more : (marks : List (List ℕ)) (program : List (List Slot)) (w : Wor
 along_more marks program w [] event s = refl
 along_more marks program w (e ∷ es) event s = along_more marks program (after_event program w e) es event (steps_after marks program w e s)
 
-pub played_is : (m : Moment) (events : List Event) → played living m events ≡ record m { world = after_events m.program m.world events }
+pub played_is : (m : LifeConfig) (events : List Event) → played living m events ≡ record m { world = after_events m.program m.world events }
 played_is m [] = refl
 played_is m (e ∷ es) = played_is (record m { world = after_event m.program m.world e }) es
 
-pub points_more : (m : Moment) (events : List Event) (event : Event) (h : ℕ)
+pub points_more : (m : LifeConfig) (events : List Event) (event : Event) (h : ℕ)
     → point_stores living m (events ++ event ∷ []) h
     ≡ point_stores living m events h + cond (stores_point m.program (after_events m.program m.world events) event h) 1 0
 points_more m events event h =
-    passed_count-more living (λ (n : Moment). living.stores_point n h) m events event
-    ∙ ap (λ (n : Moment). point_stores living m events h + cond (living.stores_point n h event) 1 0) (played_is m events)
+    passed_count-more living (λ (n : LifeConfig). living.stores_point n h) m events event
+    ∙ ap (λ (n : LifeConfig). point_stores living m events h + cond (living.stores_point n h event) 1 0) (played_is m events)
 
-pub fences_more : (m : Moment) (events : List Event) (event : Event) (h : ℕ)
+pub fences_more : (m : LifeConfig) (events : List Event) (event : Event) (h : ℕ)
     → finished_fences living m (events ++ event ∷ []) h
     ≡ finished_fences living m events h + cond (finishes_fence m.program (after_events m.program m.world events) event h) 1 0
 fences_more m events event h =
-    passed_count-more living (λ (n : Moment). living.finishes_fence n h) m events event
-    ∙ ap (λ (n : Moment). finished_fences living m events h + cond (living.finishes_fence n h event) 1 0) (played_is m events)
+    passed_count-more living (λ (n : LifeConfig). living.finishes_fence n h) m events event
+    ∙ ap (λ (n : LifeConfig). finished_fences living m events h + cond (living.finishes_fence n h event) 1 0) (played_is m events)
 
 -- ---- What a step begins and binds
 
@@ -117,7 +117,7 @@ weight-after marks program w (Evict line mask) s valid =
     omega (arith, weight-all_kept (after_event program w (Evict line mask)).words (length s.harts) s (omega arith))
 weight-after marks program w Crash s valid = omega (arith, weightless (length s.harts))
 
-pub changed_by_step : (program : List (List Slot)) (w : World) (h : ℕ) → IsSound w → AreChanged w.words (after_event program w (Step h)).words
+pub changed_by_step : (program : List (List Slot)) (w : World) (h : ℕ) → IsWellFormedWorld w → AreChanged w.words (after_event program w (Step h)).words
 changed_by_step program w h sound = (steps_touch program w h sound).words
 
 pub changed_by_eviction : (program : List (List Slot)) (w : World) (line mask : ℕ) → AreChanged w.words (after_event program w (Evict line mask)).words
@@ -125,7 +125,7 @@ changed_by_eviction program w line mask =
     let raised = (evictions_touch program w line mask).0 in
     record { size = raised.size; each = λ j. inl (raised.each j) }
 
-pub ordered-after : (marks : List (List ℕ)) (program : List (List Slot)) (w : World) (event : Event) (s : Steps) → IsSound w → AreOrdered w.words s →
+pub ordered-after : (marks : List (List ℕ)) (program : List (List Slot)) (w : World) (event : Event) (s : Steps) → IsWellFormedWorld w → AreOrdered w.words s →
     AreOrdered (after_event program w event).words (steps_after marks program w event s)
 unfolding steps_after
 ordered-after marks program w (Step h) s sound ordered =

@@ -1,17 +1,18 @@
-pub mod Behind
-pub mod Bounds
-pub mod Counting
-pub mod Drains
-pub mod Durables
-pub mod Events
-pub mod Growing
-pub mod Keeping
-pub mod Lasting
-pub mod Openings
-pub mod Opens
-pub mod Orders
-pub mod Places
-pub mod Scans
-pub mod Sights
-pub mod Updates
-pub mod Weights
+pub mod Public
+mod StepsByObservation
+mod BoundSteps
+mod EventCounts
+mod DurableWordsStay
+mod DurableWords
+mod Events
+mod PointPositions
+mod KeptStepBounds
+mod LifeAfterEvent
+mod LifeOpenings
+mod StepsStayOpen
+mod BoundStepOrder
+mod PointWords
+mod StoreScans
+mod SignObservations
+mod AccountUpdates
+mod StepTotals

@@ -1,5 +1,5 @@
-pub mod Accounts
-pub mod Insides
+pub mod AccountRepresentation
+pub mod LifeRepresentation
 pub mod Journals
 pub mod SignTables
-pub mod Parts
+pub mod LifeParts

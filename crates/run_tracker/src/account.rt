@@ -3,7 +3,7 @@ ghost use Rattle.std.specs.Prelude.{◌≡◌, ◌+◌, ◌<◌, ◌≤◌, ◌+
 ghost use Rattle.std.specs.Vec.{vec_capacity, vec_len};
 ghost use Rattle.ido_base.specs.Words.{Word, word_at};
 ghost use Rattle.rv64_isa.specs.Schedule.{Steps, first_steps, no_steps, with_begun, with_bound, with_kept, durable_steps};
-ghost use Rattle.run_tracker.specs.links.Accounts.{AccountStands, IsAscending, open_at, bound_in, bound_at, total, point_word, without_open};
+ghost use Rattle.run_tracker.specs.links.AccountRepresentation.{AccountInv, IsAscending, open_at, bound_in, bound_at, total, point_word, without_open};
 
 use ido_base::memory::OutOfMemory;
 use std::alloc::Global;
@@ -83,7 +83,7 @@ impl Account {
     /// Before any step, with a schedule that is kept already and room for so many steps more.
     pub fn new(alloc: Global, harts: u32, before: &[u32], cap: u64) -> Result<Account, OutOfMemory>
         requires few { length before.now + cap < 2 ^ 63 }
-        ensures stands { IfOk result (λ account. AccountStands account (first_steps harts before.now)) }
+        ensures stands { IfOk result (λ account. AccountInv account (first_steps harts before.now)) }
         ensures kept { IfOk result (λ account. vec_capacity account.kept ≡ length before.now + cap) }
         ensures reserved { IfOk result (λ account. vec_capacity account.stores ≡ cap) }
         ensures stores { IfOk result (λ account. vec_len account.stores ≡ 0) }
@@ -104,7 +104,7 @@ impl Account {
     pub fn begin_if(&mut self, mark: bool, hart: u32)
         requires exists { hart < length self.old.harts.items }
         requires room { (open_at self.old hart).free < 2 ^ 63 }
-        ensures stands { (s : Steps) → AccountStands self.old s → AccountStands self.new (if mark then with_begun hart s else s) }
+        ensures stands { (s : Steps) → AccountInv self.old s → AccountInv self.new (if mark then with_begun hart s else s) }
         ensures stores { self.new.stores ≡ self.old.stores }
         ensures capacity { vec_capacity self.new.kept ≡ vec_capacity self.old.kept }
     {
@@ -117,7 +117,7 @@ impl Account {
     fn bind(&mut self, hart: u32, position: u64)
         requires exists { hart < length self.old.harts.items }
         requires room { vec_len self.old.stores < vec_capacity self.old.stores }
-        ensures stands { (s : Steps) → AccountStands self.old s → AccountStands self.new (with_bound hart position s) }
+        ensures stands { (s : Steps) → AccountInv self.old s → AccountInv self.new (with_bound hart position s) }
         ensures stores { vec_len self.new.stores ≤ vec_len self.old.stores + 1 }
         ensures reserved { vec_capacity self.new.stores ≡ vec_capacity self.old.stores }
         ensures capacity { vec_capacity self.new.kept ≡ vec_capacity self.old.kept }
@@ -131,11 +131,11 @@ impl Account {
         self.harts[hart as usize].free = 0;
     }
 
-    /// The same, if the point was stored.
+    /// If the point was stored, at this position, the steps begun before are bound to it.
     pub fn bind_if(&mut self, point: bool, hart: u32, position: u64)
         requires exists { hart < length self.old.harts.items }
         requires room { vec_len self.old.stores < vec_capacity self.old.stores }
-        ensures stands { (s : Steps) → AccountStands self.old s → AccountStands self.new (if point then with_bound hart position s else s) }
+        ensures stands { (s : Steps) → AccountInv self.old s → AccountInv self.new (if point then with_bound hart position s else s) }
         ensures stores { vec_len self.new.stores ≤ vec_len self.old.stores + 1 }
         ensures reserved { vec_capacity self.new.stores ≡ vec_capacity self.old.stores }
         ensures capacity { vec_capacity self.new.kept ≡ vec_capacity self.old.kept }
@@ -152,8 +152,8 @@ impl Account {
         requires ascending { IsAscending (bound_at self.old hart) }
         requires few { total (bound_at self.old hart) < 2 ^ 63 }
         requires room { vec_len self.old.kept + total (bound_at self.old hart) ≤ vec_capacity self.old.kept }
-        ensures stands { (words : List Word) (s : Steps) → durable ≡ (word_at words (point_word hart)).durable → AccountStands self.old s
-            → AccountStands self.new (with_kept words hart s) }
+        ensures stands { (words : List Word) (s : Steps) → durable ≡ (word_at words (point_word hart)).durable → AccountInv self.old s
+            → AccountInv self.new (with_kept words hart s) }
         ensures stores { self.new.stores ≡ self.old.stores }
         ensures capacity { vec_capacity self.new.kept ≡ vec_capacity self.old.kept }
     {
@@ -165,7 +165,7 @@ impl Account {
 
     /// A crash: what isn't kept is lost.
     pub fn lose(&mut self)
-        ensures stands { (s : Steps) → AccountStands self.old s → AccountStands self.new (without_open s) }
+        ensures stands { (s : Steps) → AccountInv self.old s → AccountInv self.new (without_open s) }
         ensures stores { vec_len self.new.stores ≡ 0 }
         ensures reserved { vec_capacity self.new.stores ≡ vec_capacity self.old.stores }
         ensures capacity { vec_capacity self.new.kept ≡ vec_capacity self.old.kept }

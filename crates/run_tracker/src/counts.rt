@@ -12,7 +12,7 @@ pub(crate) struct Counts {
 }
 
 impl Counts {
-    /// Of so many harts that have done nothing yet.
+    /// The counts of so many harts that have done nothing yet.
     pub fn new(alloc: Global, harts: u32) -> Result<Counts, OutOfMemory>
         ensures points { IfOk result (λ counts. counts.points.items ≡ replicate harts 0) }
         ensures fences { IfOk result (λ counts. counts.fences.items ≡ replicate harts 0) }

@@ -9,10 +9,10 @@ use ido_base::memory::OutOfMemory;
 use std::alloc::Global;
 use std::marker::Model;
 
-/// Events that were made one behind the other.
+/// Events that were made one after the other.
 #[derive(Clone, Copy, Debug, Drop)]
 enum Entry {
-    /// So many steps of a hart.
+    /// Steps of a hart, `count` of them.
     Steps { hart: u32, count: u32 },
     Evict { line: u32, mask: u32 },
     Crash,
@@ -24,7 +24,7 @@ pub(crate) struct Journal {
     entries: Vec<Entry>,
     /// How many events these are.
     closed: u64,
-    /// Behind them, so many steps of this hart.
+    /// After the entries, so many steps of this hart.
     hart: u32,
     steps: u32,
 }
@@ -34,11 +34,11 @@ impl Model for Journal {
 
     ghost Value = { Recorded };
 
-    ghost use Rattle.run_tracker.specs.links.Journals.{recorded, JournalStands};
+    ghost use Rattle.run_tracker.specs.links.Journals.{recorded, JournalInv};
 
     ghost view = { recorded };
 
-    ghost invariant = { JournalStands };
+    ghost invariant = { JournalInv };
 }
 
 /// Adds so many equal events.
@@ -75,7 +75,7 @@ fn close(entries: &mut Vec<Entry>, hart: u32, steps: u32)
 }
 
 impl Journal {
-    /// Before any event, with room for so many.
+    /// The journal before any event, with room for so many.
     pub fn new(alloc: Global, room: u64) -> Result<Journal, OutOfMemory>
         requires { room < 2 ^ 63 }
         ensures { IfOk result (λ journal. journal ≡ record { events = []; room = room }) }

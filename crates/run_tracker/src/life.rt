@@ -1,18 +1,19 @@
 //! A life: a machine that runs a compiled object, with the journal of its events and the kept schedule.
 ghost use Rattle.std.specs.Prelude.{◌≡◌, [], ◌+◌, ◌-◌, ◌*◌, ◌/◌, ◌<◌, ◌≤◌, ◌^◌, ◌++◌, ℕ, length, map, not, IfOk};
 ghost use Rattle.std.specs.Vec.{vec_capacity, vec_len};
+ghost use Rattle.ido_base.specs.declared.limits.TheConstants.{LOG_WORDS};
 ghost use Rattle.ido_base.specs.Words.{word_at, live_value, durable_value};
 ghost use Rattle.ido_base.specs.Layout.{line_count};
 ghost use Rattle.ido_base.specs.Cores.{point_stores, finished_fences};
 ghost use Rattle.rv64_isa.specs.Machine.{World, IsValidEvent, reply_to, numbers_from};
-ghost use Rattle.ido_machine.specs.Machines.{MachineStands, program_in, events_of};
+ghost use Rattle.ido_machine.specs.Machines.{RepresentsMachine, program_in, events_of};
 ghost use Rattle.rv64_isa.specs.Programs.{program_of};
-ghost use Rattle.rv64_isa.specs.Frames.{IsSound};
+ghost use Rattle.rv64_isa.specs.Frames.{IsWellFormedWorld};
 ghost use Rattle.rv64_isa.specs.Schedule.{is_settled, is_settled_hart};
 ghost use Rattle.hart_core.specs.Objects.{IsWithinLimits};
-ghost use Rattle.run_tracker.specs.Lives.{Course, new_life, life_at, life_from, with_event, world_of, steps_in, left_words};
-ghost use Rattle.run_tracker.specs.Lives.{is_stopped, is_stopped_phase, living, opening_of};
-ghost use Rattle.run_tracker.specs.links.Insides.{opening_by};
+ghost use Rattle.run_tracker.specs.ObjectLives.{Course, new_life, life_at, life_from, with_event, world_of, steps_in, left_words};
+ghost use Rattle.run_tracker.specs.ObjectLives.{is_stopped, is_stopped_phase, living, opening_of};
+ghost use Rattle.run_tracker.specs.links.LifeRepresentation.{opening_by};
 
 use crate::account::Account;
 use crate::counts::Counts;
@@ -20,7 +21,7 @@ use crate::journal::Journal;
 use crate::signs::{SignTable, nodes_of, tables_of};
 use crate::stepping::make;
 use ido_base::event::{Event, Reply};
-use ido_base::limits::{LOG_LINES, LOG_WORDS, VARIABLE_LINES, VARIABLE_WORDS};
+use ido_base::limits::{LOG_LINES, LOG_WORDS, POINT_LINE, VARIABLE_WORDS};
 use ido_base::machine::Core;
 use ido_base::memory::OutOfMemory;
 use ido_machine::machine::Machine;
@@ -29,11 +30,11 @@ use rv64_isa::phase::Phase;
 use std::alloc::Global;
 use std::marker::Model;
 
-/// The line of hart 0's point, which is its word 0.
-const POINT_LINE: u32 = VARIABLE_LINES as u32;
-
 /// A machine that runs a compiled object, with the journal of its events and the account of the steps of the source
 /// that it has begun and kept. It has room for its events from the start.
+///
+/// Marks may stand anywhere: one that is no code word of its thread is never passed. It is a `Core`, whose events are those of its
+/// journal.
 #[derive(Debug, Drop)]
 pub struct Life {
     /// The initial bytes of the variables, the number of mutexes and the marks' addresses are those of the object.
@@ -53,15 +54,15 @@ pub struct Life {
 }
 
 impl Model for Life {
-    ghost use Rattle.run_tracker.specs.Lives.{Course};
+    ghost use Rattle.run_tracker.specs.ObjectLives.{Course};
 
     ghost Value = { Course };
 
-    ghost use Rattle.run_tracker.specs.links.Insides.{course_of, LifeStands};
+    ghost use Rattle.run_tracker.specs.links.LifeRepresentation.{course_of, LifeInv};
 
     ghost view = { course_of };
 
-    ghost invariant = { LifeStands };
+    ghost invariant = { LifeInv };
 }
 
 /// The hart has ended, or its recovery is done.
@@ -74,7 +75,7 @@ fn is_stopped_phase(phase: Phase) -> bool
 /// The hart holds nothing, and its live and durable points are 0.
 fn is_settled_hart(machine: &Machine, hart: u32) -> bool
     requires { hart < length (program_in machine.now) }
-    ensures { (w : World) → MachineStands machine.now w → result ≡ is_settled_hart w hart }
+    ensures { (w : World) → RepresentsMachine machine.now w → result ≡ is_settled_hart w hart }
 {
     let line = POINT_LINE + LOG_LINES as u32 * hart;
     !machine.holds(hart) && machine.durable_word(line, 0) == 0 && machine.live_word(line, 0) == 0
@@ -82,7 +83,7 @@ fn is_settled_hart(machine: &Machine, hart: u32) -> bool
 
 /// Each hart is settled.
 fn are_settled(machine: &Machine) -> bool
-    ensures { (w : World) → MachineStands machine.now w → result ≡ is_settled w }
+    ensures { (w : World) → RepresentsMachine machine.now w → result ≡ is_settled w }
 {
     for hart in 0..machine.harts() {
         if !is_settled_hart(machine, hart) {
@@ -96,7 +97,7 @@ fn are_settled(machine: &Machine) -> bool
 fn push_durable(machine: &Machine, words: &mut Vec<u64>, from: u32, count: u32)
     requires exists { from + count ≤ 8 * line_count (length (program_in machine.now)) }
     requires room { vec_len words.old + count ≤ vec_capacity words.old }
-    ensures items { (w : World) → MachineStands machine.now w →
+    ensures items { (w : World) → RepresentsMachine machine.now w →
         words.new.items ≡ words.old.items ++ map (λ i. durable_value (word_at w.words i)) (numbers_from from count) }
     ensures len { vec_len words.new ≡ vec_len words.old + count }
     ensures capacity { vec_capacity words.new ≡ vec_capacity words.old }
@@ -119,7 +120,7 @@ impl Life {
         Life::begun(alloc, object, marks, machine, None, &[], cap)
     }
 
-    /// The life of an object that begins as after a crash that left these words of its variables and, behind them, of
+    /// The life of an object that begins as after a crash that left these words of its variables and, after them, of
     /// its logs, with this schedule kept already and room for so many events.
     pub fn of_words(
         alloc: Global,
@@ -131,7 +132,7 @@ impl Life {
     ) -> Result<Life, OutOfMemory>
         requires limits { IsWithinLimits object.now }
         requires marks { length marks.now.threads.items ≡ length object.now.code.items }
-        requires count { length words.now ≡ length object.now.initial.items / 8 + 128 * length object.now.code.items }
+        requires count { length words.now ≡ length object.now.initial.items / 8 + LOG_WORDS * length object.now.code.items }
         requires cap { length schedule.now + cap < 2 ^ 63 }
         ensures { IfOk result (λ life. life ≡ life_from object.now marks.now words.now schedule.now cap) }
     {
@@ -154,8 +155,8 @@ impl Life {
         requires marks { length marks.now.threads.items ≡ length object.now.code.items }
         requires program { program_in machine ≡ program_of object.now }
         requires events { events_of machine ≡ 0 }
-        requires stands { MachineStands machine (opening_by (program_of object.now) object.now.mutexes object.now.initial.items left) }
-        requires sound { IsSound (opening_by (program_of object.now) object.now.mutexes object.now.initial.items left) }
+        requires stands { RepresentsMachine machine (opening_by (program_of object.now) object.now.mutexes object.now.initial.items left) }
+        requires sound { IsWellFormedWorld (opening_by (program_of object.now) object.now.mutexes object.now.initial.items left) }
         requires cap { length before.now + cap < 2 ^ 63 }
         ensures { IfOk result (λ life. life ≡
             life_at object.now marks.now (opening_by (program_of object.now) object.now.mutexes object.now.initial.items left) before.now cap) }
@@ -244,7 +245,7 @@ impl Life {
         self.machine.live_word(line, word)
     }
 
-    /// What a crash would leave: the durable words of the variables and, behind them, of the logs.
+    /// What a crash would leave: the durable words of the variables and, after them, of the logs.
     pub fn durable_words(&self, alloc: Global) -> Result<Vec<u64>, OutOfMemory>
         ensures { IfOk result (λ words. words.items ≡ left_words self.now.variable_words (world_of self.now).words) }
     {
@@ -302,9 +303,9 @@ impl Life {
 impl Core for Life {
     ghost use Rattle.std.specs.Prelude.{◌-◌, length};
     ghost use Rattle.rv64_isa.specs.Machine.{IsEviction};
-    ghost use Rattle.run_tracker.specs.Lives.{Moment, living, opening_of};
+    ghost use Rattle.run_tracker.specs.ObjectLives.{LifeConfig, living, opening_of};
 
-    ghost Meaning = { Moment };
+    ghost Meaning = { LifeConfig };
 
     ghost behaviour = { living };
 

@@ -13,16 +13,16 @@ use std::alloc::Global;
 /// What is told of a code word.
 #[derive(Clone, Copy, Debug, Drop)]
 pub(crate) struct Sign {
-    /// It is a mark.
+    /// The code word is a mark.
     pub mark: bool,
-    /// It is a fence.
+    /// The code word is a fence.
     pub fence: bool,
-    /// It stores.
+    /// The code word stores.
     pub store: bool,
 }
 
 impl Sign {
-    /// It is nothing of these: there is nothing to account for.
+    /// Whether the code word is no mark, no fence and no store: there is nothing to account for.
     #[inline(always)]
     pub fn is_plain(self) -> bool
         ensures { result ≡ is_plain self }

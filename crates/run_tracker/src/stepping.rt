@@ -9,26 +9,23 @@ ghost use Rattle.ido_base.specs.Words.{word_at, last_position};
 ghost use Rattle.rv64_isa.specs.declared.object.Slot.{Slot};
 ghost use Rattle.rv64_isa.specs.Machine.{World, IsValidEvent, happens};
 ghost use Rattle.rv64_isa.specs.Schedule.{Steps, is_running, with_step, steps_after, with_all_kept};
-ghost use Rattle.ido_machine.specs.Machines.{MachineStands, IsAfter, program_in, events_of};
-ghost use Rattle.run_tracker.specs.links.Accounts.{AccountStands, AreOpen, point_word};
+ghost use Rattle.ido_machine.specs.Machines.{RepresentsMachine, IsAfter, program_in, events_of};
+ghost use Rattle.run_tracker.specs.links.AccountRepresentation.{AccountInv, AreOpen, point_word};
 ghost use Rattle.run_tracker.specs.links.SignTables.{AreTables};
-ghost use Rattle.run_tracker.specs.links.Parts.{IsSeen, seen_step, HasStepped, IsBehind, IsReady, HasSteps, HasCounts, HaveCounted};
+ghost use Rattle.run_tracker.specs.links.LifeParts.{IsSeen, seen_step, HasStepped, WasTracked, IsTrackerReady, HasSteps, HasCounts, HaveCounted};
 
 use crate::account::Account;
 use crate::counts::Counts;
 use crate::signs::{Sign, SignTable};
 use ido_base::event::{Event, Reply};
-use ido_base::limits::{LOG_LINES, VARIABLE_LINES};
+use ido_base::limits::{LOG_LINES, POINT_LINE};
 use ido_machine::machine::Machine;
 use rv64_isa::phase::Phase;
 
-/// The line of hart 0's point, which is its word 0.
-const POINT_LINE: u32 = VARIABLE_LINES as u32;
-
 /// What is seen of a hart before its step.
 #[derive(Clone, Copy, Debug, Drop)]
-pub(crate) struct Sight {
-    /// It executes instructions.
+pub(crate) struct Observation {
+    /// The hart executes instructions.
     pub running: bool,
     /// The address of the instruction that it executes next.
     pub pc: u64,
@@ -48,18 +45,18 @@ fn is_running(phase: Phase) -> bool
 #[inline(always)]
 fn point_position(machine: &Machine, hart: u32) -> u64
     requires { hart < length (program_in machine.now) }
-    ensures { (w : World) → MachineStands machine.now w → result ≡ last_position (word_at w.words (point_word hart)) }
+    ensures { (w : World) → RepresentsMachine machine.now w → result ≡ last_position (word_at w.words (point_word hart)) }
 {
     machine.last_position(POINT_LINE + LOG_LINES as u32 * hart, 0)
 }
 
 /// What is seen of a hart.
 #[inline(always)]
-fn look(machine: &Machine, hart: u32) -> Sight
+fn look(machine: &Machine, hart: u32) -> Observation
     requires { hart < length (program_in machine.now) }
-    ensures { (w : World) → MachineStands machine.now w → IsSeen w hart result }
+    ensures { (w : World) → RepresentsMachine machine.now w → IsSeen w hart result }
 {
-    Sight {
+    Observation {
         running: is_running(machine.phase(hart)),
         pc: machine.pc(hart),
         position: point_position(machine, hart),
@@ -70,8 +67,8 @@ fn look(machine: &Machine, hart: u32) -> Sight
 fn keep_all(machine: &Machine, account: &mut Account)
     requires harts { length account.old.harts.items ≡ length (program_in machine.now) }
     requires at { HasSteps machine.now account.old }
-    ensures stands { (w : World) (s : Steps) → MachineStands machine.now w → AccountStands account.old s
-        → AccountStands account.new (with_all_kept w.words (length account.old.harts.items) s) }
+    ensures stands { (w : World) (s : Steps) → RepresentsMachine machine.now w → AccountInv account.old s
+        → AccountInv account.new (with_all_kept w.words (length account.old.harts.items) s) }
     ensures stores { account.new.stores ≡ account.old.stores }
     ensures capacity { vec_capacity account.new.kept ≡ vec_capacity account.old.kept }
 {
@@ -83,18 +80,18 @@ fn keep_all(machine: &Machine, account: &mut Account)
     }
 }
 
-/// The same behind an instruction with this sign, before which that was seen: where it doesn't store, the point has no newer
-/// value.
+/// Where the newest value of a hart's point stands after an instruction with this sign, before which that was seen: where it
+/// doesn't store, the point has no newer value.
 #[inline(always)]
-fn position_behind(machine: &Machine, hart: u32, sign: Sign, sight: Sight) -> u64
+fn position_after(machine: &Machine, hart: u32, sign: Sign, observation: Observation) -> u64
     requires { hart < length (program_in machine.now) }
-    ensures stored { sign.store ≡ true → (w : World) → MachineStands machine.now w → result ≡ last_position (word_at w.words (point_word hart)) }
-    ensures unstored { sign.store ≡ false → result ≡ sight.position }
+    ensures stored { sign.store ≡ true → (w : World) → RepresentsMachine machine.now w → result ≡ last_position (word_at w.words (point_word hart)) }
+    ensures unstored { sign.store ≡ false → result ≡ observation.position }
 {
     if sign.store {
         point_position(machine, hart)
     } else {
-        sight.position
+        observation.position
     }
 }
 
@@ -106,30 +103,30 @@ fn complete(
     account: &mut Account,
     counts: &mut Counts,
     tables: &[SignTable],
-    sight: Sight,
+    observation: Observation,
     hart: u32,
 )
     requires exists { hart < length (program_in machine.now) }
-    requires behind { IsBehind tables.now machine.now account.old (seen_step hart sight Moved) }
-    requires running { sight.running ≡ true }
+    requires after { WasTracked tables.now machine.now account.old (seen_step hart observation Moved) }
+    requires running { observation.running ≡ true }
     requires harts { length account.old.harts.items ≡ length (program_in machine.now) }
     requires counts { HasCounts counts.old (length (program_in machine.now)) }
     requires room { vec_len account.old.stores < vec_capacity account.old.stores }
     ensures steps { (program : List (List Slot)) (marks : List (List ℕ)) (w : World) (s : Steps)
-        → HasStepped program tables.now marks machine.now (seen_step hart sight Moved) w → AccountStands account.old s
-        → AccountStands account.new (with_step marks program w hart s) }
+        → HasStepped program tables.now marks machine.now (seen_step hart observation Moved) w → AccountInv account.old s
+        → AccountInv account.new (with_step marks program w hart s) }
     ensures counts { (program : List (List Slot)) (marks : List (List ℕ)) (w : World)
-        → HasStepped program tables.now marks machine.now (seen_step hart sight Moved) w → HaveCounted counts.old counts.new program w (Step hart) }
+        → HasStepped program tables.now marks machine.now (seen_step hart observation Moved) w → HaveCounted counts.old counts.new program w (Step hart) }
     ensures stores { vec_len account.new.stores ≤ vec_len account.old.stores + 1 }
     ensures reserved { vec_capacity account.new.stores ≡ vec_capacity account.old.stores }
     ensures capacity { vec_capacity account.new.kept ≡ vec_capacity account.old.kept }
 {
-    let sign = tables[hart as usize].sign_at(sight.pc);
+    let sign = tables[hart as usize].sign_at(observation.pc);
     if sign.is_plain() {
         return;
     }
-    let position = position_behind(machine, hart, sign, sight);
-    let point = position != sight.position;
+    let position = position_after(machine, hart, sign, observation);
+    let point = position != observation.position;
     account.begin_if(sign.mark, hart);
     account.bind_if(point, hart, position);
     counts.add(hart, point, sign.fence);
@@ -142,28 +139,28 @@ fn note(
     account: &mut Account,
     counts: &mut Counts,
     tables: &[SignTable],
-    sight: Sight,
+    observation: Observation,
     reply: Reply,
     hart: u32,
 )
     requires exists { hart < length (program_in machine.now) }
-    requires behind { IsBehind tables.now machine.now account.old (seen_step hart sight reply) }
+    requires after { WasTracked tables.now machine.now account.old (seen_step hart observation reply) }
     requires harts { length account.old.harts.items ≡ length (program_in machine.now) }
     requires counts { HasCounts counts.old (length (program_in machine.now)) }
     requires room { vec_len account.old.stores < vec_capacity account.old.stores }
     ensures steps { (program : List (List Slot)) (marks : List (List ℕ)) (w : World) (s : Steps)
-        → HasStepped program tables.now marks machine.now (seen_step hart sight reply) w → AccountStands account.old s → AreOpen w.words s
-        → AccountStands account.new (steps_after marks program w (Step hart) s) }
+        → HasStepped program tables.now marks machine.now (seen_step hart observation reply) w → AccountInv account.old s → AreOpen w.words s
+        → AccountInv account.new (steps_after marks program w (Step hart) s) }
     ensures counts { (program : List (List Slot)) (marks : List (List ℕ)) (w : World)
-        → HasStepped program tables.now marks machine.now (seen_step hart sight reply) w → HaveCounted counts.old counts.new program w (Step hart) }
+        → HasStepped program tables.now marks machine.now (seen_step hart observation reply) w → HaveCounted counts.old counts.new program w (Step hart) }
     ensures stores { vec_len account.new.stores ≤ vec_len account.old.stores + 1 }
     ensures reserved { vec_capacity account.new.stores ≡ vec_capacity account.old.stores }
     ensures capacity { vec_capacity account.new.kept ≡ vec_capacity account.old.kept }
 {
     match reply {
         Reply::Moved => {
-            if sight.running {
-                complete(machine, account, counts, tables, sight, hart);
+            if observation.running {
+                complete(machine, account, counts, tables, observation, hart);
             }
         }
         Reply::Drained => keep_all(machine, account),
@@ -185,21 +182,21 @@ fn step(
     requires counts { HasCounts counts.old (length (program_in machine.old)) }
     requires events { events_of machine.old < 2 ^ 63 }
     requires room { vec_len account.old.stores < vec_capacity account.old.stores }
-    requires at { IsReady tables.now machine.old account.old }
-    ensures world { (w : World) → MachineStands machine.old w → IsAfter machine.new result (happens (program_in machine.old) w (Step hart)) }
+    requires at { IsTrackerReady tables.now machine.old account.old }
+    ensures world { (w : World) → RepresentsMachine machine.old w → IsAfter machine.new result (happens (program_in machine.old) w (Step hart)) }
     ensures steps { (marks : List (List ℕ)) (w : World) (s : Steps) → AreTables tables.now (program_in machine.old) marks
-        → MachineStands machine.old w → AccountStands account.old s → AreOpen w.words s
-        → AccountStands account.new (steps_after marks (program_in machine.old) w (Step hart) s) }
-    ensures counts { (w : World) → MachineStands machine.old w → HaveCounted counts.old counts.new (program_in machine.old) w (Step hart) }
+        → RepresentsMachine machine.old w → AccountInv account.old s → AreOpen w.words s
+        → AccountInv account.new (steps_after marks (program_in machine.old) w (Step hart) s) }
+    ensures counts { (w : World) → RepresentsMachine machine.old w → HaveCounted counts.old counts.new (program_in machine.old) w (Step hart) }
     ensures program { program_in machine.new ≡ program_in machine.old }
     ensures events { events_of machine.new ≡ events_of machine.old + 1 }
     ensures stores { vec_len account.new.stores ≤ vec_len account.old.stores + 1 }
     ensures reserved { vec_capacity account.new.stores ≡ vec_capacity account.old.stores }
     ensures capacity { vec_capacity account.new.kept ≡ vec_capacity account.old.kept }
 {
-    let sight = look(machine, hart);
+    let observation = look(machine, hart);
     let reply = machine.step(hart);
-    note(machine, account, counts, tables, sight, reply, hart);
+    note(machine, account, counts, tables, observation, reply, hart);
     reply
 }
 
@@ -210,9 +207,9 @@ fn evict(machine: &mut Machine, account: &mut Account, line: u32, mask: u32) -> 
     requires harts { length account.old.harts.items ≡ length (program_in machine.old) }
     requires events { events_of machine.old < 2 ^ 63 }
     requires at { HasSteps machine.old account.old }
-    ensures world { (w : World) → MachineStands machine.old w → IsAfter machine.new result (happens (program_in machine.old) w (Evict line mask)) }
-    ensures steps { (marks : List (List ℕ)) (w : World) (s : Steps) → MachineStands machine.old w → AccountStands account.old s
-        → AccountStands account.new (steps_after marks (program_in machine.old) w (Evict line mask) s) }
+    ensures world { (w : World) → RepresentsMachine machine.old w → IsAfter machine.new result (happens (program_in machine.old) w (Evict line mask)) }
+    ensures steps { (marks : List (List ℕ)) (w : World) (s : Steps) → RepresentsMachine machine.old w → AccountInv account.old s
+        → AccountInv account.new (steps_after marks (program_in machine.old) w (Evict line mask) s) }
     ensures program { program_in machine.new ≡ program_in machine.old }
     ensures events { events_of machine.new ≡ events_of machine.old + 1 }
     ensures stores { account.new.stores ≡ account.old.stores }
@@ -226,9 +223,9 @@ fn evict(machine: &mut Machine, account: &mut Account, line: u32, mask: u32) -> 
 /// A crash: steps that aren't kept are lost.
 fn crash(machine: &mut Machine, account: &mut Account) -> Reply
     requires events { events_of machine.old < 2 ^ 63 }
-    ensures world { (w : World) → MachineStands machine.old w → IsAfter machine.new result (happens (program_in machine.old) w Crash) }
-    ensures steps { (marks : List (List ℕ)) (w : World) (s : Steps) → AccountStands account.old s
-        → AccountStands account.new (steps_after marks (program_in machine.old) w Crash s) }
+    ensures world { (w : World) → RepresentsMachine machine.old w → IsAfter machine.new result (happens (program_in machine.old) w Crash) }
+    ensures steps { (marks : List (List ℕ)) (w : World) (s : Steps) → AccountInv account.old s
+        → AccountInv account.new (steps_after marks (program_in machine.old) w Crash s) }
     ensures program { program_in machine.new ≡ program_in machine.old }
     ensures events { events_of machine.new ≡ events_of machine.old + 1 }
     ensures stores { vec_len account.new.stores ≡ 0 }
@@ -254,12 +251,12 @@ pub(crate) fn make(
     requires counts { HasCounts counts.old (length (program_in machine.old)) }
     requires events { events_of machine.old < 2 ^ 63 }
     requires room { vec_len account.old.stores < vec_capacity account.old.stores }
-    requires at { IsReady tables.now machine.old account.old }
-    ensures world { (w : World) → MachineStands machine.old w → IsAfter machine.new result (happens (program_in machine.old) w event) }
+    requires at { IsTrackerReady tables.now machine.old account.old }
+    ensures world { (w : World) → RepresentsMachine machine.old w → IsAfter machine.new result (happens (program_in machine.old) w event) }
     ensures steps { (marks : List (List ℕ)) (w : World) (s : Steps) → AreTables tables.now (program_in machine.old) marks
-        → MachineStands machine.old w → AccountStands account.old s → AreOpen w.words s
-        → AccountStands account.new (steps_after marks (program_in machine.old) w event s) }
-    ensures counts { (w : World) → MachineStands machine.old w → HaveCounted counts.old counts.new (program_in machine.old) w event }
+        → RepresentsMachine machine.old w → AccountInv account.old s → AreOpen w.words s
+        → AccountInv account.new (steps_after marks (program_in machine.old) w event s) }
+    ensures counts { (w : World) → RepresentsMachine machine.old w → HaveCounted counts.old counts.new (program_in machine.old) w event }
     ensures program { program_in machine.new ≡ program_in machine.old }
     ensures events { events_of machine.new ≡ events_of machine.old + 1 }
     ensures stores { vec_len account.new.stores ≤ vec_len account.old.stores + 1 }

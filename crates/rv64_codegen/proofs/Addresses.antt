@@ -13,14 +13,14 @@ use Rattle.rv64_isa.specs.declared.object.CodeItem.TheVariants.{Instruction, Bra
 use Rattle.rv64_isa.specs.declared.object.Slot.TheVariants.{Row}
 use Rattle.rv64_isa.specs.Rows.{Effect}
 use Rattle.rv64_link.specs.LabelledCode.{does, most_words_of, least_words_of, is_mark, is_resume, positions_from, fences_of}
-use Rattle.rv64_link.specs.Linked.{IsRoom, IsLinked}
+use Rattle.rv64_link.specs.LinkedCode.{IsRoom, IsLinked}
 use Rattle.boundary_code.specs.Boundaries.{Boundary, AtBank, bank_effects, commit_effects}
-use Rattle.code_runs.specs.Running.{Moment}
-use Rattle.code_runs.specs.Walks as walks
-use Rattle.code_runs.specs.Walks.{Program, Setting, Meets, Sight, Walk, Goes}
+use Rattle.code_runs.specs.ComputingRuns.{LocalConfig}
+use Rattle.code_runs.specs.CodeTraces as walks
+use Rattle.code_runs.specs.CodeTraces.{Program, MarkedEnvironment, Meets, Observation, Trace, GoesThrough}
 use Rattle.node_code.specs.Sites.{Site, mark_waits}
-use Rattle.node_code.specs.Pieces.{IsBoundary}
-use Rattle.node_code.proofs.Lying.{Lies}
+use Rattle.node_code.specs.Pieces.{IsBoundaryPiece}
+use Rattle.node_code.proofs.Public.{Lies}
 use Rattle.thread_code.specs.Programs.{IsOn}
 
 -- ---- Whole words
@@ -58,7 +58,7 @@ lies_on at k (x ∷ xs) h =
 
 -- ---- Marks
 
--- behind a mark that waits stands a word
+-- after a mark that waits stands a word
 waits_on : (at : ℕ → ℕ) (k : ℕ) (items : List CodeItem) → Lies at k items → mark_waits true items ≡ false → IsOn (at k + 4) (at (k + length items))
 waits_on at k [] h w = absurd (true≢false w)
 waits_on at k (x ∷ xs) h w =
@@ -81,10 +81,10 @@ waits_on at k (x ∷ xs) h w =
     by MarkNext h w rest = stays MarkNext refl h.0 (rest h.1 w)
     by ResumeNext h w rest = stays ResumeNext refl h.0 (rest h.1 w)
 
--- the address of a mark, and a word behind it, lie among the items
+-- the address of a mark, and a word after it, lie among the items
 pub record IsAmong (from m to : ℕ) : Type 0 where
   pub before : IsOn from m
-  pub behind : IsOn (m + 4) to
+  pub after : IsOn (m + 4) to
 
 pub contains_one : (y x : ℕ) → Contains (y ∷ []) x → y ≡ x
 contains_one y x c = by c.0 c.1 c.2
@@ -101,7 +101,7 @@ marked_among at k (x ∷ xs) w h e m c =
     subst (λ (n : ℕ). IsAmong (at k) m (at n)) same (by x h e c (λ v lie waits has. marked_among at (k + 1) xs v lie waits m has))
   where
     later : (x : CodeItem) → IsRoom x (at k) (at (k + 1)) → IsAmong (at (k + 1)) m (at (k + 1 + length xs)) → IsAmong (at k) m (at (k + 1 + length xs))
-    later x room r = record { before = on_then (at k) (at (k + 1)) m (item_on x (at k) (at (k + 1)) room) r.before; behind = r.behind }
+    later x room r = record { before = on_then (at k) (at (k + 1)) m (item_on x (at k) (at (k + 1)) room) r.before; after = r.after }
 
     by : (x : CodeItem) → Lies at k (x ∷ xs) → mark_waits w (x ∷ xs) ≡ false → Contains (map at (positions_from k is_mark (x ∷ xs))) m →
         ((v : Bool) → Lies at (k + 1) xs → mark_waits v xs ≡ false → Contains (map at (positions_from (k + 1) is_mark xs)) m →
@@ -118,7 +118,7 @@ marked_among at k (x ∷ xs) w h e m c =
           let stays : at (k + 1) ≡ at k = narrow MarkNext (at k) (at (k + 1)) h.0 refl in
           record {
             before = on_here (at k) m is;
-            behind = subst (λ (a : ℕ). IsOn (a + 4) (at (k + 1 + length xs))) (stays ∙ is) (waits_on at (k + 1) xs h.1 e);
+            after = subst (λ (a : ℕ). IsOn (a + 4) (at (k + 1 + length xs))) (stays ∙ is) (waits_on at (k + 1) xs h.1 e);
           }
       | inr others ↦ later MarkNext h.0 (rest true h.1 e others)
     ]
@@ -222,22 +222,22 @@ module _ (items : List CodeItem) (none : Weightless items) where
     };
   }
 
-  abbrev setting : Setting
-  setting = record { around = record { fetch = λ address. None; loads = λ address bytes. None }; marks = empty.nodes }
+  abbrev environment : MarkedEnvironment
+  environment = record { around = record { fetch = λ address. None; loads = λ address bytes. None }; marks = empty.nodes }
 
-  meets : Meets empty setting
+  meets : Meets empty environment
   meets = record { fetches = λ address instr st. absurd (none-some (Row instr) st.2); marks = refl }
 
   abbrev site : Site items
   site = record {
     items = items;
     position = 0;
-    linking = record { program = empty; linked = linked; room = omega arith; setting = setting; meets = meets };
-    is_part = record { before = []; behind = []; split = sym (append-nil items); at = refl };
+    linking = record { program = empty; linked = linked; room = omega arith; environment = environment; meets = meets };
+    is_part = record { before = []; after = []; split = sym (append-nil items); at = refl };
     closed = refl;
   }
 
-  nothing_seen : (steps : ℕ) (m to : Moment) (seen : List Sight) → Walk setting steps m seen to → seen ≡ []
+  nothing_seen : (steps : ℕ) (m to : LocalConfig) (seen : List Observation) → Trace environment steps m seen to → seen ≡ []
   nothing_seen zero m to seen walk = walk.1
   nothing_seen (suc steps) m to seen walk = absurd (none-some walk.3.instr walk.3.stands)
 
@@ -249,13 +249,13 @@ module _ (items : List CodeItem) (none : Weightless items) where
   sees b resume true e = cc
   sees b resume false e = cc
 
-  no_boundary : (b : Boundary) → IsBoundary b items → ⊥
+  no_boundary : (b : Boundary) → IsBoundaryPiece b items → ⊥
   unfolding linked
   no_boundary b is =
       let goes = (is.at site).keeps (replicate 32 0) 0 zeros in
       sees b (1 % 2 ^ 64) (b.mask == 0) (nothing_seen goes.steps _ _ _ goes.walks)
 
-pub boundary_grows : (b : Boundary) (piece : List CodeItem) → IsBoundary b piece → (at : ℕ → ℕ) (k : ℕ) → Lies at k piece → at k < at (k + length piece)
+pub boundary_grows : (b : Boundary) (piece : List CodeItem) → IsBoundaryPiece b piece → (at : ℕ → ℕ) (k : ℕ) → Lies at k piece → at k < at (k + length piece)
 boundary_grows b piece is at k lie = elim (grows_or_not at k piece lie) [
   | inl grows ↦ grows
   | inr none ↦ absurd (no_boundary piece none b is)

@@ -8,17 +8,17 @@ use Rattle.std.proofs.lemmas.List.{length-map, length-append}
 use Rattle.ido_base.specs.Layout.{variable_at}
 use Rattle.ido_ints.specs.declared.kinds.Kind.{Kind}
 use Rattle.c_tree.specs.Flats as f
-use Rattle.c_tree.specs.Locking.{numbers_below}
+use Rattle.c_tree.specs.LockDiscipline.{numbers_below}
 use Rattle.c_tree.specs.Programs as p
 use Rattle.c_tree.specs.WellFormed.{shape_of}
-use Rattle.log_layout.specs.declared.roles.TheConstants.{LOCALS}
-use Rattle.log_layout.specs.Roles.{is_local}
+use Rattle.memory_layout.specs.declared.roles.TheConstants.{LOCALS}
+use Rattle.memory_layout.specs.Roles.{is_local}
 use Rattle.flow_graph.specs.declared.graph.Part.{Part}
-use Rattle.variable_layout.specs.Placing.{AreAddresses}
+use Rattle.memory_layout.specs.Variables.{AreAddresses}
 use Rattle.thread_code.specs.Plans.{Plan, Thread, IsPlan, IsThread, homes}
 use Rattle.rv64_codegen.specs.Locals.{HasHomes}
 use Rattle.rv64_codegen.specs.links.Threads.{thread_at, kinds_in}
-use Rattle.rv64_codegen.proofs.Known.{locals_are}
+use Rattle.rv64_codegen.proofs.PlannedNodes.{locals_are}
 
 -- ---- Lists
 
@@ -76,13 +76,14 @@ same_lists (x ∷ xs) (y ∷ ys) e h =
 
 -- ---- Addresses
 
-pub addresses_are : (vs : List p.Variable) (addresses : List ℕ) → AreAddresses vs addresses →
+pub addresses_are : (vs : List p.Variable) (addresses : List ℕ) → AreAddresses (map shape_of vs) addresses →
     addresses ≡ map (λ (v : ℕ). variable_at (map shape_of vs) v 0) (numbers_below (length vs))
 addresses_are vs addresses are =
     let g : ℕ → ℕ = λ v. variable_at (map shape_of vs) v 0 in
     let long : length (map g (numbers_below (length vs))) ≡ length vs = length-map (numbers_below (length vs)) g ∙ length-numbers (length vs) in
-    same_lists addresses (map g (numbers_below (length vs))) (are.count ∙ sym long)
-    (λ k l. are.each k (omega (arith, l, are.count)) ∙ sym (map_numbers g (length vs) k (omega (arith, l, are.count))))
+    let count : length addresses ≡ length vs = are.count ∙ length-map vs shape_of in
+    same_lists addresses (map g (numbers_below (length vs))) (count ∙ sym long)
+    (λ k l. are.each k (omega (arith, l, are.count)) ∙ sym (map_numbers g (length vs) k (omega (arith, l, count))))
 
 -- ---- Registers of locals
 
@@ -127,7 +128,7 @@ kinds_there (u ∷ us) (suc k) text g = kinds_there us k text g
 abbrev made : ℕ → Part → List Kind → List ℕ → Thread
 made number part kinds registers = record { number = number; part = part; kinds = kinds; registers = registers }
 
--- it is as its number, its part and its registers say
+-- a thread is as its number, its part and its registers say
 pub thread_is : (p : Plan) (t : Thread) → IsThread p t → t ≡ thread_at p t.number t.part t.registers
 thread_is p t th =
     let kinds : t.kinds ≡ kinds_in p t.number = th.kinds ∙ sym (kinds_there p.flat.threads t.number th.text th.of_text) in

@@ -1,32 +1,34 @@
-pub mod Selected
-pub mod Pieces
-pub mod Refused
-pub mod Results
-pub mod Reading
-pub mod Joining
-pub mod Addresses
-pub mod Sited
-pub mod Splitting
-pub mod Closing
-pub mod Placed
-pub mod Marks
-pub mod Emitted
-pub mod Nodes
-pub mod Follows
-pub mod Colouring
-pub mod Entrances
-pub mod Legal
-pub mod Parts
-pub mod Performs
-pub mod Counted
-pub mod NodeCode
-pub mod Lowered
-pub mod Known
-pub mod Homes
-pub mod Live
-pub mod Opened
-pub mod Gathering
-pub mod Doing
-pub mod Planned
-pub mod Chosen
-pub mod Coded
+pub mod Public
+mod Shaped
+mod EvaluationCode
+mod Pieces
+mod RefusedEvaluations
+mod Results
+mod ReadLocals
+mod JoinedAddresses
+mod Addresses
+mod PieceSites
+mod PieceSplits
+mod ClosedPieces
+mod PiecePlaces
+mod Marks
+mod EmittedThreads
+mod Nodes
+mod StoresAfterEvaluations
+mod LocalRegisters
+mod RegistersAfterNodes
+mod LegalEvaluations
+mod PieceParts
+mod NodeCorrectness
+mod FenceCounts
+mod NodeCode
+mod LoweredNodes
+mod PlannedNodes
+mod Homes
+mod LiveRegisterLists
+mod NodePieces
+mod JoinedPieces
+mod AppendedParts
+mod PlannedThreads
+mod ChosenBoundaries
+mod ProgramCode

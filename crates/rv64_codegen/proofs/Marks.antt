@@ -6,38 +6,38 @@ use Rattle.std.proofs.lemmas.Bool.{cases_eq}
 use Rattle.c_tree.specs.Exprs as e
 use Rattle.rv64_isa.specs.declared.object.CodeItem.{CodeItem}
 use Rattle.rv64_link.specs.LabelledCode.{is_mark, is_resume, positions_from}
-use Rattle.code_runs.specs.Walks.{Program, Setting, Meets}
+use Rattle.code_runs.specs.CodeTraces.{Program, MarkedEnvironment, Meets}
 use Rattle.flow_graph.specs.Nodes.{Action, Eval, Store, Test, Lock, Unlock, End, Node}
-use Rattle.flow_graph.specs.Cutting.{IsChosen}
+use Rattle.flow_graph.specs.IdempotentCuts.{IsChosen}
 use Rattle.flow_graph.specs.Liveness.{NodeAt}
 use Rattle.node_code.specs.Sites.{Site}
-use Rattle.node_code.proofs.Lying.{Lies}
+use Rattle.node_code.proofs.Public.{Lies}
 use Rattle.thread_code.specs.Plans.{Plan, Thread, mask_before}
-use Rattle.thread_code.specs.Performing.{Places}
+use Rattle.thread_code.specs.NodeCodeEffects.{Places}
 use Rattle.thread_code.specs.Programs.{mark_of, IsOn, IsCallWithin, IsWithin}
-use Rattle.rv64_codegen.specs.Emitting.{Choices, IsGuarded, GoesTo, IsChoosing, turned, straight, IsDoing, boundary_before}
-use Rattle.rv64_codegen.proofs.Joining.{Ascends}
+use Rattle.rv64_codegen.specs.ThreadPieces.{Choices, IsGuarded, GoesTo, IsChoosing, turned, straight, IsDoing, boundary_before}
+use Rattle.rv64_codegen.proofs.JoinedAddresses.{Ascends}
 use Rattle.rv64_codegen.proofs.Addresses.{on_here, on_then, on_up, lies_on, IsAmong, marked_among, boundary_grows}
-use Rattle.rv64_codegen.proofs.Sited.{IsLinkedIn, spot_site, IsSited, AgreesAt, bare, bare_meets}
-use Rattle.rv64_codegen.proofs.Parts as parts
-use Rattle.rv64_codegen.proofs.Parts.{chosen_or_not, does_closed}
-use Rattle.rv64_codegen.proofs.Splitting.{addresses_split}
-use Rattle.rv64_codegen.proofs.Placed.{part_lies, linked_lies}
+use Rattle.rv64_codegen.proofs.PieceSites.{IsLinkedIn, spot_site, IsSited, AgreesAt, bare, bare_meets}
+use Rattle.rv64_codegen.proofs.PieceParts as parts
+use Rattle.rv64_codegen.proofs.PieceParts.{chosen_or_not, does_closed}
+use Rattle.rv64_codegen.proofs.PieceSplits.{addresses_split}
+use Rattle.rv64_codegen.proofs.PiecePlaces.{part_lies, linked_lies}
 use Rattle.rv64_codegen.proofs.NodeCode.{call_of, spots_in}
 
--- where a node is resumed behind what it does
-abbrev pub resumes_behind : Plan → Thread → Places → Action → (node : ℕ) → List ℕ
-resumes_behind p t places (Eval target value next) node = []
-resumes_behind p t places (Store variable kind next) node = []
-resumes_behind p t places (Test condition holds fails) node = []
-resumes_behind p t places (Lock mutex next) node = places.behind node ∷ []
-resumes_behind p t places (Unlock mutex next) node = if mask_before p t next == 0 then [] else places.behind node ∷ []
-resumes_behind p t places End node = []
+-- where a node is resumed after what it does
+abbrev pub resumes_after : Plan → Thread → Places → Action → (node : ℕ) → List ℕ
+resumes_after p t places (Eval target value next) node = []
+resumes_after p t places (Store variable kind next) node = []
+resumes_after p t places (Test condition holds fails) node = []
+resumes_after p t places (Lock mutex next) node = places.after node ∷ []
+resumes_after p t places (Unlock mutex next) node = if mask_before p t next == 0 then [] else places.after node ∷ []
+resumes_after p t places End node = []
 
--- where the node may be resumed: at its core behind a chosen boundary, and behind what it does
+-- where the node may be resumed: at its core after a chosen boundary, and after what it does
 pub record ResumesAre (p : Plan) (t : Thread) (places : Places) (action : Action) (node : ℕ) (resumes : List ℕ) : Type 0 where
   pub first : List ℕ
-  pub split : resumes ≡ first ++ resumes_behind p t places action node
+  pub split : resumes ≡ first ++ resumes_after p t places action node
   pub chosen : IsChosen p.graph p.boundaries node → first ≡ places.core node ∷ []
   pub plain : ¬ (IsChosen p.graph p.boundaries node) → first ≡ []
 
@@ -72,7 +72,7 @@ module _ (p : Plan) (t : Thread) (c : Choices) (node : ℕ) (is : Node) (found :
   abbrev k₂ : ℕ
   k₂ = k₁ + length does
 
-  abbrev s : Setting
+  abbrev s : MarkedEnvironment
   s = bare program
 
   abbrev meets : Meets program s
@@ -126,7 +126,7 @@ module _ (p : Plan) (t : Thread) (c : Choices) (node : ℕ) (is : Node) (found :
   record Says (action : Action) : Type 0 where
     marks : marked_from k₁ does ≡ mark_of places action node ∷ []
     no_marks : marked_from k₂ goes ≡ []
-    resumes : resumed_from k₁ does ≡ resumes_behind p t places action node
+    resumes : resumed_from k₁ does ≡ resumes_after p t places action node
     no_resumes : resumed_from k₂ goes ≡ []
     last : IsLast action
 
@@ -171,29 +171,29 @@ module _ (p : Plan) (t : Thread) (c : Choices) (node : ℕ) (is : Node) (found :
     says (Lock mutex next) d call = record {
       marks = (d.0.at middle_site).marks ∙ ap (λ (y : ℕ). y ∷ []) (sym call);
       no_marks = goes_marks next d.1;
-      resumes = (d.0.at middle_site).resumes ∙ ap (λ (y : ℕ). y ∷ []) (sym g.behind);
+      resumes = (d.0.at middle_site).resumes ∙ ap (λ (y : ℕ). y ∷ []) (sym g.after);
       no_resumes = goes_resumes next d.1;
       last = tt;
     }
     says (Unlock mutex next) d call = record {
       marks = at_core (d.0.at middle_site).marks;
       no_marks = goes_marks next d.1;
-      resumes = (d.0.at middle_site).resumes ∙ ap (λ (y : ℕ). if mask_before p t next == 0 then [] else y ∷ []) (sym g.behind);
+      resumes = (d.0.at middle_site).resumes ∙ ap (λ (y : ℕ). if mask_before p t next == 0 then [] else y ∷ []) (sym g.after);
       no_resumes = goes_resumes next d.1;
-      last = (d.0.at middle_site).behind ∙ ap (λ (y : ℕ). y + 4) (sym call);
+      last = (d.0.at middle_site).after ∙ ap (λ (y : ℕ). y + 4) (sym call);
     }
     says End d call = record {
       marks = at_core (d.0.at middle_site).marks;
       no_marks = ap (λ (xs : List CodeItem). marked_from k₂ xs) d.1;
       resumes = (d.0.at middle_site).resumes;
       no_resumes = ap (λ (xs : List CodeItem). resumed_from k₂ xs) d.1;
-      last = (d.0.at middle_site).behind ∙ ap (λ (y : ℕ). y + 4) (sym call);
+      last = (d.0.at middle_site).after ∙ ap (λ (y : ℕ). y + 4) (sym call);
     }
 
     it_says : Says is.action
     it_says = says is.action doing g.call
 
-    -- it has one mark
+    -- the node's piece has one mark
     pub marks_are : marked_from k (before ++ (does ++ goes)) ≡ mark_of places is.action node ∷ []
     marks_are =
         addresses_split at is_mark k before does goes ∙
@@ -241,7 +241,7 @@ module _ (p : Plan) (t : Thread) (c : Choices) (node : ℕ) (is : Node) (found :
     abbrev Among : Action → Type 0
     Among action = IsAmong (at k₁) (mark_of places action node) (at k₂)
 
-    -- its places lie in it, in their order
+    -- the node's places lie in it, in their order
     pub is_within : IsWithin places is.action node
     is_within = within_by is.action it_says.last mark_among
       where
@@ -249,7 +249,7 @@ module _ (p : Plan) (t : Thread) (c : Choices) (node : ℕ) (is : Node) (found :
             IsWithin places action node
         at_core_alone action m among call = record {
           core = first_on;
-          behind_core = on_then (places.core node + 4) (at k₂) next (subst (λ (a : ℕ). IsOn (a + 4) (at k₂)) m among.behind) last_on;
+          after_core = on_then (places.core node + 4) (at k₂) next (subst (λ (a : ℕ). IsOn (a + 4) (at k₂)) m among.after) last_on;
           call = call;
         }
 
@@ -268,20 +268,20 @@ module _ (p : Plan) (t : Thread) (c : Choices) (node : ℕ) (is : Node) (found :
             let shifted : IsOn (places.core node + 4) (call + 4) = record { words = before.words; is = omega (arith, over) } in
             record {
               core = first_on;
-              behind_core = on_then (places.core node + 4) (call + 4) next shifted (on_then (call + 4) (at k₂) next among.behind last_on);
+              after_core = on_then (places.core node + 4) (call + 4) next shifted (on_then (call + 4) (at k₂) next among.after last_on);
               call = (
                 before,
-                subst (λ (a : ℕ). IsOn (call + 4) a) (sym g.behind) among.behind,
-                subst (λ (a : ℕ). IsOn a next) (sym g.behind) last_on,
+                subst (λ (a : ℕ). IsOn (call + 4) a) (sym g.after) among.after,
+                subst (λ (a : ℕ). IsOn a next) (sym g.after) last_on,
               );
             }
         within_by (Unlock mutex following) h among =
             at_core_alone (Unlock mutex following) refl among (
-              call_on h among.behind,
-              on_here (places.call node + 4) (places.behind node) (sym h ∙ sym g.behind),
-              subst (λ (a : ℕ). IsOn a next) (sym g.behind) last_on,
+              call_on h among.after,
+              on_here (places.call node + 4) (places.after node) (sym h ∙ sym g.after),
+              subst (λ (a : ℕ). IsOn a next) (sym g.after) last_on,
             )
-        within_by End h among = at_core_alone End refl among (call_on h among.behind, subst (λ (a : ℕ). IsOn a next) h last_on)
+        within_by End h among = at_core_alone End refl among (call_on h among.after, subst (λ (a : ℕ). IsOn a next) h last_on)
 
     -- ---- Order
 
@@ -295,27 +295,27 @@ module _ (p : Plan) (t : Thread) (c : Choices) (node : ℕ) (is : Node) (found :
 
     -- what lies before the core lies before the next node
     past : (action : Action) → IsWithin places action node → (low : ℕ) → low ≤ places.core node → low ≤ next
-    past action w low up = let core : places.core node + 4 ≤ next = on_up (places.core node + 4) next w.behind_core in omega (arith, core, up)
+    past action w low up = let core : places.core node + 4 ≤ next = on_up (places.core node + 4) next w.after_core in omega (arith, core, up)
 
-    one_ascends : (call : IsOn (places.core node) (places.call node)) → IsOn (places.call node + 4) (places.behind node) → IsOn (places.behind node) next →
-        (low : ℕ) → low ≤ places.core node → Ascends low next (places.behind node ∷ [])
+    one_ascends : (call : IsOn (places.core node) (places.call node)) → IsOn (places.call node + 4) (places.after node) → IsOn (places.after node) next →
+        (low : ℕ) → low ≤ places.core node → Ascends low next (places.after node ∷ [])
     one_ascends f g h low up =
         let call : places.core node ≤ places.call node = on_up (places.core node) (places.call node) f in
-        let behind : places.call node + 4 ≤ places.behind node = on_up (places.call node + 4) (places.behind node) g in
-        (omega (arith, call, behind, up), on_up (places.behind node) next h)
+        let after : places.call node + 4 ≤ places.after node = on_up (places.call node + 4) (places.after node) g in
+        (omega (arith, call, after, up), on_up (places.after node) next h)
 
-    behind_ascends : (action : Action) → IsWithin places action node → (low : ℕ) → low ≤ places.core node →
-        Ascends low next (resumes_behind p t places action node)
-    behind_ascends (Eval target value following) w low up = past (Eval target value following) w low up
-    behind_ascends (Store variable kind following) w low up = past (Store variable kind following) w low up
-    behind_ascends (Test condition holds fails) w low up = past (Test condition holds fails) w low up
-    behind_ascends (Lock mutex following) w low up = one_ascends w.call.0 w.call.1 w.call.2 low up
-    behind_ascends (Unlock mutex following) w low up = by (mask_before p t following == 0)
+    after_ascends : (action : Action) → IsWithin places action node → (low : ℕ) → low ≤ places.core node →
+        Ascends low next (resumes_after p t places action node)
+    after_ascends (Eval target value following) w low up = past (Eval target value following) w low up
+    after_ascends (Store variable kind following) w low up = past (Store variable kind following) w low up
+    after_ascends (Test condition holds fails) w low up = past (Test condition holds fails) w low up
+    after_ascends (Lock mutex following) w low up = one_ascends w.call.0 w.call.1 w.call.2 low up
+    after_ascends (Unlock mutex following) w low up = by (mask_before p t following == 0)
       where
-        by : (none : Bool) → Ascends low next (if none then [] else places.behind node ∷ [])
+        by : (none : Bool) → Ascends low next (if none then [] else places.after node ∷ [])
         by true = past (Unlock mutex following) w low up
         by false = one_ascends w.call.0 w.call.1 w.call.2 low up
-    behind_ascends End w low up = past End w low up
+    after_ascends End w low up = past End w low up
 
     -- where it may be resumed ascends from above its entry to that of the next node
     pub resumes_ascend : Ascends (places.entry node) (places.entry (node + 1)) (resumed_from k (before ++ (does ++ goes)))
@@ -325,9 +325,9 @@ module _ (p : Plan) (t : Thread) (c : Choices) (node : ℕ) (is : Node) (found :
         subst (λ (ns : List ℕ). Ascends (places.entry node) (places.entry (node + 1)) ns) (sym r.split)
         (elim (chosen_or_not p.graph p.boundaries node is found) [
           | inl chosen ↦
-              subst (λ (ns : List ℕ). Ascends (places.entry node) (places.entry (node + 1)) (ns ++ resumes_behind p t places is.action node))
-              (sym (r.chosen chosen)) (chosen_grows chosen, behind_ascends is.action is_within (places.core node) (omega arith))
+              subst (λ (ns : List ℕ). Ascends (places.entry node) (places.entry (node + 1)) (ns ++ resumes_after p t places is.action node))
+              (sym (r.chosen chosen)) (chosen_grows chosen, after_ascends is.action is_within (places.core node) (omega arith))
           | inr not ↦
-              subst (λ (ns : List ℕ). Ascends (places.entry node) (places.entry (node + 1)) (ns ++ resumes_behind p t places is.action node))
-              (sym (r.plain not)) (behind_ascends is.action is_within (places.entry node) core)
+              subst (λ (ns : List ℕ). Ascends (places.entry node) (places.entry (node + 1)) (ns ++ resumes_after p t places is.action node))
+              (sym (r.plain not)) (after_ascends is.action is_within (places.entry node) core)
         ])

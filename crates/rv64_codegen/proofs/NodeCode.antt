@@ -14,35 +14,33 @@ use Rattle.c_tree.specs.WellFormed.{shape_of}
 use Rattle.rv64_isa.specs.declared.instr.Instr.TheVariants.{Ecall}
 use Rattle.rv64_isa.specs.declared.object.CodeItem.{CodeItem}
 use Rattle.rv64_link.specs.LabelledCode.{most_words_of, fences_in}
-use Rattle.rv64_link.specs.Linked.{Stands, AreInstructions}
+use Rattle.rv64_link.specs.LinkedCode.{IsInstructionAt, AreInstructions}
 use Rattle.boundary_code.specs.Boundaries.{Boundary}
-use Rattle.code_runs.specs.Walks.{Program, Setting, Meets, Sight, Goes, marked}
+use Rattle.code_runs.specs.CodeTraces.{Program, MarkedEnvironment, Meets, Observation, GoesThrough, marked}
 use Rattle.flow_graph.specs.Nodes.{Action, Eval, Store, Test, Lock, Unlock, End, Node}
 use Rattle.flow_graph.specs.Actions as a
 use Rattle.flow_graph.specs.Actions.{Seen, effect_of, number_in, element_in}
-use Rattle.flow_graph.specs.Cleaning.{IsCleanedLater}
-use Rattle.flow_graph.specs.Cutting.{IsChosen}
+use Rattle.flow_graph.specs.OmittedCleans.{IsCleanedLater}
+use Rattle.flow_graph.specs.IdempotentCuts.{IsChosen}
 use Rattle.flow_graph.specs.Lowering.{expr_locals}
 use Rattle.flow_graph.specs.Liveness.{NodeAt}
 use Rattle.node_code.specs.Sites.{Site}
-use Rattle.node_code.specs.Pieces.{IsBoundary, IsLeft, boundary_sights, bank_behind, Locks, words_in}
-use Rattle.node_code.proofs.Legs.{way, weaker, moved}
-use Rattle.node_code.proofs.Words.{words_are_few}
-use Rattle.node_code.proofs.Fences.{part_instructions}
+use Rattle.node_code.specs.Pieces.{IsBoundaryPiece, LeavesRegisters, boundary_observations, bank_after, Locks, words_in}
+use Rattle.node_code.proofs.Public.{fragment, weaker, moved, words_are_few, part_instructions}
 use Rattle.thread_code.specs.Plans.{Plan, Thread, IsThread, IsPlan, IsNodeOf, homes}
-use Rattle.thread_code.specs.Entering.{Enters, source_of, IsAnswered}
-use Rattle.thread_code.specs.Performing.{Places, Entrance, EntersAt, keeping, Keeping, Performs, GoesOnBehind}
-use Rattle.thread_code.specs.Programs.{IsAt, IsPlainCall, IsCalling, IsCleaning, IsNodeCode, IsWithin, action_nodes, boundary_count}
-use Rattle.rv64_codegen.specs.Emitting.{Choices, AreChoices, IsGuarded, GoesTo, IsDoing, boundary_before}
+use Rattle.thread_code.specs.RegistersAtNodes.{Enters, source_of, IsAnswered}
+use Rattle.thread_code.specs.NodeCodeEffects.{Places, Entrance, EntersAt, keeping, BoundaryCode, Performs, GoesOnAfter}
+use Rattle.thread_code.specs.Programs.{IsAtOwnNode, IsPlainCall, IsCalling, IsCleaning, IsNodeCode, IsWithin, action_nodes, boundary_count}
+use Rattle.rv64_codegen.specs.ThreadPieces.{Choices, AreChoices, IsGuarded, GoesTo, IsDoing, boundary_before}
 use Rattle.rv64_codegen.specs.Locals.{HoldsEach}
-use Rattle.rv64_codegen.proofs.Reading.{left_held}
+use Rattle.rv64_codegen.proofs.ReadLocals.{left_held}
 use Rattle.rv64_codegen.proofs.Nodes.{Known}
-use Rattle.rv64_codegen.proofs.Sited.{IsLinkedIn, Spot, spot_site, IsSited, site_in, Spots, AgreesAt, bare, bare_meets}
-use Rattle.rv64_codegen.proofs.Counted.{piece_fences}
-use Rattle.rv64_codegen.proofs.Legal.{variable_below, element_below, reads_held}
-use Rattle.rv64_codegen.proofs.Parts as parts
-use Rattle.rv64_codegen.proofs.Performs as performs
-use Rattle.rv64_codegen.proofs.Performs.{known_of, enters_kept}
+use Rattle.rv64_codegen.proofs.PieceSites.{IsLinkedIn, Spot, spot_site, IsSited, site_in, Spots, AgreesAt, bare, bare_meets}
+use Rattle.rv64_codegen.proofs.FenceCounts.{piece_fences}
+use Rattle.rv64_codegen.proofs.LegalEvaluations.{variable_below, element_below, reads_held}
+use Rattle.rv64_codegen.proofs.PieceParts as parts
+use Rattle.rv64_codegen.proofs.NodeCorrectness as performs
+use Rattle.rv64_codegen.proofs.NodeCorrectness.{known_of, enters_kept}
 
 first_same : (x y : ℕ) → x ∷ [] ≡ y ∷ [] → x ≡ y
 first_same x y same = ap (λ (xs : List ℕ). slice_index_or xs 0 0) same
@@ -59,7 +57,7 @@ module _ (p : Plan) (t : Thread) (c : Choices) (program : Program) (items : List
   abbrev pub goes_at : ℕ
   goes_at = parts.goes_at p t c program items n entry node is at before does goes guarded doing sited
 
-  abbrev pub does_in : (s : Setting) → Meets program s → Site does
+  abbrev pub does_in : (s : MarkedEnvironment) → Meets program s → Site does
   does_in s meets = spot_site n does (parts.does_spot p t c program items n entry node is at before does goes guarded doing sited) s meets
 
   abbrev pub does_bare : Site does
@@ -75,7 +73,7 @@ module _ (p : Plan) (t : Thread) (c : Choices) (program : Program) (items : List
   call_of End d = (d.0.at does_bare).call
 
   abbrev pub spots_in : Spots
-  spots_in = record { core = to does_at; call = call_of is.action doing; behind = to goes_at }
+  spots_in = record { core = to does_at; call = call_of is.action doing; after = to goes_at }
 
 module _ (p : Plan) (t : Thread) (c : Choices) (plan : IsPlan p) (of : IsThread p t) (choices : AreChoices p t c) (places : Places) (program : Program)
     (items : List CodeItem) (n : IsLinkedIn program items) (node : ℕ) (is : Node) (own : IsNodeOf t node) (at : NodeAt p.graph node is)
@@ -95,53 +93,53 @@ module _ (p : Plan) (t : Thread) (c : Choices) (plan : IsPlan p) (of : IsThread 
   abbrev words : ℕ
   words = places.words node
 
-  abbrev site_of : (s : Setting) → Meets program s → Site does
+  abbrev site_of : (s : MarkedEnvironment) → Meets program s → Site does
   site_of s meets = does_in p t c program items n places.entry node is at before does goes guarded doing sited s meets
 
   abbrev bare_site : Site does
   bare_site = site_of (bare program) (bare_meets program)
 
-  met : (s : Setting) → Meets places.program s → Meets program s
+  met : (s : MarkedEnvironment) → Meets places.program s → Meets program s
   met s h = subst (λ (q : Program). Meets q s) agrees.of_program h
 
   -- an entrance at the node
-  at_node : (Q : Entrance → Type 0) → ((s : Setting) (seen : Seen) (bank : ℕ) (x : List ℕ) → Meets places.program s → Enters p t node seen bank x →
-      Q (record { setting = s; node = node; seen = seen; bank = bank; registers = x })) → (m : Entrance) → m.node ≡ node → IsAt p t places m → Q m
+  at_node : (Q : Entrance → Type 0) → ((s : MarkedEnvironment) (seen : Seen) (bank : ℕ) (x : List ℕ) → Meets places.program s → Enters p t node seen bank x →
+      Q (record { environment = s; node = node; seen = seen; bank = bank; registers = x })) → (m : Entrance) → m.node ≡ node → IsAtOwnNode p t places m → Q m
   at_node Q f m same is_at =
       subst (λ (k : ℕ). Enters p t k m.seen m.bank m.registers →
-      Q (record { setting = m.setting; node = k; seen = m.seen; bank = m.bank; registers = m.registers }))
-      (sym same) (λ enters. f m.setting m.seen m.bank m.registers is_at.meets enters) is_at.enters
+      Q (record { environment = m.environment; node = k; seen = m.seen; bank = m.bank; registers = m.registers }))
+      (sym same) (λ enters. f m.environment m.seen m.bank m.registers is_at.meets enters) is_at.enters
 
   -- ---- The boundary before it
 
-  chosen_by : IsBoundary (boundary_before p t c node 0) before → (s : Setting) (seen : Seen) (bank : ℕ) (x : List ℕ) → Meets places.program s →
+  chosen_by : IsBoundaryPiece (boundary_before p t c node 0) before → (s : MarkedEnvironment) (seen : Seen) (bank : ℕ) (x : List ℕ) → Meets places.program s →
       Enters p t node seen bank x →
-      Keeping p t places (record { setting = s; node = node; seen = seen; bank = bank; registers = x }) node (places.entry node) (places.core node)
+      BoundaryCode p t places (record { environment = s; node = node; seen = seen; bank = bank; registers = x }) node (places.entry node) (places.core node)
       (places.core node)
   chosen_by boundary s seen bank x meets enters =
       let b : Boundary = boundary_before p t c node 0 in
-      let P : List ℕ → Type 0 = Enters p t node seen (bank_behind b bank) in
+      let P : List ℕ → Type 0 = Enters p t node seen (bank_after b bank) in
       let site : Site before = spot_site n before (parts.before_spot p t c program items n places.entry node is at before does goes guarded doing sited) s
       (met s meets) in
-      let alike : boundary_sights b bank (addr core_at) x ≡ boundary_sights (keeping p t places node) bank (places.core node) x =
-      ap (λ (z : ℕ). boundary_sights b bank z x) (sym agrees.core) ∙
-      ap (λ (ls : List ℕ). boundary_sights (record { thread = t.number; mask = b.mask; live = ls; resume = pos 0 }) bank (places.core node) x)
+      let lockstep : boundary_observations b bank (addr core_at) x ≡ boundary_observations (keeping p t places node) bank (places.core node) x =
+      ap (λ (z : ℕ). boundary_observations b bank z x) (sym agrees.core) ∙
+      ap (λ (ls : List ℕ). boundary_observations (record { thread = t.number; mask = b.mask; live = ls; resume = pos 0 }) bank (places.core node) x)
       (sym (agrees.live node)) in
-      subst (λ (ss : List Sight). Goes s (way x (places.entry node) (places.core node) words) ss P) alike
-      (moved s x (places.entry node) (places.entry node) (addr core_at) (places.core node) words (boundary_sights b bank (addr core_at) x) P refl
+      subst (λ (ss : List Observation). GoesThrough s (fragment x (places.entry node) (places.core node) words) ss P) lockstep
+      (moved s x (places.entry node) (places.entry node) (addr core_at) (places.core node) words (boundary_observations b bank (addr core_at) x) P refl
       (sym agrees.core)
       (parts.then_core p t c program items n places.entry node is at before does goes guarded doing sited words agrees.words s x
-      (boundary_sights b bank (addr core_at) x) P
-      (weaker s (way x (addr sited.position) (addr core_at)
-      (parts.before_words p t c program items n places.entry node is at before does goes guarded doing sited)) (boundary_sights b bank (addr core_at) x)
-      (IsLeft b bank x) P
+      (boundary_observations b bank (addr core_at) x) P
+      (weaker s (fragment x (addr sited.position) (addr core_at)
+      (parts.before_words p t c program items n places.entry node is at before does goes guarded doing sited)) (boundary_observations b bank (addr core_at) x)
+      (LeavesRegisters b bank x) P
       (λ y left. enters_kept p t plan of c choices node 0 own seen bank x y enters left)
       ((boundary.at site).keeps x bank enters.at_bank))))
 
-  chosen : IsChosen p.graph p.boundaries node → (m : Entrance) → m.node ≡ node → IsAt p t places m →
-      Keeping p t places m node (places.entry node) (places.core node) (places.core node)
+  chosen : IsChosen p.graph p.boundaries node → (m : Entrance) → m.node ≡ node → IsAtOwnNode p t places m →
+      BoundaryCode p t places m node (places.entry node) (places.core node) (places.core node)
   chosen ch m same is_at =
-      at_node (λ (k : Entrance). Keeping p t places k node (places.entry node) (places.core node) (places.core node))
+      at_node (λ (k : Entrance). BoundaryCode p t places k node (places.entry node) (places.core node) (places.core node))
       (chosen_by (guarded.chosen ch)) m same is_at
 
   plain : (IsChosen p.graph p.boundaries node → ⊥) → places.entry node ≡ places.core node
@@ -152,27 +150,28 @@ module _ (p : Plan) (t : Thread) (c : Choices) (plan : IsPlan p) (of : IsThread 
 
   -- ---- What it does
 
-  -- a call stands at one address in all settings
-  lock_call : (mutex next : ℕ) (d : IsDoing p t c node (Lock mutex next) does goes) (s : Setting) (meets : Meets program s) →
+  -- a call stands at one address in all environments
+  lock_call : (mutex next : ℕ) (d : IsDoing p t c node (Lock mutex next) does goes) (s : MarkedEnvironment) (meets : Meets program s) →
       (d.0.at (site_of s meets)).call ≡ (d.0.at bare_site).call
   lock_call mutex next d s meets = first_same _ _ (sym (d.0.at (site_of s meets)).marks ∙ (d.0.at bare_site).marks)
 
-  unlock_call : (mutex next : ℕ) (d : IsDoing p t c node (Unlock mutex next) does goes) (s : Setting) (meets : Meets program s) →
+  unlock_call : (mutex next : ℕ) (d : IsDoing p t c node (Unlock mutex next) does goes) (s : MarkedEnvironment) (meets : Meets program s) →
       (d.0.at (site_of s meets)).call ≡ (d.0.at bare_site).call
   unlock_call mutex next d s meets =
-      let here : addr on_at ≡ (d.0.at (site_of s meets)).call + 4 = (d.0.at (site_of s meets)).behind in
-      let there : addr on_at ≡ (d.0.at bare_site).call + 4 = (d.0.at bare_site).behind in
+      let here : addr on_at ≡ (d.0.at (site_of s meets)).call + 4 = (d.0.at (site_of s meets)).after in
+      let there : addr on_at ≡ (d.0.at bare_site).call + 4 = (d.0.at bare_site).after in
       omega (arith, here, there)
 
-  end_call : (d : IsDoing p t c node End does goes) (s : Setting) (meets : Meets program s) → (d.0.at (site_of s meets)).call ≡ (d.0.at bare_site).call
+  end_call : (d : IsDoing p t c node End does goes) (s : MarkedEnvironment) (meets : Meets program s) →
+      (d.0.at (site_of s meets)).call ≡ (d.0.at bare_site).call
   end_call d s meets =
-      let here : addr on_at ≡ (d.0.at (site_of s meets)).call + 4 = (d.0.at (site_of s meets)).behind in
-      let there : addr on_at ≡ (d.0.at bare_site).call + 4 = (d.0.at bare_site).behind in
+      let here : addr on_at ≡ (d.0.at (site_of s meets)).call + 4 = (d.0.at (site_of s meets)).after in
+      let there : addr on_at ≡ (d.0.at bare_site).call + 4 = (d.0.at bare_site).after in
       omega (arith, here, there)
 
-  module _ (s : Setting) (meets : Meets program s) (seen : Seen) (bank : ℕ) (x : List ℕ) (enters : Enters p t node seen bank x) where
+  module _ (s : MarkedEnvironment) (meets : Meets program s) (seen : Seen) (bank : ℕ) (x : List ℕ) (enters : Enters p t node seen bank x) where
     abbrev m : Entrance
-    m = record { setting = s; node = node; seen = seen; bank = bank; registers = x }
+    m = record { environment = s; node = node; seen = seen; bank = bank; registers = x }
 
     abbrev By : a.Effect → Type 0
     By effect = Performs p t places m effect
@@ -244,67 +243,68 @@ module _ (p : Plan) (t : Thread) (c : Choices) (plan : IsPlan p) (of : IsThread 
         subst By (same_Some (a.Gives mutex next) effect eq)
         (performs.gives_it p t c plan of choices places program items n node is own at before does goes guarded doing sited agrees.words agrees.of_program
         agrees.live agrees.cleans agrees.core s meets seen bank x enters mutex next same known (d.0.at (site_of s meets))
-        (call ∙ sym (unlock_call mutex next d s meets)) agrees.behind)
+        (call ∙ sym (unlock_call mutex next d s meets)) agrees.after)
     does_it End same known d call answered effect eq =
         subst By (same_Some a.Ends effect eq)
         (performs.ends_it p t c plan of choices places program items n node is own at before does goes guarded doing sited agrees.words agrees.of_program
         agrees.live agrees.cleans agrees.core s meets seen bank x enters (d.0.at (site_of s meets)) (call ∙ sym (end_call d s meets)))
 
-  performs_it : (m : Entrance) (effect : a.Effect) → m.node ≡ node → IsAt p t places m →
-      IsAnswered (source_of p t m.seen) m.setting.around.loads is.action → effect_of is.action m.seen ≡ Some effect → Performs p t places m effect
+  performs_it : (m : Entrance) (effect : a.Effect) → m.node ≡ node → IsAtOwnNode p t places m →
+      IsAnswered (source_of p t m.seen) m.environment.around.loads is.action → effect_of is.action m.seen ≡ Some effect → Performs p t places m effect
   performs_it m effect same is_at =
-      at_node (λ (k : Entrance). IsAnswered (source_of p t k.seen) k.setting.around.loads is.action → effect_of is.action k.seen ≡ Some effect →
+      at_node (λ (k : Entrance). IsAnswered (source_of p t k.seen) k.environment.around.loads is.action → effect_of is.action k.seen ≡ Some effect →
       Performs p t places k effect)
       (λ s seen bank x meets enters answered eq.
       does_it s (met s meets) seen bank x enters is.action refl (known_of p t plan of node is own at) doing agrees.call answered effect eq) m same is_at
 
   -- ---- Calls
 
-  goes_on_behind : (next : ℕ) → IsNodeOf t next → GoesTo p t c node next goes → GoesOnBehind p t places node next
-  goes_on_behind next of_next g = record {
+  goes_on_after : (next : ℕ) → IsNodeOf t next → GoesTo p t c node next goes → GoesOnAfter p t places node next
+  goes_on_after next of_next g = record {
     on = λ m meets same enters.
-        subst (λ (k : ℕ). Goes m.setting (way m.registers (places.behind node) (places.entry next) (places.words k)) [] (Enters p t next m.seen m.bank))
+        subst (λ (k : ℕ). GoesThrough m.environment (fragment m.registers (places.after node) (places.entry next) (places.words k)) []
+        (Enters p t next m.seen m.bank))
         (sym same)
-        (moved m.setting m.registers (addr on_at) (places.behind node) (places.entry next) (places.entry next) words [] (Enters p t next m.seen m.bank)
-        (sym agrees.behind) refl
-        (weaker m.setting (way m.registers (addr on_at) (places.entry next) words) [] (λ y. y ≡ m.registers) (Enters p t next m.seen m.bank)
+        (moved m.environment m.registers (addr on_at) (places.after node) (places.entry next) (places.entry next) words [] (Enters p t next m.seen m.bank)
+        (sym agrees.after) refl
+        (weaker m.environment (fragment m.registers (addr on_at) (places.entry next) words) [] (λ y. y ≡ m.registers) (Enters p t next m.seen m.bank)
         (λ y is_it. subst (λ (z : List ℕ). Enters p t next m.seen m.bank z) (sym is_it) enters)
-        (parts.on_from_behind p t c program items n places.entry node is at before does goes guarded doing sited words agrees.words next of_next g m.setting
-        (met m.setting meets) m.registers)));
+        (parts.on_from_after p t c program items n places.entry node is at before does goes guarded doing sited words agrees.words next of_next g m.environment
+        (met m.environment meets) m.registers)));
   }
 
-  -- behind the call of a lock
-  keeps_behind : (mutex next : ℕ) → IsNodeOf t next → (d : IsDoing p t c node (Lock mutex next) does goes) →
-      places.call node ≡ (d.0.at bare_site).call → (m : Entrance) → Meets places.program m.setting → m.node ≡ node → EntersAt p t places m next →
-      Keeping p t places m next (places.call node + 4) (places.behind node) (places.behind node)
-  keeps_behind mutex next of_next d call m meets same enters =
-      let s : Setting = m.setting in
+  -- after the call of a lock
+  keeps_after : (mutex next : ℕ) → IsNodeOf t next → (d : IsDoing p t c node (Lock mutex next) does goes) →
+      places.call node ≡ (d.0.at bare_site).call → (m : Entrance) → Meets places.program m.environment → m.node ≡ node → EntersAt p t places m next →
+      BoundaryCode p t places m next (places.call node + 4) (places.after node) (places.after node)
+  keeps_after mutex next of_next d call m meets same enters =
+      let s : MarkedEnvironment = m.environment in
       let x : List ℕ = m.registers in
       let b : Boundary = boundary_before p t c next 0 in
-      let P : List ℕ → Type 0 = Enters p t next m.seen (bank_behind b m.bank) in
+      let P : List ℕ → Type 0 = Enters p t next m.seen (bank_after b m.bank) in
       let locks : Locks b mutex does (site_of s (met s meets)) = d.0.at (site_of s (met s meets)) in
       let at_call : locks.call + 4 ≡ places.call node + 4 = ap (λ (z : ℕ). z + 4) (lock_call mutex next d s (met s meets) ∙ sym call) in
-      let alike : boundary_sights b m.bank (addr on_at) x ≡ boundary_sights (keeping p t places next) m.bank (places.behind node) x =
-      ap (λ (z : ℕ). boundary_sights b m.bank z x) (sym agrees.behind) ∙
-      ap (λ (ls : List ℕ). boundary_sights (record { thread = t.number; mask = b.mask; live = ls; resume = pos 0 }) m.bank (places.behind node) x)
+      let lockstep : boundary_observations b m.bank (addr on_at) x ≡ boundary_observations (keeping p t places next) m.bank (places.after node) x =
+      ap (λ (z : ℕ). boundary_observations b m.bank z x) (sym agrees.after) ∙
+      ap (λ (ls : List ℕ). boundary_observations (record { thread = t.number; mask = b.mask; live = ls; resume = pos 0 }) m.bank (places.after node) x)
       (sym (agrees.live next)) in
-      subst (λ (k : ℕ). Goes s (way x (places.call node + 4) (places.behind node) (places.words k))
-      (boundary_sights (keeping p t places next) m.bank (places.behind node) x) P) (sym same)
-      (subst (λ (ss : List Sight). Goes s (way x (places.call node + 4) (places.behind node) words) ss P) alike
-      (moved s x (locks.call + 4) (places.call node + 4) (addr on_at) (places.behind node) words (boundary_sights b m.bank (addr on_at) x) P at_call
-      (sym agrees.behind)
+      subst (λ (k : ℕ). GoesThrough s (fragment x (places.call node + 4) (places.after node) (places.words k))
+      (boundary_observations (keeping p t places next) m.bank (places.after node) x) P) (sym same)
+      (subst (λ (ss : List Observation). GoesThrough s (fragment x (places.call node + 4) (places.after node) words) ss P) lockstep
+      (moved s x (locks.call + 4) (places.call node + 4) (addr on_at) (places.after node) words (boundary_observations b m.bank (addr on_at) x) P at_call
+      (sym agrees.after)
       (parts.within p t c program items n places.entry node is at before does goes guarded doing sited words agrees.words s x (locks.call + 4) (addr on_at)
-      (boundary_sights b m.bank (addr on_at) x) P
-      (weaker s (way x (locks.call + 4) (addr on_at)
-      (parts.does_words p t c program items n places.entry node is at before does goes guarded doing sited)) (boundary_sights b m.bank (addr on_at) x)
-      (IsLeft b m.bank x) P
+      (boundary_observations b m.bank (addr on_at) x) P
+      (weaker s (fragment x (locks.call + 4) (addr on_at)
+      (parts.does_words p t c program items n places.entry node is at before does goes guarded doing sited)) (boundary_observations b m.bank (addr on_at) x)
+      (LeavesRegisters b m.bank x) P
       (λ y left. enters_kept p t plan of c choices next 0 of_next m.seen m.bank x y enters left) (locks.keeps x m.bank enters.at_bank)))))
 
-  stands_there : (call : ℕ) → places.call node ≡ call → Stands program.start program.code call Ecall →
-      Stands places.program.start places.program.code (places.call node) Ecall
+  stands_there : (call : ℕ) → places.call node ≡ call → IsInstructionAt program.start program.code call Ecall →
+      IsInstructionAt places.program.start places.program.code (places.call node) Ecall
   stands_there call same h =
-      subst (λ (z : ℕ). Stands places.program.start places.program.code z Ecall) (sym same)
-      (subst (λ (q : Program). Stands q.start q.code call Ecall) (sym agrees.of_program) h)
+      subst (λ (z : ℕ). IsInstructionAt places.program.start places.program.code z Ecall) (sym same)
+      (subst (λ (q : Program). IsInstructionAt q.start q.code call Ecall) (sym agrees.of_program) h)
 
   plain_there : (call : ℕ) → places.call node ≡ call → marked program.nodes call ≡ [] → IsPlainCall p t places node
   plain_there call same h =
@@ -318,14 +318,14 @@ module _ (p : Plan) (t : Thread) (c : Choices) (plan : IsPlan p) (of : IsThread 
   calls_by (Lock mutex next) same known d call =
       let of_next : IsNodeOf t next = record { from_first = known.inside.0; below_end = known.inside.1 } in (
         stands_there (d.0.at bare_site).call call (d.0.at bare_site).stands,
-        goes_on_behind next of_next d.1,
-        keeps_behind mutex next of_next d call,
+        goes_on_after next of_next d.1,
+        keeps_after mutex next of_next d call,
       )
   calls_by (Unlock mutex next) same known d call =
       let of_next : IsNodeOf t next = record { from_first = known.inside.0; below_end = known.inside.1 } in (
         stands_there (d.0.at bare_site).call call (d.0.at bare_site).stands,
-        goes_on_behind next of_next d.1,
-        agrees.behind ∙ (d.0.at bare_site).behind ∙ ap (λ (z : ℕ). z + 4) (sym call),
+        goes_on_after next of_next d.1,
+        agrees.after ∙ (d.0.at bare_site).after ∙ ap (λ (z : ℕ). z + 4) (sym call),
         plain_there (d.0.at bare_site).call call (d.0.at bare_site).plain,
       )
   calls_by End same known d call =

@@ -14,9 +14,8 @@ use Rattle.flow_graph.specs.Lowering.{expr_locals, target_locals, target_local, 
 use Rattle.flow_graph.specs.Lowering.{arms_count, thread_count, entry, statement_nodes, statements_nodes, arms_nodes, thread_nodes}
 use Rattle.flow_graph.specs.Lowering.{threads_nodes, part, parts, lowered}
 use Rattle.flow_graph.specs.Liveness.{NodeAt}
-use Rattle.flow_graph.proofs.Counted.{length-statement_nodes, length-statements_nodes, length-arms_nodes, length-thread_nodes}
-use Rattle.flow_graph.proofs.Lockstep.{lowered_nodes, lowered_threads}
-use Rattle.flow_graph.proofs.Standing.{AreThreads}
+use Rattle.flow_graph.proofs.Public.{length-statement_nodes, length-statements_nodes, length-arms_nodes, length-thread_nodes, lowered_nodes, lowered_threads}
+use Rattle.flow_graph.proofs.Public.{AreThreads}
 
 -- ---- Nodes among others, from a place on
 
@@ -58,15 +57,15 @@ has_head all first x xs h = at_same all (first + 0) first x (omega arith) (h.eac
 
 -- ---- What is known
 
--- there stands the store of the variable
+-- the next node is the store of the variable
 pub record StoresThere (all : List Node) (next variable : ℕ) (k : Kind) : Type 0 where
   pub node : Node
   pub at : slice_get all next ≡ Some node
-  pub behind : ℕ
-  pub stores : node.action ≡ Store variable k behind
+  pub after : ℕ
+  pub stores : node.action ≡ Store variable k after
 
 module _ (x : f.Flat) (ks : List Kind) (lo hi : ℕ) (all : List Node) where
-  -- an evaluation for a variable has its store behind it
+  -- an evaluation for a variable has its store after it
   abbrev pub IsOwed : e.Lvalue → (next : ℕ) → Type 0
   IsOwed (e.ToLocal local kind) next = Unit {0}
   IsOwed (e.ToVariable place variable kind) next = StoresThere all next variable kind
@@ -139,7 +138,7 @@ module _ (x : f.Flat) (ks : List Kind) (lo hi : ℕ) (all : List Node) where
       uses = refl;
       assigns = refl;
       inside = (omega arith, omega arith);
-      owed = record { node = _; at = has_head all (suc first) _ _ (has_tail all first _ _ h); behind = next; stores = refl };
+      owed = record { node = _; at = has_head all (suc first) _ _ (has_tail all first _ _ h); after = next; stores = refl };
     },
     (record { array = _; declared = w.0; assigns = refl; inside = (c, d) }, tt),
   )
@@ -150,7 +149,7 @@ module _ (x : f.Flat) (ks : List Kind) (lo hi : ℕ) (all : List Node) where
       uses = refl;
       assigns = refl;
       inside = (omega arith, omega arith);
-      owed = record { node = _; at = has_head all (suc first) _ _ (has_tail all first _ _ h); behind = next; stores = refl };
+      owed = record { node = _; at = has_head all (suc first) _ _ (has_tail all first _ _ h); after = next; stores = refl };
     },
     (record { array = _; declared = w.0.0; assigns = refl; inside = (c, d) }, tt),
   )
@@ -195,14 +194,14 @@ module _ (x : f.Flat) (ks : List Kind) (lo hi : ℕ) (all : List Node) where
     statements_known f.no_statement first next w h a b c d = tt
     statements_known (f.statement_and y rest) first next w h a b c d =
         let whole : first + (count y + statements_count rest) ≤ hi = b in
-        let behind : IsInside (entry (statements_count rest) (first + count y) next) =
+        let after : IsInside (entry (statements_count rest) (first + count y) next) =
         entry_in (statements_count rest) (first + count y) next (omega arith) (omega (arith, whole)) c d in
         let prefix = statement_nodes y first (entry (statements_count rest) (first + count y) next) in
         let suffix = statements_nodes rest (first + count y) next in
         both prefix suffix
         (statement_known y first (entry (statements_count rest) (first + count y) next) w.0 (has_prefix all first prefix suffix h) a
-        (omega (arith, whole)) behind.0
-        behind.1)
+        (omega (arith, whole)) after.0
+        after.1)
         (statements_known rest (first + count y) next w.1
         (has_suffix all first (count y) prefix suffix (length-statement_nodes y first (entry (statements_count rest) (first + count y) next)) h) (omega arith)
         (omega (arith, whole)) c d)

@@ -11,13 +11,13 @@ use Rattle.c_tree.specs.Exprs as e
 use Rattle.c_tree.specs.Prices.{need_of, nodes_of}
 use Rattle.rv64_isa.specs.declared.instr.Instr.{Instr}
 use Rattle.expr_code.specs.declared.selection.SelectError.{SelectError}
-use Rattle.expr_code.specs.Evaluating.{Homes, IsConvertedCode, IsVariableAddressCode, IsElementAddressCode, fences_among}
-use Rattle.expr_code.proofs.Fences.{among_append}
-use Rattle.expr_code.specs.Refusing as one
-use Rattle.rv64_codegen.specs.Evaluations.{IsRefused}
+use Rattle.expr_code.specs.EvaluationCode.{Homes, IsConvertedCode, IsVariableAddressCode, IsElementAddressCode, fences_among}
+use Rattle.expr_code.proofs.Public.{among_append}
+use Rattle.expr_code.specs.RefusedExpressions as one
+use Rattle.rv64_codegen.specs.Evaluations.{AreRefusedExpressions}
 use Rattle.rv64_codegen.specs.links.Targets.{IsSelected}
-use Rattle.rv64_codegen.proofs.Selected.{local_target, variable_target, element_target}
-use Rattle.rv64_codegen.proofs.Refused.{refused, found_first}
+use Rattle.rv64_codegen.proofs.EvaluationCode.{local_target, variable_target, element_target}
+use Rattle.rv64_codegen.proofs.RefusedEvaluations.{refused, found_first}
 
 pub first_of_all : (y : e.Placed) (ys : List e.Placed) → Contains (y ∷ ys) y
 first_of_all y ys = (0, omega arith, refl)
@@ -27,8 +27,8 @@ second_of_all x y ys = (1, omega arith, refl)
 
 pub local_result : (h : Homes) (local rd : ℕ) (k : Kind) (t : e.Placed) (r : Result (Vec Instr) SelectError) → rd ≡ slice_index h.registers local →
     IfOk r (λ code. length code.items ≤ 16 * nodes_of t.expr + 8) → IfOk r (λ code. fences_among code.items ≡ 0) →
-    MatchResult r (λ code. (need_of t.expr ≤ MOST_TEMPORARIES) × IsConvertedCode h t.expr k rd code.items) (λ error. one.IsRefused t error) →
-    MatchResult r (λ code. IsSelected h (e.ToLocal local k) t code.items) (λ error. IsRefused (t ∷ []) error)
+    MatchResult r (λ code. (need_of t.expr ≤ MOST_TEMPORARIES) × IsConvertedCode h t.expr k rd code.items) (λ error. one.IsRefusedExpression t error) →
+    MatchResult r (λ code. IsSelected h (e.ToLocal local k) t code.items) (λ error. AreRefusedExpressions (t ∷ []) error)
 local_result h local rd k t (Ok code) same short none m = record {
   few = (m.0, tt);
   does = local_target h local k t.expr code.items (subst (λ (n : ℕ). IsConvertedCode h t.expr k n code.items) same m.1);

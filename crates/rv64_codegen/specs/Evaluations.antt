@@ -5,7 +5,7 @@ use Rattle.std.specs.Prelude.{if◌then◌else◌}
 use Rattle.std.specs.List.{AllByRecursion}
 use Rattle.ido_base.specs.declared.limits.TheConstants.{MOST_TEMPORARIES}
 use Rattle.ido_ints.specs.Operators.{is_zero}
-use Rattle.ido_ints.specs.Typed.{Typed, converted}
+use Rattle.ido_ints.specs.TypedNumbers.{Typed, converted}
 use Rattle.c_tree.specs.Exprs as e
 use Rattle.c_tree.specs.Prices.{need_of, nodes_of}
 use Rattle.c_tree.specs.Values.{value, element_at}
@@ -13,17 +13,17 @@ use Rattle.c_tree.specs.WellFormed.{IsDeclared, IndexFits}
 use Rattle.rv64_isa.specs.declared.object.CodeItem.{CodeItem}
 use Rattle.rv64_isa.specs.Rows.{read}
 use Rattle.rv64_link.specs.LabelledCode.{most_words_of, fences_in}
-use Rattle.log_layout.specs.Roles as roles
-use Rattle.log_layout.specs.Roles.{is_temporary, is_local}
-use Rattle.operator_code.specs.Computing.{AreRegisters, Carries}
-use Rattle.code_runs.specs.Running.{Surroundings}
-use Rattle.code_runs.specs.Walks.{Mark}
+use Rattle.memory_layout.specs.Roles as roles
+use Rattle.memory_layout.specs.Roles.{is_temporary, is_local}
+use Rattle.operator_code.specs.ComputingCode.{AreRegisters, Carries}
+use Rattle.code_runs.specs.ComputingRuns.{Environment}
+use Rattle.code_runs.specs.CodeTraces.{Mark}
 use Rattle.expr_code.specs.declared.selection.SelectError.{SelectError}
 use Rattle.expr_code.specs.declared.selection.SelectError.TheVariants.{Temporaries, Memory}
-use Rattle.expr_code.specs.Evaluating as x
-use Rattle.expr_code.specs.Evaluating.{Homes, Source}
+use Rattle.expr_code.specs.EvaluationCode as x
+use Rattle.expr_code.specs.EvaluationCode.{Homes, Source}
 use Rattle.node_code.specs.Sites.{Site, begin_of, end_of, label_of}
-use Rattle.node_code.specs.Pieces.{IsClosed, Leads, marks_in, resumes_in}
+use Rattle.node_code.specs.Pieces.{IsClosed, PieceLeads, marks_in, resumes_in}
 
 -- ---- Temporaries
 
@@ -31,7 +31,7 @@ use Rattle.node_code.specs.Pieces.{IsClosed, Leads, marks_in, resumes_in}
 abbrev pub NeedFew : List e.Placed → Type 0
 NeedFew xs = AllByRecursion (λ (y : e.Placed). need_of y.expr ≤ MOST_TEMPORARIES) xs
 
--- it needs more than there are
+-- the expression needs more temporaries than there are
 abbrev pub is_needy : e.Placed → Bool
 is_needy x = nat_lt MOST_TEMPORARIES (need_of x.expr)
 
@@ -42,9 +42,9 @@ pub record NeedsTooMany (xs : List e.Placed) : Type 0 where
   pub needs : MOST_TEMPORARIES < need_of one.expr
   pub first : find is_needy xs ≡ Some one
 
-abbrev pub IsRefused : List e.Placed → SelectError → Type 0
-IsRefused xs (Temporaries place) = (n : NeedsTooMany xs) × (place ≡ n.one.place)
-IsRefused xs Memory = Unit {0}
+abbrev pub AreRefusedExpressions : List e.Placed → SelectError → Type 0
+AreRefusedExpressions xs (Temporaries place) = (n : NeedsTooMany xs) × (place ≡ n.one.place)
+AreRefusedExpressions xs Memory = Unit {0}
 
 -- ---- What a node evaluates
 
@@ -59,13 +59,13 @@ IsAtHome h (e.ToLocal local kind) = (local < length h.registers) × (is_local (s
 IsAtHome h (e.ToVariable place variable kind) = variable < length h.addresses
 IsAtHome h (e.ToElement place variable kind index) = (variable < length h.addresses) × x.AreAtHome h index.expr
 
-module _ (h : Homes) (s : Source) (around : Surroundings) (registers : List ℕ) where
+module _ (h : Homes) (s : Source) (around : Environment) (registers : List ℕ) where
   -- the expression may be evaluated from these registers
   pub record MayEvaluate (t : e.Expr) : Type 0 where
     pub legal : x.IsLegal h s around t
     pub locals : x.HoldsLocals h s registers t
 
-  -- so may a target's index
+  -- the index of a target may be evaluated from these registers
   abbrev pub MayReach : e.Lvalue → Type 0
   MayReach (e.ToLocal local kind) = Unit {0}
   MayReach (e.ToVariable place variable kind) = variable < length s.variables
@@ -85,7 +85,7 @@ Has h s y (e.ToVariable place variable kind) v = (read y roles.pending_address �
 Has h s y (e.ToElement place variable kind index) v =
     (read y roles.pending_address ≡ x.place_of s variable (element_at (value s.locals s.numbers index.expr))) × Carries y roles.pending_value (converted v kind)
 
--- registers y behind an evaluation from registers x
+-- registers y after an evaluation from registers x
 pub record IsAssigned (h : Homes) (s : Source) (target : e.Lvalue) (t : e.Expr) (x y : List ℕ) : Type 0 where
   pub are : AreRegisters y
   pub unchanged : (n : ℕ) → may_write h target n ≡ false → read y n ≡ read x n
@@ -95,8 +95,9 @@ pub record IsAssigned (h : Homes) (s : Source) (target : e.Lvalue) (t : e.Expr) 
 
 -- the mark, and the evaluation; its loads are those of elements that the index and the value read
 pub record Evaluates (h : Homes) (target : e.Lvalue) (t : e.Expr) (piece : List CodeItem) (at : Site piece) : Type 0 where
-  pub evaluates : (s : Source) (x : List ℕ) → AreRegisters x → MayReach h s at.linking.setting.around x target → MayEvaluate h s at.linking.setting.around x t →
-      Leads at x (begin_of piece at) (end_of piece at) (Mark ∷ []) (IsAssigned h s target t x)
+  pub evaluates : (s : Source) (x : List ℕ) → AreRegisters x → MayReach h s at.linking.environment.around x target →
+      MayEvaluate h s at.linking.environment.around x t →
+      PieceLeads at x (begin_of piece at) (end_of piece at) (Mark ∷ []) (IsAssigned h s target t x)
   pub marks : marks_in piece at ≡ begin_of piece at ∷ []
   pub resumes : resumes_in piece at ≡ []
 
@@ -108,7 +109,7 @@ pub record IsEvaluation (h : Homes) (target : e.Lvalue) (t : e.Expr) (piece : Li
 
 -- ---- Tests
 
--- registers y behind a test from registers x
+-- registers y after a test from registers x
 pub record IsTested (x y : List ℕ) : Type 0 where
   pub are : AreRegisters y
   pub unchanged : (n : ℕ) → is_temporary n ≡ false → read y n ≡ read x n
@@ -119,8 +120,8 @@ is_taken turned v = if turned then is_zero v.number else not (is_zero v.number)
 
 -- the mark, and the test: to the label where the condition isn't 0 or, turned round, where it is, else to the piece's end
 pub record Tests (h : Homes) (t : e.Expr) (turned : Bool) (label : ℕ) (piece : List CodeItem) (at : Site piece) : Type 0 where
-  pub tests : (s : Source) (x : List ℕ) → AreRegisters x → MayEvaluate h s at.linking.setting.around x t →
-      Leads at x (begin_of piece at) (if is_taken turned (value s.locals s.numbers t) then label_of piece at label else end_of piece at) (Mark ∷ [])
+  pub tests : (s : Source) (x : List ℕ) → AreRegisters x → MayEvaluate h s at.linking.environment.around x t →
+      PieceLeads at x (begin_of piece at) (if is_taken turned (value s.locals s.numbers t) then label_of piece at label else end_of piece at) (Mark ∷ [])
       (IsTested x)
   pub marks : marks_in piece at ≡ begin_of piece at ∷ []
   pub resumes : resumes_in piece at ≡ []

@@ -1,6 +1,6 @@
 pub mod Evaluations
 pub mod Locals
 pub mod links
-pub mod Emitting
+pub mod ThreadPieces
 pub mod Plans
-pub mod Refusing
+pub mod RefusedGraphs

@@ -1,16 +1,16 @@
 -- What a caller knows of an expression of a thread: it is formed, and the locals that it reads stand in their registers.
 use Rattle.std.specs.Prelude.{◌≡◌, ℕ, ◌<◌, List, length, slice_get, slice_index, slice_index_or, Contains, Some, true, pos}
 use Rattle.ido_ints.specs.declared.kinds.Kind.{Kind}
-use Rattle.ido_ints.specs.Typed.{typed}
+use Rattle.ido_ints.specs.TypedNumbers.{typed}
 use Rattle.c_tree.specs.Exprs as e
 use Rattle.c_tree.specs.Programs as p
 use Rattle.c_tree.specs.WellFormed.{IsExpr, IsTarget}
-use Rattle.log_layout.specs.Roles.{is_local}
-use Rattle.operator_code.specs.Computing.{Carries}
+use Rattle.memory_layout.specs.Roles.{is_local}
+use Rattle.operator_code.specs.ComputingCode.{Carries}
 use Rattle.flow_graph.specs.Nodes.{Node, Graph}
 use Rattle.flow_graph.specs.Liveness.{NodeAt, IsLive}
 use Rattle.flow_graph.specs.Lowering.{expr_locals}
-use Rattle.expr_code.specs.Evaluating.{Homes, Source, AreAtHome, HoldsLocals}
+use Rattle.expr_code.specs.EvaluationCode.{Homes, Source, AreAtHome, HoldsLocals}
 use Rattle.rv64_codegen.specs.Evaluations.{IsAtHome}
 
 -- ---- Locals that are read
@@ -43,7 +43,7 @@ pub record HasHomes (vs : List p.Variable) (ks : List Kind) (h : Homes) : Type 0
   pub locals : length h.registers ≡ length ks
   pub registers : (local : ℕ) → local < length ks → is_local (slice_index h.registers local) ≡ true
 
--- then all that a formed expression names has
+-- where every variable has an address and every local a register, all that a formed expression names has a home
 abbrev pub FormedIsAtHome : Type 0
 FormedIsAtHome = (vs : List p.Variable) (ks : List Kind) (h : Homes) (t : e.Expr) → HasHomes vs ks h → IsExpr vs ks t → AreAtHome h t
 

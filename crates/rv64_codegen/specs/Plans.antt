@@ -1,7 +1,7 @@
 -- What the code of threads is made of, as contracts see it.
 use Rattle.c_tree.specs.Flats.{flat_of}
 use Rattle.flow_graph.specs.Nodes.{graph_of}
-use Rattle.flow_graph.specs.Cutting.{boundaries_of}
+use Rattle.flow_graph.specs.IdempotentCuts.{boundaries_of}
 use Rattle.flow_graph.specs.Colours.{colouring_of}
 use Rattle.thread_code.specs.Plans.{Plan}
 use Rattle.rv64_codegen.specs.declared.plan.Plan as plan

@@ -1,5 +1,5 @@
 pub mod Targets
 pub mod Errors
-pub mod Live
+pub mod LiveRegisters
 pub mod Threads
 pub mod Emission

@@ -5,9 +5,9 @@ ghost use Rattle.c_tree.specs.Temporaries.{assign_exprs};
 ghost use Rattle.flow_graph.specs.Nodes.{Eval, Store, Test, Lock, Unlock, End, action_of};
 ghost use Rattle.node_code.specs.Pieces.{Appends};
 ghost use Rattle.rv64_codegen.specs.Evaluations.{NeedFew};
-ghost use Rattle.rv64_codegen.specs.Refusing.{IsRefusedBy, action_exprs};
+ghost use Rattle.rv64_codegen.specs.RefusedGraphs.{IsRefusedBy, action_exprs};
 ghost use Rattle.rv64_codegen.specs.links.Errors.{emit_result};
-ghost use Rattle.rv64_codegen.specs.links.Threads.{IsOwn, IsAt, Does, DoesAt, Goes, NeedFewAt, IsRefusedAt};
+ghost use Rattle.rv64_codegen.specs.links.Threads.{IsOwn, HasAction, DoesAction, DoesAt, GoesToNode, NeedFewAt, IsRefusedAt};
 
 use crate::error::{EmitError, emit_error};
 use crate::evaluations::push_evaluation;
@@ -29,14 +29,14 @@ fn follows(node: usize, next: usize) -> bool
 }
 
 /// The next node follows, or a jump leads to it.
-fn push_way(
+fn push_fragment(
     items: &mut Vec<CodeItem>,
     thread: &ThreadPlan,
     node: usize,
     next: usize,
 ) -> Result<(), OutOfMemory>
     requires { IsOwn thread.now next }
-    ensures { OnOk result (Appends items.old.items items.new.items (Goes thread.now node next)) }
+    ensures { OnOk result (Appends items.old.items items.new.items (GoesToNode thread.now node next)) }
 {
     if follows(node, next) {
         return Ok(());
@@ -54,23 +54,23 @@ fn push_eval(
     value: &Placed,
     next: usize,
 ) -> Result<(), EmitError>
-    requires { IsAt thread.now node (Eval (lvalue_of target.now) (placed_of value.now) next) }
+    requires { HasAction thread.now node (Eval (lvalue_of target.now) (placed_of value.now) next) }
     ensures { MatchResult result
         (λ _. NeedFew (assign_exprs (lvalue_of target.now) (placed_of value.now)) ×
-        Appends items.old.items items.new.items (Does thread.now node (Eval (lvalue_of target.now) (placed_of value.now) next)))
+        Appends items.old.items items.new.items (DoesAction thread.now node (Eval (lvalue_of target.now) (placed_of value.now) next)))
         (λ error. IsRefusedBy (assign_exprs (lvalue_of target.now) (placed_of value.now)) error) }
 {
     match push_evaluation(alloc, items, &thread.frame, target, value) {
         Ok(()) => {}
         Err(error) => return Err(emit_error(error)),
     }
-    match push_way(items, thread, node, next) {
+    match push_fragment(items, thread, node, next) {
         Ok(()) => Ok(()),
         Err(_) => Err(EmitError::Memory),
     }
 }
 
-/// A test whose first way is what follows: it is turned round.
+/// A test whose first path is what follows: it is turned round.
 fn push_turned(
     alloc: Global,
     items: &mut Vec<CodeItem>,
@@ -79,10 +79,10 @@ fn push_turned(
     condition: &Placed,
     fails: usize,
 ) -> Result<(), EmitError>
-    requires { IsAt thread.now node (Test (placed_of condition.now) (node + 1) fails) }
+    requires { HasAction thread.now node (Test (placed_of condition.now) (node + 1) fails) }
     ensures { MatchResult result
         (λ _. NeedFew (placed_of condition.now ∷ []) ×
-        Appends items.old.items items.new.items (Does thread.now node (Test (placed_of condition.now) (node + 1) fails)))
+        Appends items.old.items items.new.items (DoesAction thread.now node (Test (placed_of condition.now) (node + 1) fails)))
         (λ error. IsRefusedBy (placed_of condition.now ∷ []) error) }
 {
     let to = thread.label(fails);
@@ -102,10 +102,10 @@ fn push_straight(
     holds: usize,
     fails: usize,
 ) -> Result<(), EmitError>
-    requires { IsAt thread.now node (Test (placed_of condition.now) holds fails) }
+    requires { HasAction thread.now node (Test (placed_of condition.now) holds fails) }
     ensures { MatchResult result
         (λ _. NeedFew (placed_of condition.now ∷ []) ×
-        Appends items.old.items items.new.items (Does thread.now node (Test (placed_of condition.now) holds fails)))
+        Appends items.old.items items.new.items (DoesAction thread.now node (Test (placed_of condition.now) holds fails)))
         (λ error. IsRefusedBy (placed_of condition.now ∷ []) error) }
 {
     let to = thread.label(holds);
@@ -113,7 +113,7 @@ fn push_straight(
         Ok(()) => {}
         Err(error) => return Err(emit_error(error)),
     }
-    match push_way(items, thread, node, fails) {
+    match push_fragment(items, thread, node, fails) {
         Ok(()) => Ok(()),
         Err(_) => Err(EmitError::Memory),
     }
@@ -129,10 +129,10 @@ fn push_choosing(
     holds: usize,
     fails: usize,
 ) -> Result<(), EmitError>
-    requires { IsAt thread.now node (Test (placed_of condition.now) holds fails) }
+    requires { HasAction thread.now node (Test (placed_of condition.now) holds fails) }
     ensures { MatchResult result
         (λ _. NeedFew (placed_of condition.now ∷ []) ×
-        Appends items.old.items items.new.items (Does thread.now node (Test (placed_of condition.now) holds fails)))
+        Appends items.old.items items.new.items (DoesAction thread.now node (Test (placed_of condition.now) holds fails)))
         (λ error. IsRefusedBy (placed_of condition.now ∷ []) error) }
 {
     if follows(node, holds) {
@@ -151,11 +151,11 @@ fn push_making(
     kind: Kind,
     next: usize,
 ) -> Result<(), OutOfMemory>
-    requires { IsAt thread.now node (Store variable kind next) }
-    ensures { OnOk result (Appends items.old.items items.new.items (Does thread.now node (Store variable kind next))) }
+    requires { HasAction thread.now node (Store variable kind next) }
+    ensures { OnOk result (Appends items.old.items items.new.items (DoesAction thread.now node (Store variable kind next))) }
 {
     push_store(items, kind, !thread.later[node])?;
-    push_way(items, thread, node, next)
+    push_fragment(items, thread, node, next)
 }
 
 /// A mutex is taken.
@@ -167,12 +167,12 @@ fn push_taking(
     mutex: u32,
     next: usize,
 ) -> Result<(), OutOfMemory>
-    requires { IsAt thread.now node (Lock mutex next) }
-    ensures { OnOk result (Appends items.old.items items.new.items (Does thread.now node (Lock mutex next))) }
+    requires { HasAction thread.now node (Lock mutex next) }
+    ensures { OnOk result (Appends items.old.items items.new.items (DoesAction thread.now node (Lock mutex next))) }
 {
     let kept = thread.kept(next);
     push_lock(alloc, items, &kept, mutex as u16)?;
-    push_way(items, thread, node, next)
+    push_fragment(items, thread, node, next)
 }
 
 /// A mutex is given back.
@@ -184,12 +184,12 @@ fn push_giving(
     mutex: u32,
     next: usize,
 ) -> Result<(), OutOfMemory>
-    requires { IsAt thread.now node (Unlock mutex next) }
-    ensures { OnOk result (Appends items.old.items items.new.items (Does thread.now node (Unlock mutex next))) }
+    requires { HasAction thread.now node (Unlock mutex next) }
+    ensures { OnOk result (Appends items.old.items items.new.items (DoesAction thread.now node (Unlock mutex next))) }
 {
     let kept = thread.kept(next);
     push_unlock(alloc, items, &kept, mutex as u16)?;
-    push_way(items, thread, node, next)
+    push_fragment(items, thread, node, next)
 }
 
 /// The thread ends.
@@ -198,8 +198,8 @@ fn push_ending(
     thread: &ThreadPlan,
     node: usize,
 ) -> Result<(), OutOfMemory>
-    requires { IsAt thread.now node End }
-    ensures { OnOk result (Appends items.old.items items.new.items (Does thread.now node End)) }
+    requires { HasAction thread.now node End }
+    ensures { OnOk result (Appends items.old.items items.new.items (DoesAction thread.now node End)) }
 {
     push_end(items)
 }
@@ -222,9 +222,9 @@ fn push_doing(
     node: usize,
     action: Action,
 ) -> Result<(), EmitError>
-    requires { IsAt thread.now node (action_of action) }
+    requires { HasAction thread.now node (action_of action) }
     ensures { MatchResult result
-        (λ _. NeedFew (action_exprs (action_of action.entry)) × Appends items.old.items items.new.items (Does thread.now node (action_of action.entry)))
+        (λ _. NeedFew (action_exprs (action_of action.entry)) × Appends items.old.items items.new.items (DoesAction thread.now node (action_of action.entry)))
         (λ error. IsRefusedBy (action_exprs (action_of action.entry)) error) }
 {
     match action {

@@ -5,28 +5,30 @@ ghost use Rattle.rv64_isa.specs.declared.object.CodeItem.TheVariants.{Here};
 ghost use Rattle.rv64_link.specs.LabelledCode.{most_words_of};
 ghost use Rattle.rv64_link.specs.links.Threads.{items_in};
 ghost use Rattle.node_code.specs.Pieces.{Appends};
-ghost use Rattle.variable_layout.specs.Placing.{AreInitial, AreAddresses};
+ghost use Rattle.c_tree.specs.WellFormed.{shape_of, initial_numbers};
+ghost use Rattle.memory_layout.specs.Variables.{AreInitial, AreAddresses};
 ghost use Rattle.thread_code.specs.Plans.{IsPlan};
 ghost use Rattle.rv64_codegen.specs.Plans.{plan_of};
-ghost use Rattle.rv64_codegen.specs.Emitting.{IsCode};
-ghost use Rattle.rv64_codegen.specs.Refusing.{IsRefused, AllNeedFew};
+ghost use Rattle.rv64_codegen.specs.ThreadPieces.{IsCode};
+ghost use Rattle.rv64_codegen.specs.RefusedGraphs.{IsRefusedGraph, AllNeedFew};
 ghost use Rattle.rv64_codegen.specs.links.Threads.{IsOpen, IsOwn, AreCleaned, NeedFewAt, IsRefusedAt, IsPiece};
 ghost use Rattle.rv64_codegen.specs.links.Emission.{IsEmittedThread, IsRefusedThread, IsEmittedOf, IsRefusedOf, AreRegistersOf, AreListsOf, AreEmittedTo};
 
 use crate::actions::push_action;
 use crate::error::EmitError;
 use crate::guards::push_guard;
+use crate::initial::initial_bytes;
 use crate::plan::Plan;
 use crate::registers::{live_lists, registers};
-use crate::shapes::shapes;
 use crate::thread::ThreadPlan;
+use c_tree::shapes::shapes;
 use expr_code::Frame;
 use ido_base::memory::OutOfMemory;
+use memory_layout::variables::addresses;
 use region_cutter::cleaned_later;
 use rv64_isa::field::Register;
 use rv64_isa::object::{Code, CodeItem, Label};
 use std::alloc::Global;
-use variable_layout::{addresses, initial_bytes};
 
 /// Appends a label.
 fn push_label(items: &mut Vec<CodeItem>, label: Label) -> Result<(), OutOfMemory>
@@ -59,7 +61,7 @@ fn push_node(
     push_action(alloc, items, thread, node)
 }
 
-/// The code of a thread: node after node in their order, each behind its label.
+/// The code of a thread: node after node in their order, each after its label.
 fn thread_items(alloc: Global, thread: &ThreadPlan) -> Result<Vec<CodeItem>, EmitError>
     requires { IsOpen thread.now }
     ensures { MatchResult result (λ r. IsEmittedThread thread.now r.items) (IsRefusedThread thread.now) }
@@ -86,7 +88,7 @@ fn emit_from<'a>(
     number: usize,
 ) -> Result<Vec<CodeItem>, EmitError>
     requires plan { IsPlan (plan_of plan.now) }
-    requires addresses { AreAddresses (plan_of plan.now).flat.variables addresses.now }
+    requires addresses { AreAddresses (map shape_of (plan_of plan.now).flat.variables) addresses.now }
     requires later { AreCleaned (plan_of plan.now) later.now }
     requires number { number < length plan.now.graph.now.threads.items }
     requires registers { AreRegistersOf (plan_of plan.now) number registers.now }
@@ -116,7 +118,7 @@ fn emit_thread(
     number: usize,
 ) -> Result<Vec<CodeItem>, EmitError>
     requires plan { IsPlan (plan_of plan.now) }
-    requires addresses { AreAddresses (plan_of plan.now).flat.variables addresses.now }
+    requires addresses { AreAddresses (map shape_of (plan_of plan.now).flat.variables) addresses.now }
     requires later { AreCleaned (plan_of plan.now) later.now }
     requires number { number < length plan.now.graph.now.threads.items }
     ensures { MatchResult result (λ r. IsEmittedOf (plan_of plan.now) number r.items) (IsRefusedOf (plan_of plan.now) number) }
@@ -149,11 +151,11 @@ fn emit_threads(
     later: &[bool],
 ) -> Result<Vec<Vec<CodeItem>>, EmitError>
     requires plan { IsPlan (plan_of plan.now) }
-    requires addresses { AreAddresses (plan_of plan.now).flat.variables addresses.now }
+    requires addresses { AreAddresses (map shape_of (plan_of plan.now).flat.variables) addresses.now }
     requires later { AreCleaned (plan_of plan.now) later.now }
     ensures { MatchResult result
         (λ r. AreEmittedTo (plan_of plan.now) (length plan.now.graph.now.threads.items) r.items)
-        (IsRefused (plan_of plan.now).graph) }
+        (IsRefusedGraph (plan_of plan.now).graph) }
 {
     let mut threads = Vec::new(alloc);
     for number in 0..plan.graph.threads.len() {
@@ -174,18 +176,30 @@ fn cleaned(alloc: Global, plan: &Plan) -> Result<Vec<bool>, OutOfMemory>
     cleaned_later(alloc, plan.graph, plan.cuts, &shapes)
 }
 
+/// The address of each variable.
+fn places(alloc: Global, plan: &Plan) -> Result<Vec<u32>, OutOfMemory>
+    requires { IsPlan (plan_of plan.now) }
+    ensures { IfOk result (λ r. AreAddresses (map shape_of (plan_of plan.now).flat.variables) r.items) }
+{
+    let shapes = shapes(alloc, &plan.flat.variables)?;
+    addresses(alloc, &shapes)
+}
+
 /// The code of a program: that of each thread, the bytes of the variables, and the number of mutexes.
+/// Wherever the items are linked, with room, they are the thread's code. An error names the first expression, in the order of nodes
+/// and an index before its value, that needs more than four temporaries.
 pub fn emit(alloc: Global, plan: &Plan) -> Result<Code, EmitError>
     requires { IsPlan (plan_of plan.now) }
     ensures code { IfOk result (λ code. IsCode (plan_of plan.now) (map items_in code.threads.items)) }
     ensures threads { IfOk result (λ code. length code.threads.items ≤ MOST_THREADS) }
     ensures few { IfOk result (λ code. All (λ items. sum_by most_words_of items.items ≤ MOST_CODE_WORDS) code.threads.items) }
-    ensures initial { IfOk result (λ code. AreInitial (plan_of plan.now).flat.variables code.initial.items) }
+    ensures initial { IfOk result (λ code.
+        AreInitial (map shape_of (plan_of plan.now).flat.variables) (map initial_numbers (plan_of plan.now).flat.variables) code.initial.items) }
     ensures mutexes { IfOk result (λ code. code.mutexes ≡ length (plan_of plan.now).flat.mutexes) }
     ensures temporaries { IfOk result (λ _. AllNeedFew (plan_of plan.now).graph) }
-    ensures refused { IfErr result (IsRefused (plan_of plan.now).graph) }
+    ensures refused { IfErr result (IsRefusedGraph (plan_of plan.now).graph) }
 {
-    let addresses = addresses(alloc, &plan.flat.variables)?;
+    let addresses = places(alloc, plan)?;
     let initial = initial_bytes(alloc, &plan.flat.variables)?;
     let later = cleaned(alloc, plan)?;
     let threads = match emit_threads(alloc, plan, &addresses, &later) {

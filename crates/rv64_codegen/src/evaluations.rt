@@ -4,9 +4,9 @@ ghost use Rattle.ido_base.specs.declared.limits.TheConstants.{MOST_PRICE};
 ghost use Rattle.c_tree.specs.Exprs.{expr_of, placed_of, lvalue_of};
 ghost use Rattle.c_tree.specs.Prices.{nodes_of, node_price};
 ghost use Rattle.c_tree.specs.Temporaries.{assign_exprs};
-ghost use Rattle.expr_code.specs.Evaluating.{AreAtHome, homes_of};
+ghost use Rattle.expr_code.specs.EvaluationCode.{AreAtHome, homes_of};
 ghost use Rattle.node_code.specs.Pieces.{Appends};
-ghost use Rattle.rv64_codegen.specs.Evaluations.{IsRefused, NeedFew, IsAtHome, IsEvaluation, target_nodes};
+ghost use Rattle.rv64_codegen.specs.Evaluations.{AreRefusedExpressions, NeedFew, IsAtHome, IsEvaluation, target_nodes};
 ghost use Rattle.rv64_codegen.specs.links.Targets.{IsSelected};
 
 use crate::targets::{Assigned, element_code, local_code, variable_code};
@@ -29,7 +29,7 @@ fn target_code(
     requires price { node_price (target_nodes (lvalue_of target.now) + nodes_of (expr_of value.now.expr)) ≤ MOST_PRICE }
     ensures { MatchResult result
         (λ code. IsSelected (homes_of frame.now) (lvalue_of target.now) (placed_of value.now) code.items)
-        (λ error. IsRefused (assign_exprs (lvalue_of target.now) (placed_of value.now)) error) }
+        (λ error. AreRefusedExpressions (assign_exprs (lvalue_of target.now) (placed_of value.now)) error) }
 {
     match target {
         Lvalue::Local { local, kind } => local_code(alloc, frame, *local, *kind, value),
@@ -76,7 +76,7 @@ pub fn push_evaluation(
     ensures { MatchResult result
         (λ _. NeedFew (assign_exprs (lvalue_of target.now) (placed_of value.now)) ×
         Appends items.old.items items.new.items (IsEvaluation (homes_of frame.now) (lvalue_of target.now) (expr_of value.now.expr)))
-        (λ error. IsRefused (assign_exprs (lvalue_of target.now) (placed_of value.now)) error) }
+        (λ error. AreRefusedExpressions (assign_exprs (lvalue_of target.now) (placed_of value.now)) error) }
 {
     let code = match target_code(alloc, frame, target, value) {
         Ok(code) => code,

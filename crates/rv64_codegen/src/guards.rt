@@ -1,7 +1,7 @@
 //! Boundaries before nodes.
 ghost use Rattle.std.specs.Prelude.{◌≡◌, ◌↔◌, ◌<◌, ◌+◌, IsTrue, OnOk, length};
 ghost use Rattle.flow_graph.specs.Nodes.{graph_of, node_of};
-ghost use Rattle.flow_graph.specs.Cutting.{IsChosen, boundaries_of};
+ghost use Rattle.flow_graph.specs.IdempotentCuts.{IsChosen, boundaries_of};
 ghost use Rattle.node_code.specs.Pieces.{Appends};
 ghost use Rattle.rv64_codegen.specs.links.Threads.{IsOwn, Guards, gives};
 

@@ -1,5 +1,5 @@
 //! What is true of the expressions of nodes, and of what is emitted for threads.
-ghost use Rattle.rv64_codegen.specs.Emitting.{EmittedIsCode};
+ghost use Rattle.rv64_codegen.specs.ThreadPieces.{EmittedIsCode};
 ghost use Rattle.rv64_codegen.specs.Locals.{ReadsAreHeld, LiveIsEnough, FormedIsAtHome, FormedTargetIsAtHome};
 
 /// Registers that hold the locals that an expression reads are those with which its code may begin.
@@ -17,7 +17,7 @@ pub fn formed_is_at_home()
     ensures { FormedIsAtHome }
 {}
 
-/// So has what is assigned.
+/// What is assigned has a home.
 pub fn target_is_at_home()
     ensures { FormedTargetIsAtHome }
 {}

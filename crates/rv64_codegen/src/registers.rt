@@ -1,16 +1,16 @@
 //! Registers of locals, and those that are live at nodes.
 ghost use Rattle.std.specs.Prelude.{◌≡◌, ◌↔◌, ◌<◌, ◌≤◌, ◌+◌, ℕ, length, map, slice_get, slice_index, Contains, IfOk, IsTrue, Some, true};
-ghost use Rattle.log_layout.specs.declared.roles.TheConstants.{LOCALS as local_numbers};
-ghost use Rattle.log_layout.specs.Roles.{is_local};
+ghost use Rattle.memory_layout.specs.declared.roles.TheConstants.{LOCALS as local_numbers};
+ghost use Rattle.memory_layout.specs.Roles.{is_local};
 ghost use Rattle.flow_graph.specs.Nodes.{graph_of, node_of};
-ghost use Rattle.rv64_codegen.specs.links.Live.{HasLive, AreLiveLocals, AreLiveRegisters, AreLists, AreWithPending, is_store};
+ghost use Rattle.rv64_codegen.specs.links.LiveRegisters.{HasLive, AreLiveLocals, AreLiveRegisters, AreLists, AreWithPending, is_store};
 
 use crate::plan::Plan;
 use flow_graph::graph::{Action, Node, Part};
 use flow_graph::live_sets::LiveSets;
 use ido_base::limits::LOCAL_REGISTERS;
 use ido_base::memory::OutOfMemory;
-use log_layout::roles::LOCALS;
+use memory_layout::roles::LOCALS;
 use rv64_isa::field::Register;
 use std::alloc::Global;
 

@@ -1,12 +1,12 @@
 //! Code that evaluates what is assigned.
 ghost use Rattle.std.specs.Prelude.{◌≡◌, ◌<◌, ◌≤◌, ◌+◌, ◌++◌, [], ◌∷◌, length, slice_index, IfOk, MatchResult, true};
 ghost use Rattle.ido_base.specs.declared.limits.TheConstants.{MOST_PRICE};
-ghost use Rattle.log_layout.specs.Roles.{is_local};
+ghost use Rattle.memory_layout.specs.Roles.{is_local};
 ghost use Rattle.c_tree.specs.Exprs.{expr_of, placed_of, ToLocal, ToVariable, ToElement};
 ghost use Rattle.c_tree.specs.Prices.{nodes_of, node_price};
 ghost use Rattle.c_tree.specs.Temporaries.{assign_exprs};
-ghost use Rattle.expr_code.specs.Evaluating.{AreAtHome, homes_of};
-ghost use Rattle.rv64_codegen.specs.Evaluations.{IsRefused};
+ghost use Rattle.expr_code.specs.EvaluationCode.{AreAtHome, homes_of};
+ghost use Rattle.rv64_codegen.specs.Evaluations.{AreRefusedExpressions};
 ghost use Rattle.rv64_codegen.specs.links.Targets.{IsSelected};
 
 use c_tree::expr::Placed;
@@ -34,7 +34,7 @@ pub(crate) struct Assigned {
     pub kind: Kind,
 }
 
-/// Code behind code.
+/// Code after code.
 fn joined(mut first: Vec<Instr>, second: &[Instr]) -> Result<Vec<Instr>, OutOfMemory>
     ensures { IfOk result (λ code. code.items ≡ first.items ++ second.now) }
 {
@@ -56,7 +56,7 @@ pub(crate) fn local_code(
     requires price { node_price (nodes_of (expr_of value.now.expr)) ≤ MOST_PRICE }
     ensures { MatchResult result
         (λ code. IsSelected (homes_of frame.now) (ToLocal local kind) (placed_of value.now) code.items)
-        (λ error. IsRefused (assign_exprs (ToLocal local kind) (placed_of value.now)) error) }
+        (λ error. AreRefusedExpressions (assign_exprs (ToLocal local kind) (placed_of value.now)) error) }
 {
     select_converted(alloc, value, kind, frame, frame.registers[local as usize])
 }
@@ -73,7 +73,7 @@ pub(crate) fn variable_code(
     requires price { node_price (nodes_of (expr_of value.now.expr)) ≤ MOST_PRICE }
     ensures { MatchResult result
         (λ code. IsSelected (homes_of frame.now) (ToVariable assigned.place assigned.variable assigned.kind) (placed_of value.now) code.items)
-        (λ error. IsRefused (assign_exprs (ToVariable assigned.place assigned.variable assigned.kind) (placed_of value.now)) error) }
+        (λ error. AreRefusedExpressions (assign_exprs (ToVariable assigned.place assigned.variable assigned.kind) (placed_of value.now)) error) }
 {
     let Ok(address) = select_variable_address(alloc, assigned.variable, frame, PENDING_ADDRESS)
     else {
@@ -104,7 +104,7 @@ pub(crate) fn element_code(
     ensures { MatchResult result
         (λ code. IsSelected (homes_of frame.now) (ToElement assigned.place assigned.variable assigned.kind (placed_of index.now))
         (placed_of value.now) code.items)
-        (λ error. IsRefused
+        (λ error. AreRefusedExpressions
         (assign_exprs (ToElement assigned.place assigned.variable assigned.kind (placed_of index.now)) (placed_of value.now)) error) }
 {
     let address = match select_element_address(

@@ -3,9 +3,9 @@ ghost use Rattle.std.specs.Prelude.{◌≡◌, ◌≤◌, [], ◌∷◌, MatchRe
 ghost use Rattle.ido_base.specs.declared.limits.TheConstants.{MOST_PRICE};
 ghost use Rattle.c_tree.specs.Exprs.{expr_of, placed_of};
 ghost use Rattle.c_tree.specs.Prices.{nodes_of, node_price};
-ghost use Rattle.expr_code.specs.Evaluating.{AreAtHome, homes_of};
+ghost use Rattle.expr_code.specs.EvaluationCode.{AreAtHome, homes_of};
 ghost use Rattle.node_code.specs.Pieces.{Appends};
-ghost use Rattle.rv64_codegen.specs.Evaluations.{IsRefused, NeedFew, IsTest};
+ghost use Rattle.rv64_codegen.specs.Evaluations.{AreRefusedExpressions, NeedFew, IsTest};
 ghost use Rattle.rv64_codegen.specs.links.Targets.{IsTurned};
 
 use c_tree::expr::Placed;
@@ -37,7 +37,7 @@ pub fn push_test(
     ensures { MatchResult result
         (λ _. NeedFew (placed_of condition.now ∷ []) ×
         Appends items.old.items items.new.items (IsTest (homes_of frame.now) (expr_of condition.now.expr) is_turned to.0))
-        (λ error. IsRefused (placed_of condition.now ∷ []) error) }
+        (λ error. AreRefusedExpressions (placed_of condition.now ∷ []) error) }
 {
     let selected = match select_test(alloc, condition, frame) {
         Ok(selected) => selected,

@@ -13,9 +13,9 @@ use rv64_isa::object::Label;
 #[derive(Clone, Copy)]
 pub(crate) struct ThreadPlan<'a, 'p> {
     pub plan: &'a Plan<'p>,
-    /// Its number.
+    /// The thread's number.
     pub number: u32,
-    /// Its nodes.
+    /// The thread's nodes.
     pub part: Part,
     pub frame: Frame<'a>,
     /// Of each of its nodes the registers that are live at its entry.

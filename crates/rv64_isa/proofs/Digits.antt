@@ -28,9 +28,6 @@ format_r-rs2 o d f a b s h = omega arith
 pub format_r-funct7 : (o d f a b s : ℕ) → AreFields o d f a b s → bits_of (format_r o f s d a b) 25 7 ≡ s
 format_r-funct7 o d f a b s h = omega arith
 
-pub format_r-below : (o d f a b s : ℕ) → AreFields o d f a b s → format_r o f s d a b < 2 ^ 32
-format_r-below o d f a b s h = omega arith
-
 pub are_fields-bits : (w : ℕ) → w < 2 ^ 32 → AreFields (bits_of w 0 7) (bits_of w 7 5) (bits_of w 12 3) (bits_of w 15 5) (bits_of w 20 5) (bits_of w 25 7)
 are_fields-bits w h = record {
   opcode_fits = omega arith;

@@ -11,19 +11,19 @@ use Rattle.ido_base.specs.declared.event.Reply.TheVariants.{Waits}
 use Rattle.ido_base.specs.Words.{Word, Entry, entry_of, stored, drained, evicted, word_of, durable_value}
 use Rattle.ido_base.specs.Locks.{is_held_by, least_held, missing_from}
 use Rattle.ido_base.specs.Layout.{in_range, aligned, byte_number, word_count, initial_words, words_of_bytes, variables_base, logs_base}
-use Rattle.ido_base.specs.Growth.{AreChanged, AreRaised, IsEntry, AreEntries}
-use Rattle.ido_base.proofs.Growth.{changed_refl, changed_by_raised, stores_change, evictions_raise}
-use Rattle.ido_base.proofs.Growth.{write_backs_raise, entries_stay, entries_append, clean_entry, are_raised_refl}
+use Rattle.ido_base.specs.Growth.{AreChanged, ArePersisted, IsEntry, AreEntries}
+use Rattle.ido_base.proofs.Public.{changed_refl, changed_by_persisted, stores_change, evictions_raise, write_backs_raise, entries_stay, entries_append}
+use Rattle.ido_base.proofs.Public.{clean_entry, are_persisted_refl}
 use Rattle.rv64_isa.specs.declared.object.Slot.{Slot}
 use Rattle.rv64_isa.specs.declared.object.Slot.TheVariants.{Row, NoRow}
 use Rattle.rv64_isa.specs.declared.phase.Phase.{Phase}
 use Rattle.rv64_isa.specs.declared.phase.Phase.TheVariants.{Take, Wait, Resume, Run, Done, Ended}
-use Rattle.rv64_isa.specs.Rows.{Effect, GoesOn, Loads, Stores, Cleans, Fences, Calls, row, read, next}
+use Rattle.rv64_isa.specs.Rows.{Effect, Continues, Loads, Stores, Cleans, Fences, Calls, row, read, next}
 use Rattle.rv64_isa.specs.Programs.{fetched}
 use Rattle.rv64_isa.specs.Machine.{Hart, World, Outcome, moved, with_hart, with_holder, drain_one, access, cleaned, fenced, acquired, released, ended, called}
 use Rattle.rv64_isa.specs.Machine.{applied, executed, hart_step, taken, waited, taking_from, record_of, over_after, done_if_over, run_step, phase_step}
 use Rattle.rv64_isa.specs.Machine.{stepped, happens, after_event, durable_point, phase_after_crash, start_of, after_crash_of, fresh_hart, numbers_from}
-use Rattle.rv64_isa.specs.Frames.{IsHeldOn, Stays, Takes, Gives, Touches, IsSound, StepsTouch, EvictionsTouch, QueuesStand, StartsStand, CrashesStand}
+use Rattle.rv64_isa.specs.Frames.{IsHeldOn, Stays, Takes, Gives, Touches, IsWellFormedWorld, StepsTouch, EvictionsTouch, QueuesStand, StartsStand, CrashesStand}
 
 -- ---- Lists
 
@@ -81,7 +81,7 @@ line_inside harts address inside = by_half (nat_lt address logs_base) refl (or_c
 
 -- ---- What hart h does, and that its own queue stands
 
-pub record Goes (h : ℕ) (old new : World) : Type 0 where
+pub record OwnQueueStays (h : ℕ) (old new : World) : Type 0 where
   pub touches : Touches h old new
   pub own : (hart : Hart) → slice_get new.harts h ≡ Some hart → AreEntries new.words hart.queue
 
@@ -92,7 +92,7 @@ module _ (h : ℕ) (w : World) (hart : Hart) (here : slice_get w.harts h ≡ Som
   queue_of ws (Some x) = AreEntries ws x.queue
 
   -- nothing
-  stays : Goes h w w
+  stays : OwnQueueStays h w w
   unfolding queue_of
   stays = record {
     touches = record { count = refl; others = λ g ne. refl; locks = refl; holders = λ lock. Stays refl; words = changed_refl w.words; recovering = refl };
@@ -100,7 +100,7 @@ module _ (h : ℕ) (w : World) (hart : Hart) (here : slice_get w.harts h ≡ Som
   }
 
   -- the hart and words
-  goes : (ws : List Word) (after : Hart) → AreChanged w.words ws → AreEntries ws after.queue → Goes h w (with_hart (record w { words = ws }) h after)
+  goes : (ws : List Word) (after : Hart) → AreChanged w.words ws → AreEntries ws after.queue → OwnQueueStays h w (with_hart (record w { words = ws }) h after)
   unfolding queue_of
   goes ws after changed entries = record {
     touches = record {
@@ -115,13 +115,13 @@ module _ (h : ℕ) (w : World) (hart : Hart) (here : slice_get w.harts h ≡ Som
   }
 
   -- the hart, with the words and what it has queued as they are
-  moves : (after : Hart) → after.queue ≡ hart.queue → Goes h w (with_hart w h after)
+  moves : (after : Hart) → after.queue ≡ hart.queue → OwnQueueStays h w (with_hart w h after)
   moves after same = goes w.words after (changed_refl w.words) (subst (λ (q : List Entry). AreEntries w.words q) (sym same) queued)
 
   -- the hart and a lock
   locks : (lock : ℕ) (holder : Option ℕ) (after : Hart) → after.queue ≡ hart.queue → IsHeldOn h (slice_get w.holders lock) (Some holder) → (old : Option ℕ) →
       slice_get w.holders lock ≡ Some old
-      → Goes h w (with_hart (with_holder w lock holder) h after)
+      → OwnQueueStays h w (with_hart (with_holder w lock holder) h after)
   unfolding queue_of
   locks lock holder after same changed old there = record {
     touches = record {
@@ -143,30 +143,30 @@ module _ (h : ℕ) (w : World) (hart : Hart) (here : slice_get w.harts h ≡ Som
 
   -- ---- Each effect
 
-  drains : (queue : List Entry) → AreEntries w.words queue → Goes h w (drain_one w h hart queue).0
+  drains : (queue : List Entry) → AreEntries w.words queue → OwnQueueStays h w (drain_one w h hart queue).0
   drains [] entries = stays
   drains (e ∷ es) entries =
-      let changed : AreChanged w.words (drained w.words e) = changed_by_raised w.words (drained w.words e) (write_backs_raise w.words e entries.0) in
+      let changed : AreChanged w.words (drained w.words e) = changed_by_persisted w.words (drained w.words e) (write_backs_raise w.words e entries.0) in
       goes (drained w.words e) (record hart { queue = es }) changed (entries_stay w.words (drained w.words e) es changed entries.1)
 
-  fences : (queue : List Entry) → AreEntries w.words queue → Goes h w (fenced w h hart queue).0
+  fences : (queue : List Entry) → AreEntries w.words queue → OwnQueueStays h w (fenced w h hart queue).0
   fences [] entries = moves (record hart { pc = next hart.pc }) refl
   fences (e ∷ es) entries = drains (e ∷ es) entries
 
-  accesses : (address bytes : ℕ) (outcome : Outcome) → (in_range (length w.harts) address bytes ≡ true → Goes h w outcome.0) →
-      Goes h w (access w address bytes outcome).0
+  accesses : (address bytes : ℕ) (outcome : Outcome) → (in_range (length w.harts) address bytes ≡ true → OwnQueueStays h w outcome.0) →
+      OwnQueueStays h w (access w address bytes outcome).0
   accesses address bytes outcome goes_on =
-      cond_both (in_range (length w.harts) address bytes) _ _ (λ (o : Outcome). Goes h w o.0)
-      (λ inside. cond_both (aligned address bytes) _ _ (λ (o : Outcome). Goes h w o.0) (λ _. goes_on inside) (λ _. stays))
+      cond_both (in_range (length w.harts) address bytes) _ _ (λ (o : Outcome). OwnQueueStays h w o.0)
+      (λ inside. cond_both (aligned address bytes) _ _ (λ (o : Outcome). OwnQueueStays h w o.0) (λ _. goes_on inside) (λ _. stays))
       (λ _. stays)
 
-  cleans : (line : ℕ) → 8 * line + 8 ≤ length w.words → Goes h w (cleaned w h hart line).0
+  cleans : (line : ℕ) → 8 * line + 8 ≤ length w.words → OwnQueueStays h w (cleaned w h hart line).0
   cleans line exists =
-      cond_both (nat_lt (length hart.queue) 16) _ _ (λ (o : Outcome). Goes h w o.0)
+      cond_both (nat_lt (length hart.queue) 16) _ _ (λ (o : Outcome). OwnQueueStays h w o.0)
       (λ _. goes w.words _ (changed_refl w.words) (entries_append w.words hart.queue (entry_of w.words line) queued (clean_entry w.words line exists)))
       (λ _. drains hart.queue queued)
 
-  acquires : (lock : ℕ) (holder : Option (Option ℕ)) → slice_get w.holders lock ≡ holder → Goes h w (acquired w h hart lock holder).0
+  acquires : (lock : ℕ) (holder : Option (Option ℕ)) → slice_get w.holders lock ≡ holder → OwnQueueStays h w (acquired w h hart lock holder).0
   acquires lock None e = stays
   acquires lock (Some None) e = locks lock (Some h) (record hart { pc = next hart.pc }) refl (Takes e refl) None e
   acquires lock (Some (Some holder)) e = stays
@@ -175,30 +175,30 @@ module _ (h : ℕ) (w : World) (hart : Hart) (here : slice_get w.harts h ≡ Som
   gives None e = absurd (subst (λ b. cond b ⊥ (Unit {0})) e tt)
   gives (Some g) e = ap Some (sym (eqb-true h g e))
 
-  releases : (lock : ℕ) (holder : Option (Option ℕ)) → slice_get w.holders lock ≡ holder → Goes h w (released w h hart lock holder).0
+  releases : (lock : ℕ) (holder : Option (Option ℕ)) → slice_get w.holders lock ≡ holder → OwnQueueStays h w (released w h hart lock holder).0
   releases lock None e = stays
   releases lock (Some holder) e =
-      cond_both (is_held_by h holder) _ _ (λ (o : Outcome). Goes h w o.0)
+      cond_both (is_held_by h holder) _ _ (λ (o : Outcome). OwnQueueStays h w o.0)
       (λ held. locks lock None (record hart { pc = next hart.pc }) refl (Gives (e ∙ ap Some (gives holder held)) refl) holder e)
       (λ _. stays)
 
-  ends : (lock : Option ℕ) → Goes h w (ended w h hart lock).0
+  ends : (lock : Option ℕ) → OwnQueueStays h w (ended w h hart lock).0
   ends None = moves (record hart { pc = next hart.pc; phase = Ended }) refl
   ends (Some lock) = stays
 
-  calls : (number lock : ℕ) → Goes h w (called w h hart number lock).0
+  calls : (number lock : ℕ) → OwnQueueStays h w (called w h hart number lock).0
   calls number lock =
-      cond_both (number == 1) _ _ (λ (o : Outcome). Goes h w o.0) (λ _. acquires lock (slice_get w.holders lock) refl)
-      (λ _. cond_both (number == 2) _ _ (λ (o : Outcome). Goes h w o.0) (λ _. releases lock (slice_get w.holders lock) refl)
-      (λ _. cond_both (number == 3) _ _ (λ (o : Outcome). Goes h w o.0) (λ _. ends (least_held w.holders h)) (λ _. stays)))
+      cond_both (number == 1) _ _ (λ (o : Outcome). OwnQueueStays h w o.0) (λ _. acquires lock (slice_get w.holders lock) refl)
+      (λ _. cond_both (number == 2) _ _ (λ (o : Outcome). OwnQueueStays h w o.0) (λ _. releases lock (slice_get w.holders lock) refl)
+      (λ _. cond_both (number == 3) _ _ (λ (o : Outcome). OwnQueueStays h w o.0) (λ _. ends (least_held w.holders h)) (λ _. stays)))
 
   -- the line of an address exists
   line_exists : (address : ℕ) → in_range (length w.harts) address 1 ≡ true → 8 * (byte_number address / 64) + 8 ≤ length w.words
   line_exists address inside = let e : 8 * (byte_number address / 64) + 8 ≤ word_count (length w.harts) = line_inside (length w.harts) address inside in
       omega (arith, e, size)
 
-  pub applies : (effect : Effect) → Goes h w (applied w h hart effect).0
-  applies (GoesOn registers pc) = moves (record hart { registers = registers; pc = pc }) refl
+  pub applies : (effect : Effect) → OwnQueueStays h w (applied w h hart effect).0
+  applies (Continues registers pc) = moves (record hart { registers = registers; pc = pc }) refl
   applies (Loads address bytes signed register) = accesses address bytes _ (λ _. moves _ refl)
   applies (Stores address bytes value) = accesses address bytes _ (λ _.
       let ws = stored w.words (byte_number address) bytes value in
@@ -210,12 +210,12 @@ module _ (h : ℕ) (w : World) (hart : Hart) (here : slice_get w.harts h ≡ Som
 
   -- ---- Each phase
 
-  executes : (slot : Option Slot) → Goes h w (executed w h hart slot).0
+  executes : (slot : Option Slot) → OwnQueueStays h w (executed w h hart slot).0
   executes None = stays
   executes (Some (NoRow word)) = stays
   executes (Some (Row instr)) = applies (row instr hart.registers hart.pc)
 
-  takes : (lock : Option ℕ) → Goes h w (taken w h hart lock).0
+  takes : (lock : Option ℕ) → OwnQueueStays h w (taken w h hart lock).0
   takes None = moves (record hart { phase = Wait }) refl
   takes (Some lock) = by_holder (slice_get w.holders lock) refl
     where
@@ -228,22 +228,23 @@ module _ (h : ℕ) (w : World) (hart : Hart) (here : slice_get w.harts h ≡ Som
       past : slice_get w.holders lock ≡ None → w ≡ with_holder w lock (Some h)
       past e = ap (λ (hs : List (Option ℕ)). record w { holders = hs }) (sym (set_none w.holders lock (Some h) e))
 
-      by_slot : (holder : Option (Option ℕ)) → slice_get w.holders lock ≡ holder → Goes h w (took holder).0 → Goes h w (taken w h hart (Some lock)).0
-      by_slot holder e goes = subst (λ (x : Option (Option ℕ)). Goes h w (took x).0) (sym e) goes
+      by_slot : (holder : Option (Option ℕ)) → slice_get w.holders lock ≡ holder → OwnQueueStays h w (took holder).0 →
+          OwnQueueStays h w (taken w h hart (Some lock)).0
+      by_slot holder e goes = subst (λ (x : Option (Option ℕ)). OwnQueueStays h w (took x).0) (sym e) goes
 
-      by_holder : (holder : Option (Option ℕ)) → slice_get w.holders lock ≡ holder → Goes h w (taken w h hart (Some lock)).0
-      by_holder None e = by_slot None e (subst (λ (v : World). Goes h w (with_hart v h hart)) (past e) (moves hart refl))
+      by_holder : (holder : Option (Option ℕ)) → slice_get w.holders lock ≡ holder → OwnQueueStays h w (taken w h hart (Some lock)).0
+      by_holder None e = by_slot None e (subst (λ (v : World). OwnQueueStays h w (with_hart v h hart)) (past e) (moves hart refl))
       by_holder (Some None) e = by_slot (Some None) e (locks lock (Some h) hart refl (Takes e refl) None e)
       by_holder (Some (Some holder)) e = by_slot (Some (Some holder)) e stays
 
-  waits : (taking : Option ℕ) → Goes h w (waited w h hart taking).0
+  waits : (taking : Option ℕ) → OwnQueueStays h w (waited w h hart taking).0
   waits None = moves (record hart { phase = Resume }) refl
   waits (Some taking) = stays
 
 -- what a hart's step leaves it with: in recovery the last release makes it done
-settles : (h : ℕ) (w v : World) → Goes h w v → (hart : Option Hart) → slice_get v.harts h ≡ hart → Goes h w (done_if_over w h hart v)
+settles : (h : ℕ) (w v : World) → OwnQueueStays h w v → (hart : Option Hart) → slice_get v.harts h ≡ hart → OwnQueueStays h w (done_if_over w h hart v)
 settles h w v goes None e = goes
-settles h w v goes (Some hart) e = cond_both (over_after w v h) _ _ (λ (u : World). Goes h w u) (λ _. again) (λ _. goes)
+settles h w v goes (Some hart) e = cond_both (over_after w v h) _ _ (λ (u : World). OwnQueueStays h w u) (λ _. again) (λ _. goes)
   where
     done : Hart
     done = record hart { phase = Done }
@@ -252,7 +253,7 @@ settles h w v goes (Some hart) e = cond_both (over_after w v h) _ _ (λ (u : Wor
     queue_of None = Unit {0}
     queue_of (Some x) = AreEntries v.words x.queue
 
-    again : Goes h w (with_hart v h done)
+    again : OwnQueueStays h w (with_hart v h done)
     again = record {
       touches = record {
         count = length-set v.harts h done ∙ goes.touches.count;
@@ -265,13 +266,13 @@ settles h w v goes (Some hart) e = cond_both (over_after w v h) _ _ (λ (u : Wor
       own = λ other there. subst (λ (x : Option Hart). queue_of x) (sym (get-set_same v.harts h done hart e) ∙ there) (goes.own hart e);
     }
 
-module _ (program : List (List Slot)) (h : ℕ) (w : World) (sound : IsSound w) where
-  runs : (hart : Hart) → slice_get w.harts h ≡ Some hart → Goes h w (run_step program w h hart).0
+module _ (program : List (List Slot)) (h : ℕ) (w : World) (sound : IsWellFormedWorld w) where
+  runs : (hart : Hart) → slice_get w.harts h ≡ Some hart → OwnQueueStays h w (run_step program w h hart).0
   runs hart here =
       let outcome = hart_step program w h hart in
       settles h w outcome.0 (executes h w hart here (sound.queues h hart here) sound.size (fetched program h hart.pc)) (slice_get outcome.0.harts h) refl
 
-  by_phase : (hart : Hart) → slice_get w.harts h ≡ Some hart → (phase : Phase) → Goes h w (phase_step program w h hart phase).0
+  by_phase : (hart : Hart) → slice_get w.harts h ≡ Some hart → (phase : Phase) → OwnQueueStays h w (phase_step program w h hart phase).0
   by_phase hart here Take = takes h w hart here (sound.queues h hart here) sound.size (missing_from 0 w.holders (record_of w.words h) h)
   by_phase hart here Wait = waits h w hart here (sound.queues h hart here) sound.size (taking_from 0 w.harts)
   by_phase hart here Resume = moves h w hart here (sound.queues h hart here) sound.size _ refl
@@ -279,7 +280,7 @@ module _ (program : List (List Slot)) (h : ℕ) (w : World) (sound : IsSound w) 
   by_phase hart here Done = stays h w hart here (sound.queues h hart here) sound.size
   by_phase hart here Ended = stays h w hart here (sound.queues h hart here) sound.size
 
-  none_there : slice_get w.harts h ≡ None → Goes h w w
+  none_there : slice_get w.harts h ≡ None → OwnQueueStays h w w
   none_there e = record {
     touches = record { count = refl; others = λ g ne. refl; locks = refl; holders = λ lock. Stays refl; words = changed_refl w.words; recovering = refl };
     own = λ other there. absurd (subst (λ o. is_none_here o) (sym there ∙ e) tt);
@@ -289,11 +290,11 @@ module _ (program : List (List Slot)) (h : ℕ) (w : World) (sound : IsSound w) 
       is_none_here None = ⊥
       is_none_here (Some y) = Unit {0}
 
-  steps : (hart : Option Hart) → slice_get w.harts h ≡ hart → Goes h w (stepped program w h hart).0
+  steps : (hart : Option Hart) → slice_get w.harts h ≡ hart → OwnQueueStays h w (stepped program w h hart).0
   steps None e = none_there e
   steps (Some hart) e = by_phase hart e hart.phase
 
-  pub step_goes : Goes h w (after_event program w (Step h))
+  pub step_goes : OwnQueueStays h w (after_event program w (Step h))
   unfolding happens
   step_goes = steps (slice_get w.harts h) refl
 
@@ -341,9 +342,9 @@ fresh_harts : (program : List (List Slot)) (phase : ℕ → Phase) →
 fresh_harts program phase =
     length-map (numbers_from 0 (length program)) (λ thread. fresh_hart program (phase thread) thread) ∙ length-numbers 0 (length program)
 
-pub starts_stand : StartsStand
+pub starts_simulate : StartsStand
 unfolding start_of
-starts_stand program locks initial =
+starts_simulate program locks initial =
     let harts = fresh_harts program (λ thread. Run) in (
       record {
         size = length-map (initial_words (length program) initial) word_of ∙ length-initial (length program) initial ∙ ap word_count (sym harts);
@@ -352,9 +353,9 @@ starts_stand program locks initial =
       harts,
     )
 
-pub crashes_stand : CrashesStand
+pub crashes_simulate : CrashesStand
 unfolding after_crash_of
-crashes_stand program locks words count =
+crashes_simulate program locks words count =
     let kept = map word_of words in
     let phase : ℕ → Phase = λ thread. phase_after_crash (durable_point kept thread) in
     let harts = fresh_harts program phase in (
@@ -365,8 +366,8 @@ crashes_stand program locks words count =
       harts,
     )
 
--- another hart's queue stands for what it stood for, and the own one for what the step makes of it
-kept_by_step : (h : ℕ) (w v : World) → IsSound w → Goes h w v → IsSound v
+-- another hart's queue represents what it represented, and the own one what the step makes of it
+kept_by_step : (h : ℕ) (w v : World) → IsWellFormedWorld w → OwnQueueStays h w v → IsWellFormedWorld v
 kept_by_step h w v sound goes = record {
   size = goes.touches.words.size ∙ sound.size ∙ ap word_count (sym goes.touches.count);
   queues = λ g hart there. elim (cases_eq g h) [
@@ -384,12 +385,13 @@ queues_stand program w (Evict line mask) count sound =
     let raised = evictions_raise w.words line mask in (
       record {
         size = raised.size ∙ sound.size;
-        queues = λ g hart there. entries_stay w.words (evicted w.words line mask) hart.queue (changed_by_raised w.words _ raised) (sound.queues g hart there);
+        queues =
+            λ g hart there. entries_stay w.words (evicted w.words line mask) hart.queue (changed_by_persisted w.words _ raised) (sound.queues g hart there);
       },
       refl,
     )
 queues_stand program w Crash count sound =
     let words = map durable_value w.words in
     let size : length words ≡ word_count (length program) = length-map w.words durable_value ∙ sound.size ∙ ap word_count (sym count) in
-    let stand = crashes_stand program (length w.holders) words size in
+    let stand = crashes_simulate program (length w.holders) words size in
     (stand.0, stand.1 ∙ count)

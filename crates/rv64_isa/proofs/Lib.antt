@@ -1,8 +1,9 @@
+pub mod Public
 mod Worked
 mod WorkedRuns
 mod Digits
 mod Tables
-mod Read
-mod Found
-pub mod Words
-pub mod Frames
+mod EncodeThenDecode
+mod DecodeThenEncode
+mod Words
+mod Frames

@@ -1,36 +1,7 @@
 -- The tables from funct3 and funct7 to the kinds of instructions undo those from kinds to numbers.
-use Rattle.std.proofs.Common.{◌≡◌, ℕ, Some, IfSome, refl, arith}
-use Rattle.rv64_isa.specs.declared.instr.Condition.{Condition}
-use Rattle.rv64_isa.specs.declared.instr.Condition.TheVariants.{Beq, Bne, Blt, Bge, Bltu, Bgeu}
-use Rattle.rv64_isa.specs.declared.instr.LoadKind.{LoadKind}
-use Rattle.rv64_isa.specs.declared.instr.LoadKind.TheVariants.{Lb, Lh, Lw, Ld, Lbu, Lhu, Lwu}
-use Rattle.rv64_isa.specs.declared.instr.StoreKind.{StoreKind}
-use Rattle.rv64_isa.specs.declared.instr.StoreKind.TheVariants.{Sb, Sh, Sw, Sd}
+use Rattle.std.proofs.Common.{◌≡◌, ℕ, IfSome, arith}
 use Rattle.rv64_isa.specs.Formats.{condition_at, condition_funct3, load_at, load_funct3, store_at, store_funct3, immediate_operation_at, immediate_opcode}
 use Rattle.rv64_isa.specs.Formats.{immediate_funct3, shift_at, shift_funct3, shift_upper, operation_at, word_operation_at, op_opcode, op_funct3, op_funct7}
-
-pub condition_at-funct3 : (c : Condition) → condition_at (condition_funct3 c) ≡ Some c
-condition_at-funct3 Beq = refl
-condition_at-funct3 Bne = refl
-condition_at-funct3 Blt = refl
-condition_at-funct3 Bge = refl
-condition_at-funct3 Bltu = refl
-condition_at-funct3 Bgeu = refl
-
-pub load_at-funct3 : (k : LoadKind) → load_at (load_funct3 k) ≡ Some k
-load_at-funct3 Lb = refl
-load_at-funct3 Lh = refl
-load_at-funct3 Lw = refl
-load_at-funct3 Ld = refl
-load_at-funct3 Lbu = refl
-load_at-funct3 Lhu = refl
-load_at-funct3 Lwu = refl
-
-pub store_at-funct3 : (k : StoreKind) → store_at (store_funct3 k) ≡ Some k
-store_at-funct3 Sb = refl
-store_at-funct3 Sh = refl
-store_at-funct3 Sw = refl
-store_at-funct3 Sd = refl
 
 pub condition_at-some : (f : ℕ) → IfSome (condition_at f) (λ c. condition_funct3 c ≡ f)
 condition_at-some f = grind arith

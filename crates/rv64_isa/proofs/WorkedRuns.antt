@@ -56,7 +56,7 @@ store thread mask =
     boundary thread mask (Store Sd 28 30 288 ∷ Store Sd 29 30 296 ∷ []) (OpImmediate Addi 7 30 256 ∷ CboClean 7 ∷ []) 0
     ++ Store Sd 29 28 0 ∷ CboClean 28 ∷ []
 
--- a release behind which others are held
+-- a release after which others are held
 release : (thread lock mask : ℕ) → List Instr
 unfolding move boundary
 release thread lock mask = boundary thread mask [] [] 12 ++ move 10 lock ∷ move 17 2 ∷ Ecall ∷ []
@@ -69,7 +69,7 @@ end : List Instr
 unfolding move
 end = move 17 3 ∷ Ecall ∷ []
 
--- ---- A node's code, and how far behind its first instruction its mark is
+-- ---- A node's code, and how far after its first instruction its mark is
 
 record Node : Type 0 where
   code : List Instr
@@ -174,7 +174,7 @@ unfolding told to_point make p1_start p1_marks p1 programs marks_from marks_of o
     last_release end boundary log point move start_of after_crash_of initial_words spread_words happens row result_of steps_after
 point_lost = refl
 
--- the same, with the point's word evicted before the crash
+-- up to the first point's store, an eviction of the point's word, and a crash: the point was kept
 point_evicted : told (many p1 p1_marks 120 (Step 0) (make p1 p1_marks Crash (make p1 p1_marks (Evict 1024 1) (to_point p1 p1_marks 100 0 p1_start))))
     ≡ record { x = 6; y = 0; kept = 0 ∷ 0 ∷ 0 ∷ 0 ∷ []; settled = true }
 unfolding told to_point many make p1_start p1_marks p1 programs marks_from marks_of one_section node node_acquire node_store code_of acquire add store release
@@ -190,7 +190,7 @@ unfolding three_points told to_point many make p1_start p1_marks p1 programs mar
     store release last_release end boundary log point move start_of after_crash_of initial_words spread_words happens row result_of steps_after
 store_again = refl
 
--- crashes in each phase of recovery, and behind it
+-- crashes in each phase of recovery, and after it
 crash_after : (count steps : ℕ) → Run → Run
 unfolding make many
 crash_after zero steps r = r

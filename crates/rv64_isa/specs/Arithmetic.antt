@@ -1,5 +1,6 @@
 -- What the operations of RV64I and of the extension M compute, and when branches are taken (RISC-V unprivileged
 -- ISA, "RV64I Base Integer Instruction Set" and "M" Extension), on numbers below 2^64 in two's complement.
+-- `quotient` to `remainder_unsigned` are by section "Division Operations" of M, `is_taken` by "Conditional Branches", `result_of` by RV64I and M.
 use Rattle.std.specs.Prelude.{ℕ, ◌+◌, ◌-◌, ◌*◌, ◌/◌, ◌%◌, ◌^◌, Bool, not, nat_lt, nat_le, ◌==◌, if◌then◌else◌, bit_and, bit_or, bit_xor}
 use Rattle.rv64_isa.specs.declared.instr.Operation.{Operation}
 use Rattle.rv64_isa.specs.declared.instr.Operation.TheVariants.{Add, Sub, Sll, Slt, Sltu, Xor, Srl, Sra, Or, And, Mul, Mulh, Mulhsu, Mulhu, Div}

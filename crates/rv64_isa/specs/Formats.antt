@@ -247,7 +247,7 @@ immediate_operation_at f =
     if f == 0b000 then Some Addi else if f == 0b010 then Some Slti else if f == 0b011 then Some Sltiu else if f == 0b100 then Some Xori else if f == 0b110
     then Some Ori else if f == 0b111 then Some Andi else None
 
--- by funct3 and what stands above the count
+-- the shift by funct3 and what stands above the count
 abbrev pub shift_at : (funct3 upper : ℕ) → Option ShiftOperation
 shift_at f upper =
     if f == 0b001 then (if upper == 0 then Some Slli else None) else if f == 0b101
@@ -291,11 +291,11 @@ word_operation_at f upper =
 abbrev pub immediate_of : (rs2 funct7 : ℕ) → ℕ
 immediate_of rs2 funct7 = rs2 + 2 ^ 5 * funct7
 
--- that of the format S
+-- the immediate of the format S
 abbrev pub store_immediate_of : (rd funct7 : ℕ) → ℕ
 store_immediate_of rd funct7 = rd + 2 ^ 5 * funct7
 
--- that of the format U
+-- the immediate of the format U
 abbrev pub upper_immediate_of : (funct3 rs1 rs2 funct7 : ℕ) → ℕ
 upper_immediate_of funct3 rs1 rs2 funct7 = funct3 + 2 ^ 3 * rs1 + 2 ^ 8 * rs2 + 2 ^ 13 * funct7
 
@@ -303,7 +303,7 @@ upper_immediate_of funct3 rs1 rs2 funct7 = funct3 + 2 ^ 3 * rs1 + 2 ^ 8 * rs2 + 
 abbrev pub branch_offset_of : (rd funct7 : ℕ) → ℕ
 branch_offset_of rd funct7 = 2 * (rd / 2) + 2 ^ 5 * (funct7 % 2 ^ 6) + 2 ^ 11 * (rd % 2) + 2 ^ 12 * (funct7 / 2 ^ 6)
 
--- that of the format J
+-- the offset of the format J
 abbrev pub jump_offset_of : (funct3 rs1 rs2 funct7 : ℕ) → ℕ
 jump_offset_of funct3 rs1 rs2 funct7 =
     2 * (rs2 / 2) + 2 ^ 5 * (funct7 % 2 ^ 6) + 2 ^ 11 * (rs2 % 2) + 2 ^ 12 * funct3 + 2 ^ 15 * rs1 + 2 ^ 20 * (funct7 / 2 ^ 6)
@@ -350,5 +350,6 @@ decoded_fields opcode rd funct3 rs1 rs2 funct7 =
     else None
 
 -- the instruction of a word below 2^32, none where no instruction has it
+-- Nobody has to believe it, nor what it stands on: the clauses of `decode` prove it the inverse of `word_of`.
 unfoldable pub decoded : (word : ℕ) → Option Instr
 decoded w = decoded_fields (bits_of w 0 7) (bits_of w 7 5) (bits_of w 12 3) (bits_of w 15 5) (bits_of w 20 5) (bits_of w 25 7)

@@ -4,19 +4,19 @@ use Rattle.ido_base.specs.declared.event.Event.{Event}
 use Rattle.ido_base.specs.declared.event.Event.TheVariants.{Step, Evict, Crash}
 use Rattle.ido_base.specs.Words.{word_of}
 use Rattle.ido_base.specs.Layout.{word_count}
-use Rattle.ido_base.specs.Growth.{AreChanged, AreRaised, AreEntries}
+use Rattle.ido_base.specs.Growth.{AreChanged, ArePersisted, AreEntries}
 use Rattle.rv64_isa.specs.declared.object.Slot.{Slot}
 use Rattle.rv64_isa.specs.Machine.{Hart, World, after_event, start_of, after_crash_of}
 
 -- the holder of a lock, before and after a step of hart h
 pub data IsHeldOn (h : ℕ) (old new : Option (Option ℕ)) : Type 0 where
   Stays : new ≡ old → IsHeldOn h old new
-  -- it was free
+  -- the lock was free, and hart h takes it
   Takes : old ≡ Some None → new ≡ Some (Some h) → IsHeldOn h old new
   -- the hart held it
   Gives : old ≡ Some (Some h) → new ≡ Some None → IsHeldOn h old new
 
--- the other harts are as they were; a lock changes only from free to h or from h to free; each word is raised, or has one value more
+-- the other harts are as they were; a lock changes only from free to h or from h to free; each word is persisted, or has one value more
 pub record Touches (h : ℕ) (old new : World) : Type 0 where
   pub count : length new.harts ≡ length old.harts
   pub others : (g : ℕ) → g ≢ h → slice_get new.harts g ≡ slice_get old.harts g
@@ -25,8 +25,8 @@ pub record Touches (h : ℕ) (old new : World) : Type 0 where
   pub words : AreChanged old.words new.words
   pub recovering : new.recovering ≡ old.recovering
 
--- memory is made for the harts, and what they have queued stands for positions of its words
-pub record IsSound (w : World) : Type 0 where
+-- memory is made for the harts, and what they have queued represents positions of its words
+pub record IsWellFormedWorld (w : World) : Type 0 where
   pub size : length w.words ≡ word_count (length w.harts)
   pub queues : (h : ℕ) (hart : Hart) → slice_get w.harts h ≡ Some hart → AreEntries w.words hart.queue
 
@@ -34,24 +34,24 @@ pub record IsSound (w : World) : Type 0 where
 
 -- a step touches its hart, the locks that this one takes or gives back, and words at the end of their histories
 abbrev pub StepsTouch : Type 0
-StepsTouch = (program : List (List Slot)) (w : World) (h : ℕ) → IsSound w → Touches h w (after_event program w (Step h))
+StepsTouch = (program : List (List Slot)) (w : World) (h : ℕ) → IsWellFormedWorld w → Touches h w (after_event program w (Step h))
 
--- an eviction raises words, and touches nothing else
+-- an eviction persists words, and touches nothing else
 abbrev pub EvictionsTouch : Type 0
 EvictionsTouch = (program : List (List Slot)) (w : World) (line mask : ℕ) →
-    AreRaised w.words (after_event program w (Evict line mask)).words × (record (after_event program w (Evict line mask)) { words = w.words } ≡ w)
+    ArePersisted w.words (after_event program w (Evict line mask)).words × (record (after_event program w (Evict line mask)) { words = w.words } ≡ w)
 
--- what the queues of all harts stand for stays along every event
+-- worlds stay well-formed along every event: what the queues of all harts represent stays
 abbrev pub QueuesStand : Type 0
-QueuesStand = (program : List (List Slot)) (w : World) (event : Event) → length program ≡ length w.harts → IsSound w →
-    IsSound (after_event program w event) × (length (after_event program w event).harts ≡ length w.harts)
+QueuesStand = (program : List (List Slot)) (w : World) (event : Event) → length program ≡ length w.harts → IsWellFormedWorld w →
+    IsWellFormedWorld (after_event program w event) × (length (after_event program w event).harts ≡ length w.harts)
 
--- as it does at the start, and where a run begins after a crash
+-- worlds are well-formed at the start, and where a run begins after a crash
 abbrev pub StartsStand : Type 0
 StartsStand =
     (program : List (List Slot)) (locks : ℕ) (initial : List ℕ) →
-    IsSound (start_of program locks initial) × (length (start_of program locks initial).harts ≡ length program)
+    IsWellFormedWorld (start_of program locks initial) × (length (start_of program locks initial).harts ≡ length program)
 
 abbrev pub CrashesStand : Type 0
 CrashesStand = (program : List (List Slot)) (locks : ℕ) (words : List ℕ) → length words ≡ word_count (length program) →
-    IsSound (after_crash_of program locks words) × (length (after_crash_of program locks words).harts ≡ length program)
+    IsWellFormedWorld (after_crash_of program locks words) × (length (after_crash_of program locks words).harts ≡ length program)

@@ -17,7 +17,7 @@ use Rattle.rv64_isa.specs.declared.object.Slot.{Slot}
 use Rattle.rv64_isa.specs.declared.object.Slot.TheVariants.{Row, NoRow}
 use Rattle.rv64_isa.specs.declared.phase.Phase.{Phase}
 use Rattle.rv64_isa.specs.declared.phase.Phase.TheVariants.{Take, Wait, Resume, Run, Done, Ended}
-use Rattle.rv64_isa.specs.Rows.{Effect, GoesOn, Loads, Stores, Cleans, Fences, Calls, row, read, written, next, load_result}
+use Rattle.rv64_isa.specs.Rows.{Effect, Continues, Loads, Stores, Cleans, Fences, Calls, row, read, written, next, load_result}
 use Rattle.rv64_isa.specs.Programs.{program_of, code_start, fetched}
 
 pub record Hart : Type 0 where
@@ -32,7 +32,7 @@ pub record World : Type 0 where
   pub harts : List Hart
   -- of each lock the hart that holds it, or none
   pub holders : List (Option ℕ)
-  -- there was a crash
+  -- whether there was a crash
   pub recovering : Bool
 
 -- the world after an event, and the reply
@@ -104,7 +104,7 @@ called w h hart number lock =
     else stuck w (NoCall number)
 
 abbrev pub applied : World → ℕ → Hart → Effect → Outcome
-applied w h hart (GoesOn registers pc) = moved w h (record hart { registers = registers; pc = pc })
+applied w h hart (Continues registers pc) = moved w h (record hart { registers = registers; pc = pc })
 applied w h hart (Loads address bytes signed register) =
     access w address bytes
     (moved w h (record (gone_on hart) { registers = written hart.registers register (load_result bytes signed (loaded w.words (byte_number address) bytes)) }))
@@ -279,10 +279,6 @@ IsEviction threads line mask = (line < line_count threads) × (mask ≤ 255)
 abbrev pub IsValidEvent : (threads : ℕ) → Event → Type 0
 IsValidEvent threads event = IsValid threads (IsEviction threads) event
 
-abbrev pub AreValidEvents : (threads : ℕ) → List Event → Type 0
-AreValidEvents threads [] = Unit {0}
-AreValidEvents threads (event ∷ events) = IsValidEvent threads event × AreValidEvents threads events
-
 -- the machine of an object at its start
 abbrev pub machine_start : Object → World
 machine_start object = start_of (program_of object) object.mutexes object.initial.items
@@ -291,7 +287,7 @@ machine_start object = start_of (program_of object) object.mutexes object.initia
 abbrev pub machine : Object → List Event → World
 machine object events = after_events (program_of object) (machine_start object) events
 
--- the same, begun after a crash that left these words of its variables and logs
+-- the machine of an object after events, begun after a crash that left these words of its variables and logs
 abbrev pub machine_from : Object → (words : List ℕ) → List Event → World
 machine_from object words events =
     after_events (program_of object) (after_crash_of (program_of object) object.mutexes (spread_words (length object.initial.items / 8) words)) events

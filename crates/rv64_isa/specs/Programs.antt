@@ -1,6 +1,7 @@
 -- Code as a machine runs it: for each thread its instructions, and the words that are none.
 use Rattle.std.specs.Prelude.{ℕ, ◌+◌, ◌-◌, ◌*◌, ◌/◌, ◌%◌, List, map, length, take, slice_get, slice_index_or}
 use Rattle.std.specs.Prelude.{[], nat_le, ◌==◌, ◌&&◌, if◌then◌else◌, Option, Some, None, sum_by}
+use Rattle.ido_base.specs.declared.limits.TheConstants.{CODE_BASE}
 use Rattle.rv64_isa.specs.declared.object.Slot.{Slot}
 use Rattle.rv64_isa.specs.declared.object.Slot.TheVariants.{Row, NoRow}
 use Rattle.rv64_isa.specs.declared.object.Object.{Object}
@@ -23,7 +24,7 @@ program_of object = map (λ code. map slot_of code.items) object.code.items
 
 -- the address of the first thread's first word
 abbrev pub code_base : ℕ
-code_base = 0x0001_0000
+code_base = CODE_BASE
 
 -- where a thread's code begins: thread after thread
 abbrev pub code_start : List (List Slot) → (thread : ℕ) → ℕ

@@ -1,4 +1,5 @@
 -- What an instruction does, apart from memory and locks (RISC-V unprivileged ISA; Zicbom).
+-- `load_bytes`, `load_signed` and `load_result` are by section "Load and Store Instructions".
 use Rattle.std.specs.Prelude.{ℕ, ◌+◌, ◌*◌, ◌/◌, ◌%◌, ◌^◌, List, slice_index, slice_set, Bool, true, false, ◌==◌, if◌then◌else◌}
 use Rattle.rv64_isa.specs.declared.instr.Instr.{Instr}
 use Rattle.rv64_isa.specs.declared.instr.Instr.TheVariants.{Lui, Auipc, Jal, Jalr, Branch, Load, Store, OpImmediate}
@@ -11,7 +12,7 @@ use Rattle.rv64_isa.specs.Arithmetic.{sign_extended, result_of, operation_of, sh
 
 pub data Effect : Type 0 where
   -- goes on with these registers, at this pc
-  GoesOn : (registers : List ℕ) → (pc : ℕ) → Effect
+  Continues : (registers : List ℕ) → (pc : ℕ) → Effect
   -- loads so many bytes, sign-extended or not, into a register
   Loads : (address bytes : ℕ) → (signed : Bool) → (register : ℕ) → Effect
   -- stores the low bytes of a value
@@ -65,18 +66,18 @@ store_bytes Sw = 4
 store_bytes Sd = 8
 
 unfoldable pub row : Instr → (registers : List ℕ) → (pc : ℕ) → Effect
-row (Lui rd immediate) x pc = GoesOn (written x rd (upper immediate)) (next pc)
-row (Auipc rd immediate) x pc = GoesOn (written x rd ((pc + upper immediate) % 2 ^ 64)) (next pc)
-row (Jal rd offset) x pc = GoesOn (written x rd (next pc)) (displaced pc 21 offset)
-row (Jalr rd rs1 offset) x pc = GoesOn (written x rd (next pc)) (displaced (read x rs1) 12 offset / 2 * 2)
-row (Branch condition rs1 rs2 offset) x pc = GoesOn x (if is_taken condition (read x rs1) (read x rs2) then displaced pc 13 offset else next pc)
+row (Lui rd immediate) x pc = Continues (written x rd (upper immediate)) (next pc)
+row (Auipc rd immediate) x pc = Continues (written x rd ((pc + upper immediate) % 2 ^ 64)) (next pc)
+row (Jal rd offset) x pc = Continues (written x rd (next pc)) (displaced pc 21 offset)
+row (Jalr rd rs1 offset) x pc = Continues (written x rd (next pc)) (displaced (read x rs1) 12 offset / 2 * 2)
+row (Branch condition rs1 rs2 offset) x pc = Continues x (if is_taken condition (read x rs1) (read x rs2) then displaced pc 13 offset else next pc)
 row (Load kind rd rs1 offset) x pc = Loads (displaced (read x rs1) 12 offset) (load_bytes kind) (load_signed kind) rd
 row (Store kind rs2 rs1 offset) x pc = Stores (displaced (read x rs1) 12 offset) (store_bytes kind) (read x rs2)
 row (OpImmediate operation rd rs1 immediate) x pc =
-    GoesOn (written x rd (result_of (operation_of operation) (read x rs1) (sign_extended 12 64 immediate))) (next pc)
-row (ShiftImmediate operation rd rs1 count) x pc = GoesOn (written x rd (result_of (shift_of operation) (read x rs1) count)) (next pc)
-row (ShiftImmediateWord operation rd rs1 count) x pc = GoesOn (written x rd (result_of (word_shift_of operation) (read x rs1) count)) (next pc)
-row (Op operation rd rs1 rs2) x pc = GoesOn (written x rd (result_of operation (read x rs1) (read x rs2))) (next pc)
+    Continues (written x rd (result_of (operation_of operation) (read x rs1) (sign_extended 12 64 immediate))) (next pc)
+row (ShiftImmediate operation rd rs1 count) x pc = Continues (written x rd (result_of (shift_of operation) (read x rs1) count)) (next pc)
+row (ShiftImmediateWord operation rd rs1 count) x pc = Continues (written x rd (result_of (word_shift_of operation) (read x rs1) count)) (next pc)
+row (Op operation rd rs1 rs2) x pc = Continues (written x rd (result_of operation (read x rs1) (read x rs2))) (next pc)
 row (CboClean rs1) x pc = Cleans (read x rs1)
 row Fence x pc = Fences
 row Ecall x pc = Calls

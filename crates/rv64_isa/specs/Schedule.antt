@@ -13,7 +13,7 @@ use Rattle.rv64_isa.specs.declared.object.Slot.{Slot}
 use Rattle.rv64_isa.specs.declared.object.Slot.TheVariants.{Row}
 use Rattle.rv64_isa.specs.declared.phase.Phase.{Phase}
 use Rattle.rv64_isa.specs.declared.phase.Phase.TheVariants.{Take, Wait, Resume, Run, Done, Ended}
-use Rattle.rv64_isa.specs.Rows.{Effect, GoesOn, Loads, Stores, Cleans, Fences, Calls, row}
+use Rattle.rv64_isa.specs.Rows.{Effect, Continues, Loads, Stores, Cleans, Fences, Calls, row}
 use Rattle.rv64_isa.specs.Programs.{fetched}
 use Rattle.rv64_isa.specs.Machine.{Hart, World, after_event, reply_to, durable_point, live_at}
 
@@ -65,7 +65,7 @@ completes test program w Crash h = false
 -- stores into the word of the thread's point
 abbrev pub is_point_store : (thread : ℕ) → Effect → Bool
 is_point_store thread (Stores address bytes value) = word_number address == word_number (point_at thread)
-is_point_store thread (GoesOn registers pc) = false
+is_point_store thread (Continues registers pc) = false
 is_point_store thread (Loads address bytes signed register) = false
 is_point_store thread (Cleans address) = false
 is_point_store thread Fences = false
@@ -73,7 +73,7 @@ is_point_store thread Calls = false
 
 abbrev pub is_fence : Effect → Bool
 is_fence Fences = true
-is_fence (GoesOn registers pc) = false
+is_fence (Continues registers pc) = false
 is_fence (Loads address bytes signed register) = false
 is_fence (Stores address bytes value) = false
 is_fence (Cleans address) = false
@@ -104,7 +104,7 @@ pub record Steps : Type 0 where
   -- a number of a hart for each mark passed
   pub begun : List ℕ
   pub kept : List ℕ
-  -- those begun since the start or the last crash and not kept, in their order
+  -- the steps begun since the start or the last crash and not kept, in their order
   pub pending : List ℕ
   pub harts : List HartSteps
 
@@ -158,7 +158,7 @@ with_kept words h s =
       harts = slice_set s.harts h (record { free = (hart_steps s h).free; bound = filter (λ b. nat_lt durable b.position) (hart_steps s h).bound });
     }
 
--- the same of the first so many harts
+-- where the points of the first `count` harts have become durable, the steps bound to them are kept
 abbrev pub with_all_kept : List Word → (count : ℕ) → Steps → Steps
 with_all_kept words zero s = s
 with_all_kept words (suc h) s = with_kept words h (with_all_kept words h s)
@@ -176,12 +176,12 @@ steps_after marks program w (Step h) s = with_all_kept (after_event program w (S
 steps_after marks program w (Evict line mask) s = with_all_kept (after_event program w (Evict line mask)).words (length s.harts) s
 steps_after marks program w Crash s = record s { pending = []; harts = replicate (length s.harts) no_steps }
 
--- the same after events
+-- the steps after a list of events
 abbrev pub steps_along : List (List ℕ) → List (List Slot) → World → List Event → Steps → Steps
 steps_along marks program w [] s = s
 steps_along marks program w (event ∷ events) s = steps_along marks program (after_event program w event) events (steps_after marks program w event s)
 
--- before any event, with a schedule that is kept already
+-- the steps before any event, with a schedule that is kept already
 abbrev pub first_steps : (threads : ℕ) → (kept : List ℕ) → Steps
 first_steps threads kept = record { begun = []; kept = kept; pending = []; harts = replicate threads no_steps }
 
@@ -191,7 +191,7 @@ first_steps threads kept = record { begun = []; kept = kept; pending = []; harts
 abbrev pub is_settled_hart : World → (h : ℕ) → Bool
 is_settled_hart w h = holds_none w.holders h && ((durable_point w.words h == 0) && (live_at w.words (point_at h) == 0))
 
--- so are the first so many harts
+-- the first `count` harts hold nothing, and their live and durable points are 0
 abbrev pub are_settled : World → (count : ℕ) → Bool
 are_settled w zero = true
 are_settled w (suc h) = are_settled w h && is_settled_hart w h

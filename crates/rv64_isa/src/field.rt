@@ -98,7 +98,7 @@ impl Register {
         }
     }
 
-    /// Its number.
+    /// The register's number.
     pub fn number(self) -> u8
         ensures value { result ≡ self }
         ensures range { self < 32 }
@@ -218,7 +218,7 @@ impl Immediate {
         }
     }
 
-    /// Its bits.
+    /// The bits of the field.
     pub fn bits(self) -> u16
         ensures value { result ≡ self }
         ensures range { self < 2 ^ 12 }
@@ -272,7 +272,7 @@ impl UpperImmediate {
         }
     }
 
-    /// Its bits.
+    /// The bits of the field.
     pub fn bits(self) -> u32
         ensures value { result ≡ self }
         ensures range { self < 2 ^ 20 }
@@ -324,7 +324,7 @@ impl BranchOffset {
         }
     }
 
-    /// Its bits.
+    /// The bits of the field.
     pub fn bits(self) -> u16
         ensures value { result ≡ self }
         ensures range { self < 2 ^ 13 }
@@ -377,7 +377,7 @@ impl JumpOffset {
         }
     }
 
-    /// Its bits.
+    /// The bits of the field.
     pub fn bits(self) -> u32
         ensures value { result ≡ self }
         ensures range { self < 2 ^ 21 }
@@ -416,7 +416,7 @@ impl ShiftCount {
         }
     }
 
-    /// Its bits.
+    /// The bits of the field.
     pub fn bits(self) -> u8
         ensures value { result ≡ self }
         ensures range { self < 2 ^ 6 }
@@ -454,7 +454,7 @@ impl WordShiftCount {
         }
     }
 
-    /// Its bits.
+    /// The bits of the field.
     pub fn bits(self) -> u8
         ensures value { result ≡ self }
         ensures range { self < 2 ^ 5 }

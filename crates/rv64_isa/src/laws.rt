@@ -8,7 +8,7 @@ pub fn events_touch()
     ensures evictions { EvictionsTouch }
 {}
 
-/// What the queues of all harts stand for stays along every event, from every start.
+/// What the queues of all harts represent stays along every event, from every start.
 pub fn queues_stand()
     ensures events { QueuesStand }
     ensures starts { StartsStand }

@@ -6,7 +6,8 @@ use crate::field::Register;
 use crate::instr::{Condition, Instr};
 use crate::word::{decode, encode};
 
-/// A compiled program. Threads, mutexes, initial bytes and words are within the limits of an object: at most
+/// A compiled program. Calls that need it ask that threads, mutexes, initial bytes and words are within the limits of an object
+/// (`IsWithinLimits`), which is no invariant of this type: at most
 /// 8 threads of 1 to 65,536 words, 64 mutexes, and 65,536 bytes, a multiple of 8.
 #[derive(Debug, PartialEq, Eq, Drop)]
 pub struct Object {
@@ -79,7 +80,7 @@ pub enum CodeItem {
         rs2: Register,
         to: Label,
     },
-    /// A jump to a label, near or far; `rd` gets the address behind it.
+    /// A jump to a label, near or far; `rd` gets the address after it.
     JumpTo {
         rd: Register,
         to: Label,

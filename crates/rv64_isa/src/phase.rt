@@ -3,16 +3,16 @@
 /// The phase of a hart.
 #[derive(Clone, Copy, Debug, PartialEq, Eq, Drop)]
 pub enum Phase {
-    /// In recovery: takes the locks that its record names.
+    /// In recovery: the hart takes the locks that its record names.
     Take,
-    /// In recovery: waits until no hart takes locks.
+    /// In recovery: the hart waits until no hart takes locks.
     Wait,
-    /// In recovery: is about to set its registers and its pc.
+    /// In recovery: the hart is about to set its registers and its pc.
     Resume,
-    /// Executes instructions.
+    /// The hart executes instructions.
     Run,
-    /// Its recovery is done, or it had nothing to recover.
+    /// The hart's recovery is done, or it had nothing to recover.
     Done,
-    /// It has ended by ECALL.
+    /// The hart has ended by ECALL.
     Ended,
 }

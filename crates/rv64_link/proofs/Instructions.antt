@@ -11,7 +11,7 @@ use Rattle.rv64_isa.specs.declared.object.CodeItem.TheVariants.{Instruction, Bra
 use Rattle.rv64_isa.specs.declared.object.Slot.{Slot}
 use Rattle.rv64_isa.specs.declared.object.Slot.TheVariants.{Row}
 use Rattle.rv64_link.specs.LabelledCode.{label_position, is_fence, one_if, fences_of}
-use Rattle.rv64_link.specs.Linked.{IsInstruction, AreInstructions}
+use Rattle.rv64_link.specs.LinkedCode.{IsInstruction, AreInstructions}
 use Rattle.rv64_link.specs.links.Layout.{is_near, size, numbers, number_at, branch_slots, slots_of, slots}
 use Rattle.rv64_link.proofs.Places.{none_past, size_is}
 
@@ -33,7 +33,7 @@ all_append : {A : Type 0} (P : A → Type 0) (xs ys : List A) → AllByRecursion
 all_append P [] ys h g = g
 all_append P (x ∷ xs) ys h g = (h.0, all_append P xs ys h.1 g)
 
--- ---- Instructions, and others behind them
+-- ---- Instructions, and others after them
 
 pub no_instructions : (start : ℕ) (code : List Slot) (at first : ℕ) → at ≡ start + 4 * first → first ≤ length code → AreInstructions start code at at 0
 no_instructions start code at first e h = record {

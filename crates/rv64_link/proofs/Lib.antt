@@ -1,6 +1,6 @@
-pub mod Places
-pub mod Instructions
-pub mod Lockstep
-pub mod Words
-pub mod Threads
-pub mod LabelSteps
+pub mod Public
+mod Places
+mod Instructions
+mod Lockstep
+mod Words
+mod Threads

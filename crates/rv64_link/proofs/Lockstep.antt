@@ -3,9 +3,10 @@ use Rattle.std.proofs.Common.{◌≡◌, ℕ, ◌+◌, ◌-◌, ◌*◌, ◌^◌
 use Rattle.std.proofs.Common.{Bool, true, false, refl, sym, ap, ap₂, subst, ◌∙◌, arith, lit≤}
 use Rattle.std.specs.Prelude.{slice_get, sum_by, count_by, nat_le, not, ◌&&◌, if◌then◌else◌}
 use Rattle.std.specs.List.{AllByRecursion}
+use Rattle.ido_base.specs.declared.limits.TheConstants.{MOST_CODE_WORDS}
 use Rattle.rv64_isa.specs.Arithmetic.{is_taken}
 use Rattle.rv64_isa.specs.Programs.{code_base}
-use Rattle.rv64_isa.specs.Rows.{Effect, GoesOn, row, read, written, next, displaced}
+use Rattle.rv64_isa.specs.Rows.{Effect, Continues, row, read, written, next, displaced}
 use Rattle.rv64_isa.specs.declared.instr.Condition.{Condition}
 use Rattle.rv64_isa.specs.declared.instr.Condition.TheVariants.{Beq, Bne, Blt, Bge, Bltu, Bgeu}
 use Rattle.rv64_isa.specs.declared.instr.Instr.{Instr}
@@ -16,7 +17,7 @@ use Rattle.rv64_isa.specs.declared.object.Label.{Label}
 use Rattle.rv64_isa.specs.declared.object.Slot.{Slot}
 use Rattle.rv64_isa.specs.declared.object.Slot.TheVariants.{Row}
 use Rattle.rv64_link.specs.LabelledCode.{does, label_position, least_words_of, most_words_of, positions_from, is_mark, is_resume, is_fence, fences_of}
-use Rattle.rv64_link.specs.Linked.{Stands, Does, in_one, in_two, IsRoom, IsLinked, IsInstruction, AreInstructions}
+use Rattle.rv64_link.specs.LinkedCode.{IsInstructionAt, HasEffect, in_one, in_two, IsRoom, IsLinked, IsInstruction, AreInstructions}
 use Rattle.rv64_link.specs.links.Layout.{is_near, inverse, offset, size, numbers, number_at, slots_of, slots}
 use Rattle.rv64_link.proofs.Instructions.{Within, slots_within, rows_of, fences_are_of}
 use Rattle.rv64_link.proofs.Places.{within, size_small, size_is, number_first, number_next, number_last, number_steps, number_bounded, stands_at, label_within}
@@ -72,16 +73,16 @@ near_bounds p q e = by (nat_le (q - p) 511) (nat_le (p - q) 511) refl refl e
     by true false h k both = absurd cc
     by false b h k both = absurd cc
 
-row_of_jump : (rd imm : ℕ) (x : List ℕ) (pc : ℕ) → row (Jal rd imm) x pc ≡ GoesOn (written x rd (next pc)) (displaced pc 21 imm)
+row_of_jump : (rd imm : ℕ) (x : List ℕ) (pc : ℕ) → row (Jal rd imm) x pc ≡ Continues (written x rd (next pc)) (displaced pc 21 imm)
 unfolding row
 row_of_jump rd imm x pc = refl
 
 row_of_branch : (c : Condition) (rs1 rs2 imm : ℕ) (x : List ℕ) (pc : ℕ) →
-    row (Branch c rs1 rs2 imm) x pc ≡ GoesOn x (if is_taken c (read x rs1) (read x rs2) then displaced pc 13 imm else next pc)
+    row (Branch c rs1 rs2 imm) x pc ≡ Continues x (if is_taken c (read x rs1) (read x rs2) then displaced pc 13 imm else next pc)
 unfolding row
 row_of_branch c rs1 rs2 imm x pc = refl
 
-module _ (all : List CodeItem) (first : ℕ) (few : sum_by most_words_of all ≤ 65536) (low : first ≤ 2 ^ 19) where
+module _ (all : List CodeItem) (first : ℕ) (few : sum_by most_words_of all ≤ MOST_CODE_WORDS) (low : first ≤ 2 ^ 19) where
   abbrev ns : List ℕ
   ns = numbers all first 0 all
 
@@ -105,21 +106,21 @@ module _ (all : List CodeItem) (first : ℕ) (few : sum_by most_words_of all ≤
       the_same : (p : ℕ) → 0 + p ≡ p
       the_same p = omega arith
 
-  high_at : (p : ℕ) → p ≤ length all → at p ≤ first + 65536
+  high_at : (p : ℕ) → p ≤ length all → at p ≤ first + MOST_CODE_WORDS
   high_at p h = let bound = number_bounded all first 0 all p h in omega (arith, bound, few)
 
   small_at : (p : ℕ) → p ≤ length all → at p < 2 ^ 20
   small_at p h = let high = high_at p h in omega (arith, high, low)
 
   place : (p j : ℕ) (item : CodeItem) (instr : Instr) → slice_get all p ≡ Some item → slice_get (slots_of all ns p item) j ≡ Some (Row instr) →
-      Stands start code (code_base + 4 * (at p + j)) instr
+      IsInstructionAt start code (code_base + 4 * (at p + j)) instr
   place p j item instr e h =
       let found = stands_at all ns first 0 all p j item (Row instr) e (subst (λ q. slice_get (slots_of all ns q item) j ≡ Some (Row instr)) (omega arith) h) in
       (found.0, omega (arith, found.1), found.2)
 
   first_place : (p : ℕ) (item : CodeItem) (instr : Instr) → slice_get all p ≡ Some item → slice_get (slots_of all ns p item) 0 ≡ Some (Row instr) →
-      Stands start code (address p) instr
-  first_place p item instr e h = subst (λ a. Stands start code a instr) (omega arith) (place p 0 item instr e h)
+      IsInstructionAt start code (address p) instr
+  first_place p item instr e h = subst (λ a. IsInstructionAt start code a instr) (omega arith) (place p 0 item instr e h)
 
   next_at : (p : ℕ) (item : CodeItem) → slice_get all p ≡ Some item → at (p + 1) ≡ at p + size all p item
   next_at p item e = number_next all first 0 all p item e ∙ ap (λ q. at p + size all q item) (omega arith)
@@ -141,17 +142,17 @@ module _ (all : List CodeItem) (first : ℕ) (few : sum_by most_words_of all ≤
       jump_lands f (at q) (omega (arith, high_f, low)) (small_at q inside) (omega (arith, low_f, b)) (omega (arith, high_f, a))
 
   jump : (p : ℕ) (rd : ℕ) (to : Label) (x : List ℕ) → slice_get all p ≡ Some (JumpTo rd to) →
-      Does start code x (address p) (address (p + 1)) (GoesOn (written x rd (address (p + 1))) (address (label_position to.0 all)))
+      HasEffect start code x (address p) (address (p + 1)) (Continues (written x rd (address (p + 1))) (address (label_position to.0 all)))
   jump p rd to x e =
       let inside : p ≤ length all = omega (arith, within all p (JumpTo rd to) e) in
       let lands = jump_goes (at p) to.0 (low_at p inside) (omega (arith, high_at p inside)) in
       in_one (Jal rd (offset 21 (at p) (at (label_position to.0 all)))) (first_place p (JumpTo rd to) _ e refl)
-      (row_of_jump rd _ x (address p) ∙ ap₂ (λ v pc. GoesOn (written x rd v) pc) (one_word p (JumpTo rd to) e refl) lands)
+      (row_of_jump rd _ x (address p) ∙ ap₂ (λ v pc. Continues (written x rd v) pc) (one_word p (JumpTo rd to) e refl) lands)
 
   near_branch : (p : ℕ) (c : Condition) (rs1 rs2 : ℕ) (to : Label) (x : List ℕ) → slice_get all p ≡ Some (BranchTo c rs1 rs2 to) →
       is_near p (label_position to.0 all) ≡ true
-      → Does start code x (address p) (address (p + 1))
-      (GoesOn x (if is_taken c (read x rs1) (read x rs2) then address (label_position to.0 all) else address (p + 1)))
+      → HasEffect start code x (address p) (address (p + 1))
+      (Continues x (if is_taken c (read x rs1) (read x rs2) then address (label_position to.0 all) else address (p + 1)))
   near_branch p c rs1 rs2 to x e near =
       let q = label_position to.0 all in
       let item : CodeItem = BranchTo c rs1 rs2 to in
@@ -162,7 +163,7 @@ module _ (all : List CodeItem) (first : ℕ) (few : sum_by most_words_of all ≤
       let lands = branch_lands (at p) (at q) (small_at p inside) (small_at q there) close.0 close.1 in
       in_one (Branch c rs1 rs2 (offset 13 (at p) (at q))) (first_place p item _ e (rw near refl))
       (row_of_branch c rs1 rs2 _ x (address p)
-      ∙ ap₂ (λ a b. GoesOn x (if is_taken c (read x rs1) (read x rs2) then a else b)) lands (one_word p item e (rw near refl)))
+      ∙ ap₂ (λ a b. Continues x (if is_taken c (read x rs1) (read x rs2) then a else b)) lands (one_word p item e (rw near refl)))
     where
       distance_small : (p q : ℕ) → p ≤ length all → q ≤ length all → q ≤ p + 511 → p ≤ q + 511 → (at q ≤ at p + 1022) × (at p ≤ at q + 1022)
       distance_small p q hp hq up down = by (nat_le p q) refl
@@ -178,8 +179,8 @@ module _ (all : List CodeItem) (first : ℕ) (few : sum_by most_words_of all ≤
 
   far_branch : (p : ℕ) (c : Condition) (rs1 rs2 : ℕ) (to : Label) (x : List ℕ) → slice_get all p ≡ Some (BranchTo c rs1 rs2 to) →
       is_near p (label_position to.0 all) ≡ false
-      → Does start code x (address p) (address (p + 1))
-      (GoesOn x (if is_taken c (read x rs1) (read x rs2) then address (label_position to.0 all) else address (p + 1)))
+      → HasEffect start code x (address p) (address (p + 1))
+      (Continues x (if is_taken c (read x rs1) (read x rs2) then address (label_position to.0 all) else address (p + 1)))
   far_branch p c rs1 rs2 to x e far = by (is_taken c (read x rs1) (read x rs2)) refl
     where
       q : ℕ
@@ -201,38 +202,38 @@ module _ (all : List CodeItem) (first : ℕ) (few : sum_by most_words_of all ≤
       away = Jal 0 (offset 21 (at p + 1) (at q))
 
       by : (b : Bool) → is_taken c (read x rs1) (read x rs2) ≡ b →
-          Does start code x (address p) (address (p + 1)) (GoesOn x (if is_taken c (read x rs1) (read x rs2) then address q else address (p + 1)))
+          HasEffect start code x (address p) (address (p + 1)) (Continues x (if is_taken c (read x rs1) (read x rs2) then address q else address (p + 1)))
       by true taken =
           let between : ℕ = code_base + 4 * (at p + 1) in
           let untaken : is_taken (inverse c) (read x rs1) (read x rs2) ≡ false = inverse_taken c (read x rs1) (read x rs2) ∙ ap not taken in
-          let goes : row over x (address p) ≡ GoesOn x between =
-          row_of_branch (inverse c) rs1 rs2 8 x (address p) ∙ ap (λ t. GoesOn x (if t then displaced (address p) 13 8 else next (address p))) untaken
-          ∙ ap (GoesOn x) (next_of (address p) (omega (arith, small)) ∙ omega arith) in
+          let goes : row over x (address p) ≡ Continues x between =
+          row_of_branch (inverse c) rs1 rs2 8 x (address p) ∙ ap (λ t. Continues x (if t then displaced (address p) 13 8 else next (address p))) untaken
+          ∙ ap (Continues x) (next_of (address p) (omega (arith, small)) ∙ omega arith) in
           let lands : displaced between 21 (offset 21 (at p + 1) (at q)) ≡ address q =
           jump_goes (at p + 1) to.0 (omega (arith, low_at p inside)) (omega (arith, high_at p inside)) in
-          let jumps : row away x between ≡ GoesOn x (address q) = row_of_jump 0 (offset 21 (at p + 1) (at q)) x between ∙ ap (GoesOn x) lands in
+          let jumps : row away x between ≡ Continues x (address q) = row_of_jump 0 (offset 21 (at p + 1) (at q)) x between ∙ ap (Continues x) lands in
           let apart : address p + 4 ≡ between = omega arith in
           let two : at (p + 1) ≡ at p + 2 = next_at p item e ∙ ap (λ (b : Bool). at p + (if b then 1 else 2)) far in
-          let Q : ℕ → Type 0 = λ n. Stands start code n away in
-          in_two over away (omega (arith, two)) (first_place p item over e (rw far refl)) (goes ∙ ap (GoesOn x) (sym apart))
+          let Q : ℕ → Type 0 = λ n. IsInstructionAt start code n away in
+          in_two over away (omega (arith, two)) (first_place p item over e (rw far refl)) (goes ∙ ap (Continues x) (sym apart))
           (subst Q (sym apart) (place p 1 item away e (rw far refl)))
-          (ap (λ (n : ℕ). row away x n) apart ∙ jumps ∙ sym (ap (λ t. GoesOn x (if t then address q else address (p + 1))) taken))
+          (ap (λ (n : ℕ). row away x n) apart ∙ jumps ∙ sym (ap (λ t. Continues x (if t then address q else address (p + 1))) taken))
       by false untaken =
           let taken : is_taken (inverse c) (read x rs1) (read x rs2) ≡ true = inverse_taken c (read x rs1) (read x rs2) ∙ ap not untaken in
           let two : at (p + 1) ≡ at p + 2 = next_at p item e ∙ ap (λ (b : Bool). at p + (if b then 1 else 2)) far in
           let lands : displaced (address p) 13 8 ≡ address (p + 1) = over_jump (at p) small ∙ ap (λ n. code_base + 4 * n) (sym two) in
           in_one over (first_place p item over e (rw far refl))
-          (row_of_branch (inverse c) rs1 rs2 8 x (address p) ∙ ap (λ t. GoesOn x (if t then displaced (address p) 13 8 else next (address p))) taken
-          ∙ ap (GoesOn x) lands ∙ sym (ap (λ t. GoesOn x (if t then address q else address (p + 1))) untaken))
+          (row_of_branch (inverse c) rs1 rs2 8 x (address p) ∙ ap (λ t. Continues x (if t then displaced (address p) 13 8 else next (address p))) taken
+          ∙ ap (Continues x) lands ∙ sym (ap (λ t. Continues x (if t then address q else address (p + 1))) untaken))
 
   branch : (p : ℕ) (c : Condition) (rs1 rs2 : ℕ) (to : Label) (x : List ℕ) → slice_get all p ≡ Some (BranchTo c rs1 rs2 to)
-      → Does start code x (address p) (address (p + 1))
-      (GoesOn x (if is_taken c (read x rs1) (read x rs2) then address (label_position to.0 all) else address (p + 1)))
+      → HasEffect start code x (address p) (address (p + 1))
+      (Continues x (if is_taken c (read x rs1) (read x rs2) then address (label_position to.0 all) else address (p + 1)))
   branch p c rs1 rs2 to x e = by (is_near p (label_position to.0 all)) refl
     where
       by : (b : Bool) → is_near p (label_position to.0 all) ≡ b →
-          Does start code x (address p) (address (p + 1))
-          (GoesOn x (if is_taken c (read x rs1) (read x rs2) then address (label_position to.0 all) else address (p + 1)))
+          HasEffect start code x (address p) (address (p + 1))
+          (Continues x (if is_taken c (read x rs1) (read x rs2) then address (label_position to.0 all) else address (p + 1)))
       by true near = near_branch p c rs1 rs2 to x e near
       by false far = far_branch p c rs1 rs2 to x e far
 
@@ -243,10 +244,10 @@ module _ (all : List CodeItem) (first : ℕ) (few : sum_by most_words_of all ≤
   none_some a e = cc e
 
   steps : (p : ℕ) (item : CodeItem) (x : List ℕ) (effect : Effect) → slice_get all p ≡ Some item → does all address p x item ≡ Some effect →
-      Does start code x (address p) (address (p + 1)) effect
+      HasEffect start code x (address p) (address (p + 1)) effect
   steps p (Instruction instr) x effect e h = in_one instr (first_place p (Instruction instr) instr e refl) (effect_is _ effect h)
-  steps p (BranchTo c rs1 rs2 to) x effect e h = subst (Does start code x (address p) (address (p + 1))) (effect_is _ effect h) (branch p c rs1 rs2 to x e)
-  steps p (JumpTo rd to) x effect e h = subst (Does start code x (address p) (address (p + 1))) (effect_is _ effect h) (jump p rd to x e)
+  steps p (BranchTo c rs1 rs2 to) x effect e h = subst (HasEffect start code x (address p) (address (p + 1))) (effect_is _ effect h) (branch p c rs1 rs2 to x e)
+  steps p (JumpTo rd to) x effect e h = subst (HasEffect start code x (address p) (address (p + 1))) (effect_is _ effect h) (jump p rd to x e)
   steps p (Here here) x effect e h = absurd (none_some effect h)
   steps p MarkNext x effect e h = absurd (none_some effect h)
   steps p ResumeNext x effect e h = absurd (none_some effect h)

@@ -34,9 +34,9 @@ in_prefix [] ys k x e = absurd (none_past k x e)
 in_prefix (y ∷ xs) ys zero x e = e
 in_prefix (y ∷ xs) ys (suc k) x e = in_prefix xs ys k x e
 
-behind : {A : Type 0} (xs ys : List A) (k : ℕ) → slice_get (xs ++ ys) (length xs + k) ≡ slice_get ys k
-behind [] ys k = let same : 0 + k ≡ k = omega arith in ap (λ n. slice_get ys n) same
-behind (x ∷ xs) ys k = let same : length (x ∷ xs) + k ≡ suc (length xs + k) = omega arith in ap (λ n. slice_get (x ∷ (xs ++ ys)) n) same ∙ behind xs ys k
+after : {A : Type 0} (xs ys : List A) (k : ℕ) → slice_get (xs ++ ys) (length xs + k) ≡ slice_get ys k
+after [] ys k = let same : 0 + k ≡ k = omega arith in ap (λ n. slice_get ys n) same
+after (x ∷ xs) ys k = let same : length (x ∷ xs) + k ≡ suc (length xs + k) = omega arith in ap (λ n. slice_get (x ∷ (xs ++ ys)) n) same ∙ after xs ys k
 
 plus_zero : (n : ℕ) → n ≡ n + 0
 plus_zero n = omega arith
@@ -150,7 +150,7 @@ stands_at all ns first p (x ∷ items) (suc k) j item s e h =
     let moved : p + suc k ≡ p + 1 + k = omega arith in
     let rest = stands_at all ns (first + size all p x) (p + 1) items k j item s e (subst (λ q. slice_get (slots_of all ns q item) j ≡ Some s) moved h) in
     let here = size_is all ns p x in
-    (length (slots_of all ns p x) + rest.0, omega (arith, rest.1, here), behind (slots_of all ns p x) (slots all ns (p + 1) items) rest.0 ∙ rest.2)
+    (length (slots_of all ns p x) + rest.0, omega (arith, rest.1, here), after (slots_of all ns p x) (slots all ns (p + 1) items) rest.0 ∙ rest.2)
 
 -- ---- Labels
 

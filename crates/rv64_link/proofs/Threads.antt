@@ -5,12 +5,13 @@ use Rattle.std.specs.Global.{Vec}
 use Rattle.rv64_link.specs.links.Threads.{items_in, slots_in}
 use Rattle.std.proofs.lemmas.List.{length-map, map_more, map_push}
 use Rattle.std.proofs.lemmas.List.Sums.{sum_by-append, sum_by-cons}
+use Rattle.ido_base.specs.declared.limits.TheConstants.{MOST_CODE_WORDS}
 use Rattle.rv64_isa.specs.Programs.{code_base, slot_of}
 use Rattle.rv64_isa.specs.declared.object.CodeItem.{CodeItem}
 use Rattle.rv64_isa.specs.declared.object.Slot.{Slot}
 use Rattle.rv64_isa.specs.declared.object.ThreadMarks.{ThreadMarks}
 use Rattle.rv64_link.specs.LabelledCode.{is_mark, is_resume, most_words_of, positions_from}
-use Rattle.rv64_link.specs.Linked.{AreLinked, IsLinked}
+use Rattle.rv64_link.specs.LinkedCode.{AreLinked, IsLinked}
 use Rattle.rv64_link.specs.links.Layout.{number_at, numbers, slots}
 use Rattle.rv64_link.proofs.Lockstep.{linked}
 use Rattle.rv64_link.proofs.Places.{number_bounded, number_last}
@@ -18,7 +19,7 @@ use Rattle.rv64_link.proofs.Places.{number_bounded, number_last}
 abbrev addresses : (n positions : List ℕ) → List ℕ
 addresses n positions = map (λ p. code_base + 4 * number_at n p) positions
 
-pub is_linked : (all : List CodeItem) (first : ℕ) (n words nodes resumes : List ℕ) → sum_by most_words_of all ≤ 65536 → first ≤ 2 ^ 19 →
+pub is_linked : (all : List CodeItem) (first : ℕ) (n words nodes resumes : List ℕ) → sum_by most_words_of all ≤ MOST_CODE_WORDS → first ≤ 2 ^ 19 →
     n ≡ numbers all first 0 all → map slot_of words ≡ slots all n 0 all
     → nodes ≡ map (λ p. code_base + 4 * number_at n p) (positions_from 0 is_mark all) →
     resumes ≡ map (λ p. code_base + 4 * number_at n p) (positions_from 0 is_resume all)
@@ -29,8 +30,8 @@ is_linked all first n words nodes resumes few low numbered coded marked resumed 
     (linked all first few low nodes resumes (marked ∙ ap (λ m. addresses m (positions_from 0 is_mark all)) numbered)
     (resumed ∙ ap (λ m. addresses m (positions_from 0 is_resume all)) numbered))
 
-pub is_few : (all : List CodeItem) (first : ℕ) (n words : List ℕ) → sum_by most_words_of all ≤ 65536 → n ≡ numbers all first 0 all →
-    map slot_of words ≡ slots all n 0 all → length words ≤ 65536
+pub is_few : (all : List CodeItem) (first : ℕ) (n words : List ℕ) → sum_by most_words_of all ≤ MOST_CODE_WORDS → n ≡ numbers all first 0 all →
+    map slot_of words ≡ slots all n 0 all → length words ≤ MOST_CODE_WORDS
 is_few all first n words few numbered coded =
     let last = number_last all n first 0 all in
     let bound = number_bounded all first 0 all (length all) (omega arith) in
@@ -61,13 +62,13 @@ pub linked_more : (threads : List (Vec CodeItem)) (i first : ℕ) (code new_code
     → AreLinked code_base (map items_in (take i threads)) (map slots_in code) marks → first ≡ sum_by length (map slots_in code)
     → IsLinked (code_base + 4 * first) seen (map slot_of words.items) m.nodes.items m.resumes.items
     → AreLinked code_base (map items_in (take (i + 1) threads)) (map slots_in new_code) new_marks
-linked_more threads i first code new_code marks new_marks d items words m seen within item sight coded marked before count one =
+linked_more threads i first code new_code marks new_marks d items words m seen within item observation coded marked before count one =
     let all : map items_in (take (i + 1) threads) ≡ map items_in (take i threads) ++ items_in items ∷ [] =
     map_more items_in threads i d within ∙ ap (λ v. map items_in (take i threads) ++ items_in v ∷ []) (sym item) in
     let program : map slots_in new_code ≡ map slots_in code ++ slots_in words ∷ [] = ap (map slots_in) coded ∙ map_push slots_in code words in
     let here : IsLinked (code_base + 4 * sum_by length (map slots_in code)) items.items (slots_in words) m.nodes.items m.resumes.items =
     subst (λ n. IsLinked (code_base + 4 * n) items.items (slots_in words) m.nodes.items m.resumes.items) count
-    (subst (λ v. IsLinked (code_base + 4 * first) v (slots_in words) m.nodes.items m.resumes.items) sight one) in
+    (subst (λ v. IsLinked (code_base + 4 * first) v (slots_in words) m.nodes.items m.resumes.items) observation one) in
     rw (all, program, marked) (one_more code_base (map items_in (take i threads)) (map slots_in code) marks (items_in items) (slots_in words) m before here)
 
 pub count_more : (code new_code : List (Vec ℕ)) (words : Vec ℕ) (first : ℕ) → new_code ≡ code ++ words ∷ [] → first ≡ sum_by length (map slots_in code) →

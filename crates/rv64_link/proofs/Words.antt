@@ -5,7 +5,7 @@ use Rattle.rv64_isa.specs.Formats.{IsInstruction, word_of}
 use Rattle.rv64_isa.specs.Programs.{slot_of}
 use Rattle.rv64_isa.specs.declared.instr.Instr.{Instr}
 use Rattle.rv64_isa.specs.declared.object.Slot.TheVariants.{Row}
-use Rattle.rv64_isa.proofs.Words.{slot_of-word_of}
+use Rattle.rv64_isa.proofs.Public.{slot_of-word_of}
 
 pub one_more : (instr : Instr) (word : ℕ) (before after : List ℕ) → IsInstruction instr → word ≡ word_of instr → after ≡ before ++ word ∷ [] →
     map slot_of after ≡ map slot_of before ++ Row instr ∷ []

@@ -6,7 +6,7 @@ use Rattle.rv64_isa.specs.declared.object.Slot.{Slot}
 use Rattle.rv64_isa.specs.declared.object.Slot.TheVariants.{Row}
 use Rattle.rv64_isa.specs.declared.instr.Instr.TheVariants.{Fence}
 use Rattle.rv64_isa.specs.Arithmetic.{is_taken}
-use Rattle.rv64_isa.specs.Rows.{Effect, GoesOn, row, read, written}
+use Rattle.rv64_isa.specs.Rows.{Effect, Continues, row, read, written}
 
 abbrev pub stands_here : (label : ℕ) → CodeItem → Bool
 stands_here label (Instruction instr) = false
@@ -47,8 +47,8 @@ positions_from at test (item ∷ items) = if test item then at ∷ positions_fro
 abbrev pub does : (items : List CodeItem) → (address_of : ℕ → ℕ) → (position : ℕ) → (registers : List ℕ) → CodeItem → Option Effect
 does items at p x (Instruction instr) = Some (row instr x (at p))
 does items at p x (BranchTo condition rs1 rs2 to) =
-    Some (GoesOn x (if is_taken condition (read x rs1) (read x rs2) then at (label_position to.0 items) else at (p + 1)))
-does items at p x (JumpTo rd to) = Some (GoesOn (written x rd (at (p + 1))) (at (label_position to.0 items)))
+    Some (Continues x (if is_taken condition (read x rs1) (read x rs2) then at (label_position to.0 items) else at (p + 1)))
+does items at p x (JumpTo rd to) = Some (Continues (written x rd (at (p + 1))) (at (label_position to.0 items)))
 does items at p x (Here here) = None
 does items at p x MarkNext = None
 does items at p x ResumeNext = None
@@ -62,7 +62,7 @@ most_words_of (Here here) = 0
 most_words_of MarkNext = 0
 most_words_of ResumeNext = 0
 
--- and at least: labels and marks take none
+-- words that an item takes at least: labels and marks take none
 abbrev pub least_words_of : CodeItem → ℕ
 least_words_of (Instruction instr) = 1
 least_words_of (BranchTo condition rs1 rs2 to) = 1

@@ -1,3 +1,3 @@
 pub mod LabelledCode
-pub mod Linked
+pub mod LinkedCode
 pub mod links

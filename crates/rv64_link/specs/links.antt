@@ -1,3 +1,3 @@
 pub mod Layout
-pub mod Stands
+pub mod LabelRepresentation
 pub mod Threads

@@ -5,7 +5,7 @@ ghost use Rattle.rv64_isa.specs.declared.object.CodeItem.{CodeItem as Item};
 ghost use Rattle.rv64_isa.specs.declared.object.Slot.TheVariants.{Row};
 ghost use Rattle.rv64_link.specs.LabelledCode.{most_words_of};
 ghost use Rattle.rv64_link.specs.links.Layout.{branch_slots, inverse, is_near, number_at, offset, size, slots_of};
-ghost use Rattle.rv64_link.specs.links.Stands.{LabelsStand};
+ghost use Rattle.rv64_link.specs.links.LabelRepresentation.{LabelsStand};
 
 use crate::labels::Labels;
 use ido_base::memory::OutOfMemory;

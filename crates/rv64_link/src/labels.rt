@@ -1,6 +1,6 @@
 //! Where labels stand.
 ghost use Rattle.std.specs.Prelude.{◌≡◌, ◌+◌, ℕ, ◌<◌, ◌^◌, IfOk, OnOk, get_or, ◌==◌, if◌then◌else◌};
-ghost use Rattle.rv64_link.specs.links.Stands.{LabelsStand};
+ghost use Rattle.rv64_link.specs.links.LabelRepresentation.{LabelsStand};
 
 use ido_base::memory::OutOfMemory;
 use rv64_isa::object::{CodeItem, Label};

@@ -3,7 +3,7 @@ ghost use Rattle.std.specs.Prelude.{◌≡◌, ◌≤◌, All, IfOk, length, map
 ghost use Rattle.ido_base.specs.declared.limits.TheConstants.{MOST_THREADS, MOST_CODE_WORDS};
 ghost use Rattle.rv64_isa.specs.Programs.{code_base, program_of};
 ghost use Rattle.rv64_link.specs.LabelledCode.{most_words_of};
-ghost use Rattle.rv64_link.specs.Linked.{AreLinked};
+ghost use Rattle.rv64_link.specs.LinkedCode.{AreLinked};
 ghost use Rattle.rv64_link.specs.links.Threads.{items_in, slots_in};
 
 use crate::thread::link_thread;

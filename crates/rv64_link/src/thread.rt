@@ -3,18 +3,16 @@ ghost use Rattle.std.specs.Prelude.{◌≡◌, ◌+◌, ◌*◌, ◌<◌, ◌≤
 ghost use Rattle.ido_base.specs.declared.limits.TheConstants.{MOST_CODE_WORDS};
 ghost use Rattle.rv64_isa.specs.Programs.{code_base, slot_of};
 ghost use Rattle.rv64_link.specs.LabelledCode.{is_mark, is_resume, most_words_of, positions_from};
-ghost use Rattle.rv64_link.specs.Linked.{IsLinked};
+ghost use Rattle.rv64_link.specs.LinkedCode.{IsLinked};
 ghost use Rattle.rv64_link.specs.links.Layout.{number_at, numbers, slots};
-ghost use Rattle.rv64_link.specs.links.Stands.{LabelsStand};
+ghost use Rattle.rv64_link.specs.links.LabelRepresentation.{LabelsStand};
 
 use crate::item::{number_at, push_item, size};
 use crate::labels::Labels;
+use ido_base::limits::CODE_BASE;
 use ido_base::memory::OutOfMemory;
 use rv64_isa::object::{CodeItem, ThreadMarks};
 use std::alloc::Global;
-
-/// The address of the first thread's first word.
-const CODE_BASE: u64 = 0x0001_0000;
 
 /// The number of the first word of each item, and of the end.
 fn numbers(

@@ -6,7 +6,7 @@ use Rattle.std.proofs.lemmas.Bool.{cases_eq}
 use Rattle.std.proofs.lemmas.Option.{slice_get_within, get_or_from_slice_get}
 use Rattle.ido_base.specs.Locks.{is_held_by}
 use Rattle.ido_base.specs.declared.place.Place.{Place}
-use Rattle.ido_ints.specs.Typed.{Typed}
+use Rattle.ido_ints.specs.TypedNumbers.{Typed}
 use Rattle.ido_ints.specs.Operators.{is_zero}
 use Rattle.ido_ints.specs.Reduction.{reduced}
 use Rattle.c_tree.specs.Exprs as e
@@ -14,16 +14,18 @@ use Rattle.c_tree.specs.Values.{element_at}
 use Rattle.c_tree.specs.Flats as f
 use Rattle.c_tree.specs.Source as m
 use Rattle.c_tree.specs.Source.{source_step, opened_all}
-use Rattle.c_tree.specs.Locking.{Held, holds, none_held, expr_uses, target_uses, assign_uses, guard_of, AreGuarded, IsDisciplined}
+use Rattle.c_tree.specs.LockDiscipline.{Held, holds, none_held, expr_uses, target_uses, assign_uses, guard_of, AreGuarded, IsDisciplined}
 use Rattle.source_machine.specs.Mutexes.{lock_ahead, unlock_ahead, first_lock, first_unlock, lock_of, unlock_of, held_by}
 use Rattle.source_machine.specs.Discipline.{KeepList, ThreadKeeps, StateKeeps, StartKeeps, StepKeeps, RunKeeps, ReachedKeeps, Guards, LooksSame}
 use Rattle.source_machine.proofs.Emission.{set_same, set_other}
-use Rattle.source_machine.proofs.Starting.{map_found}
-use Rattle.source_machine.proofs.Running.{after_by, step_found, step_missing}
-use Rattle.source_machine.proofs.Guarding.{held_found, held_apart, held_taken, held_given, held_kept, held_none}
-use Rattle.source_machine.proofs.Guarding.{guarded_first, guarded_rest, guarded_left, guarded_right, value_same}
-use Rattle.source_machine.proofs.Keeping.{keep_append, keep_opened_all, keeps_assign, keeps_if, keeps_arm, keeps_while, keeps_lock, keeps_unlock, keep_tested}
-use Rattle.source_machine.proofs.Changes.{some_is, Passed, Change, with_passed, changed, Passes, takes, gives, Does, Stepped, locks_found}
+use Rattle.source_machine.proofs.StartStates.{map_found}
+use Rattle.source_machine.proofs.StateRuns.{after_by, step_found, step_missing}
+use Rattle.source_machine.proofs.GuardedValues.{held_found, held_apart, held_taken, held_given, held_kept, held_none}
+use Rattle.source_machine.proofs.GuardedValues.{guarded_first, guarded_rest, guarded_left, guarded_right, value_same}
+use Rattle.source_machine.proofs.DisciplinedContinuations.{keep_append, keep_opened_all, keeps_assign, keeps_if}
+use Rattle.source_machine.proofs.DisciplinedContinuations.{keeps_arm, keeps_while, keeps_lock, keeps_unlock, keep_tested}
+use Rattle.source_machine.proofs.StepChanges.{some_is, Passed, Change, with_passed, changed, ChangesMutex}
+use Rattle.source_machine.proofs.StepChanges.{takes, gives, IsDisciplinedChange, Stepped, locks_found}
 
 -- a state looks the same as itself
 pub looks_same : (x : f.Flat) (s : m.State) (t : ℕ) → LooksSame x s s t
@@ -46,7 +48,7 @@ module _ (x : f.Flat) (s : m.State) (t : ℕ) (thread : m.Thread) (there : slice
 
   still : (step : m.State → Option m.State) (to : m.Thread) → lock_ahead thread ≡ None →
       ((other : m.State) → LooksSame x s other t → step other ≡ Some (m.with_thread other t to)) →
-      ThreadKeeps x held to → Does x s t thread step
+      ThreadKeeps x held to → IsDisciplinedChange x s t thread step
   still step to free each keeps = record {
     change = alone to;
     keeps = keeps;
@@ -63,9 +65,9 @@ module _ (x : f.Flat) (s : m.State) (t : ℕ) (thread : m.Thread) (there : slice
 
   -- ---- The pending store
 
-  -- it writes a variable whose mutex the thread holds
+  -- the pending store writes a variable whose mutex the thread holds
   by_store : (p : m.Pending) → thread.pending ≡ Some p → KeepList x.variables held thread.left none → holds held (guard_of x.variables p.variable) ≡ true →
-      Does x s t thread (λ z. Some (m.with_thread (m.stored z p) t (record thread { pending = None })))
+      IsDisciplinedChange x s t thread (λ z. Some (m.with_thread (m.stored z p) t (record thread { pending = None })))
   by_store p is keep guarded = record {
     change = record { thread = record thread { pending = None }; store = Some p; passed = None };
     keeps = record { left = keep; pending = λ q h. cc };
@@ -105,7 +107,7 @@ module _ (x : f.Flat) (s : m.State) (t : ℕ) (thread : m.Thread) (there : slice
         (guarded_rest x.variables held _ (expr_uses index.expr) second))
         (value_same x.variables held thread.locals s.variables other.variables (same_at other l) placed.expr first)
 
-    -- and the store that is then pending is guarded
+    -- the store that is pending after an evaluation is guarded
     evaluated_guarded : (target : e.Lvalue) (placed : e.Placed) → AreGuarded x.variables held (assign_uses target placed) → (p : m.Pending) →
         (m.evaluated s thread target placed.expr).pending ≡ Some p → holds held (guard_of x.variables p.variable) ≡ true
     evaluated_guarded (e.ToLocal local kind) placed g p h = at_rest held p h
@@ -130,7 +132,7 @@ module _ (x : f.Flat) (s : m.State) (t : ℕ) (thread : m.Thread) (there : slice
       lock_is : lock_ahead thread ≡ lock_of y
       lock_is = ap (λ (o : Option m.Pending). let r : Option ℕ = elim o [ Some q ↦ None | None ↦ first_lock thread.left ] in r) idle ∙ ap first_lock first
 
-      -- and unlocked
+      -- what is unlocked next
       unlock_is : unlock_ahead thread ≡ unlock_of y
       unlock_is = ap (λ (o : Option m.Pending). let r : Option ℕ = elim o [ Some q ↦ None | None ↦ first_unlock thread.left ] in r) idle ∙ ap first_unlock first
 
@@ -138,7 +140,7 @@ module _ (x : f.Flat) (s : m.State) (t : ℕ) (thread : m.Thread) (there : slice
       -- an assignment
       by_assign : (place : Place) (target : e.Lvalue) (placed : e.Placed) → thread.left ≡ f.Assign place target placed ∷ rest →
           KeepList x.variables held (f.Assign place target placed ∷ rest) none →
-          Does x s t thread (λ z. m.statement_step z t thread (f.Assign place target placed) rest)
+          IsDisciplinedChange x s t thread (λ z. m.statement_step z t thread (f.Assign place target placed) rest)
       by_assign place target placed first keep =
           let k = keeps_assign x.variables keep.1 in
           still (λ z. m.statement_step z t thread (f.Assign place target placed) rest) (record (m.evaluated s thread target placed.expr) { left = rest })
@@ -151,7 +153,7 @@ module _ (x : f.Flat) (s : m.State) (t : ℕ) (thread : m.Thread) (there : slice
       by_if : (place : Place) (condition : e.Placed) (body : f.Statements) (arms : f.Arms) (otherwise : f.Statements) →
           thread.left ≡ f.If place (f.arm_and condition body arms) otherwise ∷ rest →
           KeepList x.variables held (f.If place (f.arm_and condition body arms) otherwise ∷ rest) none →
-          Does x s t thread (λ z. m.statement_step z t thread (f.If place (f.arm_and condition body arms) otherwise) rest)
+          IsDisciplinedChange x s t thread (λ z. m.statement_step z t thread (f.If place (f.arm_and condition body arms) otherwise) rest)
       by_if place condition body arms otherwise first keep =
           let k = keeps_if x.variables keep.1 in
           let a = keeps_arm x.variables k.0 in
@@ -179,10 +181,10 @@ module _ (x : f.Flat) (s : m.State) (t : ℕ) (thread : m.Thread) (there : slice
           let k = keeps_while x.variables keep.1 in
           subst (λ (z : Held). KeepList x.variables z rest none) k.2 keep.2
 
-      -- so a `while` keeps it
+      -- a step by a `while` keeps the discipline
       by_while : (place : Place) (condition : e.Placed) (body : f.Statements) → thread.left ≡ f.While place condition body ∷ rest →
           KeepList x.variables held (f.While place condition body ∷ rest) none →
-          Does x s t thread (λ z. m.statement_step z t thread (f.While place condition body) rest)
+          IsDisciplinedChange x s t thread (λ z. m.statement_step z t thread (f.While place condition body) rest)
       by_while place condition body first keep =
           let k = keeps_while x.variables keep.1 in
           let onward : Bool → List f.Statement = λ b. if b then opened_all body ++ (f.While place condition body ∷ rest) else rest in
@@ -207,7 +209,8 @@ module _ (x : f.Flat) (s : m.State) (t : ℕ) (thread : m.Thread) (there : slice
       -- a mutex is taken
       by_lock : (place : Place) (mutex : ℕ) (next : m.State) (o : Option (Option ℕ)) → slice_get s.holders mutex ≡ o →
           thread.left ≡ f.Lock place mutex ∷ rest → KeepList x.variables held (f.Lock place mutex ∷ rest) none →
-          m.statement_step s t thread (f.Lock place mutex) rest ≡ Some next → Does x s t thread (λ z. m.statement_step z t thread (f.Lock place mutex) rest)
+          m.statement_step s t thread (f.Lock place mutex) rest ≡ Some next →
+          IsDisciplinedChange x s t thread (λ z. m.statement_step z t thread (f.Lock place mutex) rest)
       by_lock place mutex next None e first keep h = let no = lock_refused place mutex None e (λ q. cc) in cc
       by_lock place mutex next (Some (Some u)) e first keep h = let no = lock_refused place mutex (Some (Some u)) e (λ q. cc) in cc
       by_lock place mutex next (Some None) e first keep h =
@@ -222,7 +225,7 @@ module _ (x : f.Flat) (s : m.State) (t : ℕ) (thread : m.Thread) (there : slice
                   at_rest (held_by t (slice_set s.holders mutex (Some t)));
             };
             owned = λ q g. cc;
-            passes = λ q g. subst (λ (w : Passed). Passes s t thread w) (some_is p q g) (takes is e refl);
+            passes = λ q g. subst (λ (w : Passed). ChangesMutex s t thread w) (some_is p q g) (takes is e refl);
             ahead = λ j g. let one : mutex ≡ j = some_is mutex j (sym is ∙ g) in ap
                 (λ (i : ℕ). let w : Passed = record { mutex = i; holder = Some t } in Some w) one;
             same = λ other l. lock_free other place mutex (l.ahead mutex (locks_found s t thread there ∙ is) ∙ e);
@@ -230,7 +233,7 @@ module _ (x : f.Flat) (s : m.State) (t : ℕ) (thread : m.Thread) (there : slice
 
       -- a mutex is given back
       by_unlock : (place : Place) (mutex : ℕ) → thread.left ≡ f.Unlock place mutex ∷ rest → KeepList x.variables held (f.Unlock place mutex ∷ rest) none →
-          Does x s t thread (λ z. m.statement_step z t thread (f.Unlock place mutex) rest)
+          IsDisciplinedChange x s t thread (λ z. m.statement_step z t thread (f.Unlock place mutex) rest)
       by_unlock place mutex first keep =
           let k = keeps_unlock x.variables keep.1 in
           let free : lock_ahead thread ≡ None = lock_is (f.Unlock place mutex) rest first in
@@ -243,7 +246,7 @@ module _ (x : f.Flat) (s : m.State) (t : ℕ) (thread : m.Thread) (there : slice
                   at_rest (held_by t (slice_set s.holders mutex None));
             };
             owned = λ q g. cc;
-            passes = λ q g. subst (λ (w : Passed). Passes s t thread w) (some_is p q g)
+            passes = λ q g. subst (λ (w : Passed). ChangesMutex s t thread w) (some_is p q g)
                 (gives (unlock_is (f.Unlock place mutex) rest first) (held_found t s.holders mutex k.0) refl);
             ahead = λ j g. let no : None ≡ Some j = sym free ∙ g in cc;
             same = λ other l. refl;
@@ -251,7 +254,7 @@ module _ (x : f.Flat) (s : m.State) (t : ℕ) (thread : m.Thread) (there : slice
 
       -- each statement
       by_statement : (y : f.Statement) (next : m.State) → thread.left ≡ y ∷ rest → KeepList x.variables held (y ∷ rest) none →
-          m.statement_step s t thread y rest ≡ Some next → Does x s t thread (λ z. m.statement_step z t thread y rest)
+          m.statement_step s t thread y rest ≡ Some next → IsDisciplinedChange x s t thread (λ z. m.statement_step z t thread y rest)
       by_statement (f.Assign place target placed) next first keep h = by_assign place target placed first keep
       by_statement (f.If place f.no_arm otherwise) next first keep h = cc
       by_statement (f.If place (f.arm_and condition body arms) otherwise) next first keep h = by_if place condition body arms otherwise first keep
@@ -267,7 +270,7 @@ module _ (x : f.Flat) (s : m.State) (t : ℕ) (thread : m.Thread) (there : slice
     -- the end
     by_end : (next : m.State) (ended : Bool) → thread.left ≡ [] → KeepList x.variables held thread.left none →
         (let o : Option m.State = if ended then None else Some (m.with_thread s t (record thread { ended = true })) in o ≡ Some next) →
-        Does x s t thread (λ z. if ended then None else Some (m.with_thread z t (record thread { ended = true })))
+        IsDisciplinedChange x s t thread (λ z. if ended then None else Some (m.with_thread z t (record thread { ended = true })))
     by_end next true over keep h = cc
     by_end next false over keep h = still (λ z. Some (m.with_thread z t (record thread { ended = true }))) (record thread { ended = true }) (end_locks over)
         (λ other l. refl) (record { left = keep; pending = at_rest held })
@@ -275,7 +278,7 @@ module _ (x : f.Flat) (s : m.State) (t : ℕ) (thread : m.Thread) (there : slice
     -- what is left to do
     by_left : (next : m.State) (left : List f.Statement) → thread.left ≡ left → KeepList x.variables held left none →
         KeepList x.variables held thread.left none → m.left_step s t thread left ≡ Some next →
-        Does x s t thread (λ z. m.left_step z t thread left)
+        IsDisciplinedChange x s t thread (λ z. m.left_step z t thread left)
     by_left next [] is keep keep_all h = by_end next thread.ended is keep_all h
     by_left next (y ∷ rest) is keep keep_all h = by_statement rest y next is keep h
 
@@ -288,14 +291,14 @@ module _ (x : f.Flat) (s : m.State) (t : ℕ) (thread : m.Thread) (there : slice
 
   -- with a pending store, or without
   by_pending : (next : m.State) (o : Option m.Pending) → thread.pending ≡ o → ThreadKeeps x held thread → pending_by s o ≡ Some next →
-      Does x s t thread (λ z. pending_by z o)
+      IsDisciplinedChange x s t thread (λ z. pending_by z o)
   by_pending next None e keeps h = by_left e next thread.left refl keeps.left keeps.left h
   by_pending next (Some p) e keeps h = by_store p e keeps.left (keeps.pending p e)
 
   -- a step of a thread that keeps the discipline
   by_thread : (next : m.State) → ThreadKeeps x held thread → m.thread_step s t thread ≡ Some next → Stepped x s t next
   by_thread next keeps h =
-      let d : Does x s t thread (λ z. m.thread_step z t thread) = by_pending next thread.pending refl keeps h in
+      let d : IsDisciplinedChange x s t thread (λ z. m.thread_step z t thread) = by_pending next thread.pending refl keeps h in
       record { thread = thread; there = there; does = d; is = some_is next (changed s t d.change) (sym h ∙ d.same s (looks_same x s t)) }
 
 -- the thread of that number
@@ -311,7 +314,7 @@ stepped x s next t keeps h = by_found x s next t (slice_get s.threads t) refl ke
 -- ---- The other threads
 
 -- a step leaves what another thread holds
-apart_by : (s : m.State) (t u : ℕ) (thread : m.Thread) (o : Option Passed) → ((p : Passed) → o ≡ Some p → Passes s t thread p) → u ≢ t →
+apart_by : (s : m.State) (t u : ℕ) (thread : m.Thread) (o : Option Passed) → ((p : Passed) → o ≡ Some p → ChangesMutex s t thread p) → u ≢ t →
     held_by u (with_passed o s.holders) ≡ held_by u s.holders
 apart_by s t u thread None passes n = refl
 apart_by s t u thread (Some p) passes n = elim (passes p refl) [

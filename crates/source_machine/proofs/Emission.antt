@@ -15,7 +15,8 @@ use Rattle.c_tree.specs.declared.flat.Statement as s
 use Rattle.c_tree.specs.Source.{opened, opened_all}
 use Rattle.source_machine.specs.declared.code.Node.{Node}
 use Rattle.source_machine.specs.declared.code.Node.TheVariants as node
-use Rattle.source_machine.specs.links.Codes.{Lefts, At, behind, chooses, repeats, Does, IsCode, IsPushed, Extends, Emits, EmitsArms, EmitsTest, EmitsLoop}
+use Rattle.source_machine.specs.links.Codes.{Lefts, At, else_part, chooses, repeats, DoesNode, IsCode}
+use Rattle.source_machine.specs.links.Codes.{IsPushed, Extends, Emits, EmitsArms, EmitsTest, EmitsLoop}
 
 -- ---- Lists
 
@@ -56,10 +57,10 @@ set_other (x ∷ xs) (suc i) (suc k) y h = set_other xs i k y (λ e. h (ap suc e
 pub once : (lefts : Lefts) (k : ℕ) (l m : List f.Statement) → At lefts k l → At lefts k m → l ≡ m
 once lefts k l m h g = cc
 
-abbrev pub Grows : Lefts → Lefts → Type 0
-Grows lefts all = (k : ℕ) (l : List f.Statement) → At lefts k l → At all k l
+abbrev pub LeftsGrow : Lefts → Lefts → Type 0
+LeftsGrow lefts all = (k : ℕ) (l : List f.Statement) → At lefts k l → At all k l
 
-pub does_still : (lefts all : Lefts) → Grows lefts all → (n : Node) (left : List f.Statement) → Does lefts n left → Does all n left
+pub does_still : (lefts all : Lefts) → LeftsGrow lefts all → (n : Node) (left : List f.Statement) → DoesNode lefts n left → DoesNode all n left
 does_still lefts all g node.End left d = d
 does_still lefts all g (node.Assign target value next) left d = record { place = d.place; rest = d.rest; follows = g next d.rest d.follows; is = d.is }
 does_still lefts all g (node.Test condition holds fails) left d = elim d [
@@ -86,10 +87,10 @@ nothing_more before lefts next rest size at = record {
 
 pub node_more : (before after : List Node) (lefts : Lefts) (n : Node) (position : ℕ) (left : List f.Statement) → length lefts ≡ length before →
     IsPushed before after n position →
-    ((all : Lefts) → Grows lefts all → Does all n left) → Extends before after lefts position left
+    ((all : Lefts) → LeftsGrow lefts all → DoesNode all n left) → Extends before after lefts position left
 node_more before after lefts n position left size p does =
     let all : Lefts = lefts ++ left ∷ [] in
-    let grown : Grows lefts all = λ k l h. get_prefix lefts (left ∷ []) k l h in
+    let grown : LeftsGrow lefts all = λ k l h. get_prefix lefts (left ∷ []) k l h in
     record {
       all = all;
       grown = grown;
@@ -99,8 +100,8 @@ node_more before after lefts n position left size p does =
       each = λ k m l h g a.
           let e = get_only before n m k h (sym (ap (λ ns. slice_get ns k) p.nodes) ∙ g) in
           let e' = get_only lefts left l k (omega (arith, size)) a in
-          let P : Node → Type 0 = λ x. Does all x l in
-          let Q : List f.Statement → Type 0 = λ x. Does all n x in
+          let P : Node → Type 0 = λ x. DoesNode all x l in
+          let Q : List f.Statement → Type 0 = λ x. DoesNode all n x in
           subst P e.1 (subst Q e'.1 (does all grown));
       entered = subst (λ (k : ℕ). At all k left) (size ∙ sym p.at) (get_end lefts left);
     }
@@ -127,7 +128,7 @@ both before mid after lefts one two l m x y = record {
 -- a node in place of one that was put there for the time being
 pub patched : (before mid after final : List Node) (lefts : Lefts) (held n : Node) (position entry inner : ℕ) (l there left : List f.Statement) →
     length lefts ≡ length before → IsPushed before mid held position →
-    (y : Extends mid after (lefts ++ l ∷ []) inner there) → final ≡ slice_set after position n → Does y.all n l → At y.all entry left →
+    (y : Extends mid after (lefts ++ l ∷ []) inner there) → final ≡ slice_set after position n → DoesNode y.all n l → At y.all entry left →
     Extends before final lefts entry left
 patched before mid after final lefts held n position entry inner l there left size p y is does at =
     let long : length mid ≡ length before + 1 = ap length p.nodes ∙ length-append before (held ∷ []) in
@@ -148,8 +149,8 @@ patched before mid after final lefts held n position entry inner l there left si
           ∙ (sym (ap (λ ns. slice_get ns k) is) ∙ g) in
           let is_node : n ≡ m = cc in
           let is_left : l ≡ o = once y.all position l o here (ap (slice_get y.all) (sym same) ∙ a) in
-          let P : Node → Type 0 = λ x. Does y.all x o in
-          let Q : List f.Statement → Type 0 = λ x. Does y.all n x in
+          let P : Node → Type 0 = λ x. DoesNode y.all x o in
+          let Q : List f.Statement → Type 0 = λ x. DoesNode y.all n x in
           subst P is_node (subst Q is_left does))
           (λ other.
           y.each k m o (omega (arith, long, p.at, other)) (sym (ap (λ ns. slice_get ns k) is ∙ set_other after position k n other) ∙ g) a)
@@ -163,7 +164,7 @@ pub emits_none : (before : List Node) (next : ℕ) → Emits before before [] ne
 emits_none before next = record { each = λ lefts rest size at. nothing_more before lefts next rest size at }
 
 pub emits_node : (before after : List Node) (n : Node) (position : ℕ) (does : List f.Statement) (next : ℕ) → IsPushed before after n position →
-    ((all : Lefts) (rest : List f.Statement) → At all next rest → Does all n (does ++ rest)) → Emits before after does next position
+    ((all : Lefts) (rest : List f.Statement) → At all next rest → DoesNode all n (does ++ rest)) → Emits before after does next position
 emits_node before after n position does next p d = record {
   each = λ lefts rest size at. node_more before after lefts n position (does ++ rest) size p
       (λ all g. d all rest (g next rest at));
@@ -218,16 +219,17 @@ pub emits_arm : (before mid after : List Node) (condition : Placed) (body : f.St
 emits_arm before mid after condition body arms last fails next entry e k = record {
   each = λ lefts place otherwise rest size at there.
       let x = e.each lefts place otherwise rest size at there in
-      both before mid after lefts fails entry (behind place arms otherwise ++ rest) (f.If place (f.arm_and condition body arms) otherwise ∷ rest) x
+      both before mid after lefts fails entry (else_part place arms otherwise ++ rest) (f.If place (f.arm_and condition body arms) otherwise ∷ rest) x
       (k.each x.all place arms otherwise rest x.count (x.grown next rest at) x.entered);
 }
 
-emits_behind : (before mid after : List Node) (place : Place) (arms : f.Arms) (otherwise : f.Statements) (last next entry : ℕ) →
-    Emits before mid (opened_all otherwise) next last → EmitsArms mid after arms last next entry → Emits before after (behind place arms otherwise) next entry
-emits_behind before mid after place arms otherwise last next entry e k = record {
+emits_after : (before mid after : List Node) (place : Place) (arms : f.Arms) (otherwise : f.Statements) (last next entry : ℕ) →
+    Emits before mid (opened_all otherwise) next last → EmitsArms mid after arms last next entry →
+    Emits before after (else_part place arms otherwise) next entry
+emits_after before mid after place arms otherwise last next entry e k = record {
   each = λ lefts rest size at.
       let x = e.each lefts rest size at in
-      both before mid after lefts last entry (opened_all otherwise ++ rest) (behind place arms otherwise ++ rest) x
+      both before mid after lefts last entry (opened_all otherwise ++ rest) (else_part place arms otherwise ++ rest) x
       (k.each x.all place otherwise rest x.count (x.grown next rest at) x.entered);
 }
 
@@ -236,7 +238,7 @@ pub emits_if : (before mid after : List Node) (place : Place) (arms : List arm.A
     Emits before after (f.If place (f.arms_list_of arms) otherwise ∷ []) next entry
 emits_if before mid after place [] otherwise last next entry h e k = absurd (omega arith)
 emits_if before mid after place (x ∷ xs) otherwise last next entry h e k =
-    emits_behind before mid after place (f.arms_list_of (x ∷ xs)) otherwise last next entry e k
+    emits_after before mid after place (f.arms_list_of (x ∷ xs)) otherwise last next entry e k
 
 pub emits_if_none : (before after : List Node) (place : Place) (arms : List arm.Arm) (otherwise : f.Statements) (next position : ℕ) → length arms ≡ 0 →
     IsPushed before after node.Never position → Emits before after (f.If place (f.arms_list_of arms) otherwise ∷ []) next position
@@ -291,11 +293,11 @@ emits_loop before mid after final condition body next test begin p e is = record
   };
 }
 
--- ---- The same under `Ok`
+-- ---- What was emitted, under `Ok`
 
 pub ok_node : {Y : Type 0} (r : Result ℕ Y) (before after : List Node) (n : Node) (does : List f.Statement) (next : ℕ) →
     IfOk r (λ position. IsPushed before after n position) →
-    ((all : Lefts) (rest : List f.Statement) → At all next rest → Does all n (does ++ rest)) → IfOk r (λ entry. Emits before after does next entry)
+    ((all : Lefts) (rest : List f.Statement) → At all next rest → DoesNode all n (does ++ rest)) → IfOk r (λ entry. Emits before after does next entry)
 ok_node r before after n does next h d = IfOk-weaker r (λ position. IsPushed before after n position) (λ entry. Emits before after does next entry)
     (λ position p. emits_node before after n position does next p d) h
 
@@ -373,7 +375,7 @@ compiled before after body start is e =
             let there' : slice_get after 0 ≡ Some n = ap (slice_get after) (sym zeroth) ∙ g in
             let is_end : node.End ≡ n = cc in
             let nothing : none ≡ l = once x.all 0 none l (x.grown 0 none refl) (ap (slice_get x.all) (sym zeroth) ∙ a) in
-            let P : Node → Type 0 = λ m. Does x.all m l in
+            let P : Node → Type 0 = λ m. DoesNode x.all m l in
             subst P is_end (sym nothing))
             (λ high. x.each k n l high g a)
             (cases_lt k (length before));

@@ -1,20 +1,21 @@
-pub mod Parts
-pub mod LowBits
-pub mod Emission
-pub mod Ends
-pub mod Steps
-pub mod Running
-pub mod Starting
-pub mod Others
-pub mod Guarding
-pub mod Keeping
-pub mod Changes
-pub mod Discipline
-pub mod Guarded
-pub mod Before
-pub mod Single
-pub mod Appending
-pub mod Swapping
-pub mod Exchanging
-pub mod Hands
-pub mod FormedSteps
+pub mod Public
+mod ConsecutiveLists
+mod LowBits
+mod Emission
+mod SectionEndCases
+mod NodeSteps
+mod StateRuns
+mod StartStates
+mod StepsKeepOthers
+mod GuardedValues
+mod DisciplinedContinuations
+mod StepChanges
+mod Discipline
+mod GuardedAccesses
+mod HeldBeforeContinuations
+mod UniqueRefusals
+mod AppendedScheduleRuns
+mod StepSwaps
+mod ExchangedSchedules
+mod NoLockTransfer
+mod WellFormedSteps

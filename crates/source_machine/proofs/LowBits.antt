@@ -12,13 +12,9 @@ use Rattle.ido_ints.specs.declared.operators.Binary.TheVariants as b
 use Rattle.ido_ints.specs.Kinds.{Holds, bits_of, promoted, common_of, modulus_of}
 use Rattle.ido_ints.specs.Operators.{places, unary_of, binary_of, quotient, remainder, bitwise, truth}
 use Rattle.ido_ints.specs.Reduction.{residue, reduced}
-use Rattle.ido_ints.specs.Typed.{Typed, typed, typed_reduced, converted}
-use Rattle.ido_ints.proofs.Congruence.{Same, Same_refl, Same-add, Same-neg}
-use Rattle.ido_ints.proofs.Reduced.{Same-modulus, Holds-reduced, reduced-same, reduced_held}
-use Rattle.ido_ints.proofs.Registers.{residue-Same, residue-same}
-use Rattle.ido_ints.proofs.RegisterValues.{places-register}
-use Rattle.ido_ints.proofs.Results.{Holds-unary_number, Holds-binary_number}
-use Rattle.ido_ints.proofs.LowBits.{reduced-residue}
+use Rattle.ido_ints.specs.TypedNumbers.{Typed, typed, typed_reduced, converted}
+use Rattle.ido_ints.proofs.Public.{Same, Same_refl, Same-add, Same-neg, Same-modulus, Holds-reduced, reduced-same, reduced_held, residue-Same, residue-same}
+use Rattle.ido_ints.proofs.Public.{places-register, Holds-unary_number, Holds-binary_number, reduced-residue}
 
 -- a number that its kind holds, from its low bits
 whole : (k : Kind) (n : ℕ) (v : Typed) → Holds v.kind v.number → k ≡ v.kind → n ≡ residue 64 v.number → typed_reduced k (pos n) ≡ v

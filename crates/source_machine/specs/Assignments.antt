@@ -21,7 +21,7 @@ assigning locals pending = record { locals = locals; pending = option_map pendin
 abbrev pub thread_with : Assigning → (left : List f.Statement) → (ended : Bool) → m.Thread
 thread_with a left ended = record { left = left; locals = a.locals; pending = a.pending; ended = ended }
 
--- they become those of a thread that has evaluated the value for the target
+-- locals and pending store become those of a thread that has evaluated the value for the target
 abbrev pub Evaluates : Lvalue → Expr → (variables : List (List ℤ)) → (before after : Assigning) → Type 0
 Evaluates target value variables before after = (left : List f.Statement) (ended : Bool) (holders : List (Option ℕ)) (threads : List m.Thread) →
     thread_with after left ended ≡ m.evaluated (record { variables = variables; holders = holders; threads = threads })

@@ -4,7 +4,7 @@ use Rattle.c_tree.specs.Programs.{Variable}
 use Rattle.c_tree.specs.Flats as f
 use Rattle.c_tree.specs.Source as m
 use Rattle.c_tree.specs.Source.{State, source_step, start, after_from}
-use Rattle.c_tree.specs.Locking.{Held, holds, none_held, guard_of, Keeps, IsDisciplined}
+use Rattle.c_tree.specs.LockDiscipline.{Held, holds, none_held, guard_of, Keeps, IsDisciplined}
 use Rattle.source_machine.specs.Mutexes.{locks, held_by}
 
 -- ---- States that keep it
@@ -18,7 +18,7 @@ KeepList vs h (x ∷ rest) after = (between : Held) × Keeps vs h x between × K
 abbrev pub KeepsLeft : f.Flat → Held → List f.Statement → Type 0
 KeepsLeft x h left = KeepList x.variables h left (none_held (length x.mutexes))
 
--- so does what this thread has left, and the set has the mutex of its pending store
+-- from the set, what this thread has left keeps the discipline, and the set has the mutex of its pending store
 pub record ThreadKeeps (x : f.Flat) (h : Held) (thread : m.Thread) : Type 0 where
   pub left : KeepsLeft x h thread.left
   pub pending : (p : m.Pending) → thread.pending ≡ Some p → holds h (guard_of x.variables p.variable) ≡ true
@@ -28,7 +28,7 @@ pub record StateKeeps (x : f.Flat) (s : State) : Type 0 where
   pub each : (number : ℕ) (thread : m.Thread) → slice_get s.threads number ≡ Some thread → ThreadKeeps x (held_by number s.holders) thread
 
 -- a run of the flat form reaches the state
-pub record IsReached (x : f.Flat) (s : State) : Type 0 where
+pub record IsReachedState (x : f.Flat) (s : State) : Type 0 where
   pub schedule : List ℕ
   pub is : s ≡ after_from (start x) schedule
 
@@ -36,19 +36,19 @@ pub record IsReached (x : f.Flat) (s : State) : Type 0 where
 abbrev pub StartKeeps : Type 0
 StartKeeps = (x : f.Flat) → All (IsDisciplined x) x.threads → StateKeeps x (start x)
 
--- and each step leads from one to one
+-- each step leads from a state that keeps the discipline to one that does
 abbrev pub StepKeeps : Type 0
 StepKeeps = (x : f.Flat) (s next : State) (thread : ℕ) → StateKeeps x s → source_step s thread ≡ Some next → StateKeeps x next
 
--- so does each run
+-- each run leads from a state that keeps the discipline to one that does
 abbrev pub RunKeeps : Type 0
 RunKeeps = (x : f.Flat) (s : State) (schedule : List ℕ) → StateKeeps x s → StateKeeps x (after_from s schedule)
 
--- so all states that the form reaches are such
+-- all states that a form reaches keep the discipline, where its threads do
 abbrev pub ReachedKeeps : Type 0
-ReachedKeeps = (x : f.Flat) (s : State) → All (IsDisciplined x) x.threads → IsReached x s → StateKeeps x s
+ReachedKeeps = (x : f.Flat) (s : State) → All (IsDisciplined x) x.threads → IsReachedState x s → StateKeeps x s
 
--- in such a state the set that the discipline gives before what a thread has left is exactly what the holders say of the thread
+-- in a state that keeps the discipline, the set that it gives before what a thread has left is exactly what the holders say of the thread
 abbrev pub HeldIsGiven : Type 0
 HeldIsGiven = (x : f.Flat) (s : State) (number : ℕ) (thread : m.Thread) (h : Held) → StateKeeps x s → slice_get s.threads number ≡ Some thread →
     KeepsLeft x h thread.left ↔ (h ≡ held_by number s.holders)
@@ -64,12 +64,12 @@ abbrev pub WritesGuarded : Type 0
 WritesGuarded = (x : f.Flat) (s next : State) (thread variable : ℕ) → StateKeeps x s → source_step s thread ≡ Some next →
     ¬ (Guards x s thread variable) → slice_get next.variables variable ≡ slice_get s.variables variable
 
--- so it leaves every variable whose mutex another thread holds
+-- a step leaves every variable whose mutex another thread holds
 abbrev pub LeavesOthers : Type 0
 LeavesOthers = (x : f.Flat) (s next : State) (thread other variable : ℕ) → StateKeeps x s → source_step s thread ≡ Some next → other ≢ thread →
     Guards x s other variable → slice_get next.variables variable ≡ slice_get s.variables variable
 
--- and it leaves what another thread holds
+-- a step leaves what another thread holds
 abbrev pub LeavesHeld : Type 0
 LeavesHeld = (x : f.Flat) (s next : State) (thread other : ℕ) → StateKeeps x s → source_step s thread ≡ Some next → other ≢ thread →
     held_by other next.holders ≡ held_by other s.holders
@@ -85,20 +85,20 @@ pub record LooksSame (x : f.Flat) (s other : State) (thread : ℕ) : Type 0 wher
   pub guarded : (variable : ℕ) → Guards x s thread variable → slice_get other.variables variable ≡ slice_get s.variables variable
 
 -- of two steps, from s to next and from other to after: each leaves the mutex, or it had one holder before both and has one after both
-abbrev pub ChangesAlike : (s next other after : State) (mutex : ℕ) → Type 0
-ChangesAlike s next other after mutex =
+abbrev pub ChangesLockstep : (s next other after : State) (mutex : ℕ) → Type 0
+ChangesLockstep s next other after mutex =
     ((slice_get next.holders mutex ≡ slice_get s.holders mutex) × (slice_get after.holders mutex ≡ slice_get other.holders mutex))
     ⊎ ((slice_get other.holders mutex ≡ slice_get s.holders mutex) × (slice_get after.holders mutex ≡ slice_get next.holders mutex))
 
--- the thread makes the same step from the other state: it is the same afterwards, the variables that it guarded are the same, and each mutex changes alike
-pub record StepsAlike (x : f.Flat) (s next other : State) (thread : ℕ) : Type 0 where
+-- the thread makes the same step from the other state: it is the same afterwards, so are the variables that it guarded, and each mutex changes in lockstep
+pub record StepsLockstep (x : f.Flat) (s next other : State) (thread : ℕ) : Type 0 where
   pub after : State
   pub is : source_step other thread ≡ Some after
   pub own : slice_get after.threads thread ≡ slice_get next.threads thread
-  pub holders : (mutex : ℕ) → ChangesAlike s next other after mutex
+  pub holders : (mutex : ℕ) → ChangesLockstep s next other after mutex
   pub guarded : (variable : ℕ) → Guards x s thread variable → slice_get after.variables variable ≡ slice_get next.variables variable
 
 -- a step reads only those: from every state that looks the same to the thread the same step is made
 abbrev pub ReadsGuarded : Type 0
 ReadsGuarded = (x : f.Flat) (s next other : State) (thread : ℕ) → StateKeeps x s → source_step s thread ≡ Some next → LooksSame x s other thread →
-    StepsAlike x s next other thread
+    StepsLockstep x s next other thread

@@ -1,7 +1,7 @@
 -- Laws of the source's own steps.
 use Rattle.std.specs.Prelude.{◌≡◌, ◌≢◌, ℕ, List, length, map, Contains, slice_get, Some, false}
 use Rattle.c_tree.specs.Source.{State, source_step, after_from, runs_from}
-use Rattle.source_machine.specs.Runs.{IsRefused}
+use Rattle.source_machine.specs.Runs.{IsRefusedSchedule}
 use Rattle.source_machine.specs.declared.answers.Refused.{Refused}
 
 -- ---- A thread that isn't stepped
@@ -11,7 +11,7 @@ abbrev pub OthersStay : Type 0
 OthersStay = (s next : State) (thread other : ℕ) → source_step s thread ≡ Some next → other ≢ thread →
     slice_get next.threads other ≡ slice_get s.threads other
 
--- so does a run in which the thread takes no step
+-- a run in which a thread takes no step leaves the thread as it is
 abbrev pub RestingStays : Type 0
 RestingStays = (s : State) (schedule : List ℕ) (other : ℕ) → (Contains schedule other → ⊥) →
     slice_get (after_from s schedule).threads other ≡ slice_get s.threads other
@@ -27,8 +27,8 @@ SizesStay = (s : State) (schedule : List ℕ) →
 
 -- a schedule is refused at one step for one reason at most
 abbrev pub OneStop : Type 0
-OneStop = (s : State) (schedule : List ℕ) (x y : Refused) → IsRefused x s schedule → IsRefused y s schedule → x ≡ y
+OneStop = (s : State) (schedule : List ℕ) (x y : Refused) → IsRefusedSchedule x s schedule → IsRefusedSchedule y s schedule → x ≡ y
 
--- and one that is refused can't be stepped whole
+-- a schedule that is refused can't be stepped whole
 abbrev pub NotWhole : Type 0
-NotWhole = (s : State) (schedule : List ℕ) (x : Refused) → IsRefused x s schedule → runs_from s schedule ≡ false
+NotWhole = (s : State) (schedule : List ℕ) (x : Refused) → IsRefusedSchedule x s schedule → runs_from s schedule ≡ false

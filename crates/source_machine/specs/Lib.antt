@@ -5,7 +5,7 @@ pub mod Sections
 pub mod links
 pub mod Runs
 pub mod Laws
-pub mod Appending
+pub mod AppendedSchedules
 pub mod Discipline
-pub mod Exchange
-pub mod Formed
+pub mod StepExchanges
+pub mod StepAnswers

@@ -3,7 +3,7 @@ use Rattle.std.specs.Prelude.{ℕ, List, [], ◌∷◌, map, slice_get, Option, 
 use Rattle.ido_base.specs.Locks.{is_held_by}
 use Rattle.c_tree.specs.Flats as f
 use Rattle.c_tree.specs.Source as m
-use Rattle.c_tree.specs.Locking.{Held}
+use Rattle.c_tree.specs.LockDiscipline.{Held}
 
 -- ---- Statements
 

@@ -3,4 +3,4 @@ pub mod Spans
 pub mod Codes
 pub mod Threads
 pub mod States
-pub mod Ends
+pub mod SectionEnds

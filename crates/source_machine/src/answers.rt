@@ -6,16 +6,16 @@ use thiserror::Error;
 pub enum Stepped {
     /// The step is made.
     Did,
-    /// There is none: the thread waits for a mutex that isn't free.
+    /// There is no step: the thread waits for a mutex that isn't free, or that there isn't.
     Waits { mutex: u32 },
-    /// There is none: the thread has ended, or it stands at an `if` that has no condition.
+    /// There is no step: the thread has ended, or it stands at an `if` that has no condition.
     Ended,
 }
 
 /// Why a step of a schedule can't be made.
 #[derive(Clone, Copy, PartialEq, Eq, Debug)]
 pub enum RefusedKind {
-    /// There is no such thread.
+    /// There is no thread of that number.
     UnknownThread,
     /// The thread waits for a mutex that isn't free.
     Waits,

@@ -11,7 +11,7 @@ use c_tree::expr::{Expr, Lvalue};
 pub struct Pending {
     /// The number of the variable.
     pub variable: u32,
-    /// Which of its elements.
+    /// Which of the variable's elements.
     pub element: u128,
     pub number: i128,
 }

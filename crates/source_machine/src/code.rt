@@ -11,7 +11,7 @@ use c_tree::flat::{Arm, Statement};
 use ido_base::memory::OutOfMemory;
 use std::alloc::Global;
 
-/// What is done at a position, and the positions behind it.
+/// What is done at a position, and the positions after it.
 #[derive(Clone, Copy)]
 pub(crate) enum Node<'a> {
     /// Nothing is left.
@@ -22,7 +22,7 @@ pub(crate) enum Node<'a> {
         value: &'a Placed,
         next: usize,
     },
-    /// A condition, with what is behind it where it holds and where it doesn't.
+    /// A condition, with what comes after it where it holds and where it doesn't.
     Test {
         condition: &'a Placed,
         holds: usize,
@@ -54,7 +54,7 @@ struct Loop {
     body: usize,
 }
 
-/// The code of a body. It is emitted from its end, so that what is behind a node stands before it.
+/// The code of a body. It is emitted from its end, so that what comes after a node stands before it.
 pub(crate) fn compile<'a>(alloc: Global, body: &'a [Statement]) -> Result<Code<'a>, OutOfMemory>
     ensures { IfOk result (λ code. IsCodeOf code (statements_of body.now)) }
 {
@@ -73,7 +73,7 @@ fn push<'a>(nodes: &mut Vec<Node<'a>>, node: Node<'a>) -> Result<usize, OutOfMem
     Ok(position)
 }
 
-/// The code of statements, with what is behind them at `next`. Answers where it begins.
+/// The code of statements, with what comes after them at `next`. Answers where it begins.
 #[cycle(emission)]
 fn emit_all<'a>(
     nodes: &mut Vec<Node<'a>>,
@@ -183,7 +183,7 @@ fn emit_arm<'a>(
     )
 }
 
-/// The code of a loop: its test, behind which the body goes back to it.
+/// The code of a loop: its test, after which the body goes back to it.
 #[cycle(emission)]
 fn emit_loop<'a>(
     nodes: &mut Vec<Node<'a>>,

@@ -5,7 +5,7 @@ ghost use Rattle.c_tree.specs.Values.{value, element_at, element_number};
 ghost use Rattle.ido_ints.specs.declared.kinds.Kind.TheVariants.{Int};
 ghost use Rattle.ido_ints.specs.Operators.{truth, is_zero, unary_of, binary_of};
 ghost use Rattle.ido_ints.specs.Reduction.{residue};
-ghost use Rattle.ido_ints.specs.Typed.{typed, typed_reduced, converted};
+ghost use Rattle.ido_ints.specs.TypedNumbers.{typed, typed_reduced, converted};
 
 use crate::number::{self, Number};
 use crate::variables::Variables;

@@ -1,8 +1,8 @@
 //! Laws of the source's own steps: nothing is computed here.
-ghost use Rattle.source_machine.specs.Appending.{AfterAppended, EndedAppended, RunsAppended};
+ghost use Rattle.source_machine.specs.AppendedSchedules.{AfterAppended, EndedAppended, RunsAppended};
 ghost use Rattle.source_machine.specs.Discipline.{HeldIsGiven, LeavesHeld, LeavesOthers, ReachedKeeps};
 ghost use Rattle.source_machine.specs.Discipline.{ReadsGuarded, RunKeeps, StartKeeps, StepKeeps, WritesGuarded};
-ghost use Rattle.source_machine.specs.Exchange.{Exchange, Solo, StepAdded, StepsDropped, Swap};
+ghost use Rattle.source_machine.specs.StepExchanges.{Exchange, Solo, StepAdded, StepsDropped, Swap};
 ghost use Rattle.source_machine.specs.Laws.{NotWhole, OneStop, OthersStay, RestingStays, SizesStay};
 
 /// A thread that isn't stepped keeps its locals, what it has left and its pending store.
@@ -47,14 +47,14 @@ pub fn steps_are_guarded()
     ensures reads { ReadsGuarded }
 {}
 
-/// Under the lock discipline steps of different threads may change places, unless a mutex changes hands.
+/// Under the lock discipline steps of different threads may change places, unless a mutex is transferred.
 pub fn steps_exchange()
     ensures swap { Swap }
     ensures exchange { Exchange }
     ensures solo { Solo }
 {}
 
-/// Where no mutex changes hands, none does with one more step that takes none over, nor without the first steps.
+/// Where no mutex is transferred, none is with one more step that acquires no released one, nor without the first steps.
 pub fn no_mutex_changes_hands()
     ensures added { StepAdded }
     ensures dropped { StepsDropped }

@@ -3,13 +3,13 @@ ghost use Rattle.std.specs.Prelude.{◌≡◌, ℕ, ◌+◌, IsTrue, ◌↔◌, 
 ghost use Rattle.std.specs.Bool.{OnTrue, OnFalse};
 ghost use Rattle.ido_base.specs.Locks.{is_held_by, holds_none};
 ghost use Rattle.source_machine.specs.Sections.{AreCounted};
-ghost use Rattle.source_machine.specs.links.Ends.{ends, is_one};
+ghost use Rattle.source_machine.specs.links.SectionEnds.{ends, is_one};
 
 use ido_base::locks::is_held_by;
 use ido_base::memory::OutOfMemory;
 use std::alloc::Global;
 
-/// So many mutexes, all free.
+/// The holders of so many mutexes, all of them free.
 pub fn free(alloc: Global, mutexes: usize) -> Result<Vec<Option<u32>>, OutOfMemory>
     ensures { IfOk result (λ holders. holders.items ≡ replicate mutexes None) }
 {
@@ -60,7 +60,7 @@ pub fn release(holders: &mut [Option<u32>], sections: &mut [u64], mutex: u32)
     }
 }
 
-/// One more for the thread, where there is such a thread.
+/// Counts one section more for the thread, where there is such a thread.
 fn count(sections: &mut [u64], thread: u32)
     ensures { (ended : ℕ → ℕ) → AreCounted sections.old ended → AreCounted sections.new (λ k. ended k + is_one thread k) }
 {

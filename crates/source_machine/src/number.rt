@@ -1,7 +1,7 @@
 //! Numbers with kinds, and the operators on them.
 ghost use Rattle.std.specs.Prelude.{◌≡◌};
 ghost use Rattle.ido_ints.specs.Operators.{is_zero, unary_of, binary_of};
-ghost use Rattle.ido_ints.specs.Typed.{typed, converted};
+ghost use Rattle.ido_ints.specs.TypedNumbers.{typed, converted};
 
 use ido_ints::{Binary, Kind, Unary, Value, binary_of_numbers, unary_of_number};
 use std::marker::Model;
@@ -15,7 +15,7 @@ pub struct Number {
 }
 
 impl Model for Number {
-    ghost use Rattle.ido_ints.specs.Typed.{Typed};
+    ghost use Rattle.ido_ints.specs.TypedNumbers.{Typed};
 
     ghost Value = { Typed };
 

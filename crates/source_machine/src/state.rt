@@ -25,11 +25,13 @@ impl<'a> SourceState<'a> {
     ghost use Rattle.c_tree.specs.Flats.{flat_of};
     ghost use Rattle.c_tree.specs.Source.{State, start, is_between};
     ghost use Rattle.source_machine.specs.Runs.{IsAfter, Ran};
-    ghost use Rattle.source_machine.specs.links.States.{Stands, threads_in};
+    ghost use Rattle.source_machine.specs.links.States.{RepresentsState, threads_in};
 
     /// The state before any step: initial numbers, mutexes free, whole bodies.
+    /// It asks nothing of the form: an element or a local that isn't there is 0 and is never written, and an expression that reads
+    /// a number by another kind than it was written by has the value that `value` gives.
     pub fn start(alloc: Global, flat: &'a Flat) -> Result<SourceState<'a>, OutOfMemory>
-        ensures { IfOk result (λ state. Stands state (start (flat_of flat.now)) (λ _. 0)) }
+        ensures { IfOk result (λ state. RepresentsState state (start (flat_of flat.now)) (λ _. 0)) }
     {
         let variables = Variables::new(alloc, &flat.variables)?;
         let holders = locks::free(alloc, flat.mutexes.len())?;
@@ -56,7 +58,7 @@ impl<'a> SourceState<'a> {
     /// Makes a step of a thread, if there is one now.
     pub fn step(&mut self, thread: u32) -> Stepped
         requires exists { thread < threads_in self.old }
-        ensures after { (s : State) (ended : ℕ → ℕ) → Stands self.old s ended → IsAfter self.new result s ended thread }
+        ensures after { (s : State) (ended : ℕ → ℕ) → RepresentsState self.old s ended → IsAfter self.new result s ended thread }
         ensures threads { threads_in self.new ≡ threads_in self.old }
     {
         let it = &mut self.threads[thread as usize];
@@ -70,7 +72,7 @@ impl<'a> SourceState<'a> {
 
     /// Makes the steps of a schedule up to the first that can't be made.
     pub fn run(&mut self, schedule: &[u32]) -> Result<(), Refused>
-        ensures ran { (s : State) (ended : ℕ → ℕ) → Stands self.old s ended → Ran self.new result s ended schedule.now }
+        ensures ran { (s : State) (ended : ℕ → ℕ) → RepresentsState self.old s ended → Ran self.new result s ended schedule.now }
         ensures threads { threads_in self.new ≡ threads_in self.old }
     {
         for (i, thread) in schedule.iter().enumerate() {
@@ -102,22 +104,23 @@ impl<'a> SourceState<'a> {
 
     /// The numbers of all elements of all variables, in order of declaration.
     pub fn variables(&self) -> &[i128]
-        ensures { (s : State) (ended : ℕ → ℕ) → Stands self.now s ended → result.now ≡ flat_map (λ xs. xs) s.variables }
+        ensures { (s : State) (ended : ℕ → ℕ) → RepresentsState self.now s ended → result.now ≡ flat_map (λ xs. xs) s.variables }
     {
         self.variables.elements()
     }
 
-    /// How many sections of a thread have ended. Past 2^64 - 1 it is answered as that.
+    /// How many sections of a thread have ended. Past 2^64 - 1 it is answered as that. An unlock ends a section of the thread that
+    /// held the mutex, whichever thread makes it.
     pub fn ended_sections(&self, thread: u32) -> u64
         requires exists { thread < threads_in self.now }
-        ensures { (s : State) (ended : ℕ → ℕ) → Stands self.now s ended → result ≡ min (ended thread) (2 ^ 64 - 1) }
+        ensures { (s : State) (ended : ℕ → ℕ) → RepresentsState self.now s ended → result ≡ min (ended thread) (2 ^ 64 - 1) }
     {
         self.sections[thread as usize]
     }
 
     /// The thread stands between sections: it holds no mutex.
     pub fn between(&self, thread: u32) -> bool
-        ensures { (s : State) (ended : ℕ → ℕ) → Stands self.now s ended → result ≡ is_between s thread }
+        ensures { (s : State) (ended : ℕ → ℕ) → RepresentsState self.now s ended → result ≡ is_between s thread }
     {
         locks::holds_none(&self.holders, thread)
     }

@@ -2,7 +2,7 @@
 ghost use Rattle.std.specs.Prelude.{◌≡◌, ℕ, ◌+◌, IfOk};
 ghost use Rattle.c_tree.specs.Flats.{thread_of};
 ghost use Rattle.source_machine.specs.Sections.{AreCounted};
-ghost use Rattle.source_machine.specs.links.Ends.{ends};
+ghost use Rattle.source_machine.specs.links.SectionEnds.{ends};
 ghost use Rattle.source_machine.specs.links.Threads.{IsStarted, StepIsMade, hand};
 
 use crate::answers::Stepped;

@@ -1,2 +1,3 @@
-pub mod Entering
-pub mod Locals
+pub mod Public
+mod KeptRegistersAtNodes
+mod Locals

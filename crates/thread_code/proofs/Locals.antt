@@ -19,7 +19,7 @@ threads_of : (x : f.Flat) → (lowered x).threads ≡ parts x.threads 0
 unfolding lowered
 threads_of x = refl
 
--- its part says so
+-- how many locals a thread has, its part says
 pub locals_are : (p : Plan) (t : Thread) → IsPlan p → IsThread p t → t.part.locals ≡ length t.kinds
 locals_are p t plan of =
     let there : slice_get (parts p.flat.threads 0) t.number ≡ Some t.part =

@@ -1,10 +1,10 @@
--- What follows from a thread's registers standing for what it sees.
+-- What follows from a thread's registers representing what it sees.
 use Rattle.std.specs.Prelude.{◌≡◌, ℕ, ◌^◌, ◌<◌, List, Contains}
 use Rattle.rv64_isa.specs.Rows.{read}
 use Rattle.boundary_code.specs.Boundaries.{AtBank}
 use Rattle.flow_graph.specs.Actions.{Seen}
 use Rattle.thread_code.specs.Plans.{Plan, Thread, AreKept}
-use Rattle.thread_code.specs.Entering.{Enters}
+use Rattle.thread_code.specs.RegistersAtNodes.{Enters}
 
 -- a thread may enter a node with any registers in which those that a boundary keeps are as they were, whatever bank they are at
 abbrev pub EntersAgain : Type 0

@@ -1,5 +1,5 @@
 pub mod Plans
-pub mod Entering
-pub mod Performing
+pub mod RegistersAtNodes
+pub mod NodeCodeEffects
 pub mod Programs
 pub mod Laws

@@ -5,19 +5,18 @@ use Rattle.ido_ints.specs.declared.kinds.Kind.{Kind}
 use Rattle.c_tree.specs.Flats as f
 use Rattle.c_tree.specs.WellFormed.{shape_of, IsWellFormed}
 use Rattle.c_tree.specs.Temporaries.{price_fault}
-use Rattle.c_tree.specs.Locking.{numbers_below}
-use Rattle.log_layout.specs.declared.roles.TheConstants.{LOCALS}
-use Rattle.log_layout.specs.Roles.{pending_address, pending_value}
+use Rattle.c_tree.specs.LockDiscipline.{numbers_below}
+use Rattle.memory_layout.specs.declared.roles.TheConstants.{LOCALS}
+use Rattle.memory_layout.specs.Roles.{pending_address, pending_value}
 use Rattle.lock_discipline.specs.Masks.{mask_of}
-use Rattle.lock_discipline.specs.Steps.{AreAllSetsOf}
-use Rattle.region_cutter.specs.Places.{AreAtWrites}
+use Rattle.lock_discipline.specs.HeldSetsByStep.{AreAllSetsOf}
 use Rattle.flow_graph.specs.declared.graph.Part.{Part}
 use Rattle.flow_graph.specs.Nodes.{Graph}
-use Rattle.flow_graph.specs.Cutting.{Boundaries, IsStore, AreCuts}
+use Rattle.flow_graph.specs.IdempotentCuts.{Boundaries, IsStoreNode, AreCuts, AreAtWrites}
 use Rattle.flow_graph.specs.LocalSets.{AreLive}
 use Rattle.flow_graph.specs.Lowering.{lowered}
 use Rattle.flow_graph.specs.Liveness.{Colouring, IsLive, AreRegisters, HasNoClash}
-use Rattle.expr_code.specs.Evaluating.{Homes}
+use Rattle.expr_code.specs.EvaluationCode.{Homes}
 
 -- a flat form and its graph, where it can be resumed, and where locals stand
 pub record Plan : Type 0 where
@@ -66,10 +65,10 @@ mask_before p t node = mask_of (slice_index_or (slice_index_or p.held t.number [
 -- a register that is live at the node's entry: a live local's, or before a store those of what it stores
 pub data IsKept (p : Plan) (t : Thread) (node : ℕ) : (register : ℕ) → Type 0 where
   of_local : (local : ℕ) (k : Kind) → slice_get t.kinds local ≡ Some k → IsLive p.graph local node → IsKept p t node (slice_index t.registers local)
-  of_address : IsStore p.graph node → IsKept p t node pending_address
-  of_value : IsStore p.graph node → IsKept p t node pending_value
+  of_address : IsStoreNode p.graph node → IsKept p t node pending_address
+  of_value : IsStoreNode p.graph node → IsKept p t node pending_value
 
--- these are they
+-- the registers are those that are live at the node's entry
 abbrev pub AreKept : Plan → Thread → (node : ℕ) → List ℕ → Type 0
 AreKept p t node registers = (register : ℕ) → Contains registers register ↔ IsKept p t node register
 

@@ -3,7 +3,7 @@ use Rattle.std.specs.Prelude.{◌≡◌, ◌≢◌, ◌↔◌, ℕ, ◌+◌, ◌
 use Rattle.std.specs.Prelude.{map, slice_get, slice_index_or, Contains, Some, Bool, true, false, sum_by}
 use Rattle.std.specs.List.Sorted.{IsStrictlyIncreasing}
 use Rattle.c_tree.specs.Exprs as e
-use Rattle.c_tree.specs.Locking.{numbers_below}
+use Rattle.c_tree.specs.LockDiscipline.{numbers_below}
 use Rattle.c_tree.specs.Prices.{node_price, nodes_of}
 use Rattle.c_tree.specs.WellFormed.{shape_of}
 use Rattle.rv64_isa.specs.declared.instr.Instr.TheVariants.{Ecall}
@@ -11,15 +11,15 @@ use Rattle.rv64_isa.specs.declared.object.CodeItem.{CodeItem}
 use Rattle.rv64_isa.specs.declared.object.Slot.{Slot}
 use Rattle.flow_graph.specs.Nodes.{Action, Eval, Store, Test, Lock, Unlock, End, Node}
 use Rattle.flow_graph.specs.Actions.{effect_of, Effect}
-use Rattle.flow_graph.specs.Cleaning.{IsCleanedLater}
-use Rattle.flow_graph.specs.Cutting.{Boundaries, IsChosen}
+use Rattle.flow_graph.specs.OmittedCleans.{IsCleanedLater}
+use Rattle.flow_graph.specs.IdempotentCuts.{Boundaries, IsChosen}
 use Rattle.flow_graph.specs.Liveness.{NodeAt}
 use Rattle.rv64_link.specs.LabelledCode.{most_words_of, one_if}
-use Rattle.rv64_link.specs.Linked.{IsLinked, Stands, AreInstructions}
-use Rattle.code_runs.specs.Walks.{Program, Setting, Meets, marked}
+use Rattle.rv64_link.specs.LinkedCode.{IsLinked, IsInstructionAt, AreInstructions}
+use Rattle.code_runs.specs.CodeTraces.{Program, MarkedEnvironment, Meets, marked}
 use Rattle.thread_code.specs.Plans.{Plan, Thread, IsThread, IsNodeOf, AreKept, mask_before}
-use Rattle.thread_code.specs.Entering.{Enters, IsAnswered, source_of}
-use Rattle.thread_code.specs.Performing.{Places, Entrance, EntersAt, Performs, Keeping, GoesOnBehind}
+use Rattle.thread_code.specs.RegistersAtNodes.{Enters, IsAnswered, source_of}
+use Rattle.thread_code.specs.NodeCodeEffects.{Places, Entrance, EntersAt, Performs, BoundaryCode, GoesOnAfter}
 
 -- expression nodes of a node, a target's index included
 abbrev pub target_nodes : e.Lvalue → ℕ
@@ -35,7 +35,7 @@ action_nodes (Lock mutex next) = 0
 action_nodes (Unlock mutex next) = 0
 action_nodes End = 0
 
--- how many boundaries a node has: one before it, one behind it
+-- how many boundaries a node has: one before it, one after it
 abbrev pub boundary_count : Boundaries → (node : ℕ) → ℕ
 boundary_count b node = one_if (slice_index_or b.before node false) + one_if (slice_index_or b.after_lock node false)
 
@@ -53,25 +53,25 @@ pub record IsOn (from to : ℕ) : Type 0 where
   pub words : ℕ
   pub is : to ≡ from + 4 * words
 
--- the ECALL of a node, and where it is gone on with, lie behind the core and before the next node
+-- the ECALL of a node, and where it is gone on with, lie after the core and before the next node
 abbrev pub IsCallWithin : Places → Action → (node : ℕ) → Type 0
 IsCallWithin c (Eval target value next) node = Unit {0}
 IsCallWithin c (Store variable kind next) node = Unit {0}
 IsCallWithin c (Test condition holds fails) node = Unit {0}
-IsCallWithin c (Lock mutex next) node = IsOn (c.core node) (c.call node) × IsOn (c.call node + 4) (c.behind node) × IsOn (c.behind node) (c.entry (node + 1))
-IsCallWithin c (Unlock mutex next) node = IsOn (c.core node) (c.call node) × IsOn (c.call node + 4) (c.behind node) × IsOn (c.behind node) (c.entry (node + 1))
+IsCallWithin c (Lock mutex next) node = IsOn (c.core node) (c.call node) × IsOn (c.call node + 4) (c.after node) × IsOn (c.after node) (c.entry (node + 1))
+IsCallWithin c (Unlock mutex next) node = IsOn (c.core node) (c.call node) × IsOn (c.call node + 4) (c.after node) × IsOn (c.after node) (c.entry (node + 1))
 IsCallWithin c End node = IsOn (c.core node) (c.call node) × IsOn (c.call node + 4) (c.entry (node + 1))
 
 -- the places of a node lie in its code, in their order and whole words apart
 pub record IsWithin (c : Places) (action : Action) (node : ℕ) : Type 0 where
   pub core : IsOn (c.entry node) (c.core node)
-  pub behind_core : IsOn (c.core node + 4) (c.entry (node + 1))
+  pub after_core : IsOn (c.core node + 4) (c.entry (node + 1))
   pub call : IsCallWithin c action node
 
 module _ (p : Plan) (t : Thread) (c : Places) where
   -- in a thread's code the thread stands at a node of its own, and its registers for what it sees
-  pub record IsAt (m : Entrance) : Type 0 where
-    pub meets : Meets c.program m.setting
+  pub record IsAtOwnNode (m : Entrance) : Type 0 where
+    pub meets : Meets c.program m.environment
     pub own : IsNodeOf t m.node
     pub enters : EntersAt p t c m m.node
 
@@ -79,18 +79,18 @@ module _ (p : Plan) (t : Thread) (c : Places) where
   abbrev pub IsPlainCall : (node : ℕ) → Type 0
   IsPlainCall node = marked c.program.nodes (c.call node) ≡ []
 
-  -- the node calls, and is gone on with behind the call
+  -- the node calls, and is gone on with after the call
   abbrev pub IsCalling : Action → (node : ℕ) → Type 0
   IsCalling (Eval target value next) node = Unit {0}
   IsCalling (Store variable kind next) node = Unit {0}
   IsCalling (Test condition holds fails) node = Unit {0}
-  IsCalling (Lock mutex next) node = Stands c.program.start c.program.code (c.call node) Ecall × GoesOnBehind p t c node next ×
-      ((m : Entrance) → Meets c.program m.setting → m.node ≡ node → EntersAt p t c m next →
-      Keeping p t c m next (c.call node + 4) (c.behind node) (c.behind node))
+  IsCalling (Lock mutex next) node = IsInstructionAt c.program.start c.program.code (c.call node) Ecall × GoesOnAfter p t c node next ×
+      ((m : Entrance) → Meets c.program m.environment → m.node ≡ node → EntersAt p t c m next →
+      BoundaryCode p t c m next (c.call node + 4) (c.after node) (c.after node))
   IsCalling (Unlock mutex next) node =
-      Stands c.program.start c.program.code (c.call node) Ecall × GoesOnBehind p t c node next × (c.behind node ≡ c.call node + 4)
+      IsInstructionAt c.program.start c.program.code (c.call node) Ecall × GoesOnAfter p t c node next × (c.after node ≡ c.call node + 4)
       × IsPlainCall node
-  IsCalling End node = Stands c.program.start c.program.code (c.call node) Ecall × IsPlainCall node
+  IsCalling End node = IsInstructionAt c.program.start c.program.code (c.call node) Ecall × IsPlainCall node
 
   -- a store's line is cleaned at once, exactly where no later store of the region does that
   abbrev pub IsCleaning : Action → (node : ℕ) → Type 0
@@ -99,11 +99,12 @@ module _ (p : Plan) (t : Thread) (c : Places) where
 
   -- the code of one node
   pub record IsNodeCode (node : ℕ) (is : Node) : Type 0 where
-    -- before it stands a boundary or nothing
-    pub chosen : IsChosen p.graph p.boundaries node → (m : Entrance) → m.node ≡ node → IsAt m → Keeping p t c m node (c.entry node) (c.core node) (c.core node)
+    -- before the node's code stands a boundary or nothing
+    pub chosen : IsChosen p.graph p.boundaries node → (m : Entrance) → m.node ≡ node → IsAtOwnNode m →
+        BoundaryCode p t c m node (c.entry node) (c.core node) (c.core node)
     pub plain : ¬ (IsChosen p.graph p.boundaries node) → c.entry node ≡ c.core node
-    -- it does what the node does, where loads of what that reads are answered
-    pub performs : (m : Entrance) (effect : Effect) → m.node ≡ node → IsAt m → IsAnswered (source_of p t m.seen) m.setting.around.loads is.action →
+    -- the code does what the node does, where loads of what that reads are answered
+    pub performs : (m : Entrance) (effect : Effect) → m.node ≡ node → IsAtOwnNode m → IsAnswered (source_of p t m.seen) m.environment.around.loads is.action →
         effect_of is.action m.seen ≡ Some effect → Performs p t c m effect
     pub calls : IsCalling is.action node
     pub cleans : IsCleaning is.action node
@@ -113,12 +114,12 @@ module _ (p : Plan) (t : Thread) (c : Places) where
     -- all its words are instructions; each boundary has two FENCEs, and no other FENCE is there
     pub words : AreInstructions c.program.start c.program.code (c.entry node) (c.entry (node + 1)) (2 * boundary_count p.boundaries node)
 
-  -- recovery may resume the thread there: behind a chosen boundary, and behind locks and unlocks that leave it with one
-  pub data IsResumed : (address : ℕ) → Type 0 where
-    at_chosen : (node : ℕ) → IsNodeOf t node → IsChosen p.graph p.boundaries node → IsResumed (c.core node)
-    behind_lock : (node mutex next : ℕ) (is : Node) → IsNodeOf t node → NodeAt p.graph node is → is.action ≡ Lock mutex next → IsResumed (c.behind node)
-    behind_unlock : (node mutex next : ℕ) (is : Node) → IsNodeOf t node → NodeAt p.graph node is → is.action ≡ Unlock mutex next →
-        mask_before p t next ≢ 0 → IsResumed (c.behind node)
+  -- recovery may resume the thread there: after a chosen boundary, and after locks and unlocks that leave it with one
+  pub data IsResumeAddress : (address : ℕ) → Type 0 where
+    at_chosen : (node : ℕ) → IsNodeOf t node → IsChosen p.graph p.boundaries node → IsResumeAddress (c.core node)
+    past_lock : (node mutex next : ℕ) (is : Node) → IsNodeOf t node → NodeAt p.graph node is → is.action ≡ Lock mutex next → IsResumeAddress (c.after node)
+    past_unlock : (node mutex next : ℕ) (is : Node) → IsNodeOf t node → NodeAt p.graph node is → is.action ≡ Unlock mutex next →
+        mask_before p t next ≢ 0 → IsResumeAddress (c.after node)
 
 -- the program does what the nodes of the thread do, one after another in their order
 pub record IsThreadCode (p : Plan) (t : Thread) (program : Program) : Type 0 where
@@ -133,5 +134,5 @@ pub record IsThreadCode (p : Plan) (t : Thread) (program : Program) : Type 0 whe
   pub marks : (i : ℕ) (is : Node) → IsNodeOf t (t.part.first + i) → NodeAt p.graph (t.part.first + i) is →
       slice_get program.nodes i ≡ Some (mark_of places is.action (t.part.first + i))
   pub marks_count : length program.nodes ≡ t.part.end - t.part.first
-  pub resumes : (address : ℕ) → Contains program.resumes address ↔ IsResumed p t places address
+  pub resumes : (address : ℕ) → Contains program.resumes address ↔ IsResumeAddress p t places address
   pub ascending : IsStrictlyIncreasing program.resumes

@@ -4,11 +4,11 @@ use Rattle.std.specs.Prelude.{◌==◌, ◌&&◌, ◌||◌, nat_le, Contains}
 use Rattle.std.specs.List.{list_any, filter}
 use Rattle.std.proofs.lemmas.Bool.{cond_both, le-leb}
 use Rattle.ido_base.specs.Layout.{in_range, aligned, point_at, slot_at, logs_base, variables_base}
-use Rattle.rv64_isa.specs.Rows.{Effect, GoesOn, Loads, Stores, Cleans, Fences, Calls, read}
+use Rattle.rv64_isa.specs.Rows.{Effect, Continues, Loads, Stores, Cleans, Fences, Calls, read}
 use Rattle.boundary_code.specs.Boundaries.{Boundary, boundary_effects, bank_effects, commit_effects, lines_in_use}
-use Rattle.code_runs.specs.Walks.{Setting, seen_effects}
-use Rattle.hart_runs.specs.Standing.{is_access, MayGo}
-use Rattle.thread_runs.specs.Ways.{AreApart, ReadsVariables}
+use Rattle.code_runs.specs.CodeTraces.{MarkedEnvironment, seen_effects}
+use Rattle.hart_runs.specs.HartsOnRuns.{is_access, MayGo}
+use Rattle.thread_runs.specs.CodeFragments.{AreEffectsApart, ReadsVariables}
 
 -- ---- Bytes of logs
 
@@ -20,7 +20,7 @@ pub second_true : (a b : Bool) → b ≡ true → (a || b) ≡ true
 second_true true b e = refl
 second_true false b e = e
 
--- these bytes are a log's
+-- the bytes are a log's
 record AreOfLog (threads address bytes : ℕ) : Type 0 where
   from_base : logs_base ≤ address
   to_end : address + bytes ≤ logs_base + 1024 * threads
@@ -45,7 +45,7 @@ point_of_log threads thread bytes t c = record { from_base = omega (arith, t); t
 -- ---- Effects on logs
 
 OnLog : (threads : ℕ) → Effect → Type 0
-OnLog threads (GoesOn registers pc) = Unit {0}
+OnLog threads (Continues registers pc) = Unit {0}
 OnLog threads (Loads address bytes signed register) = Unit {0}
 OnLog threads (Stores address bytes value) = (is_access threads address bytes ≡ true) × (logs_base ≤ address)
 OnLog threads (Cleans address) = in_range threads address 1 ≡ true
@@ -64,17 +64,17 @@ both_on_log threads (e ∷ es) fs h k = (h.0, both_on_log threads es fs h.1 k)
 log_may : (threads : ℕ) (es : List Effect) → AreOnLog threads es → MayGo threads (seen_effects es)
 unfolding AreOnLog OnLog
 log_may threads [] h = tt
-log_may threads (GoesOn registers pc ∷ es) h = (refl, log_may threads es h.1)
+log_may threads (Continues registers pc ∷ es) h = (refl, log_may threads es h.1)
 log_may threads (Loads address bytes signed register ∷ es) h = (refl, log_may threads es h.1)
 log_may threads (Stores address bytes value ∷ es) h = (h.0.0, log_may threads es h.1)
 log_may threads (Cleans address ∷ es) h = (h.0, log_may threads es h.1)
 log_may threads (Fences ∷ es) h = (refl, log_may threads es h.1)
 log_may threads (Calls ∷ es) h = (refl, log_may threads es h.1)
 
-log_apart : (threads : ℕ) (s : Setting) (es : List Effect) → ReadsVariables s → AreOnLog threads es → AreApart s es
+log_apart : (threads : ℕ) (s : MarkedEnvironment) (es : List Effect) → ReadsVariables s → AreOnLog threads es → AreEffectsApart s es
 unfolding AreOnLog OnLog
 log_apart threads s [] reads h = tt
-log_apart threads s (GoesOn registers pc ∷ es) reads h = (tt, log_apart threads s es reads h.1)
+log_apart threads s (Continues registers pc ∷ es) reads h = (tt, log_apart threads s es reads h.1)
 log_apart threads s (Loads address bytes signed register ∷ es) reads h = (tt, log_apart threads s es reads h.1)
 log_apart threads s (Stores address bytes value ∷ es) reads h = (
   λ at count v e. let below : at + count ≤ logs_base = reads at count v e in let from : logs_base ≤ address = h.0.1 in inl (omega (arith, below, from)),
@@ -157,8 +157,8 @@ pub boundary_may : (threads : ℕ) (b : Boundary) (bank resume : ℕ) (x : List 
     ((r : ℕ) → Contains b.live r → r < 32) → MayGo threads (seen_effects (boundary_effects b bank resume x))
 boundary_may threads b bank resume x t k live = log_may threads (boundary_effects b bank resume x) (boundary_on_log threads b bank resume x t k live)
 
--- and to no variable
-pub boundary_apart : (threads : ℕ) (s : Setting) (b : Boundary) (bank resume : ℕ) (x : List ℕ) → ReadsVariables s → b.thread < threads → bank < 2 →
-    ((r : ℕ) → Contains b.live r → r < 32) → AreApart s (boundary_effects b bank resume x)
+-- each effect of a boundary goes to no variable
+pub boundary_apart : (threads : ℕ) (s : MarkedEnvironment) (b : Boundary) (bank resume : ℕ) (x : List ℕ) → ReadsVariables s → b.thread < threads → bank < 2 →
+    ((r : ℕ) → Contains b.live r → r < 32) → AreEffectsApart s (boundary_effects b bank resume x)
 boundary_apart threads s b bank resume x reads t k live =
     log_apart threads s (boundary_effects b bank resume x) reads (boundary_on_log threads b bank resume x t k live)

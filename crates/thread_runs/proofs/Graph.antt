@@ -10,14 +10,14 @@ use Rattle.flow_graph.specs.Nodes.{Action, Eval, Store, Test, Lock, Unlock, End,
 use Rattle.flow_graph.specs.Actions as a
 use Rattle.flow_graph.specs.Actions.{Seen, effect_of}
 use Rattle.flow_graph.specs.Liveness.{NodeAt}
-use Rattle.code_runs.specs.Walks.{Program, Setting, Meets, Mark, marked}
-use Rattle.hart_runs.proofs.Worlds.{none_some, some_same}
+use Rattle.code_runs.specs.CodeTraces.{Program, MarkedEnvironment, Meets, Mark, marked}
+use Rattle.hart_runs.proofs.Public.{none_some, some_same}
 use Rattle.thread_code.specs.Plans.{Plan, Thread, IsNodeOf}
-use Rattle.thread_code.specs.Performing.{Places}
+use Rattle.thread_code.specs.NodeCodeEffects.{Places}
 use Rattle.thread_code.specs.Programs.{IsThreadCode, mark_of}
-use Rattle.thread_runs.proofs.Arriving.{contains_first}
+use Rattle.thread_runs.proofs.FragmentStarts.{contains_first}
 
--- ---- The node behind
+-- ---- The next node
 
 abbrev pub next_by : a.Effect → Option ℕ
 next_by (a.Sets local number next) = Some next
@@ -96,11 +96,11 @@ call_of (Unlock mutex next) = gives mutex next
 call_of End = ends
 
 -- an action calls as its effect does
-calls_alike : (action : Action) (seen : Seen) → call_in (effect_of action seen) ≡ call_of action
-calls_alike (Eval (ToLocal local kind) x n) seen = refl
-calls_alike (Eval (ToVariable place variable kind) x n) seen = refl
-calls_alike (Eval (ToElement place variable kind index) x n) seen = refl
-calls_alike (Store variable kind n) seen = pending seen.pending
+calls_lockstep : (action : Action) (seen : Seen) → call_in (effect_of action seen) ≡ call_of action
+calls_lockstep (Eval (ToLocal local kind) x n) seen = refl
+calls_lockstep (Eval (ToVariable place variable kind) x n) seen = refl
+calls_lockstep (Eval (ToElement place variable kind index) x n) seen = refl
+calls_lockstep (Store variable kind n) seen = pending seen.pending
   where
     pending : (o : Option Pending) → call_in (elim o [
       | Some store ↦ Some (a.Makes store n)
@@ -108,13 +108,13 @@ calls_alike (Store variable kind n) seen = pending seen.pending
     ]) ≡ no_call
     pending (Some store) = refl
     pending None = refl
-calls_alike (Test condition holds fails) seen = refl
-calls_alike (Lock mutex n) seen = refl
-calls_alike (Unlock mutex n) seen = refl
-calls_alike End seen = refl
+calls_lockstep (Test condition holds fails) seen = refl
+calls_lockstep (Lock mutex n) seen = refl
+calls_lockstep (Unlock mutex n) seen = refl
+calls_lockstep End seen = refl
 
 call_is : (action : Action) (seen : Seen) (e : a.Effect) → effect_of action seen ≡ Some e → call_of action ≡ call_by e
-call_is action seen e eq = sym (calls_alike action seen) ∙ ap call_in eq
+call_is action seen e eq = sym (calls_lockstep action seen) ∙ ap call_in eq
 
 abbrev mutex_in : Call → ℕ
 mutex_in no_call = 0
@@ -122,11 +122,11 @@ mutex_in (takes mutex next) = mutex
 mutex_in (gives mutex next) = mutex
 mutex_in ends = 0
 
-abbrev behind_in : Call → ℕ
-behind_in no_call = 0
-behind_in (takes mutex next) = next
-behind_in (gives mutex next) = next
-behind_in ends = 0
+abbrev after_in : Call → ℕ
+after_in no_call = 0
+after_in (takes mutex next) = next
+after_in (gives mutex next) = next
+after_in ends = 0
 
 abbrev number_in : Call → ℕ
 number_in no_call = 0
@@ -138,7 +138,7 @@ lock_by : (action : Action) (mutex next : ℕ) → call_of action ≡ takes mute
 lock_by (Eval target value n) mutex next e = absurd (let k : 0 ≡ 1 = ap number_in e in omega (arith, k))
 lock_by (Store variable kind n) mutex next e = absurd (let k : 0 ≡ 1 = ap number_in e in omega (arith, k))
 lock_by (Test condition holds fails) mutex next e = absurd (let k : 0 ≡ 1 = ap number_in e in omega (arith, k))
-lock_by (Lock m n) mutex next e = ap (λ (x : ℕ). Lock x n) (ap mutex_in e) ∙ ap (λ (x : ℕ). Lock mutex x) (ap behind_in e)
+lock_by (Lock m n) mutex next e = ap (λ (x : ℕ). Lock x n) (ap mutex_in e) ∙ ap (λ (x : ℕ). Lock mutex x) (ap after_in e)
 lock_by (Unlock m n) mutex next e = absurd (let k : 2 ≡ 1 = ap number_in e in omega (arith, k))
 lock_by End mutex next e = absurd (let k : 3 ≡ 1 = ap number_in e in omega (arith, k))
 
@@ -147,7 +147,7 @@ unlock_by (Eval target value n) mutex next e = absurd (let k : 0 ≡ 2 = ap numb
 unlock_by (Store variable kind n) mutex next e = absurd (let k : 0 ≡ 2 = ap number_in e in omega (arith, k))
 unlock_by (Test condition holds fails) mutex next e = absurd (let k : 0 ≡ 2 = ap number_in e in omega (arith, k))
 unlock_by (Lock m n) mutex next e = absurd (let k : 1 ≡ 2 = ap number_in e in omega (arith, k))
-unlock_by (Unlock m n) mutex next e = ap (λ (x : ℕ). Unlock x n) (ap mutex_in e) ∙ ap (λ (x : ℕ). Unlock mutex x) (ap behind_in e)
+unlock_by (Unlock m n) mutex next e = ap (λ (x : ℕ). Unlock x n) (ap mutex_in e) ∙ ap (λ (x : ℕ). Unlock mutex x) (ap after_in e)
 unlock_by End mutex next e = absurd (let k : 3 ≡ 2 = ap number_in e in omega (arith, k))
 
 end_by : (action : Action) → call_of action ≡ ends → action ≡ End
@@ -201,11 +201,11 @@ any_at (m ∷ ms) (suc i) x e = either (m == x) (list_any (λ mark. mark == x) m
     either true b k = refl
     either false b k = k
 
-module _ (p : Plan) (t : Thread) (own : Program) (code : IsThreadCode p t own) (s : Setting) (meets : Meets code.places.program s) where
+module _ (p : Plan) (t : Thread) (own : Program) (code : IsThreadCode p t own) (s : MarkedEnvironment) (meets : Meets code.places.program s) where
   marks_are : s.marks ≡ own.nodes
   marks_are = meets.marks ∙ ap (λ (x : Program). x.nodes) code.of_program
 
-  -- a node's mark is one of the setting
+  -- a node's mark is one of the environment's
   pub mark_there : (node : ℕ) (is : Node) → IsNodeOf t node → NodeAt p.graph node is →
       list_any (λ mark. mark == mark_of code.places is.action node) s.marks ≡ true
   mark_there node is of found =

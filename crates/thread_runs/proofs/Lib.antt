@@ -1,18 +1,19 @@
-pub mod Sights
-pub mod Left
-pub mod Going
-pub mod Marks
-pub mod Others
-pub mod Boundaries
-pub mod Arriving
-pub mod Graph
-pub mod Beginning
-pub mod Calling
-pub mod Locking
-pub mod Unlocking
-pub mod Resuming
-pub mod Cores
-pub mod Closed
-pub mod Placed
-pub mod Well
+pub mod Public
+mod RunObservations
+mod RemainingSteps
+mod FragmentSteps
+mod MarkSteps
+mod OtherEventsKeepThreads
+mod Boundaries
+mod FragmentStarts
+mod Graph
+mod NodeSteps
+mod ThreadsAtCalls
+mod LockCalls
+mod UnlockAndEndCalls
+mod ResumedThreads
+mod ThreadsAtNodeCode
+mod SuccessorsInThread
+mod PlacedPlans
+mod CallsNotStuck
 mod Worked

@@ -15,13 +15,13 @@ use Rattle.rv64_isa.specs.Machine.{Hart, World, happens, after_event, after_even
 use Rattle.rv64_isa.specs.Schedule.{passes_mark}
 use Rattle.flow_graph.specs.Nodes.{End, Node}
 use Rattle.flow_graph.specs.Actions as a
-use Rattle.code_runs.specs.Running.{moment}
-use Rattle.code_runs.specs.Walks.{Setting, Mark}
-use Rattle.hart_runs.specs.Standing.{setting_of}
-use Rattle.hart_runs.specs.Laws.{SettingsAgree, SettingsMeet, program_at}
+use Rattle.code_runs.specs.ComputingRuns.{config}
+use Rattle.code_runs.specs.CodeTraces.{MarkedEnvironment, Mark}
+use Rattle.hart_runs.specs.HartsOnRuns.{environment_of}
+use Rattle.hart_runs.specs.Laws.{EnvironmentsAgree, EnvironmentsMeet, program_at}
 use Rattle.thread_code.specs.Plans.{Plan, Thread}
-use Rattle.thread_code.specs.Performing.{Places}
-use Rattle.thread_runs.specs.Ways.{IsAtMark, stage_behind, on_machine}
+use Rattle.thread_code.specs.NodeCodeEffects.{Places}
+use Rattle.thread_runs.specs.CodeFragments.{IsAtMark, stage_after, on_machine}
 
 abbrev code : List Slot
 code = Row (OpImmediate Addi 17 0 3) ∷ Row Ecall ∷ []
@@ -42,8 +42,8 @@ w = record { words = []; harts = record { registers = registers 0; pc = 0x10000;
 abbrev no_loads : ℕ → ℕ → Bool
 no_loads address bytes = false
 
-abbrev s : Setting
-s = setting_of program marks no_loads w 0
+abbrev s : MarkedEnvironment
+s = environment_of program marks no_loads w 0
 
 abbrev seen : a.Seen
 seen = record { locals = []; pending = None; variables = [] }
@@ -58,12 +58,12 @@ c = record {
   core = λ node. 0x10000 + 8 * node;
   words = λ node. 2;
   call = λ node. 0x10000 + 8 * node + 4;
-  behind = λ node. 0;
+  after = λ node. 0;
   live = λ node. [];
   cleans = λ node. false;
 }
 
-module _ (place : Place) (agree : SettingsAgree) (meet : SettingsMeet) where
+module _ (place : Place) (agree : EnvironmentsAgree) (meet : EnvironmentsMeet) where
   abbrev end : Node
   end = record { place = place; action = End; uses = []; assigns = None; reads = []; writes = None }
 
@@ -78,7 +78,7 @@ module _ (place : Place) (agree : SettingsAgree) (meet : SettingsMeet) where
   }
 
   -- before its first step the thread is at the mark of its end
-  at_mark : IsAtMark p t c (on_machine program w 0 s) a.Ends (stage_behind p t c 0 seen 0 a.Ends) 0 []
+  at_mark : IsAtMark p t c (on_machine program w 0 s) a.Ends (stage_after p t c 0 seen 0 a.Ends) 0 []
   unfolding row result_of
   at_mark = record {
     meets = meet program marks [] no_loads w 0;
@@ -92,7 +92,7 @@ module _ (place : Place) (agree : SettingsAgree) (meet : SettingsMeet) where
       here = refl;
       runs = refl;
       walks = (
-        moment (registers 3) 0x10004,
+        config (registers 3) 0x10004,
         Mark ∷ [],
         [],
         record { instr = OpImmediate Addi 17 0 3; stands = refl; does = refl; sees = refl },
@@ -106,7 +106,7 @@ module _ (place : Place) (agree : SettingsAgree) (meet : SettingsMeet) where
     made = λ effect is. tt;
   }
 
--- its first step passes it, its second one no mark, and then it has ended
+-- the hart's first step passes the mark, its second one no mark, and then it has ended
 first : passes_mark (marks ∷ []) program w 0 ≡ true
 unfolding happens row
 first = refl

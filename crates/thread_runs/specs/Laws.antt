@@ -1,4 +1,4 @@
--- Laws of threads on their ways: what each event does to them.
+-- Laws of threads in fragments of their code: what each event does to them.
 use Rattle.std.specs.Prelude.{◌≡◌, ◌≢◌, ◌⊎◌, ℕ, suc, ◌+◌, ◌-◌, ◌*◌, ◌^◌, ◌<◌, ◌≤◌, List, [], ◌∷◌, ◌++◌, length, slice_get, slice_set, slice_index_or}
 use Rattle.std.specs.Prelude.{Contains, Option, Some, None, true, false, ℤ}
 use Rattle.ido_base.specs.declared.event.Event.{Event}
@@ -10,30 +10,31 @@ use Rattle.rv64_isa.specs.declared.object.Slot.{Slot}
 use Rattle.rv64_isa.specs.declared.phase.Phase.TheVariants.{Run, Ended}
 use Rattle.rv64_isa.specs.Rows.{Effect, read}
 use Rattle.rv64_isa.specs.Machine.{Hart, World, queue_limit, after_event, reply_to, happens, moved, with_holder, gone_on}
-use Rattle.rv64_isa.specs.Frames.{IsSound}
+use Rattle.rv64_isa.specs.Frames.{IsWellFormedWorld}
 use Rattle.rv64_isa.specs.Schedule.{is_point_store, is_fence, passes_mark, stores_point, finishes_fence}
 use Rattle.boundary_code.specs.Boundaries.{AtBank, boundary_effects}
-use Rattle.node_code.specs.Pieces.{bank_behind}
+use Rattle.node_code.specs.Pieces.{bank_after}
 use Rattle.flow_graph.specs.Nodes.{Node}
 use Rattle.flow_graph.specs.Actions as a
 use Rattle.flow_graph.specs.Actions.{effect_of, Seen}
-use Rattle.flow_graph.specs.Cutting.{IsChosen}
+use Rattle.flow_graph.specs.IdempotentCuts.{IsChosen}
 use Rattle.flow_graph.specs.Liveness.{NodeAt}
-use Rattle.code_runs.specs.Running.{moment}
-use Rattle.code_runs.specs.Walks.{Program, Setting, Meets, Mark, seen_effects}
-use Rattle.hart_runs.specs.Standing.{Agrees, IsAt, OnRun}
-use Rattle.hart_runs.specs.Steps.{GoesForward, Drains, steps_left}
-use Rattle.hart_runs.specs.Calls.{phase_behind}
+use Rattle.code_runs.specs.ComputingRuns.{config}
+use Rattle.code_runs.specs.CodeTraces.{Program, MarkedEnvironment, Meets, Mark, seen_effects}
+use Rattle.hart_runs.specs.HartsOnRuns.{Agrees, IsRunningAt, OnRun}
+use Rattle.hart_runs.specs.RunSteps.{GoesForward, Drains, steps_left}
+use Rattle.hart_runs.specs.Calls.{phase_after}
 use Rattle.hart_runs.specs.Laws.{IsOfOthers, AreShort}
 use Rattle.thread_code.specs.Plans.{Plan, Thread, IsThread, IsNodeOf, AreKept, IsPlan}
-use Rattle.thread_code.specs.Entering.{Enters, IsAnswered, source_of}
-use Rattle.thread_code.specs.Performing.{Places, keeping}
-use Rattle.thread_code.specs.Programs.{IsThreadCode, IsResumed, at_chosen, behind_lock, behind_unlock}
-use Rattle.thread_runs.specs.Ways.{Arrives, Keeps, Asks, Took, Gives, Ends, Stage, ReadsVariables, effects_of, end_of, IsLockOf, IsUnlockOf, IsOnWay}
-use Rattle.thread_runs.specs.Ways.{Running, on_machine, IsAtCore, IsAtMark, IsMadeBy, AreSeen, stage_behind, IsPlaced, MayDo}
+use Rattle.thread_code.specs.RegistersAtNodes.{Enters, IsAnswered, source_of}
+use Rattle.thread_code.specs.NodeCodeEffects.{Places, keeping}
+use Rattle.thread_code.specs.Programs.{IsThreadCode, IsResumeAddress, at_chosen, past_lock, past_unlock}
+use Rattle.thread_runs.specs.CodeFragments.{Arrives, Keeps, Asks, Took, Gives, Ends, Stage, ReadsVariables}
+use Rattle.thread_runs.specs.CodeFragments.{effects_of, end_of, IsLockOf, IsUnlockOf, IsOnFragment}
+use Rattle.thread_runs.specs.CodeFragments.{Running, on_machine, IsAtCore, IsAtMark, IsMadeBy, AreSeen, stage_after, IsPlaced, MayDo}
 
--- the machine has the marks of hart h that the setting has
-abbrev pub AreMarksOf : (marks : List (List ℕ)) → (h : ℕ) → Setting → Type 0
+-- the machine has the marks of hart h that the environment has
+abbrev pub AreMarksOf : (marks : List (List ℕ)) → (h : ℕ) → MarkedEnvironment → Type 0
 AreMarksOf marks h s = slice_index_or marks h [] ≡ s.marks
 
 -- nothing is counted of a step of hart h
@@ -45,118 +46,129 @@ abbrev pub stepped : Running → Running
 stepped r = record r { world = after_event r.program r.world (Step r.hart) }
 
 module _ (p : Plan) (t : Thread) (c : Places) where
-  -- ---- Delay: the most steps that the hart needs to a way's end
+  -- ---- Delay: the most steps that the hart needs to a fragment's end
 
-  abbrev pub left_of : {r : Running} {stage : Stage} {steps : ℕ} {effects : List Effect} → IsOnWay p t c r stage steps effects → ℕ
-  left_of {steps = steps} {effects = effects} way = steps_left steps (seen_effects effects) way.on.hart.queue
+  abbrev pub left_of : {r : Running} {stage : Stage} {steps : ℕ} {effects : List Effect} → IsOnFragment p t c r stage steps effects → ℕ
+  left_of {steps = steps} {effects = effects} fragment = steps_left steps (seen_effects effects) fragment.on.hart.queue
 
-  -- from a mark on
+  -- the most steps that the hart needs from a mark on
   abbrev pub left_at : {r : Running} {e : a.Effect} {stage : Stage} {steps : ℕ} {effects : List Effect} → IsAtMark p t c r e stage steps effects → ℕ
   left_at {steps = steps} {effects = effects} at = steps_left (suc steps) (Mark ∷ seen_effects effects) at.on.hart.queue
 
-  -- ---- Steps on a way
+  -- ---- Steps in a fragment
 
-  -- the run before a way's end
-  abbrev pub run_of : {r : Running} {stage : Stage} {steps : ℕ} {effects : List Effect} → IsOnWay p t c r stage (suc steps) effects → OnRun r.world r.hart
-  run_of {r = r} {stage = stage} {steps = steps} {effects = effects} way =
-      record { setting = r.setting; steps = steps; seen = seen_effects effects; to = moment way.registers (end_of p t c stage.aim stage.node); on = way.on }
+  -- the run before a fragment's end
+  abbrev pub run_of : {r : Running} {stage : Stage} {steps : ℕ} {effects : List Effect} → IsOnFragment p t c r stage (suc steps) effects → OnRun r.world r.hart
+  run_of {r = r} {stage = stage} {steps = steps} {effects = effects} fragment =
+      record {
+        environment = r.environment;
+        steps = steps;
+        seen = seen_effects effects;
+        to = config fragment.registers (end_of p t c stage.exit stage.node);
+        on = fragment.on;
+      }
 
-  -- and from a mark on
+  -- the run from a mark on
   abbrev pub run_at : {r : Running} {e : a.Effect} {stage : Stage} {steps : ℕ} {effects : List Effect} → IsAtMark p t c r e stage steps effects →
       OnRun r.world r.hart
   run_at {r = r} {stage = stage} {steps = steps} {effects = effects} at =
       record {
-        setting = r.setting;
+        environment = r.environment;
         steps = steps;
         seen = Mark ∷ seen_effects effects;
-        to = moment at.registers (end_of p t c stage.aim stage.node);
+        to = config at.registers (end_of p t c stage.exit stage.node);
         on = at.on;
       }
 
   -- the next instruction is completed, and its effect is the first that was ahead, if it is one on memory
-  pub record GoesOn (r : Running) (stage : Stage) (steps : ℕ) (effects : List Effect) (way : IsOnWay p t c r stage (suc steps) effects) : Type 0 where
-    pub forward : GoesForward r.program r.world r.hart (run_of way)
+  pub record CompletesInstruction (r : Running) (stage : Stage) (steps : ℕ) (effects : List Effect)
+      (fragment : IsOnFragment p t c r stage (suc steps) effects) : Type 0 where
+    pub forward : GoesForward r.program r.world r.hart (run_of fragment)
     pub later : List Effect
     pub effects_are : effects ≡ effects_of forward.effect ++ later
-    pub on : IsOnWay p t c (stepped r) stage steps later
+    pub on : IsOnFragment p t c (stepped r) stage steps later
     pub point : stores_point r.program r.world (Step r.hart) r.hart ≡ is_point_store r.hart forward.effect
     pub fence : finishes_fence r.program r.world (Step r.hart) r.hart ≡ is_fence forward.effect
-    pub less : suc (left_of on) ≡ left_of way
+    pub less : suc (left_of on) ≡ left_of fragment
     pub same : on.on.hart ≡ forward.on.hart
 
   -- an entry of the queue is written back
-  pub record IsHeldUp (r : Running) (stage : Stage) (steps : ℕ) (effects : List Effect) (way : IsOnWay p t c r stage (suc steps) effects) : Type 0 where
-    pub drains : Drains r.program r.world r.hart (run_of way)
-    pub on : IsOnWay p t c (stepped r) stage (suc steps) effects
+  pub record IsHeldUp (r : Running) (stage : Stage) (steps : ℕ) (effects : List Effect)
+      (fragment : IsOnFragment p t c r stage (suc steps) effects) : Type 0 where
+    pub drains : Drains r.program r.world r.hart (run_of fragment)
+    pub on : IsOnFragment p t c (stepped r) stage (suc steps) effects
     pub counts : CountsNone r.program r.world r.hart
-    pub less : suc (left_of on) ≡ left_of way
+    pub less : suc (left_of on) ≡ left_of fragment
     pub same : on.on.hart ≡ drains.on.hart
 
--- a step on a way goes on, or is held up; it passes no mark
-abbrev pub WaysGoOn : Type 0
-WaysGoOn = (p : Plan) (t : Thread) (c : Places) (program : List (List Slot)) (w : World) (h : ℕ) (s : Setting) (stage : Stage) (steps : ℕ)
-    (effects : List Effect) → IsSound w → (way : IsOnWay p t c (on_machine program w h s) stage (suc steps) effects) →
-    (GoesOn p t c (on_machine program w h s) stage steps effects way ⊎ IsHeldUp p t c (on_machine program w h s) stage steps effects way) ×
+-- a step in a fragment goes on, or is held up; it passes no mark
+abbrev pub FragmentsGoOn : Type 0
+FragmentsGoOn = (p : Plan) (t : Thread) (c : Places) (program : List (List Slot)) (w : World) (h : ℕ) (s : MarkedEnvironment) (stage : Stage) (steps : ℕ)
+    (effects : List Effect) → IsWellFormedWorld w → (fragment : IsOnFragment p t c (on_machine program w h s) stage (suc steps) effects) →
+    (CompletesInstruction p t c (on_machine program w h s) stage steps effects fragment
+    ⊎ IsHeldUp p t c (on_machine program w h s) stage steps effects fragment) ×
     ((marks : List (List ℕ)) → AreMarksOf marks h s → passes_mark marks program w h ≡ false)
 
--- what others do leaves a thread on its way, where memory goes on to agree
-abbrev pub OthersKeepWays : Type 0
-OthersKeepWays = (p : Plan) (t : Thread) (c : Places) (program : List (List Slot)) (w : World) (h : ℕ) (s : Setting) (stage : Stage) (steps : ℕ)
-    (effects : List Effect) (event : Event) → IsSound w → IsOfOthers h event → IsOnWay p t c (on_machine program w h s) stage steps effects →
-    Agrees program (after_event program w event) h s → IsOnWay p t c (on_machine program (after_event program w event) h s) stage steps effects
+-- what others do leaves a thread in its fragment, where memory goes on to agree
+abbrev pub OthersKeepFragments : Type 0
+OthersKeepFragments = (p : Plan) (t : Thread) (c : Places) (program : List (List Slot)) (w : World) (h : ℕ) (s : MarkedEnvironment) (stage : Stage) (steps : ℕ)
+    (effects : List Effect) (event : Event) → IsWellFormedWorld w → IsOfOthers h event → IsOnFragment p t c (on_machine program w h s) stage steps effects →
+    Agrees program (after_event program w event) h s → IsOnFragment p t c (on_machine program (after_event program w event) h s) stage steps effects
 
--- at its end a way is one in any setting
-abbrev pub WaysResettle : Type 0
-WaysResettle = (p : Plan) (t : Thread) (c : Places) (program : List (List Slot)) (w : World) (h : ℕ) (s z : Setting) (stage : Stage) (effects : List Effect) →
-    Meets c.program z → Agrees program w h z → IsOnWay p t c (on_machine program w h s) stage 0 effects → IsOnWay p t c (on_machine program w h z) stage 0 []
+-- at its end a fragment is one in any environment
+abbrev pub FragmentsResettle : Type 0
+FragmentsResettle =
+    (p : Plan) (t : Thread) (c : Places) (program : List (List Slot)) (w : World) (h : ℕ) (s z : MarkedEnvironment) (stage : Stage) (effects : List Effect) →
+    Meets c.program z → Agrees program w h z → IsOnFragment p t c (on_machine program w h s) stage 0 effects →
+    IsOnFragment p t c (on_machine program w h z) stage 0 []
 
--- ---- Where a way ends
+-- ---- Where a fragment ends
 
 module _ (p : Plan) (t : Thread) (c : Places) where
-  -- a way to the end of which so many steps are left at most
-  pub record IsOnSomeWay (r : Running) (stage : Stage) (most : ℕ) (effects : List Effect) : Type 0 where
+  -- a fragment to the end of which so many steps are left at most
+  pub record IsOnSomeFragment (r : Running) (stage : Stage) (most : ℕ) (effects : List Effect) : Type 0 where
     pub steps : ℕ
     pub short : steps ≤ most
-    pub on : IsOnWay p t c r stage steps effects
+    pub on : IsOnFragment p t c r stage steps effects
 
   -- through the boundary before the node, with registers at the bank
-  abbrev pub Keeping : Running → (node : ℕ) → Seen → (bank : ℕ) → (registers : List ℕ) → Type 0
-  Keeping r node seen bank registers =
-      IsOnSomeWay r (record { aim = Keeps; node = node; seen = seen; bank = bank_behind (keeping p t c node) bank }) (c.words node)
+  abbrev pub BoundaryRun : Running → (node : ℕ) → Seen → (bank : ℕ) → (registers : List ℕ) → Type 0
+  BoundaryRun r node seen bank registers =
+      IsOnSomeFragment r (record { exit = Keeps; node = node; seen = seen; bank = bank_after (keeping p t c node) bank }) (c.words node)
       (boundary_effects (keeping p t c node) (1 - bank) (c.core node) registers)
 
   -- at the entry of its node the thread begins with the boundary before it, or is at its code
   pub record HasArrived (r : Running) (node : ℕ) (seen : Seen) (bank : ℕ) (registers : List ℕ) : Type 0 where
-    pub chosen : IsChosen p.graph p.boundaries node → Keeping r node seen bank registers
+    pub chosen : IsChosen p.graph p.boundaries node → BoundaryRun r node seen bank registers
     pub plain : ¬ (IsChosen p.graph p.boundaries node) → IsAtCore p t c r.world r.hart node seen bank registers
 
 abbrev pub ArrivalsEnd : Type 0
-ArrivalsEnd = (p : Plan) (t : Thread) (program : List (List Slot)) (own : Program) (code : IsThreadCode p t own) (w : World) (h : ℕ) (s : Setting)
+ArrivalsEnd = (p : Plan) (t : Thread) (program : List (List Slot)) (own : Program) (code : IsThreadCode p t own) (w : World) (h : ℕ) (s : MarkedEnvironment)
     (node : ℕ) (seen : Seen) (bank : ℕ) (effects : List Effect) → IsPlaced p t code.places (length w.harts) → ReadsVariables s →
     (is : Node) → NodeAt p.graph node is →
-    (way : IsOnWay p t code.places (on_machine program w h s) (record { aim = Arrives; node = node; seen = seen; bank = bank }) 0 effects) →
-    HasArrived p t code.places (on_machine program w h s) node seen bank way.registers
+    (fragment : IsOnFragment p t code.places (on_machine program w h s) (record { exit = Arrives; node = node; seen = seen; bank = bank }) 0 effects) →
+    HasArrived p t code.places (on_machine program w h s) node seen bank fragment.registers
 
--- behind the boundary it is there
+-- after the boundary before its node the thread is at the node's code
 abbrev pub KeepsEnd : Type 0
-KeepsEnd = (p : Plan) (t : Thread) (c : Places) (program : List (List Slot)) (w : World) (h : ℕ) (s : Setting)
+KeepsEnd = (p : Plan) (t : Thread) (c : Places) (program : List (List Slot)) (w : World) (h : ℕ) (s : MarkedEnvironment)
     (node : ℕ) (seen : Seen) (bank : ℕ) (effects : List Effect) →
-    (way : IsOnWay p t c (on_machine program w h s) (record { aim = Keeps; node = node; seen = seen; bank = bank }) 0 effects) →
-    IsAtCore p t c w h node seen bank way.registers
+    (fragment : IsOnFragment p t c (on_machine program w h s) (record { exit = Keeps; node = node; seen = seen; bank = bank }) 0 effects) →
+    IsAtCore p t c w h node seen bank fragment.registers
 
--- behind the boundary behind a lock the thread goes to its node
+-- after the boundary that follows a lock the thread goes to its node
 abbrev pub TookEnd : Type 0
-TookEnd = (p : Plan) (t : Thread) (program : List (List Slot)) (own : Program) (code : IsThreadCode p t own) (w : World) (h : ℕ) (s : Setting)
+TookEnd = (p : Plan) (t : Thread) (program : List (List Slot)) (own : Program) (code : IsThreadCode p t own) (w : World) (h : ℕ) (s : MarkedEnvironment)
     (from node : ℕ) (seen : Seen) (bank : ℕ) (effects : List Effect) → IsPlaced p t code.places (length w.harts) →
-    IsOnWay p t code.places (on_machine program w h s) (record { aim = Took from; node = node; seen = seen; bank = bank }) 0 effects →
-    IsOnSomeWay p t code.places (on_machine program w h s) (record { aim = Arrives; node = node; seen = seen; bank = bank }) (code.places.words from) []
+    IsOnFragment p t code.places (on_machine program w h s) (record { exit = Took from; node = node; seen = seen; bank = bank }) 0 effects →
+    IsOnSomeFragment p t code.places (on_machine program w h s) (record { exit = Arrives; node = node; seen = seen; bank = bank }) (code.places.words from) []
 
--- behind a lock and its boundary, or an unlock, the thread goes to its node: so does one that is resumed there
+-- after a lock and its boundary, or an unlock, the thread goes to its node: so does one that is resumed there
 abbrev pub GoesOnFrom : (from next : ℕ) → Plan → Thread → Type 0
-GoesOnFrom from next p t = (program : List (List Slot)) (own : Program) (code : IsThreadCode p t own) (w : World) (h : ℕ) (s : Setting)
+GoesOnFrom from next p t = (program : List (List Slot)) (own : Program) (code : IsThreadCode p t own) (w : World) (h : ℕ) (s : MarkedEnvironment)
     (seen : Seen) (bank : ℕ) (registers : List ℕ) → IsPlaced p t code.places (length w.harts) → Meets code.places.program s → Agrees program w h s →
-    IsAt w h (moment registers (code.places.behind from)) → Enters p t next seen bank registers →
-    IsOnSomeWay p t code.places (on_machine program w h s) (record { aim = Arrives; node = next; seen = seen; bank = bank }) (code.places.words from) []
+    IsRunningAt w h (config registers (code.places.after from)) → Enters p t next seen bank registers →
+    IsOnSomeFragment p t code.places (on_machine program w h s) (record { exit = Arrives; node = next; seen = seen; bank = bank }) (code.places.words from) []
 
 abbrev pub LocksGoOn : Type 0
 LocksGoOn = (p : Plan) (t : Thread) (from mutex next : ℕ) → IsLockOf p t from mutex next → GoesOnFrom from next p t
@@ -172,7 +184,7 @@ module _ (p : Plan) (t : Thread) (c : Places) where
     pub steps : ℕ
     pub effects : List Effect
     pub short : suc steps ≤ c.words node
-    pub at : IsAtMark p t c r e (stage_behind p t c node seen bank e) steps effects
+    pub at : IsAtMark p t c r e (stage_after p t c node seen bank e) steps effects
     pub seen_are : AreSeen p t c node bank registers e effects
 
   -- what a thread does at its node's code: it asks for a mutex, or is at its mark
@@ -182,19 +194,19 @@ module _ (p : Plan) (t : Thread) (c : Places) where
   Performing r node seen bank registers (a.Makes store next) = IsAtSomeMark r node seen bank registers (a.Makes store next)
   Performing r node seen bank registers (a.Goes next) = IsAtSomeMark r node seen bank registers (a.Goes next)
   Performing r node seen bank registers (a.Takes mutex next) =
-      IsOnSomeWay p t c r (stage_behind p t c node seen bank (a.Takes mutex next)) (c.words node) []
+      IsOnSomeFragment p t c r (stage_after p t c node seen bank (a.Takes mutex next)) (c.words node) []
   Performing r node seen bank registers (a.Gives mutex next) = IsAtSomeMark r node seen bank registers (a.Gives mutex next)
   Performing r node seen bank registers a.Ends = IsAtSomeMark r node seen bank registers a.Ends
 
-  -- it passes its mark, and is on the way behind it
-  pub record Passes (r : Running) (e : a.Effect) (stage : Stage) (steps : ℕ) (effects : List Effect)
+  -- the hart passes its mark, and is in the fragment after it
+  pub record PassesMark (r : Running) (e : a.Effect) (stage : Stage) (steps : ℕ) (effects : List Effect)
       (at : IsAtMark p t c r e stage steps effects) : Type 0 where
     pub forward : GoesForward r.program r.world r.hart (run_at p t c at)
     pub later : List Effect
     pub effects_are : effects ≡ effects_of forward.effect ++ later
     pub made : IsMadeBy p t c e forward.effect
-    pub on : IsOnWay p t c (stepped r) stage steps later
-    pub mark : (marks : List (List ℕ)) → AreMarksOf marks r.hart r.setting → passes_mark marks r.program r.world r.hart ≡ true
+    pub on : IsOnFragment p t c (stepped r) stage steps later
+    pub mark : (marks : List (List ℕ)) → AreMarksOf marks r.hart r.environment → passes_mark marks r.program r.world r.hart ≡ true
     pub point : stores_point r.program r.world (Step r.hart) r.hart ≡ is_point_store r.hart forward.effect
     pub fence : finishes_fence r.program r.world (Step r.hart) r.hart ≡ is_fence forward.effect
     pub less : suc (left_of p t c on) ≡ left_at p t c at
@@ -212,7 +224,7 @@ module _ (p : Plan) (t : Thread) (c : Places) where
 
 -- at a node's code, where what the node reads is answered, and a store that it makes may be made
 abbrev pub NodesBegin : Type 0
-NodesBegin = (p : Plan) (t : Thread) (program : List (List Slot)) (own : Program) (code : IsThreadCode p t own) (w : World) (h : ℕ) (s : Setting)
+NodesBegin = (p : Plan) (t : Thread) (program : List (List Slot)) (own : Program) (code : IsThreadCode p t own) (w : World) (h : ℕ) (s : MarkedEnvironment)
     (node : ℕ) (seen : Seen) (bank : ℕ) (registers : List ℕ) (is : Node) (e : a.Effect) →
     IsPlaced p t code.places (length w.harts) → Meets code.places.program s → Agrees program w h s → ReadsVariables s →
     NodeAt p.graph node is → effect_of is.action seen ≡ Some e → IsAnswered (source_of p t seen) s.around.loads is.action →
@@ -221,110 +233,115 @@ NodesBegin = (p : Plan) (t : Thread) (program : List (List Slot)) (own : Program
 
 -- a step at a mark passes it, or writes back an entry of the queue
 abbrev pub MarksPass : Type 0
-MarksPass = (p : Plan) (t : Thread) (c : Places) (program : List (List Slot)) (w : World) (h : ℕ) (s : Setting) (e : a.Effect) (stage : Stage) (steps : ℕ)
-    (effects : List Effect) → IsSound w → (at : IsAtMark p t c (on_machine program w h s) e stage steps effects) →
-    Passes p t c (on_machine program w h s) e stage steps effects at ⊎ Stays p t c (on_machine program w h s) e stage steps effects at
+MarksPass =
+    (p : Plan) (t : Thread) (c : Places) (program : List (List Slot)) (w : World) (h : ℕ) (s : MarkedEnvironment) (e : a.Effect) (stage : Stage) (steps : ℕ)
+    (effects : List Effect) → IsWellFormedWorld w → (at : IsAtMark p t c (on_machine program w h s) e stage steps effects) →
+    PassesMark p t c (on_machine program w h s) e stage steps effects at ⊎ Stays p t c (on_machine program w h s) e stage steps effects at
 
 -- what others do leaves a thread at its mark
 abbrev pub OthersKeepMarks : Type 0
-OthersKeepMarks = (p : Plan) (t : Thread) (c : Places) (program : List (List Slot)) (w : World) (h : ℕ) (s : Setting) (e : a.Effect) (stage : Stage) (steps : ℕ)
-    (effects : List Effect) (event : Event) → IsSound w → IsOfOthers h event → IsAtMark p t c (on_machine program w h s) e stage steps effects →
+OthersKeepMarks =
+    (p : Plan) (t : Thread) (c : Places) (program : List (List Slot)) (w : World) (h : ℕ) (s : MarkedEnvironment) (e : a.Effect) (stage : Stage) (steps : ℕ)
+    (effects : List Effect) (event : Event) → IsWellFormedWorld w → IsOfOthers h event → IsAtMark p t c (on_machine program w h s) e stage steps effects →
     Agrees program (after_event program w event) h s → IsAtMark p t c (on_machine program (after_event program w event) h s) e stage steps effects
 
 -- ---- Calls
 
 module _ (p : Plan) (t : Thread) (c : Places) where
-  -- the mutex is taken, and its mark passed: a thread that was at its call with those registers is on the way through the boundary behind the lock
+  -- the mutex is taken, and its mark passed: a thread that was at its call with those registers is in the fragment through the boundary after the lock
   pub record TakesMutex (r : Running) (mutex next : ℕ) (stage : Stage) (hart : Hart) (registers : List ℕ) : Type 0 where
     pub does : happens r.program r.world (Step r.hart) ≡ moved (with_holder r.world mutex (Some r.hart)) r.hart (gone_on hart)
-    pub on : IsOnSomeWay p t c (stepped r)
-        (record { aim = Took stage.node; node = next; seen = stage.seen; bank = bank_behind (keeping p t c next) stage.bank }) (c.words stage.node)
-        (boundary_effects (keeping p t c next) (1 - stage.bank) (c.behind stage.node) registers)
-    pub mark : (marks : List (List ℕ)) → AreMarksOf marks r.hart r.setting → passes_mark marks r.program r.world r.hart ≡ true
+    pub on : IsOnSomeFragment p t c (stepped r)
+        (record { exit = Took stage.node; node = next; seen = stage.seen; bank = bank_after (keeping p t c next) stage.bank }) (c.words stage.node)
+        (boundary_effects (keeping p t c next) (1 - stage.bank) (c.after stage.node) registers)
+    pub mark : (marks : List (List ℕ)) → AreMarksOf marks r.hart r.environment → passes_mark marks r.program r.world r.hart ≡ true
     pub counts : CountsNone r.program r.world r.hart
 
-  -- the mutex is given back; unless the thread's recovery is done by that, it is behind the unlock
+  -- the mutex is given back; unless the thread's recovery is done by that, it is after the unlock
   pub record GivesMutex (r : Running) (from mutex : ℕ) (stage : Stage) (hart : Hart) (registers : List ℕ) : Type 0 where
     pub does : happens r.program r.world (Step r.hart) ≡ moved (with_holder r.world mutex None) r.hart
-        (record (gone_on hart) { phase = phase_behind r.world r.hart (slice_set r.world.holders mutex None) })
-    pub agrees : Agrees r.program (stepped r).world r.hart r.setting
-    pub at : phase_behind r.world r.hart (slice_set r.world.holders mutex None) ≡ Run → IsAt (stepped r).world r.hart (moment registers (c.behind from))
+        (record (gone_on hart) { phase = phase_after r.world r.hart (slice_set r.world.holders mutex None) })
+    pub agrees : Agrees r.program (stepped r).world r.hart r.environment
+    pub at : phase_after r.world r.hart (slice_set r.world.holders mutex None) ≡ Run → IsRunningAt (stepped r).world r.hart (config registers (c.after from))
     pub enters : Enters p t stage.node stage.seen stage.bank registers
-    pub no_mark : (marks : List (List ℕ)) → AreMarksOf marks r.hart r.setting → passes_mark marks r.program r.world r.hart ≡ false
+    pub no_mark : (marks : List (List ℕ)) → AreMarksOf marks r.hart r.environment → passes_mark marks r.program r.world r.hart ≡ false
     pub counts : CountsNone r.program r.world r.hart
 
--- where the mutex is free
+-- where the mutex is free, a lock takes it
 abbrev pub LocksTake : Type 0
-LocksTake = (p : Plan) (t : Thread) (program : List (List Slot)) (own : Program) (code : IsThreadCode p t own) (w : World) (h : ℕ) (s : Setting)
+LocksTake = (p : Plan) (t : Thread) (program : List (List Slot)) (own : Program) (code : IsThreadCode p t own) (w : World) (h : ℕ) (s : MarkedEnvironment)
     (node mutex next : ℕ) (seen : Seen) (bank : ℕ) (effects : List Effect) → IsPlaced p t code.places (length w.harts) → ReadsVariables s →
-    (way : IsOnWay p t code.places (on_machine program w h s) (record { aim = Asks mutex next; node = node; seen = seen; bank = bank }) 0 effects) →
+    (fragment : IsOnFragment p t code.places (on_machine program w h s) (record { exit = Asks mutex next; node = node; seen = seen; bank = bank }) 0 effects) →
     slice_get w.holders mutex ≡ Some None → TakesMutex p t code.places (on_machine program w h s) mutex next
-    (record { aim = Asks mutex next; node = node; seen = seen; bank = bank }) way.on.hart way.registers
+    (record { exit = Asks mutex next; node = node; seen = seen; bank = bank }) fragment.on.hart fragment.registers
 
--- where a thread holds it
+-- where a thread holds the mutex, a lock waits
 abbrev pub LocksWait : Type 0
-LocksWait = (p : Plan) (t : Thread) (program : List (List Slot)) (own : Program) (code : IsThreadCode p t own) (w : World) (h : ℕ) (s : Setting)
+LocksWait = (p : Plan) (t : Thread) (program : List (List Slot)) (own : Program) (code : IsThreadCode p t own) (w : World) (h : ℕ) (s : MarkedEnvironment)
     (node mutex next : ℕ) (seen : Seen) (bank : ℕ) (effects : List Effect) (holder : ℕ) →
-    IsOnWay p t code.places (on_machine program w h s) (record { aim = Asks mutex next; node = node; seen = seen; bank = bank }) 0 effects →
+    IsOnFragment p t code.places (on_machine program w h s) (record { exit = Asks mutex next; node = node; seen = seen; bank = bank }) 0 effects →
     slice_get w.holders mutex ≡ Some (Some holder) → (happens program w (Step h) ≡ (w, Waits mutex holder)) ×
     ((marks : List (List ℕ)) → passes_mark marks program w h ≡ false)
 
 abbrev pub UnlocksGive : Type 0
-UnlocksGive = (p : Plan) (t : Thread) (program : List (List Slot)) (own : Program) (code : IsThreadCode p t own) (w : World) (h : ℕ) (s : Setting)
+UnlocksGive = (p : Plan) (t : Thread) (program : List (List Slot)) (own : Program) (code : IsThreadCode p t own) (w : World) (h : ℕ) (s : MarkedEnvironment)
     (from mutex next : ℕ) (seen : Seen) (bank : ℕ) (effects : List Effect) → IsPlaced p t code.places (length w.harts) →
-    (way : IsOnWay p t code.places (on_machine program w h s) (record { aim = Gives from mutex; node = next; seen = seen; bank = bank }) 0 effects) →
+    (fragment : IsOnFragment p t code.places (on_machine program w h s) (record { exit = Gives from mutex; node = next; seen = seen; bank = bank }) 0 effects) →
     slice_get w.holders mutex ≡ Some (Some h) → GivesMutex p t code.places (on_machine program w h s) from mutex
-    (record { aim = Gives from mutex; node = next; seen = seen; bank = bank }) way.on.hart way.registers
+    (record { exit = Gives from mutex; node = next; seen = seen; bank = bank }) fragment.on.hart fragment.registers
 
 -- a thread that ends holds nothing
 abbrev pub EndsEnd : Type 0
-EndsEnd = (p : Plan) (t : Thread) (program : List (List Slot)) (own : Program) (code : IsThreadCode p t own) (w : World) (h : ℕ) (s : Setting)
+EndsEnd = (p : Plan) (t : Thread) (program : List (List Slot)) (own : Program) (code : IsThreadCode p t own) (w : World) (h : ℕ) (s : MarkedEnvironment)
     (node : ℕ) (seen : Seen) (bank : ℕ) (effects : List Effect) →
-    (way : IsOnWay p t code.places (on_machine program w h s) (record { aim = Ends; node = node; seen = seen; bank = bank }) 0 effects) →
+    (fragment : IsOnFragment p t code.places (on_machine program w h s) (record { exit = Ends; node = node; seen = seen; bank = bank }) 0 effects) →
     least_held w.holders h ≡ None →
-    (happens program w (Step h) ≡ moved w h (record (gone_on way.on.hart) { phase = Ended })) ×
+    (happens program w (Step h) ≡ moved w h (record (gone_on fragment.on.hart) { phase = Ended })) ×
     ((marks : List (List ℕ)) → AreMarksOf marks h s → passes_mark marks program w h ≡ false)
 
 -- ---- Where no thread is stuck
 
-abbrev pub WaysAreWell : Type 0
-WaysAreWell = (p : Plan) (t : Thread) (c : Places) (program : List (List Slot)) (w : World) (h : ℕ) (s : Setting) (stage : Stage) (steps : ℕ)
-    (effects : List Effect) → IsOnWay p t c (on_machine program w h s) stage (suc steps) effects → (cause : Cause) → reply_to program w (Step h) ≢ Stuck cause
+abbrev pub FragmentsAreWell : Type 0
+FragmentsAreWell = (p : Plan) (t : Thread) (c : Places) (program : List (List Slot)) (w : World) (h : ℕ) (s : MarkedEnvironment) (stage : Stage) (steps : ℕ)
+    (effects : List Effect) → IsOnFragment p t c (on_machine program w h s) stage (suc steps) effects → (cause : Cause) →
+    reply_to program w (Step h) ≢ Stuck cause
 
 abbrev pub MarksAreWell : Type 0
-MarksAreWell = (p : Plan) (t : Thread) (c : Places) (program : List (List Slot)) (w : World) (h : ℕ) (s : Setting) (e : a.Effect) (stage : Stage) (steps : ℕ)
+MarksAreWell =
+    (p : Plan) (t : Thread) (c : Places) (program : List (List Slot)) (w : World) (h : ℕ) (s : MarkedEnvironment) (e : a.Effect) (stage : Stage) (steps : ℕ)
     (effects : List Effect) → IsAtMark p t c (on_machine program w h s) e stage steps effects → (cause : Cause) → reply_to program w (Step h) ≢ Stuck cause
 
--- nor one at its call: a lock of a mutex that is there, an unlock of one that the thread holds, and an end of a thread that holds nothing
+-- no thread at its call is stuck: at a lock of a mutex that is there, an unlock of one that it holds, and an end where it holds nothing
 abbrev pub LocksAreWell : Type 0
-LocksAreWell = (p : Plan) (t : Thread) (program : List (List Slot)) (own : Program) (code : IsThreadCode p t own) (w : World) (h : ℕ) (s : Setting)
+LocksAreWell = (p : Plan) (t : Thread) (program : List (List Slot)) (own : Program) (code : IsThreadCode p t own) (w : World) (h : ℕ) (s : MarkedEnvironment)
     (node mutex next : ℕ) (seen : Seen) (bank : ℕ) (effects : List Effect) (holder : Option ℕ) →
-    IsOnWay p t code.places (on_machine program w h s) (record { aim = Asks mutex next; node = node; seen = seen; bank = bank }) 0 effects →
+    IsOnFragment p t code.places (on_machine program w h s) (record { exit = Asks mutex next; node = node; seen = seen; bank = bank }) 0 effects →
     slice_get w.holders mutex ≡ Some holder → (cause : Cause) → reply_to program w (Step h) ≢ Stuck cause
 
 abbrev pub UnlocksAreWell : Type 0
-UnlocksAreWell = (p : Plan) (t : Thread) (program : List (List Slot)) (own : Program) (code : IsThreadCode p t own) (w : World) (h : ℕ) (s : Setting)
+UnlocksAreWell = (p : Plan) (t : Thread) (program : List (List Slot)) (own : Program) (code : IsThreadCode p t own) (w : World) (h : ℕ) (s : MarkedEnvironment)
     (from mutex next : ℕ) (seen : Seen) (bank : ℕ) (effects : List Effect) →
-    IsOnWay p t code.places (on_machine program w h s) (record { aim = Gives from mutex; node = next; seen = seen; bank = bank }) 0 effects →
+    IsOnFragment p t code.places (on_machine program w h s) (record { exit = Gives from mutex; node = next; seen = seen; bank = bank }) 0 effects →
     slice_get w.holders mutex ≡ Some (Some h) → (cause : Cause) → reply_to program w (Step h) ≢ Stuck cause
 
 abbrev pub EndsAreWell : Type 0
-EndsAreWell = (p : Plan) (t : Thread) (program : List (List Slot)) (own : Program) (code : IsThreadCode p t own) (w : World) (h : ℕ) (s : Setting)
+EndsAreWell = (p : Plan) (t : Thread) (program : List (List Slot)) (own : Program) (code : IsThreadCode p t own) (w : World) (h : ℕ) (s : MarkedEnvironment)
     (node : ℕ) (seen : Seen) (bank : ℕ) (effects : List Effect) →
-    IsOnWay p t code.places (on_machine program w h s) (record { aim = Ends; node = node; seen = seen; bank = bank }) 0 effects →
+    IsOnFragment p t code.places (on_machine program w h s) (record { exit = Ends; node = node; seen = seen; bank = bank }) 0 effects →
     least_held w.holders h ≡ None → (cause : Cause) → reply_to program w (Step h) ≢ Stuck cause
 
 -- ---- At a node's code
 
--- what others do leaves a thread there
+-- what others do leaves a thread at its node's code
 abbrev pub OthersKeepCores : Type 0
 OthersKeepCores = (p : Plan) (t : Thread) (c : Places) (program : List (List Slot)) (w : World) (h node : ℕ) (seen : Seen) (bank : ℕ) (registers : List ℕ)
-    (event : Event) → IsSound w → IsOfOthers h event → IsAtCore p t c w h node seen bank registers →
+    (event : Event) → IsWellFormedWorld w → IsOfOthers h event → IsAtCore p t c w h node seen bank registers →
     IsAtCore p t c (after_event program w event) h node seen bank registers
 
--- and so does a step of its own that writes back an entry of the queue
+-- a step of a thread's own that writes back an entry of the queue leaves it at its node's code
 abbrev pub StaysAreAtCore : Type 0
-StaysAreAtCore = (p : Plan) (t : Thread) (c : Places) (program : List (List Slot)) (w : World) (h : ℕ) (s : Setting) (e : a.Effect) (stage : Stage) (steps : ℕ)
+StaysAreAtCore =
+    (p : Plan) (t : Thread) (c : Places) (program : List (List Slot)) (w : World) (h : ℕ) (s : MarkedEnvironment) (e : a.Effect) (stage : Stage) (steps : ℕ)
     (effects : List Effect) (at : IsAtMark p t c (on_machine program w h s) e stage steps effects) →
     Stays p t c (on_machine program w h s) e stage steps effects at →
     (node : ℕ) (seen : Seen) (bank : ℕ) (registers : List ℕ) → IsAtCore p t c w h node seen bank registers →
@@ -332,10 +349,10 @@ StaysAreAtCore = (p : Plan) (t : Thread) (c : Places) (program : List (List Slot
 
 -- a thread begins at the entry of its first node
 abbrev pub ThreadsStart : Type 0
-ThreadsStart = (p : Plan) (t : Thread) (program : List (List Slot)) (own : Program) (code : IsThreadCode p t own) (w : World) (h : ℕ) (s : Setting)
+ThreadsStart = (p : Plan) (t : Thread) (program : List (List Slot)) (own : Program) (code : IsThreadCode p t own) (w : World) (h : ℕ) (s : MarkedEnvironment)
     (seen : Seen) (bank : ℕ) (registers : List ℕ) → Meets code.places.program s → Agrees program w h s → IsNodeOf t t.part.first →
-    IsAt w h (moment registers own.start) → Enters p t t.part.first seen bank registers →
-    IsOnWay p t code.places (on_machine program w h s) (record { aim = Arrives; node = t.part.first; seen = seen; bank = bank }) 0 []
+    IsRunningAt w h (config registers own.start) → Enters p t t.part.first seen bank registers →
+    IsOnFragment p t code.places (on_machine program w h s) (record { exit = Arrives; node = t.part.first; seen = seen; bank = bank }) 0 []
 
 -- ---- What a thread sees of variables
 
@@ -346,10 +363,10 @@ abbrev pub stage_sees : List (List ℤ) → Stage → Stage
 stage_sees variables stage = record stage { seen = sees variables stage.seen }
 
 -- where a thread is depends on no variable
-abbrev pub WaysSeeAll : Type 0
-WaysSeeAll = (p : Plan) (t : Thread) (c : Places) (program : List (List Slot)) (w : World) (h : ℕ) (s : Setting) (stage : Stage) (steps : ℕ)
-    (effects : List Effect) (variables : List (List ℤ)) → IsOnWay p t c (on_machine program w h s) stage steps effects →
-    IsOnWay p t c (on_machine program w h s) (stage_sees variables stage) steps effects
+abbrev pub FragmentsSeeAll : Type 0
+FragmentsSeeAll = (p : Plan) (t : Thread) (c : Places) (program : List (List Slot)) (w : World) (h : ℕ) (s : MarkedEnvironment) (stage : Stage) (steps : ℕ)
+    (effects : List Effect) (variables : List (List ℤ)) → IsOnFragment p t c (on_machine program w h s) stage steps effects →
+    IsOnFragment p t c (on_machine program w h s) (stage_sees variables stage) steps effects
 
 abbrev pub CoresSeeAll : Type 0
 CoresSeeAll = (p : Plan) (t : Thread) (c : Places) (w : World) (h node : ℕ) (seen : Seen) (bank : ℕ) (registers : List ℕ) (variables : List (List ℤ)) →
@@ -366,12 +383,13 @@ PlansArePlaced = (p : Plan) (t : Thread) (c : Places) (threads : ℕ) → IsPlan
 -- ---- Delay
 
 -- each step takes one of those that are left; these are no more than two for each instruction, and one for each entry of a full queue
-abbrev pub WaysAreBounded : Type 0
-WaysAreBounded = (p : Plan) (t : Thread) (c : Places) (program : List (List Slot)) (w : World) (h : ℕ) (s : Setting) (stage : Stage) (steps : ℕ)
-    (effects : List Effect) → AreShort w → (way : IsOnWay p t c (on_machine program w h s) stage steps effects) → left_of p t c way ≤ 2 * steps + queue_limit
+abbrev pub FragmentsAreBounded : Type 0
+FragmentsAreBounded = (p : Plan) (t : Thread) (c : Places) (program : List (List Slot)) (w : World) (h : ℕ) (s : MarkedEnvironment) (stage : Stage) (steps : ℕ)
+    (effects : List Effect) → AreShort w → (fragment : IsOnFragment p t c (on_machine program w h s) stage steps effects) →
+    left_of p t c fragment ≤ 2 * steps + queue_limit
 
 abbrev pub MarksAreBounded : Type 0
-MarksAreBounded = (p : Plan) (t : Thread) (c : Places) (program : List (List Slot)) (w : World) (h : ℕ) (s : Setting) (e : a.Effect) (stage : Stage)
+MarksAreBounded = (p : Plan) (t : Thread) (c : Places) (program : List (List Slot)) (w : World) (h : ℕ) (s : MarkedEnvironment) (e : a.Effect) (stage : Stage)
     (steps : ℕ) (effects : List Effect) → AreShort w → (at : IsAtMark p t c (on_machine program w h s) e stage steps effects) →
     left_at p t c at ≤ 2 * suc steps + queue_limit
 
@@ -379,10 +397,10 @@ MarksAreBounded = (p : Plan) (t : Thread) (c : Places) (program : List (List Slo
 
 module _ (p : Plan) (t : Thread) (c : Places) where
   -- the node that a thread goes to from where it is resumed
-  abbrev pub node_resumed : {address : ℕ} → IsResumed p t c address → ℕ
+  abbrev pub node_resumed : {address : ℕ} → IsResumeAddress p t c address → ℕ
   node_resumed (at_chosen node own chosen) = node
-  node_resumed (behind_lock from mutex next is own found locks) = next
-  node_resumed (behind_unlock from mutex next is own found unlocks holds) = next
+  node_resumed (past_lock from mutex next is own found locks) = next
+  node_resumed (past_unlock from mutex next is own found unlocks holds) = next
 
   -- registers are what was kept of others, with which the thread could enter the node
   pub record AreResumed (node : ℕ) (seen : Seen) (bank : ℕ) (registers : List ℕ) : Type 0 where
@@ -392,17 +410,17 @@ module _ (p : Plan) (t : Thread) (c : Places) where
     pub at_bank : AtBank bank registers
     pub same : (register : ℕ) → Contains (c.live node) register → read registers register ≡ read kept register
 
-  -- it is at the node's code, or on the way to its entry
-  pub data IsUnderWay (r : Running) (node : ℕ) (seen : Seen) (bank : ℕ) (registers : List ℕ) : Type 0 where
-    at_core : IsAtCore p t c r.world r.hart node seen bank registers → IsUnderWay r node seen bank registers
+  -- the thread is at the node's code, or in a fragment to its entry
+  pub data IsUnderFragment (r : Running) (node : ℕ) (seen : Seen) (bank : ℕ) (registers : List ℕ) : Type 0 where
+    at_core : IsAtCore p t c r.world r.hart node seen bank registers → IsUnderFragment r node seen bank registers
     arrives : (from : ℕ) → IsNodeOf t from →
-        IsOnSomeWay p t c r (record { aim = Arrives; node = node; seen = seen; bank = bank }) (c.words from) [] →
-        IsUnderWay r node seen bank registers
+        IsOnSomeFragment p t c r (record { exit = Arrives; node = node; seen = seen; bank = bank }) (c.words from) [] →
+        IsUnderFragment r node seen bank registers
 
 -- a hart that recovery resumes goes on from where it is
 abbrev pub ResumedGoOn : Type 0
-ResumedGoOn = (p : Plan) (t : Thread) (program : List (List Slot)) (own : Program) (code : IsThreadCode p t own) (w : World) (h : ℕ) (s : Setting)
-    (address : ℕ) (r : IsResumed p t code.places address) (seen : Seen) (bank : ℕ) (registers : List ℕ) → IsPlaced p t code.places (length w.harts) →
-    Meets code.places.program s → Agrees program w h s → IsAt w h (moment registers address) →
+ResumedGoOn = (p : Plan) (t : Thread) (program : List (List Slot)) (own : Program) (code : IsThreadCode p t own) (w : World) (h : ℕ) (s : MarkedEnvironment)
+    (address : ℕ) (r : IsResumeAddress p t code.places address) (seen : Seen) (bank : ℕ) (registers : List ℕ) → IsPlaced p t code.places (length w.harts) →
+    Meets code.places.program s → Agrees program w h s → IsRunningAt w h (config registers address) →
     AreResumed p t code.places (node_resumed p t code.places r) seen bank registers →
-    IsUnderWay p t code.places (on_machine program w h s) (node_resumed p t code.places r) seen bank registers
+    IsUnderFragment p t code.places (on_machine program w h s) (node_resumed p t code.places r) seen bank registers

@@ -1,41 +1,14 @@
-//! What is true of threads on their ways: nothing is computed here.
-ghost use Rattle.thread_runs.specs.Laws.{
-  ArrivalsEnd,
-  CoresSeeAll,
-  EndsAreWell,
-  EndsEnd,
-  KeepsEnd,
-  LocksAreWell,
-  LocksGoOn,
-  LocksTake,
-  LocksWait,
-  MarksAreBounded,
-  MarksAreWell,
-  MarksPass,
-  NodesBegin,
-  OthersKeepCores,
-  OthersKeepMarks,
-  OthersKeepWays,
-  PlansArePlaced,
-  ResumedGoOn,
-  StaysAreAtCore,
-  ThreadsStart,
-  TookEnd,
-  UnlocksAreWell,
-  UnlocksGive,
-  UnlocksGoOn,
-  WaysAreBounded,
-  WaysAreWell,
-  WaysGoOn,
-  WaysResettle,
-  WaysSeeAll,
-};
+//! What is true of threads in fragments of their code: nothing is computed here.
+ghost use Rattle.thread_runs.specs.Laws.{ArrivalsEnd, CoresSeeAll, EndsAreWell, EndsEnd, KeepsEnd, LocksAreWell, LocksGoOn, LocksTake, LocksWait};
+ghost use Rattle.thread_runs.specs.Laws.{MarksAreBounded, MarksAreWell, MarksPass, NodesBegin, OthersKeepCores, OthersKeepMarks, OthersKeepFragments};
+ghost use Rattle.thread_runs.specs.Laws.{PlansArePlaced, ResumedGoOn, StaysAreAtCore, ThreadsStart, TookEnd, UnlocksAreWell, UnlocksGive};
+ghost use Rattle.thread_runs.specs.Laws.{UnlocksGoOn, FragmentsAreBounded, FragmentsAreWell, FragmentsGoOn, FragmentsResettle, FragmentsSeeAll};
 
 use hart_runs::laws::{none_is_stuck, steps_are_counted};
 
-/// A step on a way goes on, or is held up by the queue; it passes no mark.
-pub fn ways_go_on()
-    ensures { WaysGoOn }
+/// A step in a fragment goes on, or is held up by the queue; it passes no mark.
+pub fn fragments_go_on()
+    ensures { FragmentsGoOn }
 {
     steps_are_counted();
 }
@@ -47,9 +20,9 @@ pub fn marks_pass()
     steps_are_counted();
 }
 
-/// What others do leaves a thread on its way, at its mark and at its node's code.
-pub fn others_keep_ways()
-    ensures ways { OthersKeepWays }
+/// What others do leaves a thread in its fragment, at its mark and at its node's code.
+pub fn others_keep_fragments()
+    ensures fragments { OthersKeepFragments }
     ensures marks { OthersKeepMarks }
     ensures cores { OthersKeepCores }
 {}
@@ -60,8 +33,8 @@ pub fn stays_are_at_core()
 {}
 
 /// Where a thread is depends on no variable.
-pub fn ways_see_all()
-    ensures ways { WaysSeeAll }
+pub fn fragments_see_all()
+    ensures fragments { FragmentsSeeAll }
     ensures cores { CoresSeeAll }
 {}
 
@@ -70,10 +43,10 @@ pub fn threads_start()
     ensures { ThreadsStart }
 {}
 
-/// At its end a way is one in any setting. At the entry of its node a thread begins with the boundary before it, if one is chosen
-/// there, else it is at the node's code, and so it is behind that boundary.
-pub fn ways_end()
-    ensures resettle { WaysResettle }
+/// At its end a fragment is one in any environment. At the entry of its node a thread begins with the boundary before it, if one is chosen
+/// there, else it is at the node's code, and so it is after that boundary.
+pub fn fragments_end()
+    ensures resettle { FragmentsResettle }
     ensures arrives { ArrivalsEnd }
     ensures keeps { KeepsEnd }
 {}
@@ -93,16 +66,16 @@ pub fn calls_are_made()
     steps_are_counted();
 }
 
-/// Behind a lock and its boundary, and behind an unlock, a thread goes to its node, as does one that is resumed there.
+/// After a lock and its boundary, and after an unlock, a thread goes to its node, as does one that is resumed there.
 pub fn calls_are_left()
     ensures took { TookEnd }
     ensures locks { LocksGoOn }
     ensures unlocks { UnlocksGoOn }
 {}
 
-/// No thread on a way, at a mark, or at a call that it may make is stuck.
-pub fn ways_are_well()
-    ensures ways { WaysAreWell }
+/// No thread in a fragment, at a mark, or at a call that it may make is stuck.
+pub fn fragments_are_well()
+    ensures fragments { FragmentsAreWell }
     ensures marks { MarksAreWell }
     ensures locks { LocksAreWell }
     ensures unlocks { UnlocksAreWell }
@@ -111,9 +84,10 @@ pub fn ways_are_well()
     none_is_stuck();
 }
 
-/// How many steps are left on a way or from a mark on, of which each step takes one.
-pub fn ways_are_bounded()
-    ensures ways { WaysAreBounded }
+/// How many steps are left in a fragment or from a mark on, of which each step takes one: no more than two for each instruction
+/// ahead, and 16.
+pub fn fragments_are_bounded()
+    ensures fragments { FragmentsAreBounded }
     ensures marks { MarksAreBounded }
 {}
 

@@ -1,8 +1,10 @@
-pub mod Standing
-pub mod Logging
-pub mod Steps
-pub mod Lasting
-pub mod Digits
-pub mod Beginning
+pub mod Public
+mod VariableBounds
+mod ElementsInWords
+mod LogWords
+mod StepEffects
+mod MemoryAlongEvents
+mod Digits
+mod InitialMemory
 mod Worked
-pub mod Variables
+mod Variables

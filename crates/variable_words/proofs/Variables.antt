@@ -9,20 +9,20 @@ use Rattle.ido_ints.specs.Kinds.{bytes_of}
 use Rattle.c_tree.specs.Programs.{Variable}
 use Rattle.c_tree.specs.WellFormed as f
 use Rattle.rv64_isa.specs.Machine.{numbers_from}
-use Rattle.variable_layout.specs.Placing.{HaveRoom}
-use Rattle.variable_layout.proofs.Laying.{shapes}
-use Rattle.resumption.specs.Histories.{History, live_number, durable_number}
-use Rattle.resumption.specs.Elements.{number_in, element_in}
-use Rattle.resumption.specs.Spots.{elements_in, memory_in}
-use Rattle.resumption.proofs.Elements.{live_in, durable_in}
-use Rattle.variable_words.specs.Placed.{spots_from, spots_of}
+use Rattle.memory_layout.specs.Variables.{HaveRoom}
+use Rattle.variable_words.proofs.VariableBounds.{shapes}
+use Rattle.recovery_semantics.specs.ElementHistories.{History, live_number, durable_number}
+use Rattle.recovery_semantics.specs.Elements.{number_in, element_in}
+use Rattle.recovery_semantics.specs.VariableSpots.{elements_in, memory_in}
+use Rattle.recovery_semantics.proofs.Public.{live_in, durable_in}
+use Rattle.variable_words.specs.VariablesInWords.{spots_from, spots_of}
 use Rattle.variable_words.specs.Variables.{number_of_byte, variables_from, live_variables, durable_variables, LiveAreMemory, DurableAreMemory}
-use Rattle.variable_words.proofs.Standing.{number_is}
+use Rattle.variable_words.proofs.ElementsInWords.{number_is}
 
 -- a history's number is that of the word's value
 module _ (value : Word → ℕ) (number_of : History → ℤ) (words : List Word)
     (reads : (kind : Kind) (byte : ℕ) (word : Word) → number_in kind byte (value word) ≡ number_of (element_in kind byte word)) where
-  -- elements stand one behind another from a byte on
+  -- elements stand one after another from a byte on
   elements_are : (kind : Kind) (place : ℕ → ℕ) (start from count : ℕ) →
       ((e : ℕ) → from ≤ e → e < from + count → place e ≡ start + bytes_of kind * e) →
       map (λ e. number_of_byte value words kind (place e)) (numbers_from from count) ≡
@@ -39,7 +39,7 @@ module _ (value : Word → ℕ) (number_of : History → ℤ) (words : List Word
       λ i. here i ∷ rest i
 
   -- the last variables of all
-  variables_are : (all : List Variable) (number : ℕ) (vs : List Variable) → HaveRoom all →
+  variables_are : (all : List Variable) (number : ℕ) (vs : List Variable) → HaveRoom (shapes all) →
       ((i : ℕ) (is : Variable) → slice_get vs i ≡ Some is → slice_get all (number + i) ≡ Some is) →
       variables_from value words (shapes all) number vs ≡ map (map number_of) (memory_in (spots_from (shapes all) number vs) words)
   variables_are all number [] room are = refl

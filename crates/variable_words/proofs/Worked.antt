@@ -1,4 +1,4 @@
--- Worked rows: a `char` behind a `short` in one word, and an array of three `int` across two words.
+-- Worked rows: a `char` after a `short` in one word, and an array of three `int` across two words.
 use Rattle.std.proofs.Common.{◌≡◌, ◌+◌, refl, List, [], ◌∷◌, None, Some}
 use Rattle.std.specs.Prelude.{pos, negsuc, map}
 use Rattle.ido_base.specs.Layout.{word_number}
@@ -7,9 +7,9 @@ use Rattle.ido_base.specs.Words.{Word, word_of}
 use Rattle.ido_ints.specs.declared.kinds.Kind.TheVariants as kind
 use Rattle.ido_ints.specs.Reduction as reduction
 use Rattle.c_tree.specs.Programs.{Variable}
-use Rattle.resumption.specs.Histories.{history_of}
-use Rattle.resumption.specs.Spots.{memory_in}
-use Rattle.variable_words.specs.Placed.{spots_of}
+use Rattle.recovery_semantics.specs.ElementHistories.{history_of}
+use Rattle.recovery_semantics.specs.VariableSpots.{memory_in}
+use Rattle.variable_words.specs.VariablesInWords.{spots_of}
 use Rattle.variable_words.specs.Logs.{Point, Slot, log_address}
 
 abbrev short : Variable

@@ -1,4 +1,4 @@
-pub mod Placed
+pub mod VariablesInWords
 pub mod Logs
-pub mod Working
+pub mod MemoryEffects
 pub mod Variables

@@ -1,4 +1,5 @@
--- The numbers of variables in the words of a machine, as loads give them and as a crash leaves them.
+-- The numbers of variables in the words of a machine, as loads give them and as a crash leaves them, in two's complement
+-- (C11 6.2.6.2).
 use Rattle.std.specs.Prelude.{◌≡◌, ℕ, ◌+◌, ◌/◌, ◌%◌, List, [], ◌∷◌, map, ℤ}
 use Rattle.ido_base.specs.declared.location.Shape.{Shape}
 use Rattle.ido_base.specs.Words.{Word, word_at, live_value, durable_value}
@@ -7,11 +8,11 @@ use Rattle.ido_ints.specs.declared.kinds.Kind.{Kind}
 use Rattle.c_tree.specs.Programs.{Variable}
 use Rattle.c_tree.specs.WellFormed.{shape_of, elements_in}
 use Rattle.rv64_isa.specs.Machine.{numbers_from}
-use Rattle.variable_layout.specs.Placing.{HaveRoom}
-use Rattle.resumption.specs.Histories.{live_number, durable_number}
-use Rattle.resumption.specs.Elements.{number_in}
-use Rattle.resumption.specs.Spots.{memory_in}
-use Rattle.variable_words.specs.Placed.{spots_of}
+use Rattle.memory_layout.specs.Variables.{HaveRoom}
+use Rattle.recovery_semantics.specs.ElementHistories.{live_number, durable_number}
+use Rattle.recovery_semantics.specs.Elements.{number_in}
+use Rattle.recovery_semantics.specs.VariableSpots.{memory_in}
+use Rattle.variable_words.specs.VariablesInWords.{spots_of}
 
 -- values of words may be the live ones or the durable ones
 module _ (value : Word → ℕ) (words : List Word) where
@@ -30,17 +31,17 @@ module _ (value : Word → ℕ) (words : List Word) where
 unfoldable pub live_variables : List Word → List Variable → List (List ℤ)
 live_variables words vs = variables_from live_value words (map shape_of vs) 0 vs
 
--- and as a crash leaves them
+-- of each variable the numbers of its elements, as a crash leaves them
 unfoldable pub durable_variables : List Word → List Variable → List (List ℤ)
 durable_variables words vs = variables_from durable_value words (map shape_of vs) 0 vs
 
 -- ---- Laws
 
--- they are memory's
+-- the variables' numbers are those of memory
 abbrev pub LiveAreMemory : Type 0
-LiveAreMemory = (vs : List Variable) (words : List Word) → HaveRoom vs →
+LiveAreMemory = (vs : List Variable) (words : List Word) → HaveRoom (map shape_of vs) →
     live_variables words vs ≡ map (map live_number) (memory_in (spots_of vs) words)
 
 abbrev pub DurableAreMemory : Type 0
-DurableAreMemory = (vs : List Variable) (words : List Word) → HaveRoom vs →
+DurableAreMemory = (vs : List Variable) (words : List Word) → HaveRoom (map shape_of vs) →
     durable_variables words vs ≡ map (map durable_number) (memory_in (spots_of vs) words)

@@ -1,9 +1,10 @@
 //! Laws of words: nothing is computed here.
 ghost use Rattle.variable_words.specs.Logs.{LinesApart, LogsApart, LogsHoldNone, LogsReach};
-ghost use Rattle.variable_words.specs.Placed.{AddressesReach, CrashesHold, ImagesHold, StartsHold, VariablesApart, WellFormedArePlaced};
+ghost use Rattle.variable_words.specs.VariablesInWords.{AddressesReach, CrashesHold, ImagesHold, StartsHold, VariablesApart, WellFormedArePlaced};
 ghost use Rattle.variable_words.specs.Variables.{DurableAreMemory, LiveAreMemory};
-ghost use Rattle.variable_words.specs.Working.{CleansReach, EmptyIsDurable, EventsRaise, FencesSettle, PositionsGrow, PositionsMeet, ReachLasts, StepsWork};
-ghost use Rattle.variable_words.specs.Working.{StoresStore};
+ghost use Rattle.variable_words.specs.MemoryEffects.{CleansReach, EmptyIsDurable, EventsRaise, FencesSettle};
+ghost use Rattle.variable_words.specs.MemoryEffects.{PositionsGrow, PositionsMeet, ReachLasts, StepsWork};
+ghost use Rattle.variable_words.specs.MemoryEffects.{StoresStore};
 
 /// Variables stand apart in words, and an element can be accessed at its address.
 pub fn variables_stand()
@@ -27,7 +28,7 @@ pub fn logs_stand()
     ensures lines { LinesApart }
 {}
 
-/// A step of a hart stores, cleans, writes back or leaves words alone, and what stores to no element only raises memory.
+/// A step of a hart stores, cleans, writes back or leaves words alone, and what stores to no element does nothing to memory but persist it.
 pub fn steps_work()
     ensures steps { StepsWork }
     ensures stores { StoresStore }

@@ -24,15 +24,15 @@ abbrev pub calls_at : List (List i.Call) → (function : ℕ) → List i.Call
 calls_at cs function = elim (slice_get cs function) [ Some x ↦ x | None ↦ [] ]
 
 -- calls lead from the one function to the other, or they are one
-pub data Leads (cs : List (List i.Call)) (to : ℕ) : (from : ℕ) → Type 0 where
-  there : Leads cs to to
-  by_call : (from : ℕ) (c : i.Call) → Contains (calls_at cs from) c → Leads cs to c.function → Leads cs to from
+pub data CallsLead (cs : List (List i.Call)) (to : ℕ) : (from : ℕ) → Type 0 where
+  there : CallsLead cs to to
+  by_call : (from : ℕ) (c : i.Call) → Contains (calls_at cs from) c → CallsLead cs to c.function → CallsLead cs to from
 
 -- a call in a function of one from which calls lead to it
 pub record LeadsBack (cs : List (List i.Call)) (c : i.Call) : Type 0 where
   pub caller : ℕ
   pub made : Contains (calls_at cs caller) c
-  pub back : Leads cs caller c.function
+  pub back : CallsLead cs caller c.function
 
 pub record IsFirstBack (cs : List (List i.Call)) (place : Place) : Type 0 where
   pub call : i.Call

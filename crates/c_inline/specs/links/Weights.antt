@@ -9,7 +9,7 @@ use Rattle.c_inline.specs.declared.weight.Weights.{Weights}
 abbrev pub price : Weights
 price = record { node = 96; expression = 16; branch = 0 }
 
--- by these a part weighs nothing only where it makes no statement
+-- weights by which a part weighs nothing only where it makes no statement
 abbrev pub size : Weights
 size = record { node = 1; expression = 0; branch = 1 }
 

@@ -7,6 +7,6 @@ use Rattle.c_tree.specs.Ranges.{Interval}
 abbrev pub IsWide : ℤ → Type 0
 IsWide z = ¬ FitsSigned w128 z
 
--- nor a product of ends
+-- 128 bits don't hold some product of the intervals' ends
 abbrev pub HasWideCorner : Interval → Interval → Type 0
 HasWideCorner i j = (IsWide (i.lo *ℤ j.lo) ⊎ IsWide (i.lo *ℤ j.hi)) ⊎ (IsWide (i.hi *ℤ j.lo) ⊎ IsWide (i.hi *ℤ j.hi))

@@ -1,5 +1,5 @@
--- The nesting that the type of `nesting` stands for.
-use Rattle.c_tree.specs.Reading as r
+-- The nesting that the type of `nesting` represents.
+use Rattle.c_tree.specs.TextReadings as r
 use Rattle.c_reader.specs.declared.nesting.Nesting.{Nesting}
 
 abbrev pub nesting_of : Nesting → r.Nesting

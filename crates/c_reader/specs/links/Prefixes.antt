@@ -1,11 +1,11 @@
--- The fronts and tokens of a text that the types of `prefix` and `scanner` stand for.
+-- The prefixes and tokens of a text that the types of `prefix` and `scanner` represent.
 use Rattle.std.specs.Prelude.{ℕ, List, length, find, nat_eq, Option}
 use Rattle.std.specs.List.{starts_with}
 use Rattle.std.specs.Option.{option_map}
 use Rattle.c_tree.specs.declared.token.Keyword.{Keyword}
 use Rattle.c_tree.specs.declared.token.Punctuator.{Punctuator}
 use Rattle.c_tree.specs.Refusals.{fault_of}
-use Rattle.c_tree.specs.Scanning as s
+use Rattle.c_tree.specs.LexicalScan as s
 use Rattle.c_reader.specs.declared.prefix.Prefix.{Prefix}
 use Rattle.c_reader.specs.declared.prefix.Prefix.TheVariants.{Blank, Lexed, Broken, End}
 use Rattle.c_reader.specs.declared.scanner.Scanned.{Scanned}

@@ -1,6 +1,6 @@
--- The tokens that the types of `token` stand for.
+-- The tokens that the types of `token` represent.
 use Rattle.std.specs.Prelude.{List, map, pos}
-use Rattle.ido_ints.specs.Typed.{Typed, typed_reduced}
+use Rattle.ido_ints.specs.TypedNumbers.{Typed, typed_reduced}
 use Rattle.c_tree.specs.Tokens as t
 use Rattle.c_reader.specs.declared.token.Literal.{Literal}
 use Rattle.c_reader.specs.declared.token.Lexeme.{Lexeme}

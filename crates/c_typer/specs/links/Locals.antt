@@ -2,7 +2,7 @@
 use Rattle.std.specs.Prelude.{ℕ, List, Option, map, reverse}
 use Rattle.c_typer.specs.declared.scope.Local.{Local}
 
--- their names
+-- the names of locals, the last one first
 abbrev pub names_in : List Local → List (List ℕ)
 names_in xs = map (λ (x : Local). x.name.items) (reverse xs)
 

@@ -4,12 +4,12 @@ use Rattle.ido_base.specs.declared.place.Place.{Place}
 use Rattle.ido_ints.specs.declared.kinds.Kind.TheVariants as kind
 use Rattle.c_tree.specs.Exprs as e
 use Rattle.c_tree.specs.Names as n
-use Rattle.c_tree.specs.Scanning.{Fault}
+use Rattle.c_tree.specs.LexicalScan.{Fault}
 use Rattle.c_tree.specs.TypeRules.{broken}
 use Rattle.ido_ints.specs.declared.operators.Binary as b
 use Rattle.c_tree.specs.Trees as t
-use Rattle.c_tree.specs.Typing as typing
-use Rattle.c_tree.specs.Typing.{int}
+use Rattle.c_tree.specs.Elaboration as typing
+use Rattle.c_tree.specs.Elaboration.{int}
 use Rattle.c_tree.specs.declared.rule.Rule as r
 use Rattle.c_tree.specs.declared.rule.Rule.TheVariants as rule
 use Rattle.c_typer.specs.links.Scopes.{local_of, sort_of}

@@ -14,7 +14,7 @@ abbrev pub first_place : List ℕ → List (List ℕ) → Option ℕ
 first_place name [] = None
 first_place name (x ∷ xs) = cond (same_name x name) (Some 0) (option_map suc (first_place name xs))
 
--- the same of the last one, where the last one stands first and places are counted from the end
+-- the place of the last of these names that is the name, where the last one stands first and places are counted from the end
 abbrev pub last_place : List ℕ → List (List ℕ) → Option ℕ
 last_place name [] = None
 last_place name (x ∷ xs) = cond (same_name x name) (Some (length xs)) (last_place name xs)

@@ -1,13 +1,13 @@
--- Rows of statements that are made one behind the other.
+-- Rows of statements that are made one after the other.
 use Rattle.std.specs.Prelude.{List, ◌++◌, Option, Some, None}
 use Rattle.ido_base.specs.declared.place.Place.{Place}
 use Rattle.c_tree.specs.Names as n
 use Rattle.c_tree.specs.Programs as p
-use Rattle.c_tree.specs.Scanning.{Fault}
+use Rattle.c_tree.specs.LexicalScan.{Fault}
 use Rattle.c_tree.specs.Trees as t
 use Rattle.c_tree.specs.TypeRules as rules
-use Rattle.c_tree.specs.Typing as typing
-use Rattle.c_tree.specs.Typing.{one, statements_and}
+use Rattle.c_tree.specs.Elaboration as typing
+use Rattle.c_tree.specs.Elaboration.{one, statements_and}
 
 abbrev pub maybe_one : Option p.Statement → p.Statements
 maybe_one None = p.no_statement

@@ -1,4 +1,4 @@
--- The globals and scopes that the types of `globals` and `scope` stand for.
+-- The globals and scopes that the types of `globals` and `scope` represent.
 use Rattle.std.specs.Prelude.{◌≡◌, ℕ, List, ◌++◌, map, reverse, drop}
 use Rattle.c_tree.specs.Names as n
 use Rattle.c_tree.specs.Views.{name_of}
@@ -46,7 +46,7 @@ abbrev pub scope_of : scope.Scope → n.Scope
 scope_of x = record { known = known_of x.known.items; own = own_of (drop x.mark x.known.items); kinds = x.kinds.items }
 
 -- locals were declared in the own scope, or none
-pub record Grows (old new : scope.Scope) : Type 0 where
+pub record ScopeGrows (old new : scope.Scope) : Type 0 where
   pub mark : new.mark ≡ old.mark
   pub more : List l.Local
   pub known : new.known.items ≡ old.known.items ++ more

@@ -1,4 +1,4 @@
--- What is kept of words, and which histories it stands for.
+-- What is kept of words, and which histories it represents.
 use Rattle.std.specs.Prelude.{◌≡◌, ℕ, ◌+◌, ◌<◌, ◌≤◌, List, length, map, slice_index, slice_index_or}
 use Rattle.ido_base.specs.Words.{Word, word_at, live_value, durable_value}
 use Rattle.line_memory.specs.declared.cell.Cell.{Cell}
@@ -13,7 +13,7 @@ abbrev pub cell_at : List Cell → ℕ → Cell
 cell_at cells i = slice_index_or cells i (cell_of 0)
 
 -- the cell keeps the newest value of the word and its durable one, each with its position; none is beyond the number of stores
-pub record CellStands (cell : Cell) (word : Word) (stores : ℕ) : Type 0 where
+pub record RepresentsCell (cell : Cell) (word : Word) (stores : ℕ) : Type 0 where
   pub live : cell.live ≡ live_value word
   pub version : length word.values ≡ cell.version + 1
   pub durable : cell.durable ≡ durable_value word
@@ -21,10 +21,10 @@ pub record CellStands (cell : Cell) (word : Word) (stores : ℕ) : Type 0 where
   pub order : word.durable < length word.values
   pub counted : cell.version ≤ stores
 
--- as many cells as words, and each stands for its word
+-- as many cells as words, and each represents its word
 pub record CellsStand (cells : List Cell) (words : List Word) (stores : ℕ) : Type 0 where
   pub size : length cells ≡ length words
-  pub each : (i : ℕ) → i < length cells → CellStands (cell_at cells i) (word_at words i) stores
+  pub each : (i : ℕ) → i < length cells → RepresentsCell (cell_at cells i) (word_at words i) stores
 
 -- a cell's newest value
 abbrev pub newest_of : Cell → Saved

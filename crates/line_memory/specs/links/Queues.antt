@@ -1,4 +1,4 @@
--- What the snapshots of a queue stand for.
+-- What the snapshots of a queue represent.
 use Rattle.std.specs.Prelude.{◌≡◌, ℕ, ◌+◌, ◌*◌, ◌%◌, ◌<◌, ◌≤◌, List, [], length, replicate, slice_index_or}
 use Rattle.ido_base.specs.Words.{Word, Entry}
 use Rattle.line_memory.specs.links.Cells.{Remembers, versions_in}
@@ -23,13 +23,13 @@ abbrev pub entry_at : List Entry → ℕ → Entry
 entry_at entries i = slice_index_or entries i no_entry
 
 -- the snapshot is of the entry's line, and keeps of each of its words the entry's position and the value there
-pub record SnapshotStands (snapshot : Snapshot) (entry : Entry) (words : List Word) : Type 0 where
+pub record RepresentsSnapshot (snapshot : Snapshot) (entry : Entry) (words : List Word) : Type 0 where
   pub line : entry.line ≡ snapshot.line
   pub exists : 8 * snapshot.line + 8 ≤ length words
   pub positions : entry.positions ≡ versions_in snapshot.words
   pub kept : Remembers snapshot.words (8 * snapshot.line) words
 
--- as many snapshots as entries, and each stands for its entry
-pub record QueueStands (queue : Queue) (entries : List Entry) (words : List Word) : Type 0 where
+-- as many snapshots as entries, and each represents its entry
+pub record RepresentsQueue (queue : Queue) (entries : List Entry) (words : List Word) : Type 0 where
   pub size : length entries ≡ queue_length queue
-  pub each : (i : ℕ) → i < queue_length queue → SnapshotStands (queued queue i) (entry_at entries i) words
+  pub each : (i : ℕ) → i < queue_length queue → RepresentsSnapshot (queued queue i) (entry_at entries i) words

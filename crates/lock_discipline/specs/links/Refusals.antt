@@ -1,6 +1,6 @@
 -- What the walk says where an error is told.
 use Rattle.std.specs.Prelude.{◌≡◌, IfSome, List}
-use Rattle.c_tree.specs.Locking.{Held, Walked, Broken}
+use Rattle.c_tree.specs.LockDiscipline.{Held, Walked, Broken}
 use Rattle.lock_discipline.specs.declared.error.LockError.{LockError}
 use Rattle.lock_discipline.specs.Faults.{fault_of}
 
@@ -8,6 +8,6 @@ use Rattle.lock_discipline.specs.Faults.{fault_of}
 abbrev pub Refuses : Walked → LockError → Type 0
 Refuses w x = IfSome (fault_of x) (λ fault. w ≡ Broken fault)
 
--- the same of a walk, whatever is behind its part
+-- where it isn't want of memory, the walk breaks with its fault, whatever stands after its part
 abbrev pub RefusesAny : ((List Held → Walked) → Walked) → LockError → Type 0
-RefusesAny w x = IfSome (fault_of x) (λ fault. (behind : List Held → Walked) → w behind ≡ Broken fault)
+RefusesAny w x = IfSome (fault_of x) (λ fault. (after : List Held → Walked) → w after ≡ Broken fault)

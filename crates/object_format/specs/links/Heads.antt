@@ -1,5 +1,5 @@
 -- What stands before the code, as the code holds it.
-use Rattle.object_format.specs.Reading as r
+use Rattle.object_format.specs.ObjectDecoder as r
 use Rattle.object_format.specs.declared.reading.Head.{Head}
 
 abbrev pub head_of : Head → r.Head

@@ -1,7 +1,7 @@
 -- Constants as they are built: a register gets some number whose low bits are those that are wanted.
 use Rattle.std.specs.Prelude.{◌≡◌, ℕ, ◌%◌, ◌^◌, ◌<◌, List}
 use Rattle.rv64_isa.specs.declared.instr.Instr.{Instr}
-use Rattle.operator_code.specs.Straight.{IsConstant}
+use Rattle.operator_code.specs.StraightLineCode.{IsConstant}
 
 pub record IsConstantOfBits (register bits number : ℕ) (code : List Instr) : Type 0 where
   pub value : ℕ

@@ -5,7 +5,7 @@ use Rattle.rv64_isa.specs.declared.instr.Operation.TheVariants.{Add, Addw, Sub, 
 use Rattle.rv64_isa.specs.Rows.{read}
 use Rattle.rv64_isa.specs.Arithmetic.{result_of}
 use Rattle.operator_code.specs.declared.immediates.ImmediateForm.{ImmediateForm}
-use Rattle.operator_code.specs.Computing.{Computes}
+use Rattle.operator_code.specs.ComputingCode.{Computes}
 use Rattle.operator_code.specs.Constants.{instruction_in, is_immediate}
 
 -- rd gets what the operation gives for rs and the constant

@@ -5,8 +5,8 @@ use Rattle.flow_graph.specs.Nodes.{Graph}
 use Rattle.flow_graph.specs.Liveness.{Touches}
 use Rattle.reg_colour.specs.declared.intervals.Interval.{Interval}
 
-abbrev pub IsUntouched : Graph → Part → (local : ℕ) → Type 0
-IsUntouched g part local = (node : ℕ) → ¬ (Touches g part local node)
+abbrev pub IsUnassigned : Graph → Part → (local : ℕ) → Type 0
+IsUnassigned g part local = (node : ℕ) → ¬ (Touches g part local node)
 
 pub record IsFirstTouched (g : Graph) (part : Part) (local node : ℕ) : Type 0 where
   pub touches : Touches g part local node
@@ -23,9 +23,9 @@ pub record IsInterval (g : Graph) (part : Part) (local : ℕ) (interval : Interv
   pub is_last : IsLastTouched g part local last
   pub ends : interval.end ≡ suc last
 
--- none where no node touches the local
+-- the interval of a local; none where no node touches it
 abbrev pub IsIntervalOf : Graph → Part → (local : ℕ) → Option Interval → Type 0
-IsIntervalOf g part local interval = MatchOption interval (IsUntouched g part local) (IsInterval g part local)
+IsIntervalOf g part local interval = MatchOption interval (IsUnassigned g part local) (IsInterval g part local)
 
 abbrev pub Intervals : Type 0
 Intervals = List (Option Interval)
@@ -38,24 +38,24 @@ pub record AreIntervals (g : Graph) (part : Part) (intervals : Intervals) : Type
 abbrev pub IntervalAt : Intervals → (local : ℕ) → Interval → Type 0
 IntervalAt intervals local interval = slice_get intervals local ≡ Some (Some interval)
 
--- which holds the node
+-- the local has an interval that holds the node
 pub record Holds (intervals : Intervals) (node local : ℕ) : Type 0 where
   pub interval : Interval
   pub at : IntervalAt intervals local interval
   pub from_first : interval.first ≤ node
   pub below_end : node < interval.end
 
--- the same of an interval, if there is one
-abbrev pub IsIn : Option Interval → (node : ℕ) → Type 0
-IsIn None node = ⊥
-IsIn (Some interval) node = (interval.first ≤ node) × (node < interval.end)
+-- the interval, if there is one, holds the node
+abbrev pub IsInInterval : Option Interval → (node : ℕ) → Type 0
+IsInInterval None node = ⊥
+IsInInterval (Some interval) node = (interval.first ≤ node) × (node < interval.end)
 
 -- the interval begins at the node and ends there
 abbrev pub IsBegun : Option Interval → (node : ℕ) → Option ℕ → Type 0
 IsBegun interval node None = (own : Interval) → interval ≡ Some own → ¬ (own.first ≡ node)
 IsBegun interval node (Some end) = interval ≡ Some (record { first = node; end = end })
 
--- so many intervals hold the node
+-- how many intervals hold the node
 pub record AreHolding (intervals : Intervals) (node wanted : ℕ) : Type 0 where
   pub locals : List ℕ
   pub each : (local : ℕ) → Contains locals local ↔ Holds intervals node local

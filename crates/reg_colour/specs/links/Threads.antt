@@ -33,12 +33,12 @@ pub record AreColoured (g : Graph) (threads : ℕ) (given : Colouring) : Type 0 
   pub count : length given ≡ threads
   pub each : (thread : ℕ) (part : Part) (own : List ℕ) → slice_get g.threads thread ≡ Some part → slice_get given thread ≡ Some own → IsColoured g part own
 
--- none of them has a crowded node before this one
+-- none of the first threads has a crowded node before this one
 abbrev pub HaveRoomBefore : Graph → (threads node : ℕ) → Type 0
 HaveRoomBefore g threads node = (thread : ℕ) (other : Part) (earlier fewer : ℕ) → thread < threads → slice_get g.threads thread ≡ Some other →
     earlier < node → AreSpanning g other earlier fewer → fewer ≤ LOCAL_REGISTERS
 
--- it is one of them and at the first node
+-- the crowd is one of these threads' and at the first crowded node
 pub record IsLeastCrowd (g : Graph) (threads : ℕ) (crowd : Crowd) : Type 0 where
   pub part : Part
   pub own : Contains g.threads part
@@ -51,7 +51,7 @@ abbrev pub ColouredTo : Graph → (threads : ℕ) → Colouring → Option Crowd
 ColouredTo g threads given None = AreColoured g threads given
 ColouredTo g threads given (Some crowd) = IsLeastCrowd g threads crowd
 
--- the one of them at the earlier node
+-- of two crowds the one at the earlier node
 abbrev pub IsEarlier : Option Crowd → Crowd → Crowd → Type 0
 IsEarlier None crowd x = x ≡ crowd
 IsEarlier (Some found) crowd x = ((x ≡ found) × (found.node ≤ crowd.node)) ⊎ ((x ≡ crowd) × (crowd.node < found.node))

@@ -1,4 +1,4 @@
--- What the types of `report` stand for.
+-- What the types of `report` represent.
 use Rattle.std.specs.Prelude.{map}
 use Rattle.run_scripts.specs.Reports as r
 use Rattle.run_scripts.specs.declared.report.Variable.{Variable}
@@ -7,5 +7,5 @@ use Rattle.run_scripts.specs.declared.report.Reported.{Reported}
 abbrev pub variable_of : Variable → r.Variable
 variable_of x = record { name = x.name.items; elements = x.elements.items }
 
-abbrev pub state_of : Reported → r.State
+abbrev pub state_of : Reported → r.ReportedState
 state_of x = record { unsettled = x.unsettled.items; variables = map variable_of x.variables.items; ended = x.ended.items; schedule = x.schedule.items }

@@ -1,4 +1,4 @@
--- What the types of `script` stand for.
+-- What the types of `script` represent.
 use Rattle.std.specs.Prelude.{◌≡◌, ℕ, List, ◌++◌, Option, Some, None, Result, Ok, Err}
 use Rattle.run_scripts.specs.Scripts as s
 use Rattle.run_scripts.specs.declared.script.Command.{Command}
@@ -30,9 +30,9 @@ abbrev pub refused_fault : ScriptError → Option s.Fault
 refused_fault (e.Refused fault) = Some (fault_of fault)
 refused_fault e.Memory = None
 
--- the line ends behind its last number
+-- the line ends after its last number
 abbrev pub ending : (make : ℕ → Command) → (number place : ℕ) → List ℕ → s.LineRead
-ending make n place behind = s.end_then place behind (make n)
+ending make n place after = s.end_then place after (make n)
 
 -- the result of a line is what it says, or its fault
 abbrev pub IsLineRead : s.LineRead → Result Command ScriptFault → Type 0
@@ -40,6 +40,6 @@ IsLineRead read (Ok command) = read ≡ s.Says command
 IsLineRead read (Err fault) = read ≡ s.Fails (fault_of fault)
 
 -- lines before what is read
-abbrev pub behind_lines : List s.Line → s.Read → s.Read
-behind_lines done (s.Lines lines) = s.Lines (done ++ lines)
-behind_lines done (s.Refused fault) = s.Refused fault
+abbrev pub after_lines : List s.Line → s.Read → s.Read
+after_lines done (s.Lines lines) = s.Lines (done ++ lines)
+after_lines done (s.Refused fault) = s.Refused fault

@@ -1,5 +1,5 @@
--- What the fields of a journal stand for.
-use Rattle.std.specs.Prelude.{◌≡◌, ◌+◌, ◌≤◌, ℕ, List, [], ◌∷◌, ◌++◌, flat_map, length, replicate}
+-- What the fields of a journal represent.
+use Rattle.std.specs.Prelude.{◌≡◌, ◌+◌, ◌<◌, ◌≤◌, ◌^◌, ℕ, List, [], ◌∷◌, ◌++◌, flat_map, length, replicate}
 use Rattle.std.specs.Vec.{vec_capacity}
 use Rattle.ido_base.specs.declared.event.Event.{Event}
 use Rattle.ido_base.specs.declared.event.Event.TheVariants as events
@@ -25,8 +25,8 @@ recorded journal = record {
 }
 
 -- as many are counted as there are, and no fewer than entries
-pub record JournalStands (journal : Inside) : Type 0 where
+pub record JournalInv (journal : Inside) : Type 0 where
   pub closed : journal.closed ≡ length (flat_map events_in journal.entries.items)
   pub entries : length journal.entries.items ≤ journal.closed
-  pub few : vec_capacity journal.entries ≤ 9223372036854775807
+  pub few : vec_capacity journal.entries < 2 ^ 63
   pub within : journal.closed + journal.steps ≤ vec_capacity journal.entries

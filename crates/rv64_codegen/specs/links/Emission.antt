@@ -5,7 +5,7 @@ use Rattle.ido_base.specs.declared.place.Place.{Place}
 use Rattle.ido_base.specs.declared.limits.TheConstants.{MOST_CODE_WORDS}
 use Rattle.rv64_isa.specs.declared.object.CodeItem.{CodeItem}
 use Rattle.rv64_link.specs.LabelledCode.{most_words_of}
-use Rattle.log_layout.specs.declared.roles.TheConstants.{LOCALS}
+use Rattle.memory_layout.specs.declared.roles.TheConstants.{LOCALS}
 use Rattle.flow_graph.specs.declared.graph.Part.{Part}
 use Rattle.flow_graph.specs.Nodes.{Node, Graph}
 use Rattle.flow_graph.specs.Liveness.{NodeAt}
@@ -14,9 +14,9 @@ use Rattle.rv64_codegen.specs.declared.error.EmitError.{EmitError}
 use Rattle.rv64_codegen.specs.declared.error.EmitError.TheVariants.{Temporaries, Memory}
 use Rattle.rv64_codegen.specs.declared.thread.ThreadPlan as opened
 use Rattle.rv64_codegen.specs.Evaluations.{NeedFew}
-use Rattle.rv64_codegen.specs.Emitting.{IsEmitted}
-use Rattle.rv64_codegen.specs.Refusing.{action_exprs, IsFirstOf}
-use Rattle.rv64_codegen.specs.links.Live.{AreLists}
+use Rattle.rv64_codegen.specs.ThreadPieces.{IsEmitted}
+use Rattle.rv64_codegen.specs.RefusedGraphs.{action_exprs, IsFirstOf}
+use Rattle.rv64_codegen.specs.links.LiveRegisters.{AreLists}
 use Rattle.rv64_codegen.specs.links.Threads.{plan_in, thread_of}
 
 -- the expressions of the nodes from one up to another need few enough temporaries
@@ -56,7 +56,7 @@ pub record IsEmittedOf (p : Plan) (number : ℕ) (items : List CodeItem) : Type 
 abbrev pub IsRefusedOf : Plan → (number : ℕ) → EmitError → Type 0
 IsRefusedOf p number error = (part : Part) → slice_get p.graph.threads number ≡ Some part → IsRefusedFrom p.graph part.first part.end error
 
--- its locals have these registers, and these are live at its nodes
+-- the thread's locals have these registers, and these are live at its nodes
 abbrev pub AreRegistersOf : Plan → (number : ℕ) → List ℕ → Type 0
 AreRegistersOf p number registers = (colours : List ℕ) → slice_get p.colours number ≡ Some colours →
     registers ≡ map (λ (colour : ℕ). slice_index LOCALS colour) colours
@@ -65,7 +65,7 @@ abbrev pub AreListsOf : Plan → (number : ℕ) → List ℕ → List (Vec ℕ G
 AreListsOf p number registers lists = (part : Part) → slice_get p.graph.threads number ≡ Some part →
     AreLists p.graph registers p.live part.first part.end lists
 
--- so many threads
+-- the first `count` threads are emitted
 pub record AreEmittedTo (p : Plan) (count : ℕ) (threads : List (Vec CodeItem Global)) : Type 0 where
   pub long : length threads ≡ count
   pub each : (number : ℕ) (items : Vec CodeItem Global) → slice_get threads number ≡ Some items → IsEmittedOf p number items.items

@@ -6,15 +6,15 @@ use Rattle.c_tree.specs.Temporaries.{assign_exprs}
 use Rattle.c_tree.specs.Values.{value}
 use Rattle.rv64_isa.specs.declared.instr.Instr.{Instr}
 use Rattle.operator_code.specs.declared.branches.Test.{Test}
-use Rattle.operator_code.specs.Computing.{passes}
-use Rattle.code_runs.specs.Running.{Surroundings, Moment}
-use Rattle.expr_code.specs.Evaluating.{Homes, Source, IsAt, Ends, fences_among}
+use Rattle.operator_code.specs.ComputingCode.{passes}
+use Rattle.code_runs.specs.ComputingRuns.{Environment, LocalConfig}
+use Rattle.expr_code.specs.EvaluationCode.{Homes, Source, HasCodeThere, EvaluationEnds, fences_among}
 use Rattle.rv64_codegen.specs.Evaluations.{NeedFew, MayReach, MayEvaluate, may_write, Has, target_nodes}
 
 -- the code does what is assigned
 pub record IsTargetCode (h : Homes) (target : e.Lvalue) (t : e.Expr) (code : List Instr) : Type 0 where
-  pub ends : (s : Source) (r : Surroundings) (m : Moment) → IsAt r code m → MayReach h s r m.registers target → MayEvaluate h s r m.registers t →
-      Ends r code (may_write h target) (λ y. Has h s y target (value s.locals s.numbers t)) m
+  pub ends : (s : Source) (r : Environment) (m : LocalConfig) → HasCodeThere r code m → MayReach h s r m.registers target → MayEvaluate h s r m.registers t →
+      EvaluationEnds r code (may_write h target) (λ y. Has h s y target (value s.locals s.numbers t)) m
 
 pub record IsSelected (h : Homes) (target : e.Lvalue) (t : e.Placed) (code : List Instr) : Type 0 where
   pub few : NeedFew (assign_exprs target t)

@@ -7,23 +7,23 @@ use Rattle.c_tree.specs.WellFormed.{shape_of}
 use Rattle.ido_ints.specs.declared.kinds.Kind.{Kind}
 use Rattle.rv64_isa.specs.declared.object.CodeItem.{CodeItem}
 use Rattle.rv64_link.specs.LabelledCode.{most_words_of}
-use Rattle.expr_code.specs.Evaluating.{homes_of}
+use Rattle.expr_code.specs.EvaluationCode.{homes_of}
 use Rattle.flow_graph.specs.declared.graph.Part.{Part}
 use Rattle.flow_graph.specs.Nodes.{Action, Eval, Store, Test, Lock, Unlock, End, Node}
 use Rattle.flow_graph.specs.Liveness.{NodeAt}
-use Rattle.flow_graph.specs.Cleaning.{IsCleanedLater}
-use Rattle.flow_graph.specs.Cutting.{IsChosen}
+use Rattle.flow_graph.specs.OmittedCleans.{IsCleanedLater}
+use Rattle.flow_graph.specs.IdempotentCuts.{IsChosen}
 use Rattle.node_code.specs.declared.kept.Kept as kept
-use Rattle.node_code.specs.Pieces.{IsBoundary}
+use Rattle.node_code.specs.Pieces.{IsBoundaryPiece}
 use Rattle.thread_code.specs.Plans.{Plan, Thread, IsPlan, IsThread, IsNodeOf, homes, mask_before}
 use Rattle.thread_code.specs.Programs.{action_nodes}
 use Rattle.rv64_codegen.specs.declared.error.EmitError.{EmitError}
 use Rattle.rv64_codegen.specs.declared.thread.ThreadPlan as opened
 use Rattle.rv64_codegen.specs.Evaluations.{NeedFew}
-use Rattle.rv64_codegen.specs.Emitting.{Choices, IsDoing, IsNodePiece, GoesTo, boundary_before}
+use Rattle.rv64_codegen.specs.ThreadPieces.{Choices, IsDoing, IsNodePiece, GoesTo, boundary_before}
 use Rattle.rv64_codegen.specs.Plans.{plan_of}
-use Rattle.rv64_codegen.specs.Refusing.{action_exprs, IsRefusedBy}
-use Rattle.rv64_codegen.specs.links.Live.{AreLists}
+use Rattle.rv64_codegen.specs.RefusedGraphs.{action_exprs, IsRefusedBy}
+use Rattle.rv64_codegen.specs.links.LiveRegisters.{AreLists}
 
 -- ---- A thread
 
@@ -65,8 +65,8 @@ pub record IsOwn (x : opened.ThreadPlan) (node : ℕ) : Type 0 where
   pub open_is : IsOpen x
   pub own : IsNodeOf (thread_of x) node
 
--- it does this
-pub record IsAt (x : opened.ThreadPlan) (node : ℕ) (action : Action) : Type 0 where
+-- the node does this action
+pub record HasAction (x : opened.ThreadPlan) (node : ℕ) (action : Action) : Type 0 where
   pub own : IsOwn x node
   pub is : Node
   pub at : NodeAt (plan_in x).graph node is
@@ -91,12 +91,12 @@ gives End = false
 -- the boundary before the node stands there by choice, or there is none
 pub data Guards (x : opened.ThreadPlan) (node : ℕ) (piece : List CodeItem) : Type 0 where
   stands : IsChosen (plan_in x).graph (plan_in x).boundaries node →
-      IsBoundary (boundary_before (plan_in x) (thread_of x) (choices_of x) node 0) piece → Guards x node piece
+      IsBoundaryPiece (boundary_before (plan_in x) (thread_of x) (choices_of x) node 0) piece → Guards x node piece
   absent : ¬ (IsChosen (plan_in x).graph (plan_in x).boundaries node) → piece ≡ [] → Guards x node piece
 
 -- the next node follows, or a jump leads to it
-abbrev pub Goes : opened.ThreadPlan → (node next : ℕ) → List CodeItem → Type 0
-Goes x node next piece = GoesTo (plan_in x) (thread_of x) (choices_of x) node next piece
+abbrev pub GoesToNode : opened.ThreadPlan → (node next : ℕ) → List CodeItem → Type 0
+GoesToNode x node next piece = GoesTo (plan_in x) (thread_of x) (choices_of x) node next piece
 
 -- words that what a node does may take
 abbrev pub most_doing : Action → ℕ
@@ -108,7 +108,7 @@ most_doing (Unlock mutex next) = 59
 most_doing End = 2
 
 -- what the node does, and how it goes on
-pub record Does (x : opened.ThreadPlan) (node : ℕ) (action : Action) (piece : List CodeItem) : Type 0 where
+pub record DoesAction (x : opened.ThreadPlan) (node : ℕ) (action : Action) (piece : List CodeItem) : Type 0 where
   pub does : List CodeItem
   pub goes : List CodeItem
   pub split : piece ≡ does ++ goes
@@ -118,7 +118,7 @@ pub record Does (x : opened.ThreadPlan) (node : ℕ) (action : Action) (piece : 
 -- ---- At a node
 
 abbrev pub DoesAt : opened.ThreadPlan → (node : ℕ) → List CodeItem → Type 0
-DoesAt x node piece = (is : Node) → NodeAt (plan_in x).graph node is → Does x node is.action piece
+DoesAt x node piece = (is : Node) → NodeAt (plan_in x).graph node is → DoesAction x node is.action piece
 
 abbrev pub IsPiece : opened.ThreadPlan → (node : ℕ) → List CodeItem → Type 0
 IsPiece x node piece = (is : Node) → NodeAt (plan_in x).graph node is → IsNodePiece (plan_in x) (thread_of x) (choices_of x) node is piece

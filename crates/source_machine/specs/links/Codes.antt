@@ -18,10 +18,10 @@ Lefts = List (List f.Statement)
 abbrev pub At : Lefts → (position : ℕ) → List f.Statement → Type 0
 At lefts position left = slice_get lefts position ≡ Some left
 
--- what an `if` leaves behind the arms whose conditions don't hold
-abbrev pub behind : Place → f.Arms → (otherwise : f.Statements) → List f.Statement
-behind place f.no_arm otherwise = opened_all otherwise
-behind place (f.arm_and condition body rest) otherwise = f.If place (f.arm_and condition body rest) otherwise ∷ []
+-- what an `if` leaves after the arms whose conditions don't hold
+abbrev pub else_part : Place → f.Arms → (otherwise : f.Statements) → List f.Statement
+else_part place f.no_arm otherwise = opened_all otherwise
+else_part place (f.arm_and condition body rest) otherwise = f.If place (f.arm_and condition body rest) otherwise ∷ []
 
 -- ---- What is left at a node
 
@@ -52,24 +52,24 @@ pub record IsStuck (left : List f.Statement) : Type 0 where
 -- the test of an arm, or that of a loop
 pub data Tests (lefts : Lefts) (condition : Placed) (holds fails : ℕ) (left : List f.Statement) : Type 0 where
   chooses : (place : Place) (body : f.Statements) (arms : f.Arms) (otherwise : f.Statements) (rest : List f.Statement) →
-      At lefts holds (opened_all body ++ rest) → At lefts fails (behind place arms otherwise ++ rest) →
+      At lefts holds (opened_all body ++ rest) → At lefts fails (else_part place arms otherwise ++ rest) →
       left ≡ f.If place (f.arm_and condition body arms) otherwise ∷ rest → Tests lefts condition holds fails left
   repeats : (place : Place) (body : f.Statements) (rest : List f.Statement) →
       At lefts holds (opened_all body ++ (f.While place condition body ∷ rest)) → At lefts fails rest →
       left ≡ f.While place condition body ∷ rest → Tests lefts condition holds fails left
 
-abbrev pub Does : Lefts → Node → List f.Statement → Type 0
-Does lefts node.End left = left ≡ []
-Does lefts (node.Assign target value next) left = Assigns lefts (lvalue_of target.now) (placed_of value.now) next left
-Does lefts (node.Test condition holds fails) left = Tests lefts (placed_of condition.now) holds fails left
-Does lefts (node.Lock mutex next) left = Locks lefts mutex next left
-Does lefts (node.Unlock mutex next) left = Unlocks lefts mutex next left
-Does lefts node.Never left = IsStuck left
+abbrev pub DoesNode : Lefts → Node → List f.Statement → Type 0
+DoesNode lefts node.End left = left ≡ []
+DoesNode lefts (node.Assign target value next) left = Assigns lefts (lvalue_of target.now) (placed_of value.now) next left
+DoesNode lefts (node.Test condition holds fails) left = Tests lefts (placed_of condition.now) holds fails left
+DoesNode lefts (node.Lock mutex next) left = Locks lefts mutex next left
+DoesNode lefts (node.Unlock mutex next) left = Unlocks lefts mutex next left
+DoesNode lefts node.Never left = IsStuck left
 
 -- at each position that is left which its node does
 pub record IsCode (nodes : List Node) (lefts : Lefts) : Type 0 where
   pub count : length lefts ≡ length nodes
-  pub each : (position : ℕ) (node : Node) (left : List f.Statement) → slice_get nodes position ≡ Some node → At lefts position left → Does lefts node left
+  pub each : (position : ℕ) (node : Node) (left : List f.Statement) → slice_get nodes position ≡ Some node → At lefts position left → DoesNode lefts node left
 
 -- the code is that of a body
 pub record IsCodeOf (code : Code) (body : f.Statements) : Type 0 where
@@ -84,7 +84,7 @@ pub record IsPushed (before after : List Node) (node : Node) (position : ℕ) : 
   pub at : position ≡ length before
   pub nodes : after ≡ before ++ node ∷ []
 
--- nodes behind those before, and that is left at the entry
+-- nodes after those before, and that is left at the entry
 pub record Extends (before after : List Node) (lefts : Lefts) (entry : ℕ) (left : List f.Statement) : Type 0 where
   pub all : Lefts
   pub grown : (position : ℕ) (there : List f.Statement) → At lefts position there → At all position there
@@ -92,7 +92,7 @@ pub record Extends (before after : List Node) (lefts : Lefts) (entry : ℕ) (lef
   pub longer : length before ≤ length after
   pub kept : (position : ℕ) → position < length before → slice_get after position ≡ slice_get before position
   pub each : (position : ℕ) (node : Node) (there : List f.Statement) → length before ≤ position → slice_get after position ≡ Some node →
-      At all position there → Does all node there
+      At all position there → DoesNode all node there
   pub entered : At all entry left
 
 -- code that does this, and then what is left at the next position
@@ -103,7 +103,7 @@ pub record Emits (before after : List Node) (does : List f.Statement) (next entr
 pub record EmitsArms (before after : List Node) (arms : f.Arms) (last next entry : ℕ) : Type 0 where
   pub each : (lefts : Lefts) (place : Place) (otherwise : f.Statements) (rest : List f.Statement) → length lefts ≡ length before → At lefts next rest →
       At lefts last (opened_all otherwise ++ rest) →
-      Extends before after lefts entry (behind place arms otherwise ++ rest)
+      Extends before after lefts entry (else_part place arms otherwise ++ rest)
 
 pub record Arm : Type 0 where
   pub condition : Placed
@@ -112,10 +112,10 @@ pub record Arm : Type 0 where
 -- an arm, where other arms or the last part stand at the position for a condition that fails
 pub record EmitsTest (before after : List Node) (arm : Arm) (fails next entry : ℕ) : Type 0 where
   pub each : (lefts : Lefts) (place : Place) (arms : f.Arms) (otherwise : f.Statements) (rest : List f.Statement) → length lefts ≡ length before →
-      At lefts next rest → At lefts fails (behind place arms otherwise ++ rest) →
+      At lefts next rest → At lefts fails (else_part place arms otherwise ++ rest) →
       Extends before after lefts entry (f.If place (f.arm_and arm.condition arm.body arms) otherwise ∷ rest)
 
--- the same of an arm as the code has it
+-- an arm as the code has it, where other arms or the last part stand at the position for a condition that fails
 abbrev pub EmitsArm : (before after : List Node) → code_arm.Arm → (fails next entry : ℕ) → Type 0
 EmitsArm before after arm fails next entry =
     EmitsTest before after (record { condition = placed_of arm.condition; body = statements_of arm.body.items }) fails next entry

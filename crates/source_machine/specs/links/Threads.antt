@@ -1,4 +1,4 @@
--- What a thread in the code stands for, and what a step of it is.
+-- What a thread in the code represents, and what a step of it is.
 use Rattle.std.specs.Prelude.{◌≡◌, ℕ, List, slice_set, Option, Some, None, ℤ}
 use Rattle.std.specs.Option.{option_map}
 use Rattle.c_tree.specs.Flats as f
@@ -16,7 +16,7 @@ abbrev pub model_of : ThreadState → (left : List f.Statement) → m.Thread
 model_of thread left = record { left = left; locals = thread.locals.items; pending = option_map pending_of thread.pending; ended = thread.ended }
 
 -- by the thread's code these statements are left where it stands
-pub record IsLeft (thread : ThreadState) (left : List f.Statement) : Type 0 where
+pub record HasStatementsLeft (thread : ThreadState) (left : List f.Statement) : Type 0 where
   pub lefts : Lefts
   pub nodes : IsCode thread.nodes.items lefts
   pub here : At lefts thread.at left
@@ -24,7 +24,7 @@ pub record IsLeft (thread : ThreadState) (left : List f.Statement) : Type 0 wher
 -- the thread is at its start
 pub record IsStarted (thread : ThreadState) (source : f.Thread) : Type 0 where
   pub left : List f.Statement
-  pub code : IsLeft thread left
+  pub code : HasStatementsLeft thread left
   pub is : model_of thread left ≡ m.thread_start source
 
 abbrev pub state_in : (variables : List (List ℤ)) → (holders : List (Option ℕ)) → List m.Thread → m.State
@@ -52,7 +52,7 @@ state_with h threads = state_in h.variables h.holders threads
 
 pub record IsMade (number : ℕ) (before after : Hand) (answer : Stepped) (threads : List m.Thread) (left : List f.Statement) : Type 0 where
   pub left_after : List f.Statement
-  pub code : IsLeft after.thread left_after
+  pub code : HasStatementsLeft after.thread left_after
   pub state : reached (m.thread_step (state_with before threads) number (model_of before.thread left))
       (m.with_thread (state_with before threads) number (model_of before.thread left)) ≡ state_with after
       (slice_set threads number (model_of after.thread left_after))
@@ -61,4 +61,4 @@ pub record IsMade (number : ℕ) (before after : Hand) (answer : Stepped) (threa
 -- the step is made so, whatever is left to do by the thread's code
 abbrev pub StepIsMade : (number : ℕ) → (before after : Hand) → Stepped → Type 0
 StepIsMade number before after answer =
-    (left : List f.Statement) (threads : List m.Thread) → IsLeft before.thread left → IsMade number before after answer threads left
+    (left : List f.Statement) (threads : List m.Thread) → HasStatementsLeft before.thread left → IsMade number before after answer threads left

@@ -7,10 +7,10 @@ use Rattle.std.proofs.lemmas.Result.{IfOk-weaker}
 use Rattle.ido_base.specs.Layout.{log_of}
 use Rattle.rv64_isa.specs.declared.instr.Instr.{Instr}
 use Rattle.rv64_isa.specs.Signed.{twos_complement}
-use Rattle.operator_code.specs.Straight.{IsConstant}
+use Rattle.operator_code.specs.StraightLineCode.{IsConstant}
 use Rattle.boundary_code.specs.Boundaries.{Boundary, HasEffects, HasOffset, KeepsRegisters}
-use Rattle.boundary_code.specs.links.Listing.{boundary_list, last_list}
-use Rattle.boundary_code.proofs.Whole.{Pieces, boundary-effects, boundary-offset, boundary-others, last-effects, last-offset, last-others}
+use Rattle.boundary_code.specs.links.InstructionLists.{boundary_list, last_list}
+use Rattle.boundary_code.proofs.WholeBoundaries.{Pieces, boundary-effects, boundary-offset, boundary-others, last-effects, last-offset, last-others}
 use Rattle.boundary_code.proofs.Lengths.{boundary_short, last_short}
 use Rattle.boundary_code.proofs.code.boundary.Goals as goal
 

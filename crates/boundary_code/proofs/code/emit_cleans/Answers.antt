@@ -3,7 +3,7 @@ use Rattle.std.proofs.Common.{drop, drop-cons, filter, length, lit<, ap, sym, â—
 use Rattle.std.specs.List.{list_any}
 use Rattle.std.proofs.lemmas.List.{append-nil}
 use Rattle.rv64_isa.specs.declared.instr.Instr.{Instr}
-use Rattle.boundary_code.specs.links.Listing.{clean_lines, clean_where}
+use Rattle.boundary_code.specs.links.InstructionLists.{clean_lines, clean_where}
 use Rattle.boundary_code.proofs.code.emit_cleans.Goals as goal
 
 -- each of a bank's lines

@@ -1,6 +1,6 @@
 use Rattle.std.proofs.Common.{◌≡◌, ◌/◌, ◌==◌, ◌++◌, ◌∷◌, drop, filter}
 use Rattle.std.specs.List.{list_any}
-use Rattle.boundary_code.specs.links.Listing.{clean_lines}
+use Rattle.boundary_code.specs.links.InstructionLists.{clean_lines}
 use Rattle.boundary_code.proofs.code.emit_cleans.Given as goal
 
 abbrev pub invariant-loop-line : goal.invariant-loop-line

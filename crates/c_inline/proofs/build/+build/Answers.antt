@@ -7,12 +7,13 @@ use Rattle.c_tree.specs.Programs.{function_of}
 use Rattle.c_tree.specs.declared.program.Statement.{Statement}
 use Rattle.c_tree.specs.declared.program.Arm.{Arm}
 use Rattle.c_tree.specs.declared.flat.Statement as flat
-use Rattle.c_tree.proofs.ProgramRows.{of_while, of_do, of_if}
+use Rattle.c_tree.proofs.Public.{program_rows_of_while as of_while, program_rows_of_do as of_do, program_rows_of_if as of_if}
 use Rattle.c_inline.specs.declared.build.Begun.{Begun}
 use Rattle.c_inline.specs.links.Weights as v
-use Rattle.c_inline.specs.links.Making.{whole, after, behind_of, begun_if_any, all_made, and_any, begun_work, all_work, function_work, statements_work}
-use Rattle.c_inline.proofs.Making.{and_none, made_alone, one_made, while_made, do_made, if_made, assign_made, statement_step, statement_left}
-use Rattle.c_inline.proofs.Making.{statements_all, arm_made, arm_left, arms_all, step_made, step_work, done_made, done_work, all_work_more}
+use Rattle.c_inline.specs.links.InlinedBodies.{whole, after, following_of, begun_if_any, all_made, and_any}
+use Rattle.c_inline.specs.links.InlinedBodies.{begun_work, all_work, function_work, statements_work}
+use Rattle.c_inline.proofs.InlinedStatements.{and_none, made_alone, one_made, while_made, do_made, if_made, assign_made, statement_step, statement_left}
+use Rattle.c_inline.proofs.InlinedStatements.{statements_all, arm_made, arm_left, arms_all, step_made, step_work, done_made, done_work, all_work_more}
 use Rattle.c_inline.proofs.build.+build.Goals as goal
 
 pub make_arms-loop-arm-preserved : goal.make_arms-loop-arm-preserved
@@ -215,21 +216,21 @@ make_step-returns-in_ok-push-in-Some-clause-work t c =
 pub make_step-returns-in-None-clause-made : goal.make_step-returns-in-None-clause-made
 make_step-returns-in-None-clause-made t c =
     let old = f.statements_of c.args.made.now.items in
-    on_ok_weaker c.push_behind.result
-    (λ (behind : f.statements_of c.push_behind.new.made.items ≡ i.statements_and old (behind_of c.next.new.begun.behind)).
-    done_made c.args.bodies.functions.now c.args.waiting.now.items c.args.begun c.args.kinds.now.items old (f.statements_of c.push_behind.new.made.items)
+    on_ok_weaker c.push_following.result
+    (λ (following : f.statements_of c.push_following.new.made.items ≡ i.statements_and old (following_of c.next.new.begun.following)).
+    done_made c.args.bodies.functions.now c.args.waiting.now.items c.args.begun c.args.kinds.now.items old (f.statements_of c.push_following.new.made.items)
     c.in-None.ensures.0
-    (behind ∙ ap (λ (b : Begun). i.statements_and old (behind_of b.behind)) c.in-None.ensures.1))
-    c.push_behind.ensures
+    (following ∙ ap (λ (b : Begun). i.statements_and old (following_of b.following)) c.in-None.ensures.1))
+    c.push_following.ensures
 
 pub make_step-returns-in-None-clause-work : goal.make_step-returns-in-None-clause-work
 make_step-returns-in-None-clause-work t c =
     let old = f.statements_of c.args.made.now.items in
-    on_ok_weaker c.push_behind.result
-    (λ (behind : f.statements_of c.push_behind.new.made.items ≡ i.statements_and old (behind_of c.next.new.begun.behind)).
-    done_work c.args.bodies.functions.now c.args.waiting.now.items c.args.begun c.args.kinds.now.items old (f.statements_of c.push_behind.new.made.items)
+    on_ok_weaker c.push_following.result
+    (λ (following : f.statements_of c.push_following.new.made.items ≡ i.statements_and old (following_of c.next.new.begun.following)).
+    done_work c.args.bodies.functions.now c.args.waiting.now.items c.args.begun c.args.kinds.now.items old (f.statements_of c.push_following.new.made.items)
     c.in-None.ensures.0)
-    c.push_behind.ensures
+    c.push_following.ensures
 
 pub make_statement-returns-in-None : goal.make_statement-returns-in-None
 make_statement-returns-in-None t c =

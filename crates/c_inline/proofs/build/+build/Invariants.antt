@@ -3,8 +3,8 @@ use Rattle.c_tree.specs.Programs.{function_of, statement_of, statements_of, arms
 use Rattle.c_tree.specs.Flats as f
 use Rattle.c_tree.specs.Inlining as i
 use Rattle.c_inline.specs.links.Weights as v
-use Rattle.c_inline.specs.links.Making.{whole, after, begun_made, all_made, begun_work, all_work, function_work, statements_work}
-use Rattle.c_inline.proofs.Making.{after_arms}
+use Rattle.c_inline.specs.links.InlinedBodies.{whole, after, begun_made, all_made, begun_work, all_work, function_work, statements_work}
+use Rattle.c_inline.proofs.InlinedStatements.{after_arms}
 use Rattle.c_inline.proofs.build.+build.Given as goal
 
 abbrev pub decreases-make_arms : goal.decreases-make_arms

@@ -8,8 +8,8 @@ use Rattle.c_tree.specs.Exprs.{placed_of, lvalue_of}
 use Rattle.c_tree.specs.Programs.{function_of}
 use Rattle.c_tree.specs.Flats as f
 use Rattle.c_tree.specs.Inlining as i
-use Rattle.c_inline.specs.links.Making.{after}
-use Rattle.c_inline.proofs.Making.{call_none, call_past, call_begun, call_work}
+use Rattle.c_inline.specs.links.InlinedBodies.{after}
+use Rattle.c_inline.proofs.InlinedStatements.{call_none, call_past, call_begun, call_work}
 use Rattle.c_inline.proofs.build.begin.Goals as goal
 
 pub returns-then-call_weight-eq0-clause-made : goal.returns-then-call_weight-eq0-clause-made
@@ -34,14 +34,14 @@ returns-clause-made c =
     let h = c.in-Some.ensures.lookup in
     let exists : slice_get functions c.args.function ≡ Some called = slice_get_read functions (length functions) c.args.function called refl h.3.0 h.1 in
     call_begun functions c.args.bodies.sizes.now c.requires c.args.by c.args.function c.args.kinds.now.items c.args.place (map placed_of c.args.arguments.now)
-    (option_map lvalue_of c.args.target.now) called c.in_ok-behind.behind exists
+    (option_map lvalue_of c.args.target.now) called c.in_ok-following.following exists
     c.in_ok-first.first c.extend_from_slice.new.self.items (f.statements_of c.args.made.now.items) (f.statements_of c.pass.new.made.items)
     (c.in_ok-first.ensures ∙ ap length c.deref.ensures.value)
     (c.in_ok-extend_from_slice.ensures.items ∙ ap (λ (ks : List Kind). c.args.kinds.now.items ++ ks) c.deref-3.ensures.value)
     (λ none. c.if-call_weight-eq0.false (c.call_weight.ensures ∙ none))
     (c.in_ok-pass.ensures ∙ ap (λ (ks : List Kind).
     i.statements_and (f.statements_of c.args.made.now.items) (i.passed c.args.place c.in_ok-first.first ks arguments)) c.deref-2.ensures.value)
-    c.in_ok-behind.ensures
+    c.in_ok-following.ensures
 
 pub returns-clause-work : goal.returns-clause-work
 returns-clause-work c =
@@ -50,4 +50,4 @@ returns-clause-work c =
     let h = c.in-Some.ensures.lookup in
     let exists : slice_get functions c.args.function ≡ Some called = slice_get_read functions (length functions) c.args.function called refl h.3.0 h.1 in
     call_work functions c.args.bodies.sizes.now c.requires 0 c.args.function [] c.args.place (map placed_of c.args.arguments.now)
-    (option_map lvalue_of c.args.target.now) called c.in_ok-behind.behind exists c.in_ok-first.first
+    (option_map lvalue_of c.args.target.now) called c.in_ok-following.following exists c.in_ok-first.first

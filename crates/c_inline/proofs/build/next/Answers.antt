@@ -1,7 +1,7 @@
 use Rattle.std.proofs.Common.{◌≡◌, ◌∙◌, length, get_or, Some, refl, ap, arith}
 use Rattle.std.specs.Prelude.{slice_get}
 use Rattle.std.proofs.lemmas.Option.{slice_get_read}
-use Rattle.c_inline.proofs.Making.{taken_some, taken_none}
+use Rattle.c_inline.proofs.InlinedStatements.{taken_some, taken_none}
 use Rattle.c_inline.proofs.build.next.Goals as goal
 
 pub returns-in_err-statement : goal.returns-in_err-statement

@@ -1,6 +1,6 @@
 use Rattle.std.proofs.Common.{◌≡◌, ◌+◌, ◌∙◌, arith, sym}
 use Rattle.std.proofs.lemmas.Grind.{common_steps}
-use Rattle.c_inline.proofs.Making.{passed_step, passed_all}
+use Rattle.c_inline.proofs.InlinedStatements.{passed_step, passed_all}
 use Rattle.c_inline.proofs.build.pass.Goals as goal
 
 pub loop-index-preserved : goal.loop-index-preserved

@@ -6,7 +6,7 @@ use Rattle.c_tree.specs.Programs as p
 use Rattle.c_tree.specs.Programs.{statement_of, statements_of, arms_list_of}
 use Rattle.c_tree.specs.declared.program.Statement.{Statement}
 use Rattle.c_tree.specs.declared.program.Arm.{Arm}
-use Rattle.c_tree.proofs.ProgramRows.{of_while, of_do, of_if}
+use Rattle.c_tree.proofs.Public.{program_rows_of_while as of_while, program_rows_of_do as of_do, program_rows_of_if as of_if}
 use Rattle.c_inline.specs.links.Calls.{calls_of}
 use Rattle.c_inline.proofs.calls.+calls.Goals as goal
 

@@ -11,10 +11,10 @@ use Rattle.c_tree.specs.declared.program.Variable as variable
 use Rattle.c_tree.specs.declared.program.Function.{Function}
 use Rattle.c_tree.specs.declared.program.Thread.{Thread}
 use Rattle.c_inline.specs.links.Calls.{lists_of, function_calls, LeadsBack, IsFirstBack}
-use Rattle.c_inline.specs.links.Weighing.{IsClosed}
-use Rattle.c_inline.specs.links.Making.{AreSized}
+use Rattle.c_inline.specs.links.KnownWeights.{IsClosed}
+use Rattle.c_inline.specs.links.InlinedBodies.{AreSized}
 use Rattle.c_inline.specs.links.Faults.{fault_among}
-use Rattle.c_inline.proofs.Ends.{none_back, first_back_is, none_unknown, are_sized, fault_is, flat_is}
+use Rattle.c_inline.proofs.InliningAnswers.{none_back, first_back_is, none_unknown, are_sized, fault_is, flat_is}
 use Rattle.c_inline.proofs.inline.inline.Goals as goal
 
 pub returns-in-Some : goal.returns-in-Some

@@ -2,7 +2,7 @@ use Rattle.std.proofs.Common.{List, map, ap, arith}
 use Rattle.c_tree.specs.Programs.{function_of, thread_of, statements_of}
 use Rattle.c_tree.specs.declared.program.Statement.{Statement}
 use Rattle.c_inline.specs.links.Weights.{price, known_weight, statements_weight}
-use Rattle.c_inline.proofs.Weighed.{price_known}
+use Rattle.c_inline.proofs.InlinedWeights.{price_known}
 use Rattle.c_inline.proofs.inline.thread_price.Goals as goal
 
 pub returns : goal.returns

@@ -2,7 +2,7 @@ use Rattle.std.proofs.Common.{ℕ, ◌<◌, ◌≤◌}
 use Rattle.std.specs.Prelude.{Contains}
 use Rattle.c_tree.specs.Inlining.{Call}
 use Rattle.c_inline.specs.links.Calls.{calls_at, lists_of}
-use Rattle.c_inline.specs.links.Ranking.{rank_at}
+use Rattle.c_inline.specs.links.CallRanks.{rank_at}
 use Rattle.c_inline.proofs.rank.are_ranks.Given as goal
 
 abbrev pub invariant-loop-number : goal.invariant-loop-number

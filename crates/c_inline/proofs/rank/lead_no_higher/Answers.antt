@@ -1,7 +1,7 @@
 use Rattle.std.proofs.Common.{◌≡◌, ℕ, ◌<◌, ◌≤◌, List, Option, get_or, arith}
 use Rattle.c_inline.specs.declared.calls.Call.{Call}
 use Rattle.c_inline.specs.links.Calls.{call_of}
-use Rattle.c_inline.specs.links.Ranking.{rank_at}
+use Rattle.c_inline.specs.links.CallRanks.{rank_at}
 use Rattle.c_inline.proofs.CallLists.{all_calls, some_call}
 use Rattle.c_inline.proofs.rank.lead_no_higher.Goals as goal
 

@@ -1,5 +1,5 @@
 use Rattle.std.proofs.Common.{ℕ, ◌<◌, ◌≤◌, get_or}
-use Rattle.c_inline.specs.links.Ranking.{rank_at}
+use Rattle.c_inline.specs.links.CallRanks.{rank_at}
 use Rattle.c_inline.specs.declared.calls.Call.{Call}
 use Rattle.c_inline.proofs.rank.lead_no_higher.Given as goal
 

@@ -5,9 +5,9 @@ use Rattle.std.proofs.lemmas.Option.{slice_get_read}
 use Rattle.c_tree.specs.Inlining as i
 use Rattle.c_inline.specs.declared.calls.Call.{Call}
 use Rattle.c_inline.specs.links.Calls.{call_of, calls_of, calls_at, lists_of}
-use Rattle.c_inline.specs.links.Reaching.{IsBackAmong}
+use Rattle.c_inline.specs.links.ReachedFunctions.{IsBackAmong}
 use Rattle.c_inline.proofs.CallLists.{calls_at_of, some_call}
-use Rattle.c_inline.proofs.Backs.{among_more, among_all}
+use Rattle.c_inline.proofs.FirstRecursiveCall.{among_more, among_all}
 use Rattle.c_inline.proofs.recursion.first_back_in.Goals as goal
 use Rattle.c_inline.proofs.recursion.first_back_in.Goals.{After-deref-call-items}
 

@@ -1,6 +1,6 @@
 use Rattle.std.proofs.Common.{take}
 use Rattle.c_inline.specs.links.Calls.{calls_of, lists_of}
-use Rattle.c_inline.specs.links.Reaching.{IsBackAmong}
+use Rattle.c_inline.specs.links.ReachedFunctions.{IsBackAmong}
 use Rattle.c_inline.proofs.recursion.first_back_in.Given as goal
 
 abbrev pub invariant-loop-call : goal.invariant-loop-call

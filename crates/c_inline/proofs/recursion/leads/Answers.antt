@@ -6,10 +6,10 @@ use Rattle.std.proofs.lemmas.List.Elements.{Contains-push}
 use Rattle.std.proofs.lemmas.Option.{slice_get_read}
 use Rattle.c_tree.specs.Inlining as i
 use Rattle.c_inline.specs.declared.calls.Call.{Call}
-use Rattle.c_inline.specs.links.Calls.{Leads, call_of, calls_of, calls_at, lists_of}
+use Rattle.c_inline.specs.links.Calls.{CallsLead, call_of, calls_of, calls_at, lists_of}
 use Rattle.c_inline.proofs.CallLists.{calls_at_of, all_calls, some_call}
-use Rattle.c_inline.proofs.Reach.{Searched, none_reached, searched_none, searched_reached, searched_taken}
-use Rattle.c_inline.proofs.Reach.{searched_done, searched_all, now_reached, still_reached, less_left, leads_on}
+use Rattle.c_inline.proofs.CallReachability.{Searched, none_reached, searched_none, searched_reached, searched_taken}
+use Rattle.c_inline.proofs.CallReachability.{searched_done, searched_all, now_reached, still_reached, less_left, leads_on}
 use Rattle.c_inline.proofs.recursion.leads.Goals as goal
 use Rattle.c_inline.proofs.recursion.leads.Goals.{In-Some, After-deref-call-items}
 
@@ -25,19 +25,19 @@ loop-function-init c =
     let s0 = searched_none cs c.args.to c.args.from r0 (ap length r ∙ length-replicate (length c.args.calls.now) false ∙ sym (lists_length c.args.calls.now))
     (λ g e. none_reached (length c.args.calls.now) g (sym (ap (λ (x : List Bool). slice_get x g) r) ∙ e)) in (
       searched_reached cs c.args.to c.args.from (λ g. ⊥) r0 w0 c.args.from c.reach.new.reached.items c.reach.new.waiting.items
-          (subst (λ (x : List ℕ). Searched cs c.args.to c.args.from (λ g. ⊥) r0 x) (sym c.new-waiting.ensures.items) s0) (λ _. Leads.there)
+          (subst (λ (x : List ℕ). Searched cs c.args.to c.args.from (λ g. ⊥) r0 x) (sym c.new-waiting.ensures.items) s0) (λ _. CallsLead.there)
           c.in_ok-reach.ensures,
       now_reached cs c.args.to c.args.from (λ g. ⊥) r0 w0 c.args.from c.reach.new.reached.items c.reach.new.waiting.items c.in_ok-reach.ensures,
     )
 
-popped : (c : In-Some) → (c.in-Some.function < length (lists_of c.args.calls.now)) × Leads (lists_of c.args.calls.now) c.in-Some.function c.args.from
+popped : (c : In-Some) → (c.in-Some.function < length (lists_of c.args.calls.now)) × CallsLead (lists_of c.args.calls.now) c.in-Some.function c.args.from
 popped c =
     c.loop-function.invariant.0.led c.in-Some.function
     (subst (λ (x : List ℕ). Contains x c.in-Some.function) (sym c.in-Some.ensures.items) (Contains-push c.pop.new.self.items c.in-Some.function))
 
 pub returns-then-function-to : goal.returns-then-function-to
 returns-then-function-to c =
-    subst (λ (x : ℕ). Leads (lists_of c.args.calls.now) x c.args.from) c.if-function-to.true (popped (goal.at.returns-then-function-to c).In-Some).1
+    subst (λ (x : ℕ). CallsLead (lists_of c.args.calls.now) x c.args.from) c.if-function-to.true (popped (goal.at.returns-then-function-to c).In-Some).1
 
 pub bounds-calls-function : goal.bounds-calls-function
 bounds-calls-function c = omega (arith, (popped (goal.at.bounds-calls-function c).In-Some).0, lists_length c.args.calls.now)

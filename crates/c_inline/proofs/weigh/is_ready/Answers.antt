@@ -1,6 +1,6 @@
 use Rattle.std.proofs.Common.{arith}
 use Rattle.c_inline.specs.links.Calls.{call_of}
-use Rattle.c_inline.specs.links.Weighing.{IsUnknown}
+use Rattle.c_inline.specs.links.KnownWeights.{IsUnknown}
 use Rattle.std.proofs.Common.{get_or, ℕ}
 use Rattle.c_inline.proofs.CallLists.{all_calls, some_call}
 use Rattle.c_inline.proofs.weigh.is_ready.Goals as goal

@@ -1,5 +1,5 @@
 use Rattle.std.proofs.Common.{ℕ, ◌<◌, get_or}
-use Rattle.c_inline.specs.links.Weighing.{IsUnknown}
+use Rattle.c_inline.specs.links.KnownWeights.{IsUnknown}
 use Rattle.c_inline.specs.declared.calls.Call.{Call}
 use Rattle.c_inline.proofs.weigh.is_ready.Given as goal
 

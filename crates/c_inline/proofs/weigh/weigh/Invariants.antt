@@ -1,6 +1,6 @@
 use Rattle.std.proofs.Common.{◌-◌, map, length}
 use Rattle.c_tree.specs.Programs.{function_of}
-use Rattle.c_inline.specs.links.Weighing.{AreRight, found}
+use Rattle.c_inline.specs.links.KnownWeights.{AreRight, found}
 use Rattle.c_inline.proofs.weigh.weigh.Given as goal
 
 abbrev pub invariant-loop-weights : goal.invariant-loop-weights

@@ -1,7 +1,7 @@
 use Rattle.std.proofs.Common.{ℕ, ◌<◌, List, Option, map, MatchBool, arith, sym, ap, subst}
 use Rattle.std.proofs.lemmas.List.{length-map}
 use Rattle.c_tree.specs.Programs.{function_of}
-use Rattle.c_inline.specs.links.Weighing.{IsClosed, found}
+use Rattle.c_inline.specs.links.KnownWeights.{IsClosed, found}
 use Rattle.c_inline.proofs.Passes.{after_found, after_same, at_most_found, same_known, closed_all}
 use Rattle.c_inline.proofs.weigh.weigh_both_ways.Goals as goal
 use Rattle.c_inline.proofs.weigh.weigh_both_ways.Goals.{then-weigh_function, else-weigh_function}

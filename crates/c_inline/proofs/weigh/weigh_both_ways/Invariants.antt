@@ -1,6 +1,6 @@
 use Rattle.std.proofs.Common.{ℕ, ◌<◌, ◌≤◌, map, MatchBool}
 use Rattle.c_tree.specs.Programs.{function_of}
-use Rattle.c_inline.specs.links.Weighing.{AreRight, IsUnknown, CallsUnknown, IsClosed, found}
+use Rattle.c_inline.specs.links.KnownWeights.{AreRight, IsUnknown, CallsUnknown, IsClosed, found}
 use Rattle.c_inline.proofs.weigh.weigh_both_ways.Given as goal
 
 abbrev pub invariant-loop-number : goal.invariant-loop-number

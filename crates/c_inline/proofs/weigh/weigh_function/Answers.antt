@@ -8,10 +8,10 @@ use Rattle.c_tree.specs.Inlining as i
 use Rattle.c_tree.specs.declared.program.Function.{Function}
 use Rattle.c_tree.specs.declared.program.Statement.{Statement}
 use Rattle.c_inline.specs.links.Weights.{known_weight, statements_weight}
-use Rattle.c_inline.specs.links.Weighing.{IsUnknown}
+use Rattle.c_inline.specs.links.KnownWeights.{IsUnknown}
 use Rattle.c_inline.proofs.CallLists.{listed}
 use Rattle.c_inline.proofs.Passes.{unknown_is_none}
-use Rattle.c_inline.proofs.Known.{are_right_now, found_now, unknown_from}
+use Rattle.c_inline.proofs.WeightUpdates.{are_right_now, found_now, unknown_from}
 use Rattle.c_inline.proofs.weigh.weigh_function.Goals as goal
 use Rattle.c_inline.proofs.weigh.weigh_function.Goals.{After-statements_weight-weight}
 

@@ -4,7 +4,7 @@ use Rattle.std.proofs.lemmas.List.{drop_all}
 use Rattle.c_tree.specs.Programs.{function_of, statement_of, statements_of, arms_list_of}
 use Rattle.c_tree.specs.declared.program.Statement.{Statement}
 use Rattle.c_tree.specs.declared.program.Arm.{Arm}
-use Rattle.c_tree.proofs.ProgramRows.{of_while, of_do, of_if}
+use Rattle.c_tree.proofs.Public.{program_rows_of_while as of_while, program_rows_of_do as of_do, program_rows_of_if as of_if}
 use Rattle.c_inline.specs.links.Weights.{known_weight, statement_weight, statements_weight, arms_weight}
 use Rattle.c_inline.proofs.weight.+weights.Goals as goal
 

@@ -3,7 +3,7 @@ use Rattle.std.proofs.Common.{◌∷◌, ◌++◌, sym, ◌∙◌, ap, rules}
 use Rattle.c_tree.specs.Exprs.{expr_of}
 use Rattle.c_tree.specs.Ranges.{expr_indexes}
 use Rattle.c_tree.specs.declared.expr.Expr.{Expr}
-use Rattle.c_ranges.specs.links.Firsts.{variables_of, index_of, first_fault}
+use Rattle.c_ranges.specs.links.FirstUnfitIndex.{variables_of, index_of, first_fault}
 use Rattle.c_ranges.proofs.Faults.{headed, joined}
 use Rattle.c_ranges.proofs.indexes.+of_expr.Goals as goal
 

@@ -7,8 +7,8 @@ use Rattle.c_tree.specs.Ranges.{Index, placed_indexes, result_indexes, statement
 use Rattle.c_tree.specs.declared.expr.Placed.{Placed}
 use Rattle.c_tree.specs.declared.program.Arm.{Arm}
 use Rattle.c_tree.specs.declared.program.Statement.{Statement}
-use Rattle.c_tree.proofs.ProgramRows.{of_if, of_while, of_do}
-use Rattle.c_ranges.specs.links.Firsts.{variables_of, first_fault}
+use Rattle.c_tree.proofs.Public.{program_rows_of_if as of_if, program_rows_of_while as of_while, program_rows_of_do as of_do}
+use Rattle.c_ranges.specs.links.FirstUnfitIndex.{variables_of, first_fault}
 use Rattle.c_ranges.proofs.Faults.{joined, one_more, two_more}
 use Rattle.c_ranges.proofs.indexes.+statements.Goals as goal
 

@@ -1,7 +1,7 @@
 use Rattle.std.proofs.Common.{◌≡◌, take}
 use Rattle.c_tree.specs.Programs.{statements_of, arms_list_of}
 use Rattle.c_tree.specs.Ranges.{statements_indexes, arms_indexes}
-use Rattle.c_ranges.specs.links.Firsts.{variables_of, first_fault}
+use Rattle.c_ranges.specs.links.FirstUnfitIndex.{variables_of, first_fault}
 use Rattle.c_ranges.proofs.indexes.+statements.Given as goal
 
 -- what was found in the statements before

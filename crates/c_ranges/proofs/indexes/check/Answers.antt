@@ -1,9 +1,9 @@
 -- What was found first in functions and threads was found first in the whole program.
 use Rattle.std.proofs.Common.{sym, ◌∙◌}
 use Rattle.c_tree.specs.Programs.{program_of}
-use Rattle.c_ranges.specs.links.Firsts.{variables_of, functions_indexes, threads_indexes, first_fault}
+use Rattle.c_ranges.specs.links.FirstUnfitIndex.{variables_of, functions_indexes, threads_indexes, first_fault}
 use Rattle.c_ranges.proofs.Faults.{joined}
-use Rattle.c_ranges.proofs.Firsts.{all_fit, first_unfit}
+use Rattle.c_ranges.proofs.FirstUnfitIndexLaws.{all_fit, first_unfit}
 use Rattle.c_ranges.proofs.indexes.check.Goals as goal
 
 pub returns-in-None : goal.returns-in-None

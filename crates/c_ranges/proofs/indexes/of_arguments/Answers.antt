@@ -4,7 +4,7 @@ use Rattle.std.proofs.lemmas.List.Concat.{flat_map-cons}
 use Rattle.c_tree.specs.Exprs.{placed_of}
 use Rattle.c_tree.specs.Ranges.{placed_indexes}
 use Rattle.c_tree.specs.declared.expr.Placed.{Placed}
-use Rattle.c_ranges.specs.links.Firsts.{variables_of, first_fault}
+use Rattle.c_ranges.specs.links.FirstUnfitIndex.{variables_of, first_fault}
 use Rattle.c_ranges.proofs.Faults.{one_more}
 use Rattle.c_ranges.proofs.indexes.of_arguments.Goals as goal
 

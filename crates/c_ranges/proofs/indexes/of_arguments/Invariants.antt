@@ -1,7 +1,7 @@
 use Rattle.std.proofs.Common.{◌≡◌, take, map, flat_map}
 use Rattle.c_tree.specs.Exprs.{placed_of}
 use Rattle.c_tree.specs.Ranges.{placed_indexes}
-use Rattle.c_ranges.specs.links.Firsts.{variables_of, first_fault}
+use Rattle.c_ranges.specs.links.FirstUnfitIndex.{variables_of, first_fault}
 use Rattle.c_ranges.proofs.indexes.of_arguments.Given as goal
 
 -- what was found in the arguments before

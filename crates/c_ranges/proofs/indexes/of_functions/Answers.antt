@@ -5,7 +5,7 @@ use Rattle.std.proofs.lemmas.List.Concat.{flat_map-cons}
 use Rattle.c_tree.specs.Programs as p
 use Rattle.c_tree.specs.Ranges.{statements_indexes, returned_indexes}
 use Rattle.c_tree.specs.declared.program.Function.{Function}
-use Rattle.c_ranges.specs.links.Firsts.{variables_of, functions_indexes, first_fault}
+use Rattle.c_ranges.specs.links.FirstUnfitIndex.{variables_of, functions_indexes, first_fault}
 use Rattle.c_ranges.proofs.Faults.{two_more}
 use Rattle.c_ranges.proofs.indexes.of_functions.Goals as goal
 

@@ -1,5 +1,5 @@
 use Rattle.std.proofs.Common.{◌≡◌, take}
-use Rattle.c_ranges.specs.links.Firsts.{variables_of, functions_indexes, first_fault}
+use Rattle.c_ranges.specs.links.FirstUnfitIndex.{variables_of, functions_indexes, first_fault}
 use Rattle.c_ranges.proofs.indexes.of_functions.Given as goal
 
 -- what was found in the functions before

@@ -3,7 +3,7 @@ use Rattle.std.proofs.Common.{sym, ◌∙◌, ap, rules}
 use Rattle.c_tree.specs.Exprs.{lvalue_of}
 use Rattle.c_tree.specs.Ranges.{target_indexes}
 use Rattle.c_tree.specs.declared.expr.Lvalue.{Lvalue}
-use Rattle.c_ranges.specs.links.Firsts.{variables_of, first_fault}
+use Rattle.c_ranges.specs.links.FirstUnfitIndex.{variables_of, first_fault}
 use Rattle.c_ranges.proofs.Faults.{headed}
 use Rattle.c_ranges.proofs.indexes.of_target.Goals as goal
 

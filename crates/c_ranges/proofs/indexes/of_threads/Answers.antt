@@ -4,7 +4,7 @@ use Rattle.std.proofs.lemmas.List.Concat.{flat_map-cons}
 use Rattle.c_tree.specs.Programs as p
 use Rattle.c_tree.specs.Ranges.{statements_indexes}
 use Rattle.c_tree.specs.declared.program.Thread.{Thread}
-use Rattle.c_ranges.specs.links.Firsts.{variables_of, threads_indexes, first_fault}
+use Rattle.c_ranges.specs.links.FirstUnfitIndex.{variables_of, threads_indexes, first_fault}
 use Rattle.c_ranges.proofs.Faults.{one_more}
 use Rattle.c_ranges.proofs.indexes.of_threads.Goals as goal
 

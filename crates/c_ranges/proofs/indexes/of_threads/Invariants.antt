@@ -1,5 +1,5 @@
 use Rattle.std.proofs.Common.{◌≡◌, take}
-use Rattle.c_ranges.specs.links.Firsts.{variables_of, threads_indexes, first_fault}
+use Rattle.c_ranges.specs.links.FirstUnfitIndex.{variables_of, threads_indexes, first_fault}
 use Rattle.c_ranges.proofs.indexes.of_threads.Given as goal
 
 -- what was found in the threads before

@@ -1,5 +1,5 @@
 -- A value lies in its index's range, and that within the array.
-use Rattle.c_ranges.proofs.Foreseen.{names_element}
+use Rattle.c_ranges.proofs.ValuesInRanges.{names_element}
 use Rattle.c_ranges.proofs.laws.indexes_name_elements.Goals as goal
 
 pub returns : goal.returns

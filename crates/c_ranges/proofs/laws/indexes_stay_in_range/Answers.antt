@@ -1,5 +1,5 @@
 -- By cases on the statement, and induction on its expressions.
-use Rattle.c_ranges.proofs.Steps.{values_foreseen, indexes_in_range}
+use Rattle.c_ranges.proofs.StepEvaluations.{values_foreseen, indexes_in_range}
 use Rattle.c_ranges.proofs.laws.indexes_stay_in_range.Goals as goal
 
 pub returns-clause-values : goal.returns-clause-values

@@ -5,8 +5,8 @@ use Rattle.std.specs.Int.{w128}
 use Rattle.std.proofs.lemmas.Int.{ints, to_z-of_z}
 use Rattle.c_tree.specs.Ranges.{interval, full, lesser, from_zero_up}
 use Rattle.c_ranges.specs.Bounds.{interval_of}
-use Rattle.c_ranges.proofs.Exact.{bounded_exact}
-use Rattle.c_ranges.proofs.Fitting.{from_zero_up-true}
+use Rattle.c_ranges.proofs.ExactArithmetic.{bounded_exact}
+use Rattle.c_ranges.proofs.IntervalsOfKinds.{from_zero_up-true}
 use Rattle.c_ranges.proofs.HeldRanges.{HeldBy-Ends, HeldBy_same, lesser_range}
 use Rattle.c_ranges.proofs.operators.bit_and.Goals as goal
 

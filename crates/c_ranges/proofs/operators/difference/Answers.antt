@@ -2,7 +2,7 @@
 use Rattle.std.proofs.Common.{◌∙◌, arith}
 use Rattle.std.proofs.lemmas.Int.{ints}
 use Rattle.c_tree.specs.Ranges.{interval, fitted}
-use Rattle.c_ranges.proofs.Exact.{difference_exact}
+use Rattle.c_ranges.proofs.ExactArithmetic.{difference_exact}
 use Rattle.c_ranges.proofs.HeldRanges.{HeldBy-Ends}
 use Rattle.c_ranges.proofs.operators.difference.Goals as goal
 

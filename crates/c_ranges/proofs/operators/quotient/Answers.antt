@@ -3,8 +3,8 @@ use Rattle.std.proofs.Common.{◌≡◌, ◌∙◌, sym, true, false, ◌&&◌, 
 use Rattle.std.specs.Prelude.{int_div}
 use Rattle.c_tree.specs.Ranges.{interval, full, from_zero_up, is_positive_value}
 use Rattle.c_ranges.specs.Bounds.{interval_of}
-use Rattle.c_ranges.proofs.Exact.{quotient_exact}
-use Rattle.c_ranges.proofs.Fitting.{from_zero_up-true, is_positive_value-true}
+use Rattle.c_ranges.proofs.ExactArithmetic.{quotient_exact}
+use Rattle.c_ranges.proofs.IntervalsOfKinds.{from_zero_up-true, is_positive_value-true}
 use Rattle.c_ranges.proofs.HeldRanges.{HeldBy-Ends, HeldBy_same, int_div_range}
 use Rattle.c_ranges.proofs.operators.quotient.Goals as goal
 use Rattle.c_ranges.proofs.operators.quotient.Goals.{else-is_positive_value-via-then-is_positive_value+else-is_from_zero_up}

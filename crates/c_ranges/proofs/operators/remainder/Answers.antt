@@ -6,8 +6,8 @@ use Rattle.std.proofs.lemmas.Int.{ints, to_z-of_z}
 use Rattle.ido_ints.specs.Kinds.{least_of}
 use Rattle.c_tree.specs.Ranges.{interval, full, lesser, from_zero_up, is_positive_value}
 use Rattle.c_ranges.specs.Bounds.{interval_of}
-use Rattle.c_ranges.proofs.Exact.{bounded_exact, less_one_exact, negative_less_one_exact}
-use Rattle.c_ranges.proofs.Fitting.{from_zero_up-true, from_zero_up-false, is_positive_value-true}
+use Rattle.c_ranges.proofs.ExactArithmetic.{bounded_exact, less_one_exact, negative_less_one_exact}
+use Rattle.c_ranges.proofs.IntervalsOfKinds.{from_zero_up-true, from_zero_up-false, is_positive_value-true}
 use Rattle.c_ranges.proofs.HeldRanges.{HeldBy-Ends, HeldBy_same, lesser_range, symmetric_range}
 use Rattle.c_ranges.proofs.operators.remainder.Goals as goal
 

@@ -6,10 +6,10 @@ use Rattle.std.specs.Ordering.{int_eq}
 use Rattle.std.proofs.lemmas.Int.{to_z-of_z}
 use Rattle.ido_ints.specs.Kinds.{promoted}
 use Rattle.ido_ints.specs.Operators.{places}
-use Rattle.ido_ints.proofs.Exact.{right_exact}
+use Rattle.ido_ints.proofs.Public.{right_exact}
 use Rattle.c_tree.specs.Ranges.{interval, full, fitted, from_zero_up}
 use Rattle.c_ranges.specs.Bounds.{interval_of}
-use Rattle.c_ranges.proofs.Fitting.{from_zero_up-true}
+use Rattle.c_ranges.proofs.IntervalsOfKinds.{from_zero_up-true}
 use Rattle.c_ranges.proofs.HeldRanges.{HeldBy-Ends, HeldBy_same, int_shr_range}
 use Rattle.c_ranges.proofs.operators.shifted_right.Goals as goal
 

@@ -1,8 +1,8 @@
 use Rattle.std.proofs.Common.{map, ◌∙◌, arith}
 use Rattle.std.proofs.lemmas.Grind.{common_steps}
 use Rattle.c_tree.specs.Views.{expression_of}
-use Rattle.c_reader.specs.links.Parsing.{parse_expression}
-use Rattle.c_reader.proofs.Steps.{more_start, more_some, more_end}
+use Rattle.c_reader.specs.links.ParserFunctions.{parse_expression}
+use Rattle.c_reader.proofs.ParserStepEquations.{more_start, more_some, more_end}
 use Rattle.c_reader.proofs.assignment.expressions.Goals as goal
 
 pub loop-turn-init : goal.loop-turn-init

@@ -1,7 +1,7 @@
 use Rattle.std.proofs.Common.{◌≡◌, ◌-◌, map}
 use Rattle.c_tree.specs.Views.{expression_of}
-use Rattle.c_reader.specs.links.Parsing.{parse_some_of, parse_expression}
-use Rattle.c_reader.specs.links.Steps.{more_of}
+use Rattle.c_reader.specs.links.ParserFunctions.{parse_some_of, parse_expression}
+use Rattle.c_reader.specs.links.ParserSteps.{more_of}
 use Rattle.c_reader.proofs.assignment.expressions.Given as goal
 
 abbrev pub invariant-loop-turn : goal.invariant-loop-turn

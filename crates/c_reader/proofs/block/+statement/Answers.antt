@@ -1,8 +1,8 @@
 use Rattle.std.proofs.Common.{◌≡◌, ◌-◌, ◌∙◌, arith}
 use Rattle.std.proofs.lemmas.Grind.{common_steps}
 use Rattle.c_tree.specs.Views.{arms_list_of, statements_of}
-use Rattle.c_reader.specs.links.Steps.{parse_while, parse_do, parse_for}
-use Rattle.c_tree.proofs.TreeRows.{of_block}
+use Rattle.c_reader.specs.links.ParserSteps.{parse_while, parse_do, parse_for}
+use Rattle.c_tree.proofs.Public.{of_block}
 use Rattle.c_reader.proofs.Blocks.{statement_none, statement_some, statements_start, statements_some, statements_end}
 use Rattle.c_reader.proofs.Blocks.{push_statement, if_start, arms_some, arms_end, push_arm}
 use Rattle.c_reader.proofs.block.+statement.Goals as goal

@@ -1,7 +1,7 @@
 use Rattle.std.proofs.Common.{◌≡◌, ◌+◌, ◌-◌, ◌*◌}
 use Rattle.c_tree.specs.Views.{arms_list_of, statements_of}
-use Rattle.c_reader.specs.links.Parsing.{parse_statements}
-use Rattle.c_reader.specs.links.Steps.{parse_if, more_arms, more_statements}
+use Rattle.c_reader.specs.links.ParserFunctions.{parse_statements}
+use Rattle.c_reader.specs.links.ParserSteps.{parse_if, more_arms, more_statements}
 use Rattle.c_reader.proofs.block.+statement.Given as goal
 
 abbrev pub decreases-if_statement : goal.decreases-if_statement

@@ -1,6 +1,6 @@
 use Rattle.std.proofs.Common.{arith}
 use Rattle.std.proofs.lemmas.Grind.{common_steps}
-use Rattle.c_tree.proofs.TreeRows.{of_for}
+use Rattle.c_tree.proofs.Public.{of_for}
 use Rattle.c_reader.proofs.block.for_of.Goals as goal
 
 pub returns : goal.returns

@@ -1,7 +1,7 @@
 use Rattle.std.proofs.Common.{ap, ◌∙◌}
 use Rattle.c_tree.specs.Trees as t
 use Rattle.c_tree.specs.Views.{arms_list_of, otherwise_of}
-use Rattle.c_tree.proofs.TreeRows.{of_if}
+use Rattle.c_tree.proofs.Public.{tree_rows_of_if as of_if}
 use Rattle.c_reader.proofs.block.if_of.Goals as goal
 
 pub returns : goal.returns

@@ -1,6 +1,6 @@
 use Rattle.std.proofs.Common.{arith}
 use Rattle.std.proofs.lemmas.Grind.{common_steps}
-use Rattle.c_tree.proofs.TreeRows.{of_while}
+use Rattle.c_tree.proofs.Public.{tree_rows_of_while as of_while}
 use Rattle.c_reader.proofs.block.while_of.Goals as goal
 
 pub returns : goal.returns

@@ -1,7 +1,7 @@
 use Rattle.std.proofs.Common.{◌≡◌, ◌-◌, ◌∙◌, arith}
 use Rattle.std.proofs.lemmas.Grind.{common_steps}
 use Rattle.c_tree.specs.Views.{expression_of}
-use Rattle.c_reader.proofs.Steps.{operand_at, operand_at_none, expression_at, expression_at_none, behind_none, behind_some, from_end, from_some}
+use Rattle.c_reader.proofs.ParserStepEquations.{operand_at, operand_at_none, expression_at, expression_at_none, after_none, after_some, from_end, from_some}
 use Rattle.c_reader.proofs.expression.+expression.Goals as goal
 
 pub expression-returns-then-fuel-eq0 : goal.expression-returns-then-fuel-eq0
@@ -39,15 +39,15 @@ pub operand-returns-in_ok-unary_of-in_default : goal.operand-returns-in_ok-unary
 operand-returns-in_ok-unary_of-in_default t c = let e = operand_at c.args.fuel c.args.tokens.now (omega arith) in grind (arith, common_steps)
 
 pub operators-returns-then-precedences-eq0 : goal.operators-returns-then-precedences-eq0
-operators-returns-then-precedences-eq0 t c = let none : c.args.precedences ≡ 0 = omega arith in behind_none _ _ _ _ none
+operators-returns-then-precedences-eq0 t c = let none : c.args.precedences ≡ 0 = omega arith in after_none _ _ _ _ none
 
 pub operators-returns-in_err-left : goal.operators-returns-in_err-left
 operators-returns-in_err-left t c =
-    let e = behind_some c.args.fuel c.args.precedences (expression_of c.args.first) c.args.tokens.now (omega arith) in grind (arith, common_steps)
+    let e = after_some c.args.fuel c.args.precedences (expression_of c.args.first) c.args.tokens.now (omega arith) in grind (arith, common_steps)
 
 pub operators-loop-turn-init : goal.operators-loop-turn-init
 operators-loop-turn-init t c =
-    let e = behind_some c.args.fuel c.args.precedences (expression_of c.args.first) c.args.tokens.now (omega arith) in grind (arith, common_steps)
+    let e = after_some c.args.fuel c.args.precedences (expression_of c.args.first) c.args.tokens.now (omega arith) in grind (arith, common_steps)
 
 pub operators-returns-then-not-sees_operator : goal.operators-returns-then-not-sees_operator
 operators-returns-then-not-sees_operator t c =

@@ -1,6 +1,6 @@
 use Rattle.std.proofs.Common.{◌≡◌, ◌+◌, ◌-◌, ◌*◌}
 use Rattle.c_tree.specs.Views.{expression_of}
-use Rattle.c_reader.specs.links.Steps.{operators_behind, operators_from}
+use Rattle.c_reader.specs.links.ParserSteps.{operators_past, operators_from}
 use Rattle.c_reader.proofs.expression.+expression.Given as goal
 
 abbrev pub decreases-operand : goal.decreases-operand
@@ -26,5 +26,5 @@ decreases-operand_after_opening l = 20 * l.fuel + 14
 
 abbrev pub invariant-operators-loop-turn : goal.invariant-operators-loop-turn
 invariant-operators-loop-turn l =
-    operators_behind l.fuel l.precedences (expression_of l.fn.first) l.fn.tokens
+    operators_past l.fuel l.precedences (expression_of l.fn.first) l.fn.tokens
     ≡ operators_from l.fuel (l.precedences - 1) (l.fuel - l._turn) (expression_of l.left) l.tokens

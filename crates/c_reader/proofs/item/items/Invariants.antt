@@ -1,6 +1,6 @@
 use Rattle.std.proofs.Common.{◌≡◌, ◌-◌, map}
 use Rattle.c_tree.specs.Views.{item_of}
-use Rattle.c_reader.specs.links.Steps.{all_items, more_items}
+use Rattle.c_reader.specs.links.ParserSteps.{all_items, more_items}
 use Rattle.c_reader.proofs.item.items.Given as goal
 
 abbrev pub invariant-loop-turn : goal.invariant-loop-turn

@@ -1,6 +1,6 @@
 use Rattle.std.proofs.Common.{◌≡◌, ◌-◌, map}
 use Rattle.c_tree.specs.Views.{signed_of}
-use Rattle.c_reader.specs.links.Steps.{parse_numbers, more_numbers}
+use Rattle.c_reader.specs.links.ParserSteps.{parse_numbers, more_numbers}
 use Rattle.c_reader.proofs.item.numbers.Given as goal
 
 abbrev pub invariant-loop-turn : goal.invariant-loop-turn

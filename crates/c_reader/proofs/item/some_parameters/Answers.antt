@@ -1,8 +1,8 @@
 use Rattle.std.proofs.Common.{map, ◌∙◌, arith}
 use Rattle.std.proofs.lemmas.Grind.{common_steps}
 use Rattle.c_tree.specs.Views.{parameter_of}
-use Rattle.c_reader.specs.links.Parsing.{parse_parameter}
-use Rattle.c_reader.proofs.Steps.{more_start, more_some, more_end}
+use Rattle.c_reader.specs.links.ParserFunctions.{parse_parameter}
+use Rattle.c_reader.proofs.ParserStepEquations.{more_start, more_some, more_end}
 use Rattle.c_reader.proofs.item.some_parameters.Goals as goal
 
 pub returns-in_err-first : goal.returns-in_err-first

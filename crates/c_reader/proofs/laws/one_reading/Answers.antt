@@ -1,4 +1,4 @@
-use Rattle.c_reader.proofs.Single.{one_tree, one_refusal, not_both}
+use Rattle.c_reader.proofs.UniqueReadings.{one_tree, one_refusal, not_both}
 use Rattle.c_reader.proofs.laws.one_reading.Goals as goal
 
 pub returns-clause-tree : goal.returns-clause-tree

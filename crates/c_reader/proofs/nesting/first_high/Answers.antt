@@ -1,5 +1,5 @@
 use Rattle.std.proofs.Common.{ap, sym, ◌∙◌}
-use Rattle.c_tree.specs.Reading.{is_high}
+use Rattle.c_tree.specs.TextReadings.{is_high}
 use Rattle.c_reader.proofs.Nestings.{nesting_more, nests_high_none}
 use Rattle.c_reader.proofs.nesting.first_high.Goals as goal
 

@@ -1,5 +1,5 @@
 use Rattle.std.proofs.Common.{◌≡◌, false}
-use Rattle.c_tree.specs.Reading.{is_high}
+use Rattle.c_tree.specs.TextReadings.{is_high}
 use Rattle.c_reader.specs.links.Nestings.{nesting_of}
 use Rattle.c_reader.proofs.Nestings.{IsNesting}
 use Rattle.c_reader.proofs.nesting.first_high.Given as goal

@@ -1,7 +1,7 @@
 use Rattle.std.proofs.Common.{◌≡◌, ◌+◌, ◌≤◌, length, arith}
 use Rattle.c_reader.specs.links.Tokens.{tokens_of}
-use Rattle.c_reader.specs.links.Parsing.{Wrong}
-use Rattle.c_reader.specs.links.Steps.{all_items}
+use Rattle.c_reader.specs.links.ParserFunctions.{Wrong}
+use Rattle.c_reader.specs.links.ParserSteps.{all_items}
 use Rattle.c_reader.proofs.Answers.{left_within}
 use Rattle.c_reader.proofs.parser.parse.Goals as goal
 

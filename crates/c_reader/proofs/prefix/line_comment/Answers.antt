@@ -1,6 +1,6 @@
 use Rattle.std.proofs.Common.{◌∙◌, ap, sym}
 use Rattle.std.proofs.lemmas.List.Folds.{length-prefix_len}
-use Rattle.c_tree.specs.Scanning.{Blank}
+use Rattle.c_tree.specs.LexicalScan.{Blank}
 use Rattle.c_reader.proofs.prefix.line_comment.Goals as goal
 
 pub returns : goal.returns

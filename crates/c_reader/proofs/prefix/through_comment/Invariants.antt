@@ -1,5 +1,5 @@
 use Rattle.std.proofs.Common.{◌≡◌, drop}
-use Rattle.c_tree.specs.Scanning.{through_comment}
+use Rattle.c_tree.specs.LexicalScan.{through_comment}
 use Rattle.c_reader.proofs.Comments.{through_at}
 use Rattle.c_reader.proofs.prefix.through_comment.Given as goal
 

@@ -2,10 +2,10 @@ use Rattle.std.proofs.Common.{◌∙◌, sym, ap, Some}
 use Rattle.std.proofs.Math.ListN.{get_or-map}
 use Rattle.c_reader.specs.links.Prefixes.{scanned_of}
 use Rattle.c_reader.specs.links.Tokens.{token_of}
-use Rattle.c_reader.specs.links.Readings.{IsParsed}
+use Rattle.c_reader.specs.links.ParserOutcomes.{IsParsed}
 use Rattle.c_tree.specs.Refusals.{fault_of}
 use Rattle.c_reader.specs.declared.parser.Outcome.TheVariants as outcome
-use Rattle.c_reader.proofs.Refusals.{told_behind, told_wrong, short_begins, short_end, whole_begins, whole_read}
+use Rattle.c_reader.proofs.Refusals.{told_after, told_wrong, short_begins, short_end, whole_begins, whole_read}
 use Rattle.c_reader.proofs.reader.judge.Goals as goal
 
 pub returns-in-WrongAt-clause-refused : goal.returns-in-WrongAt-clause-refused
@@ -21,7 +21,7 @@ pub returns-in-Some-clause-refused : goal.returns-in-Some-clause-refused
 returns-in-Some-clause-refused c =
     let s = scanned_of c.args.found.now in
     let parsed : IsParsed s c.args.high outcome.TooShort = rw c.in-TooShort.is at c.requires.parsed in
-    told_behind s c.args.high c.args.end (Some (fault_of c.in-Some.refusal)) c.requires.high (short_begins s c.args.high parsed) c.in-Some.ensures
+    told_after s c.args.high c.args.end (Some (fault_of c.in-Some.refusal)) c.requires.high (short_begins s c.args.high parsed) c.in-Some.ensures
 
 pub returns-in-None-clause-refused : goal.returns-in-None-clause-refused
 returns-in-None-clause-refused c = λ text e end.
@@ -29,15 +29,15 @@ returns-in-None-clause-refused c = λ text e end.
     let parsed : IsParsed s c.args.high outcome.TooShort = rw c.in-TooShort.is at c.requires.parsed in
     short_end text s c.args.high c.args.end e c.requires.high parsed c.in-None.ensures end
 
-pub returns-in-Some-behind-clause-refused : goal.returns-in-Some-behind-clause-refused
-returns-in-Some-behind-clause-refused c =
+pub returns-in-Some-after-clause-refused : goal.returns-in-Some-after-clause-refused
+returns-in-Some-after-clause-refused c =
     let s = scanned_of c.args.found.now in
     let parsed : IsParsed s c.args.high (outcome.Whole c.in-Whole.tree) = rw c.in-Whole.is at c.requires.parsed in
-    told_behind s c.args.high c.args.end (Some (fault_of c.in-Some-behind.refusal)) c.requires.high (whole_begins s c.args.high _ parsed)
-    c.in-Some-behind.ensures
+    told_after s c.args.high c.args.end (Some (fault_of c.in-Some-after.refusal)) c.requires.high (whole_begins s c.args.high _ parsed)
+    c.in-Some-after.ensures
 
-pub returns-in-None-behind-clause-read : goal.returns-in-None-behind-clause-read
-returns-in-None-behind-clause-read c = λ text e.
+pub returns-in-None-after-clause-read : goal.returns-in-None-after-clause-read
+returns-in-None-after-clause-read c = λ text e.
     let s = scanned_of c.args.found.now in
     let parsed : IsParsed s c.args.high (outcome.Whole c.in-Whole.tree) = rw c.in-Whole.is at c.requires.parsed in
-    whole_read text s c.args.high _ e c.requires.high parsed c.in-None-behind.ensures
+    whole_read text s c.args.high _ e c.requires.high parsed c.in-None-after.ensures

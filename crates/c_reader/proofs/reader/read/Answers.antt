@@ -2,7 +2,7 @@ use Rattle.std.proofs.Common.{List, length, take, refl, subst}
 use Rattle.c_reader.specs.declared.token.Token.{Token}
 use Rattle.c_reader.specs.links.Prefixes.{scanned_of}
 use Rattle.c_reader.specs.links.Tokens.{tokens_of}
-use Rattle.c_reader.specs.links.Readings.{IsFirstHigh, Parses, reach}
+use Rattle.c_reader.specs.links.ParserOutcomes.{IsFirstHigh, Parses, reach}
 use Rattle.c_reader.proofs.Refusals.{first_high_told, looked_told, refused_told}
 use Rattle.c_reader.proofs.Depths.{shallow_told}
 use Rattle.c_reader.proofs.reader.read.Goals as goal

@@ -5,9 +5,9 @@ use Rattle.c_tree.specs.Flats as f
 use Rattle.c_tree.specs.Temporaries.{statement_exprs, statements_exprs, arms_exprs}
 use Rattle.c_tree.specs.declared.flat.Arm.{Arm}
 use Rattle.c_tree.specs.declared.flat.Statement.{Statement}
-use Rattle.c_tree.proofs.FlatRows.{of_if, of_while, of_do}
-use Rattle.c_temporaries.specs.links.Firsts.{first_deep}
-use Rattle.c_temporaries.proofs.Firsts.{joined, one_more}
+use Rattle.c_tree.proofs.Public.{flat_rows_of_if as of_if, flat_rows_of_while as of_while, flat_rows_of_do as of_do}
+use Rattle.c_temporaries.specs.links.FirstDeepExpression.{first_deep}
+use Rattle.c_temporaries.proofs.FirstDeepExpressionLaws.{joined, one_more}
 use Rattle.c_temporaries.proofs.temporaries.+statements.Goals as goal
 
 abbrev exprs_in : List Statement → List Placed

@@ -1,7 +1,7 @@
 use Rattle.std.proofs.Common.{◌≡◌, take}
 use Rattle.c_tree.specs.Flats.{statements_of, arms_list_of}
 use Rattle.c_tree.specs.Temporaries.{statements_exprs, arms_exprs}
-use Rattle.c_temporaries.specs.links.Firsts.{first_deep}
+use Rattle.c_temporaries.specs.links.FirstDeepExpression.{first_deep}
 use Rattle.c_temporaries.proofs.temporaries.+statements.Given as goal
 
 -- what was found in the arms before

@@ -1,8 +1,8 @@
 use Rattle.std.proofs.Common.{ap, sym, ◌∙◌, map, List}
 use Rattle.c_tree.specs.Flats.{flat_of, thread_of}
 use Rattle.c_tree.specs.declared.flat.Thread.{Thread}
-use Rattle.c_temporaries.specs.links.Firsts.{first_deep, threads_exprs}
-use Rattle.c_temporaries.proofs.Firsts.{of_flat}
+use Rattle.c_temporaries.specs.links.FirstDeepExpression.{first_deep, threads_exprs}
+use Rattle.c_temporaries.proofs.FirstDeepExpressionLaws.{of_flat}
 use Rattle.c_temporaries.proofs.temporaries.check.Goals as goal
 
 pub returns-in-None : goal.returns-in-None

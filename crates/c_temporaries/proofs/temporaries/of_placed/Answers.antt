@@ -1,6 +1,6 @@
 use Rattle.std.proofs.Common.{sym, arith}
 use Rattle.c_tree.specs.Exprs.{placed_of}
-use Rattle.c_temporaries.proofs.Firsts.{deep_one, shallow_one}
+use Rattle.c_temporaries.proofs.FirstDeepExpressionLaws.{deep_one, shallow_one}
 use Rattle.c_temporaries.proofs.temporaries.of_placed.Goals as goal
 
 pub returns-then-need-gt-MOST_TEMPORARIES : goal.returns-then-need-gt-MOST_TEMPORARIES

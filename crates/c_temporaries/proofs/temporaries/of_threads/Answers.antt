@@ -3,8 +3,8 @@ use Rattle.c_tree.specs.Flats.{thread_of, statements_of}
 use Rattle.c_tree.specs.Temporaries.{statements_exprs}
 use Rattle.c_tree.specs.declared.flat.Statement.{Statement}
 use Rattle.c_tree.specs.declared.flat.Thread.{Thread}
-use Rattle.c_temporaries.specs.links.Firsts.{first_deep, threads_exprs}
-use Rattle.c_temporaries.proofs.Firsts.{one_more}
+use Rattle.c_temporaries.specs.links.FirstDeepExpression.{first_deep, threads_exprs}
+use Rattle.c_temporaries.proofs.FirstDeepExpressionLaws.{one_more}
 use Rattle.c_temporaries.proofs.temporaries.of_threads.Goals as goal
 
 pub loop-thread-init : goal.loop-thread-init

@@ -1,6 +1,6 @@
 use Rattle.std.proofs.Common.{◌≡◌, map, take}
 use Rattle.c_tree.specs.Flats.{thread_of}
-use Rattle.c_temporaries.specs.links.Firsts.{first_deep, threads_exprs}
+use Rattle.c_temporaries.specs.links.FirstDeepExpression.{first_deep, threads_exprs}
 use Rattle.c_temporaries.proofs.temporaries.of_threads.Given as goal
 
 -- what was found in the threads before

@@ -1,6 +1,6 @@
 use Rattle.std.proofs.Common.{arith}
 use Rattle.std.proofs.lemmas.Grind.{common_steps}
-use Rattle.c_typer.proofs.Noted.{noted_append}
+use Rattle.c_typer.proofs.FirstFaultLaws.{noted_append}
 use Rattle.c_typer.proofs.assignment.arguments.Goals as goal
 
 pub loop-argument-preserved : goal.loop-argument-preserved

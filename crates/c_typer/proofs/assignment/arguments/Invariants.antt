@@ -1,9 +1,9 @@
 use Rattle.std.proofs.Common.{◌≡◌, map, flat_map, take, drop}
 use Rattle.c_tree.specs.Exprs.{placed_of}
 use Rattle.c_tree.specs.TypeRules.{expression_faults}
-use Rattle.c_tree.specs.Typing.{placed}
+use Rattle.c_tree.specs.Elaboration.{placed}
 use Rattle.c_tree.specs.Views.{expression_of}
-use Rattle.c_typer.specs.links.Noted.{first_of, noted}
+use Rattle.c_typer.specs.links.FirstFaults.{first_of, noted}
 use Rattle.c_typer.specs.links.Scopes.{globals_of, scope_of}
 use Rattle.c_typer.proofs.assignment.arguments.Given as goal
 

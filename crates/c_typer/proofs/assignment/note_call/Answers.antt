@@ -2,9 +2,9 @@ use Rattle.std.proofs.Common.{sym, ap, ap₂, ◌∙◌}
 use Rattle.c_tree.specs.Names as n
 use Rattle.c_tree.specs.Views as v
 use Rattle.c_typer.specs.links.Meanings.{fault_at, function_rule, count_rule}
-use Rattle.c_typer.specs.links.Noted.{first_of, noted}
+use Rattle.c_typer.specs.links.FirstFaults.{first_of, noted}
 use Rattle.c_typer.specs.links.Scopes.{globals_of, scope_of}
-use Rattle.c_typer.proofs.Noted.{noted_append}
+use Rattle.c_typer.proofs.FirstFaultLaws.{noted_append}
 use Rattle.c_typer.proofs.Uses.{function_is}
 use Rattle.c_typer.proofs.assignment.note_call.Goals as goal
 

@@ -1,6 +1,6 @@
 use Rattle.std.proofs.Common.{◌≡◌, map, take}
 use Rattle.ido_ints.specs.Reduction.{reduced}
-use Rattle.c_tree.specs.Typing.{signed_number}
+use Rattle.c_tree.specs.Elaboration.{signed_number}
 use Rattle.c_tree.specs.Views.{signed_of}
 use Rattle.c_typer.proofs.item.converted.Given as goal
 

@@ -2,13 +2,13 @@ use Rattle.std.proofs.Common.{List, ◌++◌, map, ap, ◌∙◌}
 use Rattle.std.specs.Option.{option_map}
 use Rattle.c_tree.specs.Names as n
 use Rattle.c_tree.specs.TypeRules as rules
-use Rattle.c_tree.specs.Typing as typing
+use Rattle.c_tree.specs.Elaboration as typing
 use Rattle.c_tree.specs.Views as v
 use Rattle.c_tree.specs.declared.tree.Parameter.{Parameter}
 use Rattle.c_tree.specs.declared.tree.Statement.{Statement}
-use Rattle.c_typer.specs.links.Noted.{first_of, noted}
+use Rattle.c_typer.specs.links.FirstFaults.{first_of, noted}
 use Rattle.c_typer.specs.links.Scopes.{globals_of, scope_of}
-use Rattle.c_typer.proofs.Steps.{noted_both}
+use Rattle.c_typer.proofs.RowSteps.{noted_both}
 use Rattle.c_typer.proofs.item.function.Goals as goal
 
 pub returns-clause-noted : goal.returns-clause-noted
@@ -29,10 +29,10 @@ returns-clause-noted c =
     let second = c.in_ok-statements.ensures.noted
     ∙ ap (λ (xs : List Statement). noted f (rules.statements_faults gs (scope_of c.in_ok-scope.scope) (v.statements_of xs))) c.deref-2.ensures.value
     ∙ ap (λ (z : n.Scope). noted f (rules.statements_faults gs z body)) scope in
-    let behind = c.in_ok-statements.ensures.scope
+    let after = c.in_ok-statements.ensures.scope
     ∙ ap (λ (xs : List Statement). (typing.statements gs (scope_of c.in_ok-scope.scope) (v.statements_of xs)).scope) c.deref-2.ensures.value
     ∙ ap (λ (z : n.Scope). (typing.statements gs z body).scope) scope in
-    let third = c.in_ok-result.ensures.noted ∙ ap (λ (z : n.Scope). noted g (rules.returned_faults gs z gives)) behind in
+    let third = c.in_ok-result.ensures.noted ∙ ap (λ (z : n.Scope). noted g (rules.returned_faults gs z gives)) after in
     let before = rules.parameters_faults gs n.no_locals parameters in
     let inside = rules.statements_faults gs s body in
     let given = rules.returned_faults gs (typing.statements gs s body).scope gives in

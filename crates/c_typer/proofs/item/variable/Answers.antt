@@ -2,11 +2,11 @@ use Rattle.std.proofs.Common.{ℕ, sym, ap, ◌∙◌}
 use Rattle.std.specs.Option.{option_map}
 use Rattle.c_tree.specs.Names as n
 use Rattle.c_tree.specs.TypeRules as rules
-use Rattle.c_tree.specs.Typing as typing
+use Rattle.c_tree.specs.Elaboration as typing
 use Rattle.c_tree.specs.Views as v
-use Rattle.c_typer.specs.links.Noted.{first_of}
+use Rattle.c_typer.specs.links.FirstFaults.{first_of}
 use Rattle.c_typer.specs.links.Scopes.{globals_of}
-use Rattle.c_typer.proofs.Noted.{noted_none}
+use Rattle.c_typer.proofs.FirstFaultLaws.{noted_none}
 use Rattle.c_typer.proofs.item.variable.Goals as goal
 
 pub returns-clause-made : goal.returns-clause-made

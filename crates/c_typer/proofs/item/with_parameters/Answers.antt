@@ -1,6 +1,6 @@
 use Rattle.std.proofs.Common.{arith}
 use Rattle.std.proofs.lemmas.Grind.{common_steps}
-use Rattle.c_typer.proofs.Noted.{noted_append}
+use Rattle.c_typer.proofs.FirstFaultLaws.{noted_append}
 use Rattle.c_typer.proofs.item.with_parameters.Goals as goal
 
 pub loop-parameter-preserved : goal.loop-parameter-preserved

@@ -1,9 +1,9 @@
 use Rattle.std.proofs.Common.{◌≡◌, List, map, drop}
 use Rattle.c_tree.specs.Names as n
 use Rattle.c_tree.specs.TypeRules.{parameters_faults}
-use Rattle.c_tree.specs.Typing as typing
+use Rattle.c_tree.specs.Elaboration as typing
 use Rattle.c_tree.specs.Views.{parameter_of}
-use Rattle.c_typer.specs.links.Noted.{first_of, noted}
+use Rattle.c_typer.specs.links.FirstFaults.{first_of, noted}
 use Rattle.c_typer.specs.links.Scopes.{scope_of}
 use Rattle.c_typer.proofs.item.with_parameters.Given as goal
 

@@ -1,4 +1,4 @@
-use Rattle.c_typer.proofs.Firsts.{one_first}
+use Rattle.c_typer.proofs.UniqueFirstFault.{one_first}
 use Rattle.c_typer.proofs.laws.one_first.Goals as goal
 
 pub returns : goal.returns

@@ -1,10 +1,10 @@
 use Rattle.std.proofs.Common.{sym, ◌∙◌, arith}
 use Rattle.c_tree.specs.TypeRules as rules
 use Rattle.c_tree.specs.Views.{item_of}
-use Rattle.c_typer.specs.links.Noted.{first_of}
+use Rattle.c_typer.specs.links.FirstFaults.{first_of}
 use Rattle.c_typer.specs.links.Scopes.{globals_of}
-use Rattle.c_typer.proofs.Noted.{noted_none}
-use Rattle.c_typer.proofs.Steps.{items_rest_is, items_made_step, items_noted_step}
+use Rattle.c_typer.proofs.FirstFaultLaws.{noted_none}
+use Rattle.c_typer.proofs.RowSteps.{items_rest_is, items_made_step, items_noted_step}
 use Rattle.c_typer.proofs.program.items.Goals as goal
 
 pub loop-item-preserved : goal.loop-item-preserved

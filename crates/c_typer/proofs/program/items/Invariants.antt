@@ -1,11 +1,11 @@
 use Rattle.std.proofs.Common.{◌≡◌, None, map, flat_map, drop}
 use Rattle.c_tree.specs.Programs.{program_of}
 use Rattle.c_tree.specs.TypeRules.{item_faults}
-use Rattle.c_tree.specs.Typing.{program_from}
+use Rattle.c_tree.specs.Elaboration.{program_from}
 use Rattle.c_tree.specs.Views.{item_of}
-use Rattle.c_typer.specs.links.Noted.{first_of, noted}
+use Rattle.c_typer.specs.links.FirstFaults.{first_of, noted}
 use Rattle.c_typer.specs.links.Scopes.{globals_of}
-use Rattle.c_typer.specs.links.Whole.{joined}
+use Rattle.c_typer.specs.links.JoinedPrograms.{joined}
 use Rattle.c_typer.proofs.program.items.Given as goal
 
 abbrev pub invariant-loop-item : goal.invariant-loop-item

@@ -3,10 +3,10 @@ use Rattle.std.specs.Option.{option_map}
 use Rattle.c_tree.specs.TypeRules.{type_faults}
 use Rattle.c_tree.specs.Views.{items_of}
 use Rattle.c_tree.specs.Refusals.{fault_of}
-use Rattle.c_typer.specs.links.Noted.{first_of}
+use Rattle.c_typer.specs.links.FirstFaults.{first_of}
 use Rattle.c_typer.specs.links.Scopes.{globals_of}
-use Rattle.c_typer.proofs.Noted.{first_is_first, noted_none}
-use Rattle.c_typer.proofs.Steps.{all_noted, program_is}
+use Rattle.c_typer.proofs.FirstFaultLaws.{first_is_first, noted_none}
+use Rattle.c_typer.proofs.RowSteps.{all_noted, program_is}
 use Rattle.c_typer.proofs.program.type_tree.Goals as goal
 
 pub returns-in-None : goal.returns-in-None

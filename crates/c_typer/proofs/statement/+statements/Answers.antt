@@ -6,8 +6,8 @@ use Rattle.c_tree.specs.Names as n
 use Rattle.c_tree.specs.Programs as p
 use Rattle.c_tree.specs.Trees as tree
 use Rattle.c_tree.specs.TypeRules as rules
-use Rattle.c_tree.specs.Typing as typing
-use Rattle.c_tree.specs.Typing.{one, statements_and}
+use Rattle.c_tree.specs.Elaboration as typing
+use Rattle.c_tree.specs.Elaboration.{one, statements_and}
 use Rattle.c_tree.specs.Views as v
 use Rattle.c_tree.specs.declared.tree.Arm as tree_arm
 use Rattle.c_tree.specs.declared.tree.Call.{Call}
@@ -15,14 +15,14 @@ use Rattle.c_tree.specs.declared.tree.Expression.{Expression}
 use Rattle.c_tree.specs.declared.tree.Head.{Head}
 use Rattle.c_tree.specs.declared.tree.Statement.{Statement}
 use Rattle.c_tree.specs.declared.tree.Lvalue.{Lvalue}
-use Rattle.c_tree.proofs.TreeRows.{of_block, of_if, of_while, of_do, of_for}
-use Rattle.c_typer.specs.links.Noted.{first_of, noted}
+use Rattle.c_tree.proofs.Public.{of_block, tree_rows_of_if as of_if, tree_rows_of_while as of_while, tree_rows_of_do as of_do, of_for}
+use Rattle.c_typer.specs.links.FirstFaults.{first_of, noted}
 use Rattle.c_typer.specs.links.Rows.{loop_as, loop_faults}
 use Rattle.c_typer.specs.links.Scopes.{globals_of, scope_of}
 use Rattle.c_typer.specs.declared.scope.Mark.{Mark}
 use Rattle.c_typer.proofs.Rows.{always, and_nothing, and_no_arm, arms_and, one_more, two_more}
-use Rattle.c_typer.proofs.Stays.{grows_both, grows_none, left_again, stays_both}
-use Rattle.c_typer.proofs.Steps.{noted_both, rest_is, made_step, noted_step, scope_step, arms_rest_is, arms_made_step, arms_noted_step, arms_scope_step}
+use Rattle.c_typer.proofs.NestedScopes.{grows_both, grows_none, left_again, stays_both}
+use Rattle.c_typer.proofs.RowSteps.{noted_both, rest_is, made_step, noted_step, scope_step, arms_rest_is, arms_made_step, arms_noted_step, arms_scope_step}
 use Rattle.c_typer.proofs.statement.+statements.Goals as goal
 
 -- ---- Rows

@@ -1,11 +1,11 @@
 use Rattle.std.proofs.Common.{◌≡◌, drop}
 use Rattle.c_tree.specs.Programs as p
 use Rattle.c_tree.specs.TypeRules as rules
-use Rattle.c_tree.specs.Typing as typing
-use Rattle.c_tree.specs.Typing.{statements_and}
+use Rattle.c_tree.specs.Elaboration as typing
+use Rattle.c_tree.specs.Elaboration.{statements_and}
 use Rattle.c_tree.specs.Views as v
-use Rattle.c_typer.specs.links.Noted.{first_of, noted}
-use Rattle.c_typer.specs.links.Scopes.{globals_of, scope_of, Grows, Stays}
+use Rattle.c_typer.specs.links.FirstFaults.{first_of, noted}
+use Rattle.c_typer.specs.links.Scopes.{globals_of, scope_of, ScopeGrows, Stays}
 use Rattle.c_typer.proofs.Rows.{arms_and}
 use Rattle.c_typer.proofs.statement.+statements.Given as goal
 
@@ -22,7 +22,7 @@ invariant-statements-loop-next l = record {
   scope :
       (typing.statements (globals_of l.globals) (scope_of l.scope) (v.statements_of (drop l.next-index l.read))).scope
       ≡ (typing.statements (globals_of l.globals) (scope_of l.initial.scope) (v.statements_of l.read)).scope;
-  grows : Grows l.initial.scope l.scope;
+  grows : ScopeGrows l.initial.scope l.scope;
 }
 
 abbrev pub invariant-arms_of-loop-arm : goal.invariant-arms_of-loop-arm

@@ -1,7 +1,7 @@
 use Rattle.std.proofs.Common.{Option, sym, ap, ◌∙◌}
 use Rattle.std.specs.Option.{option_map}
 use Rattle.c_tree.specs.Programs as p
-use Rattle.c_tree.specs.Typing.{statements_and}
+use Rattle.c_tree.specs.Elaboration.{statements_and}
 use Rattle.c_tree.specs.declared.program.Statement.{Statement}
 use Rattle.c_typer.specs.links.Rows.{maybe_one}
 use Rattle.c_typer.proofs.Rows.{and_nothing}

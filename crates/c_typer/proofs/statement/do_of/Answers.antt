@@ -1,4 +1,4 @@
-use Rattle.c_tree.proofs.ProgramRows.{of_do}
+use Rattle.c_tree.proofs.Public.{program_rows_of_do as of_do}
 use Rattle.c_typer.proofs.statement.do_of.Goals as goal
 
 pub returns : goal.returns

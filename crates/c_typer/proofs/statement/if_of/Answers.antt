@@ -1,4 +1,4 @@
-use Rattle.c_tree.proofs.ProgramRows.{of_if}
+use Rattle.c_tree.proofs.Public.{program_rows_of_if as of_if}
 use Rattle.c_typer.proofs.statement.if_of.Goals as goal
 
 pub returns : goal.returns

@@ -1,7 +1,7 @@
 use Rattle.std.proofs.Common.{sym, ap, ◌∙◌}
 use Rattle.c_tree.specs.Programs as p
-use Rattle.c_tree.specs.Typing as typing
-use Rattle.c_tree.specs.Typing.{statements_and}
+use Rattle.c_tree.specs.Elaboration as typing
+use Rattle.c_tree.specs.Elaboration.{statements_and}
 use Rattle.c_tree.specs.Views as v
 use Rattle.c_tree.specs.declared.tree.First.{First}
 use Rattle.c_typer.specs.links.Scopes.{globals_of, scope_of}

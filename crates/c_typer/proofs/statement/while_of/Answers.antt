@@ -1,4 +1,4 @@
-use Rattle.c_tree.proofs.ProgramRows.{of_while}
+use Rattle.c_tree.proofs.Public.{program_rows_of_while as of_while}
 use Rattle.c_typer.proofs.statement.while_of.Goals as goal
 
 pub returns : goal.returns

@@ -1,6 +1,6 @@
 use Rattle.std.proofs.Common.{◌≡◌, [], map, take, drop}
 use Rattle.c_tree.specs.TypeRules.{twice_from}
-use Rattle.c_typer.specs.links.Noted.{first_of, noted}
+use Rattle.c_typer.specs.links.FirstFaults.{first_of, noted}
 use Rattle.c_typer.specs.links.Scopes.{global_of, names_before}
 use Rattle.c_typer.proofs.text.note_second_declarations.Given as goal
 

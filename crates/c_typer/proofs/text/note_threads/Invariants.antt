@@ -3,7 +3,7 @@ use Rattle.ido_base.specs.declared.limits.TheConstants.{MOST_THREADS}
 use Rattle.c_tree.specs.TypeRules.{past, thread_names}
 use Rattle.c_tree.specs.Views.{item_of}
 use Rattle.c_tree.specs.declared.rule.Rule.TheVariants as rule
-use Rattle.c_typer.specs.links.Noted.{first_of}
+use Rattle.c_typer.specs.links.FirstFaults.{first_of}
 use Rattle.c_typer.proofs.text.note_threads.Given as goal
 
 abbrev pub invariant-loop-item : goal.invariant-loop-item

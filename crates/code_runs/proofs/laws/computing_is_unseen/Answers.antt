@@ -1,4 +1,4 @@
-use Rattle.code_runs.proofs.Walking.{silent_walk}
+use Rattle.code_runs.proofs.TraceComposition.{silent_walk}
 use Rattle.code_runs.proofs.laws.computing_is_unseen.Goals as goal
 
 pub returns : goal.returns

@@ -1,4 +1,4 @@
-use Rattle.code_runs.proofs.Walking.{along}
+use Rattle.code_runs.proofs.TraceComposition.{along}
 use Rattle.code_runs.proofs.laws.runs_compose.Goals as goal
 
 pub returns : goal.returns

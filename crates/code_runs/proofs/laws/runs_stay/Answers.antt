@@ -1,4 +1,4 @@
-use Rattle.code_runs.proofs.Walking.{walk_answers}
+use Rattle.code_runs.proofs.TraceComposition.{walk_answers}
 use Rattle.code_runs.proofs.laws.runs_stay.Goals as goal
 
 pub returns : goal.returns

@@ -1,6 +1,6 @@
 use Rattle.std.proofs.Common.{◌≡◌, ◌≤◌, drop}
 use Rattle.ido_base.specs.Cores.{played}
-use Rattle.core_rows.specs.Counting.{counting}
+use Rattle.core_rows.specs.CountingCore.{counting}
 use Rattle.core_rows.proofs.Counter.steps.Given as goal
 
 abbrev pub invariant-loop-event : goal.invariant-loop-event

@@ -1,6 +1,6 @@
 use Rattle.std.proofs.Common.{◌≡◌, ◌+◌, ◌≤◌, drop}
 use Rattle.ido_base.specs.Cores.{passed_count}
-use Rattle.core_rows.specs.Counting.{counting, is_step}
+use Rattle.core_rows.specs.CountingCore.{counting, is_step}
 use Rattle.core_rows.proofs.Counter.times.Given as goal
 
 abbrev pub invariant-loop-event : goal.invariant-loop-event

@@ -1,6 +1,6 @@
 use Rattle.std.proofs.Common.{List, ℕ, ap, subst, ◌∙◌, arith}
-use Rattle.crash_images.specs.Reading.{source_at}
-use Rattle.crash_images.specs.links.Gives.{Tells}
+use Rattle.file_fields.specs.links.ReaderResults.{ViewsFault}
+use Rattle.crash_images.specs.ImageDecoder.{source_at}
 use Rattle.crash_images.proofs.Images.{source_is_found, source_again, read_as}
 use Rattle.crash_images.proofs.reading.read_source.Goals as goal
 
@@ -10,5 +10,5 @@ returns-clause-found c = source_is_found _ c.args.bytes.now c.source_at.result (
 pub returns-clause-only : goal.returns-clause-only
 returns-clause-only c = λ source rest few e.
     read_as (λ x. x.0.now) (λ x. x.1.now) c.source_at.result source rest
-    (subst (λ f. Tells {Y = List ℕ × List ℕ} (λ x. (x.0.now, x.1.now)) c.source_at.result f) (ap source_at e ∙ source_again source rest few)
+    (subst (λ f. ViewsFault {Y = List ℕ × List ℕ} (λ x. (x.0.now, x.1.now)) c.source_at.result f) (ap source_at e ∙ source_again source rest few)
     c.source_at.ensures)

@@ -1,6 +1,6 @@
 use Rattle.std.proofs.Common.{ap, subst, ◌∙◌, arith}
-use Rattle.crash_images.specs.Reading.{state_at}
-use Rattle.crash_images.specs.links.Gives.{Gives}
+use Rattle.file_fields.specs.links.ReaderResults.{Gives}
+use Rattle.crash_images.specs.ImageDecoder.{state_at}
 use Rattle.crash_images.specs.links.Views.{state_of}
 use Rattle.crash_images.proofs.Images.{state_is_found, state_again}
 use Rattle.crash_images.proofs.reading.read_state.Goals as goal

@@ -1,7 +1,7 @@
 use Rattle.std.proofs.Common.{◌≡◌, ◌++◌, take, map}
 use Rattle.std.specs.List.{flat_map}
-use Rattle.crash_images.specs.Spelling.{run_text}
-use Rattle.crash_images.specs.links.Views.{run_of}
+use Rattle.run_scripts.specs.links.RunViews.{run_of}
+use Rattle.crash_images.specs.ImageEncoder.{run_text}
 use Rattle.crash_images.proofs.writing.put_runs.Given as goal
 
 abbrev pub invariant-loop-run : goal.invariant-loop-run

@@ -1,5 +1,5 @@
 use Rattle.std.proofs.lemmas.Result.{on_ok_weaker}
-use Rattle.crash_images.proofs.Written.{source_put}
+use Rattle.crash_images.proofs.WrittenImages.{source_put}
 use Rattle.crash_images.proofs.writing.put_source.Goals as goal
 
 pub returns : goal.returns

@@ -1,7 +1,6 @@
 use Rattle.std.proofs.Common.{arith}
-use Rattle.crash_images.proofs.Written.{written_again, written_short}
-use Rattle.crash_images.proofs.Merging.{runs_merged}
-use Rattle.crash_images.proofs.RunLaws.{each_step}
+use Rattle.run_scripts.proofs.Public.{each_step, runs_merged}
+use Rattle.crash_images.proofs.WrittenImages.{written_again, written_short}
 use Rattle.crash_images.proofs.writing.write_image.Goals as goal
 
 pub returns-clause-again : goal.returns-clause-again

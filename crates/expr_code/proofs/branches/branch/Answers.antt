@@ -1,5 +1,5 @@
 use Rattle.std.proofs.Common.{◌≡◌, ◌+◌, ◌*◌, arith, rules}
-use Rattle.expr_code.proofs.Skips.{branch_skips}
+use Rattle.expr_code.proofs.ForwardBranches.{branch_skips}
 use Rattle.expr_code.proofs.branches.branch.Goals as goal
 
 pub returns-clause-skips : goal.returns-clause-skips

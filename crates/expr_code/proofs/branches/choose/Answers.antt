@@ -1,7 +1,7 @@
 use Rattle.std.proofs.Common.{◌≡◌, ◌++◌, ◌∷◌, [], sym, subst, List, length}
 use Rattle.rv64_isa.specs.declared.instr.Instr.{Instr}
-use Rattle.expr_code.specs.links.Giving.{IsChoice}
-use Rattle.expr_code.proofs.Skips.{choice}
+use Rattle.expr_code.specs.links.OperandCode.{IsChoice}
+use Rattle.expr_code.proofs.ForwardBranches.{choice}
 use Rattle.expr_code.proofs.Fences.{choice_among, skips_none}
 use Rattle.expr_code.proofs.branches.choose.Goals as goal
 

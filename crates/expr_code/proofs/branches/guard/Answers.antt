@@ -1,7 +1,7 @@
 use Rattle.std.proofs.Common.{sym, subst, List, lit<}
 use Rattle.rv64_isa.specs.declared.instr.Instr.{Instr}
-use Rattle.expr_code.specs.links.Skipping.{IsGuard}
-use Rattle.expr_code.proofs.Skips.{near_guard, far_guard}
+use Rattle.expr_code.specs.links.ForwardJumps.{IsGuard}
+use Rattle.expr_code.proofs.ForwardBranches.{near_guard, far_guard}
 use Rattle.expr_code.proofs.Fences.{one_none, two_none, skips_none, skips_where_none}
 use Rattle.expr_code.proofs.branches.guard.Goals as goal
 

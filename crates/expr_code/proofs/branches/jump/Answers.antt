@@ -1,5 +1,5 @@
 use Rattle.std.proofs.Common.{◌≡◌, ◌+◌, ◌*◌, arith, rules}
-use Rattle.expr_code.proofs.Skips.{jump_skips}
+use Rattle.expr_code.proofs.ForwardBranches.{jump_skips}
 use Rattle.expr_code.proofs.branches.jump.Goals as goal
 
 pub returns : goal.returns

@@ -1,4 +1,4 @@
-use Rattle.expr_code.proofs.Operating.{comparison_test}
+use Rattle.expr_code.proofs.OperationCode.{comparison_test}
 use Rattle.expr_code.proofs.conditions.compared.Goals as goal
 
 pub returns-clause-test : goal.returns-clause-test

@@ -1,9 +1,9 @@
-use Rattle.expr_code.specs.Evaluating.{fences_among}
+use Rattle.expr_code.specs.EvaluationCode.{fences_among}
 use Rattle.std.proofs.Common.{sym, subst, List, ap, arith}
 use Rattle.rv64_isa.specs.declared.instr.Instr.{Instr}
 use Rattle.c_tree.specs.Exprs as e
-use Rattle.expr_code.specs.links.Giving.{IsEvaluation}
-use Rattle.expr_code.proofs.Choosing.{conditional, as_made, conditional_code}
+use Rattle.expr_code.specs.links.OperandCode.{IsEvaluation}
+use Rattle.expr_code.proofs.ConditionalCode.{conditional, as_made, conditional_code}
 use Rattle.expr_code.proofs.conditions.conditional.Goals as goal
 
 pub returns-clause-code : goal.returns-clause-code

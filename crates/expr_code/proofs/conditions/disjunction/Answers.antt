@@ -1,10 +1,10 @@
-use Rattle.expr_code.specs.Evaluating.{fences_among}
+use Rattle.expr_code.specs.EvaluationCode.{fences_among}
 use Rattle.std.proofs.Common.{◌≡◌, ◌^◌, ◌<◌, length, sym, subst, List, arith, lit<, ap}
 use Rattle.rv64_isa.specs.declared.instr.Instr.{Instr}
 use Rattle.c_tree.specs.Exprs as e
-use Rattle.expr_code.specs.links.Giving.{IsEvaluation, IsMade, truth_of}
-use Rattle.ido_ints.specs.Typed.{Typed, register_form_of}
-use Rattle.expr_code.proofs.Choosing.{disjunction, disjunction_code, number, small_form}
+use Rattle.expr_code.specs.links.OperandCode.{IsEvaluation, IsMade, truth_of}
+use Rattle.ido_ints.specs.TypedNumbers.{Typed, register_form_of}
+use Rattle.expr_code.proofs.ConditionalCode.{disjunction, disjunction_code, number, small_form}
 use Rattle.expr_code.proofs.conditions.disjunction.Goals as goal
 
 pub returns-clause-code : goal.returns-clause-code

@@ -1,4 +1,4 @@
-use Rattle.expr_code.proofs.Operating.{not_test}
+use Rattle.expr_code.proofs.OperationCode.{not_test}
 use Rattle.expr_code.proofs.conditions.negated.Goals as goal
 
 pub returns-clause-test : goal.returns-clause-test

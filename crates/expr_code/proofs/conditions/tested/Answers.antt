@@ -1,6 +1,6 @@
 use Rattle.std.proofs.Common.{refl}
-use Rattle.c_tree.specs.Typing.{kind_of}
-use Rattle.expr_code.proofs.Operating.{nonzero_test}
+use Rattle.c_tree.specs.Elaboration.{kind_of}
+use Rattle.expr_code.proofs.OperationCode.{nonzero_test}
 use Rattle.expr_code.proofs.conditions.tested.Goals as goal
 
 pub returns-clause-test : goal.returns-clause-test

@@ -2,8 +2,8 @@ use Rattle.std.proofs.Common.{◌≡◌, ◌<◌, ◌%◌, ◌++◌, ◌∷◌, 
 use Rattle.rv64_isa.specs.declared.instr.Instr.{Instr}
 use Rattle.rv64_isa.specs.declared.instr.Instr.TheVariants.{OpImmediate}
 use Rattle.rv64_isa.specs.declared.instr.ImmediateOperation.TheVariants.{Addi}
-use Rattle.expr_code.specs.Evaluating.{IsElementAddressCode}
-use Rattle.expr_code.proofs.Loading.{element_address_code}
+use Rattle.expr_code.specs.EvaluationCode.{IsElementAddressCode}
+use Rattle.expr_code.proofs.ElementLoadCode.{element_address_code}
 use Rattle.expr_code.proofs.Fences.{none_more}
 use Rattle.expr_code.proofs.elements.element_address.Goals as goal
 

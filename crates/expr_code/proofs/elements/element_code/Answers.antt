@@ -1,10 +1,10 @@
 use Rattle.std.proofs.Common.{◌≡◌, ◌<◌, ◌%◌, ◌++◌, ◌∷◌, [], sym, subst, List, rules, refl, ◌∙◌}
 use Rattle.rv64_isa.specs.declared.instr.Instr.{Instr}
 use Rattle.c_tree.specs.Exprs as e
-use Rattle.expr_code.specs.links.Giving.{IsEvaluation}
+use Rattle.expr_code.specs.links.OperandCode.{IsEvaluation}
 use Rattle.rv64_isa.specs.declared.instr.Instr.TheVariants.{Load}
-use Rattle.expr_code.specs.links.Loading.{loaded_by}
-use Rattle.expr_code.proofs.Loading.{element_value}
+use Rattle.expr_code.specs.links.ElementLoads.{loaded_by}
+use Rattle.expr_code.proofs.ElementLoadCode.{element_value}
 use Rattle.expr_code.proofs.Fences.{none_more}
 use Rattle.expr_code.proofs.elements.element_code.Goals as goal
 

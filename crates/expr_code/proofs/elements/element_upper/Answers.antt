@@ -4,10 +4,10 @@ use Rattle.ido_ints.specs.Kinds.{bytes_of}
 use Rattle.rv64_isa.specs.declared.instr.Instr.TheVariants.{Lui, ShiftImmediate, Op}
 use Rattle.rv64_isa.specs.declared.instr.Operation.TheVariants.{Add}
 use Rattle.rv64_isa.specs.declared.instr.ShiftOperation.TheVariants.{Slli}
-use Rattle.expr_code.specs.Evaluating.{Gives}
-use Rattle.expr_code.specs.links.Giving.{temporary, is_free}
-use Rattle.expr_code.specs.links.Loading.{places_of, HasUpper}
-use Rattle.expr_code.proofs.Loading.{scaled_upper, plain_upper}
+use Rattle.expr_code.specs.EvaluationCode.{EvaluatesTo}
+use Rattle.expr_code.specs.links.OperandCode.{temporary, is_free}
+use Rattle.expr_code.specs.links.ElementLoads.{places_of, HasUpper}
+use Rattle.expr_code.proofs.ElementLoadCode.{scaled_upper, plain_upper}
 use Rattle.expr_code.proofs.Fences.{none_more}
 use Rattle.expr_code.proofs.elements.element_upper.Goals as goal
 
@@ -16,7 +16,7 @@ returns-then-count-eq0-clause-code c = λ h x low operand.
     let seen : c.push-then-count-eq0.new.self.items ≡
     (c.args.index.code.items ++ Lui 31 ((c.args.address + 2048) % 2 ^ 32 / 4096) ∷ []) ++ Op Add 31 31 c.args.index.register ∷ [] =
     cc (c.in_ok-push.ensures.items, c.in_ok-push-2.ensures.items, c.upper.ensures, c.add.ensures) in
-    subst (λ (code : List Instr). Gives h x code (is_free c.args.held) (HasUpper c.args.address (bytes_of c.args.kind))) (sym seen)
+    subst (λ (code : List Instr). EvaluatesTo h x code (is_free c.args.held) (HasUpper c.args.address (bytes_of c.args.kind))) (sym seen)
     (plain_upper c.args.kind c.args.held c.args.index.register c.args.address c.args.index.code.items
     (sym c.scale-count.ensures.value ∙ c.if-count-eq0.true) h x low operand)
 
@@ -35,7 +35,7 @@ returns-clause-code c = λ h x low operand.
       c.temporary-bytes.ensures.value,
       c.scale-count.ensures.value,
     ) in
-    subst (λ (code : List Instr). Gives h x code (is_free c.args.held) (HasUpper c.args.address (bytes_of c.args.kind))) (sym seen)
+    subst (λ (code : List Instr). EvaluatesTo h x code (is_free c.args.held) (HasUpper c.args.address (bytes_of c.args.kind))) (sym seen)
     (scaled_upper c.args.kind c.args.held c.args.index.register c.args.address c.args.index.code.items c.requires h x low operand)
 
 pub returns-then-count-eq0-clause-fences : goal.returns-then-count-eq0-clause-fences

@@ -2,8 +2,8 @@ use Rattle.std.proofs.Common.{◌≡◌, ◌<◌, ◌+◌, ◌/◌, ◌%◌, ◌
 use Rattle.rv64_isa.specs.declared.instr.Instr.{Instr}
 use Rattle.rv64_isa.specs.declared.instr.Instr.TheVariants.{Lui, OpImmediate}
 use Rattle.rv64_isa.specs.declared.instr.ImmediateOperation.TheVariants.{Addi}
-use Rattle.expr_code.specs.Evaluating.{IsVariableAddressCode}
-use Rattle.expr_code.proofs.Loading.{variable_address_code}
+use Rattle.expr_code.specs.EvaluationCode.{IsVariableAddressCode}
+use Rattle.expr_code.proofs.ElementLoadCode.{variable_address_code}
 use Rattle.expr_code.proofs.Fences.{two_none}
 use Rattle.expr_code.proofs.elements.variable_address.Goals as goal
 

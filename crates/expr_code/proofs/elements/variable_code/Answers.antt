@@ -1,10 +1,10 @@
 use Rattle.std.proofs.Common.{◌≡◌, ◌<◌, ◌+◌, ◌/◌, ◌%◌, ◌^◌, ◌∷◌, [], sym, subst, List, rules, refl}
 use Rattle.rv64_isa.specs.declared.instr.Instr.{Instr}
 use Rattle.c_tree.specs.Exprs as e
-use Rattle.expr_code.specs.links.Giving.{IsEvaluation}
+use Rattle.expr_code.specs.links.OperandCode.{IsEvaluation}
 use Rattle.rv64_isa.specs.declared.instr.Instr.TheVariants.{Lui, Load}
-use Rattle.expr_code.specs.links.Loading.{loaded_by}
-use Rattle.expr_code.proofs.Loading.{variable_value}
+use Rattle.expr_code.specs.links.ElementLoads.{loaded_by}
+use Rattle.expr_code.proofs.ElementLoadCode.{variable_value}
 use Rattle.expr_code.proofs.Fences.{two_none}
 use Rattle.expr_code.proofs.elements.variable_code.Goals as goal
 

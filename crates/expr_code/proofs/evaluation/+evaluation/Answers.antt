@@ -8,15 +8,15 @@ use Rattle.ido_ints.specs.Kinds.{bits_of, rank_of}
 use Rattle.c_tree.specs.declared.expr.Expr.{Expr}
 use Rattle.c_tree.specs.Exprs as e
 use Rattle.c_tree.specs.Exprs.{expr_of}
-use Rattle.log_layout.specs.Roles.{is_local}
+use Rattle.memory_layout.specs.Roles.{is_local}
 use Rattle.c_tree.specs.Prices.{nodes_of}
-use Rattle.c_tree.specs.Typing.{kind_of}
+use Rattle.c_tree.specs.Elaboration.{kind_of}
 use Rattle.operator_code.specs.declared.operation.BinaryOperation.{BinaryOperation}
-use Rattle.operator_code.specs.Computing.{is_comparison, left_kind}
-use Rattle.expr_code.specs.Evaluating.{Homes, homes_of, AreAtHome}
-use Rattle.expr_code.specs.links.Giving.{IsEvaluation, IsOperand, IsMade, IsConstantForm, truth_of, conversion_words}
-use Rattle.expr_code.proofs.Needs.{need_some}
-use Rattle.expr_code.proofs.Operating.{comparison_made, skipped_code, kept_value}
+use Rattle.operator_code.specs.ComputingCode.{is_comparison, left_kind}
+use Rattle.expr_code.specs.EvaluationCode.{Homes, homes_of, AreAtHome}
+use Rattle.expr_code.specs.links.OperandCode.{IsEvaluation, IsOperand, IsMade, IsConstantForm, truth_of, conversion_words}
+use Rattle.expr_code.proofs.TemporaryNeeds.{need_some}
+use Rattle.expr_code.proofs.OperationCode.{comparison_made, skipped_code, kept_value}
 use Rattle.expr_code.proofs.Words.{wider_rank, some_rank}
 use Rattle.expr_code.proofs.evaluation.+evaluation.Goals as goal
 use Rattle.expr_code.proofs.evaluation.+evaluation.Goals.{evaluate_converted-in_default-via-in-Converted+else-bits}

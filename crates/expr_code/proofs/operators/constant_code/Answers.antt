@@ -1,7 +1,7 @@
 use Rattle.std.proofs.Common.{◌<◌, subst, ℕ, rules}
 use Rattle.ido_ints.specs.Kinds.{Holds}
-use Rattle.operator_code.specs.Straight.{IsConstant}
-use Rattle.expr_code.proofs.Operating.{constant_value}
+use Rattle.operator_code.specs.StraightLineCode.{IsConstant}
+use Rattle.expr_code.proofs.OperationCode.{constant_value}
 use Rattle.expr_code.proofs.Fences.{constant_none}
 use Rattle.expr_code.proofs.operators.constant_code.Goals as goal
 

@@ -1,7 +1,7 @@
 use Rattle.std.proofs.Common.{sym, subst, ℕ}
 use Rattle.c_tree.specs.Exprs as e
-use Rattle.expr_code.specs.links.Giving.{IsEvaluation, IsOperand}
-use Rattle.expr_code.proofs.Operating.{kept_code, own_operand}
+use Rattle.expr_code.specs.links.OperandCode.{IsEvaluation, IsOperand}
+use Rattle.expr_code.proofs.OperationCode.{kept_code, own_operand}
 use Rattle.expr_code.proofs.operators.converted.Goals as goal
 
 pub returns-then-keeps_form-clause-operand : goal.returns-then-keeps_form-clause-operand

@@ -1,8 +1,8 @@
 use Rattle.std.proofs.Common.{◌<◌, sym, subst, List, rules}
 use Rattle.rv64_isa.specs.declared.instr.Instr.{Instr}
 use Rattle.operator_code.specs.Sequences.{listed}
-use Rattle.expr_code.specs.links.Giving.{IsEvaluation}
-use Rattle.expr_code.proofs.Operating.{copy_code}
+use Rattle.expr_code.specs.links.OperandCode.{IsEvaluation}
+use Rattle.expr_code.proofs.OperationCode.{copy_code}
 use Rattle.expr_code.proofs.Fences.{none_more, copy_none}
 use Rattle.expr_code.proofs.operators.copied.Goals as goal
 

@@ -1,6 +1,6 @@
 use Rattle.std.proofs.Common.{sym, subst, ℕ}
-use Rattle.expr_code.specs.links.Giving.{IsOperand}
-use Rattle.expr_code.proofs.Operating.{own_operand}
+use Rattle.expr_code.specs.links.OperandCode.{IsOperand}
+use Rattle.expr_code.proofs.OperationCode.{own_operand}
 use Rattle.expr_code.proofs.operators.held_operand.Goals as goal
 
 pub returns-clause-operand : goal.returns-clause-operand

@@ -1,5 +1,5 @@
 use Rattle.std.proofs.Common.{◌≡◌, ◌++◌}
-use Rattle.expr_code.proofs.Operating.{left_pair}
+use Rattle.expr_code.proofs.OperationCode.{left_pair}
 use Rattle.expr_code.proofs.Fences.{both_among}
 use Rattle.expr_code.proofs.operators.left_first.Goals as goal
 

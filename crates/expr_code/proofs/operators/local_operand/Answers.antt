@@ -1,10 +1,10 @@
 use Rattle.std.proofs.Common.{◌≡◌, [], ◌∙◌, ap, sym, subst, List, ℕ}
 use Rattle.rv64_isa.specs.declared.instr.Instr.{Instr}
 use Rattle.c_tree.specs.Exprs as e
-use Rattle.expr_code.specs.links.Giving.{IsOperand}
+use Rattle.expr_code.specs.links.OperandCode.{IsOperand}
 use Rattle.std.specs.Prelude.{true, slice_index}
-use Rattle.log_layout.specs.Roles.{is_local}
-use Rattle.expr_code.proofs.Operating as operating
+use Rattle.memory_layout.specs.Roles.{is_local}
+use Rattle.expr_code.proofs.OperationCode as operating
 use Rattle.expr_code.proofs.operators.local_operand.Goals as goal
 
 pub returns-clause-operand : goal.returns-clause-operand

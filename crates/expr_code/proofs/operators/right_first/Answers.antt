@@ -1,5 +1,5 @@
 use Rattle.std.proofs.Common.{◌≡◌, ◌++◌, arith}
-use Rattle.expr_code.proofs.Operating.{right_pair}
+use Rattle.expr_code.proofs.OperationCode.{right_pair}
 use Rattle.expr_code.proofs.Fences.{both_among}
 use Rattle.expr_code.proofs.operators.right_first.Goals as goal
 

@@ -2,8 +2,8 @@ use Rattle.std.proofs.Common.{◌<◌, sym, subst, List, rules}
 use Rattle.rv64_isa.specs.declared.instr.Instr.{Instr}
 use Rattle.operator_code.specs.Sequences.{listed}
 use Rattle.c_tree.specs.Exprs as e
-use Rattle.expr_code.specs.links.Giving.{IsEvaluation}
-use Rattle.expr_code.proofs.Operating.{binary_code}
+use Rattle.expr_code.specs.links.OperandCode.{IsEvaluation}
+use Rattle.expr_code.proofs.OperationCode.{binary_code}
 use Rattle.expr_code.proofs.Fences.{none_more, binary_none}
 use Rattle.expr_code.proofs.operators.with_binary.Goals as goal
 

@@ -2,8 +2,8 @@ use Rattle.std.proofs.Common.{◌≡◌, ◌<◌, ◌++◌, ◌∷◌, [], sym, 
 use Rattle.rv64_isa.specs.declared.instr.Instr.{Instr}
 use Rattle.c_tree.specs.Exprs as e
 use Rattle.operator_code.specs.Constants.{instruction_in}
-use Rattle.expr_code.specs.links.Giving.{IsEvaluation}
-use Rattle.expr_code.proofs.Operating.{immediate_code}
+use Rattle.expr_code.specs.links.OperandCode.{IsEvaluation}
+use Rattle.expr_code.proofs.OperationCode.{immediate_code}
 use Rattle.expr_code.proofs.Fences.{none_more, immediate_none}
 use Rattle.expr_code.proofs.operators.with_immediate.Goals as goal
 

@@ -2,9 +2,9 @@ use Rattle.ido_ints.specs.declared.kinds.Kind.TheVariants.{Int}
 use Rattle.std.proofs.Common.{◌<◌, sym, subst, refl, List, rules}
 use Rattle.rv64_isa.specs.declared.instr.Instr.{Instr}
 use Rattle.operator_code.specs.Sequences.{listed}
-use Rattle.expr_code.specs.links.Giving.{IsMade, truth_of}
-use Rattle.c_tree.specs.Typing.{kind_of}
-use Rattle.expr_code.proofs.Operating.{truth_code}
+use Rattle.expr_code.specs.links.OperandCode.{IsMade, truth_of}
+use Rattle.c_tree.specs.Elaboration.{kind_of}
+use Rattle.expr_code.proofs.OperationCode.{truth_code}
 use Rattle.expr_code.proofs.Fences.{none_more, truth_none}
 use Rattle.expr_code.proofs.operators.with_truth.Goals as goal
 

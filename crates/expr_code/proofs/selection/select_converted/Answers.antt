@@ -1,8 +1,8 @@
 use Rattle.std.proofs.Common.{◌≤◌, arith}
 use Rattle.c_tree.specs.Exprs.{expr_of}
 use Rattle.c_tree.specs.Prices.{need_of}
-use Rattle.expr_code.specs.Evaluating.{homes_of}
-use Rattle.expr_code.proofs.Selecting.{converted_code}
+use Rattle.expr_code.specs.EvaluationCode.{homes_of}
+use Rattle.expr_code.proofs.WholeExpressionCode.{converted_code}
 use Rattle.expr_code.proofs.selection.select_converted.Goals as goal
 
 pub returns-in-Ok-clause-code : goal.returns-in-Ok-clause-code

@@ -1,57 +1,35 @@
--- What was found out of the graph makes a plan of it, and what is emitted for that and linked is the form's translation.
-use Rattle.std.proofs.Common.{refl, sym, subst}
-use Rattle.flow_graph.specs.Liveness.{HasRoom}
-use Rattle.flat_compile.proofs.Plans.{is_translated, marked, resumable}
+-- The cuts of its graph make a plan of what was found out of a flat form, and what is emitted for that and linked is the form's translation.
+use Rattle.std.proofs.Common.{refl}
+use Rattle.flat_compile.proofs.Plans.{is_translated, marked, plan_at, plan_is, resumable}
 use Rattle.flat_compile.proofs.compile.translate.Goals as goal
 
-pub coloured-requires-clause-room : goal.coloured-requires-clause-room
-coloured-requires-clause-room c = subst HasRoom (sym c.in_ok-graph.ensures) c.requires.room
+pub emitted-requires-clause-plan : goal.emitted-requires-clause-plan
+emitted-requires-clause-plan c = plan_is c.args.analysis.now c.in_ok-cuts.cuts c.requires c.in_ok-cuts.ensures.cuts c.in_ok-cuts.ensures.places
+
+pub emitted-requires-clause-shallow : goal.emitted-requires-clause-shallow
+emitted-requires-clause-shallow c = c.requires.accepted.shallow
 
 pub returns-clause-translated : goal.returns-clause-translated
-returns-clause-translated c = is_translated _ c.in_ok-code.code c.in_ok-code.ensures
-    (record {
-      formed = c.requires.formed;
-      lowered = c.in_ok-graph.ensures;
-      cuts = c.in_ok-cuts.ensures.cuts;
-      at_writes = c.in_ok-cuts.ensures.places;
-      held = c.in_ok-held.ensures;
-      live = c.in_ok-live.ensures;
-      registers = c.in_ok-colours.ensures.registers;
-      apart = c.in_ok-colours.ensures.apart;
-      priced = c.requires.priced;
-    })
+returns-clause-translated c =
+    let plan = plan_is c.args.analysis.now c.in_ok-cuts.cuts c.requires c.in_ok-cuts.ensures.cuts c.in_ok-cuts.ensures.places in
+    is_translated (plan_at c.args.analysis.now c.in_ok-cuts.cuts) c.in_ok-code.code c.in_ok-code.ensures plan
     c.in_ok-object.object c.in_ok-object.marks c.in_ok-cuts.cuts refl c.in_ok-cuts.ensures.minimal c.in_ok-object.ensures.linked
     c.in_ok-object.ensures.initial c.in_ok-object.ensures.mutexes
 
-pub resumes-requires-clause-marked : goal.resumes-requires-clause-marked
-resumes-requires-clause-marked c = marked _ c.in_ok-code.code c.in_ok-code.ensures
-    (record {
-      formed = c.requires.formed;
-      lowered = c.in_ok-graph.ensures;
-      cuts = c.in_ok-cuts.ensures.cuts;
-      at_writes = c.in_ok-cuts.ensures.places;
-      held = c.in_ok-held.ensures;
-      live = c.in_ok-live.ensures;
-      registers = c.in_ok-colours.ensures.registers;
-      apart = c.in_ok-colours.ensures.apart;
-      priced = c.requires.priced;
-    })
+pub resume_table-requires-clause-plan : goal.resume_table-requires-clause-plan
+resume_table-requires-clause-plan c = plan_is c.args.analysis.now c.in_ok-cuts.cuts c.requires c.in_ok-cuts.ensures.cuts c.in_ok-cuts.ensures.places
+
+pub resume_table-requires-clause-marked : goal.resume_table-requires-clause-marked
+resume_table-requires-clause-marked c =
+    let plan = plan_is c.args.analysis.now c.in_ok-cuts.cuts c.requires c.in_ok-cuts.ensures.cuts c.in_ok-cuts.ensures.places in
+    marked (plan_at c.args.analysis.now c.in_ok-cuts.cuts) c.in_ok-code.code c.in_ok-code.ensures plan
     c.in_ok-object.object c.in_ok-object.marks c.in_ok-cuts.cuts refl c.in_ok-cuts.ensures.minimal c.in_ok-object.ensures.linked
     c.in_ok-object.ensures.initial c.in_ok-object.ensures.mutexes
 
 pub returns-clause-resumes : goal.returns-clause-resumes
-returns-clause-resumes c = resumable _ c.in_ok-code.code c.in_ok-code.ensures
-    (record {
-      formed = c.requires.formed;
-      lowered = c.in_ok-graph.ensures;
-      cuts = c.in_ok-cuts.ensures.cuts;
-      at_writes = c.in_ok-cuts.ensures.places;
-      held = c.in_ok-held.ensures;
-      live = c.in_ok-live.ensures;
-      registers = c.in_ok-colours.ensures.registers;
-      apart = c.in_ok-colours.ensures.apart;
-      priced = c.requires.priced;
-    })
+returns-clause-resumes c =
+    let plan = plan_is c.args.analysis.now c.in_ok-cuts.cuts c.requires c.in_ok-cuts.ensures.cuts c.in_ok-cuts.ensures.places in
+    resumable (plan_at c.args.analysis.now c.in_ok-cuts.cuts) c.in_ok-code.code c.in_ok-code.ensures plan
     c.in_ok-object.object c.in_ok-object.marks c.in_ok-cuts.cuts refl c.in_ok-cuts.ensures.minimal c.in_ok-object.ensures.linked
     c.in_ok-object.ensures.initial c.in_ok-object.ensures.mutexes
     c.in_ok-resumes.resumes.items c.in_ok-resumes.ensures

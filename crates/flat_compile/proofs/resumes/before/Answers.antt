@@ -1,7 +1,7 @@
 use Rattle.rv64_codegen.specs.Plans.{plan_of}
-use Rattle.flat_compile.specs.links.Resuming.{thread_in}
-use Rattle.flat_compile.proofs.Owned.{exists}
-use Rattle.flat_compile.proofs.Spots.{chosen_before}
+use Rattle.flat_compile.specs.links.ResumePlacesByNode.{thread_in}
+use Rattle.flat_compile.proofs.ResumedNodes.{exists}
+use Rattle.flat_compile.proofs.ResumeAddresses.{chosen_before}
 use Rattle.flat_compile.proofs.resumes.before.Goals as goal
 
 pub is_chosen-requires-clause-node : goal.is_chosen-requires-clause-node

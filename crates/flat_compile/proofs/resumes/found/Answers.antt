@@ -3,10 +3,10 @@ use Rattle.std.proofs.lemmas.Option.{same_Some}
 use Rattle.ido_ints.specs.declared.kinds.Kind.{Kind}
 use Rattle.flow_graph.specs.Nodes.{Node, node_of}
 use Rattle.rv64_codegen.specs.Plans.{plan_of}
-use Rattle.rv64_codegen.proofs.Homes.{colours_long}
-use Rattle.flat_compile.specs.links.Resuming.{thread_in, IsLiveIn, AreLiveBelow}
-use Rattle.flat_compile.proofs.Owned.{exists, at_node, colours_are, kinds_are}
-use Rattle.flat_compile.proofs.Lives.{one_each, all_live, strictly}
+use Rattle.rv64_codegen.proofs.Public.{colours_long}
+use Rattle.flat_compile.specs.links.ResumePlacesByNode.{thread_in, IsLiveIn, AreLiveBelow}
+use Rattle.flat_compile.proofs.ResumedNodes.{exists, at_node, colours_are, kinds_are}
+use Rattle.flat_compile.proofs.LiveLocals.{one_each, all_live, strictly}
 use Rattle.flat_compile.proofs.resumes.found.Goals as goal
 use Rattle.flat_compile.proofs.resumes.found.Goals.{After-deref-2}
 

@@ -2,8 +2,8 @@ use Rattle.std.proofs.Common.{◌∙◌, ap, Some, arith}
 use Rattle.std.specs.Option.{option_map}
 use Rattle.std.proofs.lemmas.Option.{slice_get-map}
 use Rattle.flow_graph.specs.Nodes.{graph_of, node_of}
-use Rattle.flow_graph.specs.Cutting.{boundaries_of}
-use Rattle.rv64_codegen.proofs.Chosen.{read_get, chosen_then, chosen_else}
+use Rattle.flow_graph.specs.IdempotentCuts.{boundaries_of}
+use Rattle.rv64_codegen.proofs.Public.{read_get, chosen_then, chosen_else}
 use Rattle.flat_compile.proofs.resumes.is_chosen.Goals as goal
 
 pub returns-then-index : goal.returns-then-index

@@ -3,8 +3,8 @@ use Rattle.std.specs.Prelude.{slice_get}
 use Rattle.std.specs.Global.{Global}
 use Rattle.std.proofs.lemmas.Option.{slice_get_within}
 use Rattle.flat_compile.specs.declared.resumes.LiveLocal.{LiveLocal}
-use Rattle.flat_compile.specs.links.Resuming.{AreLiveBelow, IsLiveIn}
-use Rattle.flat_compile.proofs.Lives.{live_more, live_same}
+use Rattle.flat_compile.specs.links.ResumePlacesByNode.{AreLiveBelow, IsLiveIn}
+use Rattle.flat_compile.proofs.LiveLocals.{live_more, live_same}
 use Rattle.flat_compile.proofs.resumes.live_locals.Goals as goal
 use Rattle.flat_compile.proofs.resumes.live_locals.Goals.{in-Some+in_ok-push, in_default}
 

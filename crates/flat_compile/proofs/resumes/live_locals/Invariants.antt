@@ -1,4 +1,4 @@
-use Rattle.flat_compile.specs.links.Resuming.{AreLiveBelow}
+use Rattle.flat_compile.specs.links.ResumePlacesByNode.{AreLiveBelow}
 use Rattle.flat_compile.proofs.resumes.live_locals.Given as goal
 
 abbrev pub invariant-loop-number : goal.invariant-loop-number

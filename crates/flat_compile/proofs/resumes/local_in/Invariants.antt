@@ -1,5 +1,5 @@
 use Rattle.std.proofs.Common.{ℕ, ◌<◌}
-use Rattle.flat_compile.specs.links.Resuming.{IsLiveIn}
+use Rattle.flat_compile.specs.links.ResumePlacesByNode.{IsLiveIn}
 use Rattle.flat_compile.proofs.resumes.local_in.Given as goal
 
 abbrev pub invariant-loop-local : goal.invariant-loop-local

@@ -1,7 +1,7 @@
 use Rattle.std.proofs.Common.{arith}
 use Rattle.rv64_codegen.specs.Plans.{plan_of}
-use Rattle.rv64_codegen.proofs.Known.{held_there, held_sets, few_nodes}
-use Rattle.flat_compile.specs.links.Resuming.{thread_in}
+use Rattle.rv64_codegen.proofs.Public.{held_there, held_sets, few_nodes}
+use Rattle.flat_compile.specs.links.ResumePlacesByNode.{thread_in}
 use Rattle.flat_compile.proofs.resumes.mask.Goals as goal
 
 pub overflow_cast-node : goal.overflow_cast-node

@@ -1,8 +1,8 @@
 use Rattle.std.proofs.Common.{ℕ, ◌*◌, ◌+◌, ◌≡◌, List, sym, subst, arith}
 use Rattle.rv64_codegen.specs.Plans.{plan_of}
-use Rattle.rv64_codegen.proofs.Known.{first_below}
-use Rattle.flat_compile.specs.links.Resuming.{thread_in, AreNodesBelow}
-use Rattle.flat_compile.proofs.Spots.{begun, before_more, behind_more}
+use Rattle.rv64_codegen.proofs.Public.{first_below}
+use Rattle.flat_compile.specs.links.ResumePlacesByNode.{thread_in, AreNodesBelow}
+use Rattle.flat_compile.proofs.ResumeAddresses.{begun, before_more, after_more}
 use Rattle.flat_compile.proofs.resumes.nodes.Goals as goal
 
 pub loop-node-init : goal.loop-node-init
@@ -19,7 +19,7 @@ loop-node-preserved c =
     let half = subst (λ (ns : List ℕ). AreNodesBelow p t (2 * node + 1) ns) (sym c.in_ok-push_some.ensures)
     (before_more p t node c.loop-node.nodes.items c.before-in-loop-node.result c.loop-node.invariant c.before-in-loop-node.ensures) in
     subst (λ (ns : List ℕ). AreNodesBelow p t (2 * (node + 1)) ns) (sym c.in_ok-push_some-2.ensures)
-    (behind_more p t node c.push_some.new.nodes.items c.behind.result half c.behind.ensures)
+    (after_more p t node c.push_some.new.nodes.items c.after.result half c.after.ensures)
 
 pub returns : goal.returns
 returns c =

@@ -1,6 +1,6 @@
 use Rattle.std.proofs.Common.{◌*◌}
 use Rattle.rv64_codegen.specs.Plans.{plan_of}
-use Rattle.flat_compile.specs.links.Resuming.{thread_in, AreNodesBelow}
+use Rattle.flat_compile.specs.links.ResumePlacesByNode.{thread_in, AreNodesBelow}
 use Rattle.flat_compile.proofs.resumes.nodes.Given as goal
 
 abbrev pub invariant-loop-node : goal.invariant-loop-node

@@ -1,6 +1,6 @@
 use Rattle.rv64_codegen.specs.Plans.{plan_of}
-use Rattle.flat_compile.specs.Translating.{resume_marks}
-use Rattle.flat_compile.specs.links.Resuming.{AreTabled}
+use Rattle.flat_compile.specs.TranslatedForms.{resume_marks}
+use Rattle.flat_compile.specs.links.ResumePlacesByNode.{AreTabled}
 use Rattle.flat_compile.proofs.resumes.resume_table.Given as goal
 
 abbrev pub invariant-loop-number : goal.invariant-loop-number

@@ -1,7 +1,7 @@
 use Rattle.std.proofs.Common.{List, sym, subst, arith, ◌+◌, take}
 use Rattle.rv64_codegen.specs.Plans.{plan_of}
 use Rattle.flat_compile.specs.declared.resumes.Resume.{Resume}
-use Rattle.flat_compile.specs.links.Resuming.{thread_in, AreFoundAt}
+use Rattle.flat_compile.specs.links.ResumePlacesByNode.{thread_in, AreFoundAt}
 use Rattle.flat_compile.proofs.Tables.{found_more}
 use Rattle.flat_compile.proofs.resumes.thread_resumes.Goals as goal
 

@@ -1,6 +1,6 @@
 use Rattle.std.proofs.Common.{take}
 use Rattle.rv64_codegen.specs.Plans.{plan_of}
-use Rattle.flat_compile.specs.links.Resuming.{thread_in, AreFoundAt}
+use Rattle.flat_compile.specs.links.ResumePlacesByNode.{thread_in, AreFoundAt}
 use Rattle.flat_compile.proofs.resumes.thread_resumes.Given as goal
 
 abbrev pub invariant-loop-k : goal.invariant-loop-k

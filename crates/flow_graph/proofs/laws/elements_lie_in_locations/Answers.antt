@@ -1,4 +1,4 @@
-use Rattle.flow_graph.proofs.Keeping.{reads_lie, writes_lie}
+use Rattle.flow_graph.proofs.GraphStateInvariants.{reads_lie, writes_lie}
 use Rattle.flow_graph.proofs.laws.elements_lie_in_locations.Goals as goal
 
 pub returns-clause-reads : goal.returns-clause-reads

@@ -1,4 +1,4 @@
-use Rattle.flow_graph.proofs.Keeping.{steps_go_along_edges}
+use Rattle.flow_graph.proofs.GraphStateInvariants.{steps_go_along_edges}
 use Rattle.flow_graph.proofs.Paths.{path_runs, length-solo_path}
 use Rattle.flow_graph.proofs.laws.solo_paths_are_runs.Goals as goal
 

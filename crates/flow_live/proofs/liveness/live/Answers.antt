@@ -3,8 +3,8 @@ use Rattle.flow_graph.specs.declared.graph.Node as code
 use Rattle.flow_graph.specs.Nodes.{graph_of}
 use Rattle.flow_graph.specs.Liveness.{IsLive}
 use Rattle.flow_graph.specs.LocalSets.{HasAt, AreLive}
-use Rattle.flow_live.specs.links.Passes.{AreLong, AreRead, Passes}
-use Rattle.flow_live.proofs.Reaching.{reached_first, reached_all, written}
+use Rattle.flow_live.specs.links.Passes.{AreLong, AreRead, IsLivenessPass}
+use Rattle.flow_live.proofs.LivenessFixpoint.{reached_first, reached_all, written}
 use Rattle.flow_live.proofs.liveness.live.Goals as goal
 
 pub loop-init : goal.loop-init
@@ -23,9 +23,9 @@ returns c =
     let before = c.loop.sets.items in
     let after = c.add_both_ways.new.sets in
     let grows = c.add_both_ways.result in
-    let passes : Passes nodes 0 before after grows =
-    subst (λ (ns : List code.Node). Passes ns 0 before after grows) c.deref-in-loop.ensures.value
-    (subst (λ (ss : List (List ℕ)). Passes c.deref-in-loop.result.now 0 ss after grows) c.deref_mut.ensures.value c.add_both_ways.ensures.passes) in
+    let passes : IsLivenessPass nodes 0 before after grows =
+    subst (λ (ns : List code.Node). IsLivenessPass ns 0 before after grows) c.deref-in-loop.ensures.value
+    (subst (λ (ss : List (List ℕ)). IsLivenessPass c.deref-in-loop.result.now 0 ss after grows) c.deref_mut.ensures.value c.add_both_ways.ensures.passes) in
     let count : length after ≡ c.loop.sets.len =
     omega (arith, c.add_both_ways.auto.sets, c.deref_mut.ensures.len, ap length c.deref_mut.ensures.value, c.loop.sets.ok.0) in
     let each : (node local : ℕ) → HasAt after node local ↔ IsLive g local node =

@@ -1,7 +1,7 @@
 use Rattle.std.proofs.Common.{length}
 use Rattle.flow_graph.specs.Nodes.{graph_of}
 use Rattle.flow_live.specs.links.Passes.{rooms}
-use Rattle.flow_live.proofs.Reaching.{Reached}
+use Rattle.flow_live.proofs.LivenessFixpoint.{Reached}
 use Rattle.flow_live.proofs.liveness.live.Given as goal
 
 abbrev pub invariant-loop : goal.invariant-loop

@@ -1,6 +1,6 @@
 use Rattle.std.proofs.Common.{◌≡◌, length}
-use Rattle.flow_live.specs.links.Passes.{Passes}
+use Rattle.flow_live.specs.links.Passes.{IsLivenessPass}
 use Rattle.flow_live.proofs.passes.add_backwards.Given as goal
 
 abbrev pub invariant-loop-number : goal.invariant-loop-number
-invariant-loop-number l = Passes l.nodes l.number l.fn.sets l.sets l.grows × (length l.coming ≡ length l.fn.coming)
+invariant-loop-number l = IsLivenessPass l.nodes l.number l.fn.sets l.sets l.grows × (length l.coming ≡ length l.fn.coming)

@@ -1,5 +1,5 @@
 use Rattle.std.proofs.Common.{length}
-use Rattle.flow_live.proofs.Reaching.{pass_second}
+use Rattle.flow_live.proofs.LivenessFixpoint.{pass_second}
 use Rattle.flow_live.proofs.passes.add_both_ways.Goals as goal
 
 pub returns-else-backwards-clause-passes : goal.returns-else-backwards-clause-passes

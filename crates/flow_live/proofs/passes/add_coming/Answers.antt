@@ -1,8 +1,8 @@
 use Rattle.std.proofs.Common.{◌≡◌, [], get_or}
 use Rattle.std.proofs.lemmas.List.{get_or_default}
 use Rattle.flow_graph.specs.Nodes.{node_of}
-use Rattle.flow_live.proofs.Collected.{grown}
-use Rattle.flow_live.proofs.Reaching.{adds}
+use Rattle.flow_live.proofs.CollectedSets.{grown}
+use Rattle.flow_live.proofs.LivenessFixpoint.{adds}
 use Rattle.flow_live.proofs.passes.add_coming.Goals as goal
 
 pub returns-clause-adds : goal.returns-clause-adds

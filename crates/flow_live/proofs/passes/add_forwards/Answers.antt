@@ -1,7 +1,7 @@
 use Rattle.std.proofs.Common.{◌≡◌, ◌<◌, Some, length, refl, ◌∙◌, arith}
 use Rattle.std.specs.Prelude.{slice_get}
 use Rattle.std.proofs.lemmas.Option.{slice_get_read}
-use Rattle.flow_live.proofs.Reaching.{again_grown, again_kept}
+use Rattle.flow_live.proofs.LivenessFixpoint.{again_grown, again_kept}
 use Rattle.flow_live.proofs.passes.add_forwards.Goals as goal
 use Rattle.flow_live.proofs.passes.add_forwards.Goals.{then-add_coming, else-add_coming}
 

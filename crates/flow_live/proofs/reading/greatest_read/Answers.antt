@@ -1,7 +1,7 @@
 use Rattle.std.proofs.Common.{◌≡◌, ◌<◌, Some, length, refl, arith}
 use Rattle.std.specs.Prelude.{slice_get}
 use Rattle.std.proofs.lemmas.Option.{slice_get_read, slice_get_within}
-use Rattle.flow_live.proofs.Pushed.{up_to_more}
+use Rattle.flow_live.proofs.ReadSets.{up_to_more}
 use Rattle.flow_live.proofs.reading.greatest_read.Goals as goal
 
 pub loop-node-preserved : goal.loop-node-preserved

@@ -1,5 +1,5 @@
 use Rattle.std.proofs.Common.{◌≡◌, ◌+◌, ◌/◌, length}
-use Rattle.flow_live.proofs.Pushed.{HasFirst}
+use Rattle.flow_live.proofs.ReadSets.{HasFirst}
 use Rattle.flow_live.proofs.reading.read_by.Given as goal
 
 abbrev pub invariant-loop-local : goal.invariant-loop-local

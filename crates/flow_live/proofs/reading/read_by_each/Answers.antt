@@ -2,7 +2,7 @@ use Rattle.std.proofs.Common.{◌≡◌, ◌+◌, ◌/◌, ◌<◌, ℕ, List, [
 use Rattle.std.specs.Prelude.{slice_get}
 use Rattle.std.proofs.lemmas.Option.{slice_get_read}
 use Rattle.flow_live.specs.links.Passes.{AreLong}
-use Rattle.flow_live.proofs.Pushed.{AreReadUpTo, read_none, read_more, read_all, long_none, long_more}
+use Rattle.flow_live.proofs.ReadSets.{AreReadUpTo, read_none, read_more, read_all, long_none, long_more}
 use Rattle.flow_live.proofs.reading.read_by_each.Goals as goal
 
 pub loop-node-init : goal.loop-node-init

@@ -1,6 +1,6 @@
 use Rattle.std.proofs.Common.{◌+◌, ◌/◌}
 use Rattle.flow_live.specs.links.Passes.{AreLong}
-use Rattle.flow_live.proofs.Pushed.{AreReadUpTo}
+use Rattle.flow_live.proofs.ReadSets.{AreReadUpTo}
 use Rattle.flow_live.proofs.reading.read_by_each.Given as goal
 
 abbrev pub invariant-loop-node : goal.invariant-loop-node

@@ -6,7 +6,7 @@ use Rattle.flow_graph.specs.Lowering.{count, statements_count, arms_count}
 use Rattle.c_tree.specs.declared.flat.Statement.{Statement}
 use Rattle.c_tree.specs.declared.flat.Arm.{Arm}
 use Rattle.c_tree.specs.Flats.{statement_of, statements_of, arms_list_of}
-use Rattle.c_tree.proofs.FlatRows.{of_while, of_do, of_if}
+use Rattle.c_tree.proofs.Public.{flat_rows_of_while as of_while, flat_rows_of_do as of_do, flat_rows_of_if as of_if}
 use Rattle.flow_lower.proofs.counts.+counts.Goals as goal
 
 abbrev counted : List Statement → ℕ

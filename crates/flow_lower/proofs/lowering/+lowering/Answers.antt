@@ -4,18 +4,18 @@ use Rattle.c_tree.specs.Exprs.{placed_of}
 use Rattle.c_tree.specs.Flats as f
 use Rattle.c_tree.specs.declared.flat.Statement.{Statement}
 use Rattle.c_tree.specs.declared.flat.Arm.{Arm}
-use Rattle.c_tree.proofs.FlatRows.{of_while, of_do, of_if}
+use Rattle.c_tree.proofs.Public.{flat_rows_of_while as of_while, flat_rows_of_do as of_do, flat_rows_of_if as of_if}
 use Rattle.flow_graph.specs.Lowering.{entry, statement_nodes, statements_nodes, arms_nodes, arms_count, statements_count}
 use Rattle.flow_lower.specs.links.Growth.{Adds}
-use Rattle.flow_lower.proofs.Growing as g
+use Rattle.flow_lower.proofs.AddedNodes as g
 use Rattle.flow_lower.proofs.lowering.+lowering.Goals as goal
 
 pub lower_all-loop-statement-preserved : goal.lower_all-loop-statement-preserved
 lower_all-loop-statement-preserved t c =
     g.next_statement c.args.nodes.now.items c.loop-statement.nodes.items c.lower_statement.new.nodes.items c.args.statements.now
     c.loop-statement.statement-index c.statement-item.result c.args.next
-    c.in_ok-end.end c.in_ok-behind.behind c.entry.result (omega arith) c.statement-item.is c.loop-statement.invariant
-    (omega (arith, c.in_ok-behind.ensures, c.len-in-loop-statement.ensures, c.loop-statement.nodes.ok.0, c.in_ok-own.ensures)) c.entry.ensures
+    c.in_ok-end.end c.in_ok-following.following c.entry.result (omega arith) c.statement-item.is c.loop-statement.invariant
+    (omega (arith, c.in_ok-following.ensures, c.len-in-loop-statement.ensures, c.loop-statement.nodes.ok.0, c.in_ok-own.ensures)) c.entry.ensures
     c.in_ok-lower_statement.ensures
 
 pub lower_all-returns : goal.lower_all-returns
@@ -32,13 +32,13 @@ lower_arms-loop-arm-preserved t c =
     c.loop-arm.arm-index x c.deref-in-loop-arm.result.now c.in_ok-end.end (omega arith) c.arm-item.is c.deref-in-loop-arm.ensures.value c.loop-arm.invariant
     (record {
       inside = c.in_ok-inside.inside;
-      behind = c.in_ok-behind.behind;
+      following = c.in_ok-following.following;
       holds = c.entry-holds.result;
       fails = c.entry-fails.result;
       node = c.in_ok-test.field-0;
       first = omega (arith, c.in_ok-inside.ensures, c.len-in-loop-arm.ensures, c.loop-arm.nodes.ok.0);
       then =
-          c.in_ok-behind.ensures ∙ ap (λ (n : ℕ). c.in_ok-inside.inside + n)
+          c.in_ok-following.ensures ∙ ap (λ (n : ℕ). c.in_ok-inside.inside + n)
           (c.in_ok-count.ensures ∙ ap (λ (ys : List Statement). statements_count (f.statements_of ys)) same);
       to_body = c.entry-holds.ensures;
       to_rest = c.entry-fails.ensures;

@@ -1,6 +1,6 @@
 use Rattle.std.proofs.Common.{drop}
 use Rattle.c_tree.specs.Flats.{statements_of, arms_list_of}
-use Rattle.flow_lower.proofs.Growing.{StatementsLeft, ArmsLeft}
+use Rattle.flow_lower.proofs.AddedNodes.{StatementsLeft, ArmsLeft}
 use Rattle.flow_lower.proofs.lowering.+lowering.Given as goal
 
 abbrev pub invariant-lower_all-loop-statement : goal.invariant-lower_all-loop-statement

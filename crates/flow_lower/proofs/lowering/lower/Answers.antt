@@ -1,7 +1,7 @@
 use Rattle.std.proofs.Common.{◌≡◌, ◌<◌, ◌≤◌, ◌∙◌, List, length, get_or, ap, ap₂, arith}
 use Rattle.c_tree.specs.declared.flat.Thread.{Thread}
 use Rattle.flow_graph.specs.Lowering.{lowered}
-use Rattle.flow_lower.proofs.Growing as g
+use Rattle.flow_lower.proofs.AddedNodes as g
 use Rattle.flow_lower.proofs.lowering.lower.Goals as goal
 
 pub loop-thread-preserved : goal.loop-thread-preserved

@@ -1,6 +1,6 @@
 use Rattle.std.proofs.Common.{drop, map}
 use Rattle.c_tree.specs.Flats.{thread_of}
-use Rattle.flow_lower.proofs.Growing.{ThreadsLeft}
+use Rattle.flow_lower.proofs.AddedNodes.{ThreadsLeft}
 use Rattle.flow_lower.proofs.lowering.lower.Given as goal
 
 abbrev pub invariant-loop-thread : goal.invariant-loop-thread

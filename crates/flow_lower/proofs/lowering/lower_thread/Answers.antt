@@ -2,8 +2,8 @@ use Rattle.std.proofs.Common.{◌≡◌, ℕ, suc, ◌+◌, List, length, ap, ar
 use Rattle.c_tree.specs.Flats as f
 use Rattle.c_tree.specs.declared.flat.Statement.{Statement}
 use Rattle.flow_graph.specs.Lowering.{statements_count}
-use Rattle.flow_graph.proofs.Counted.{length-statements_nodes}
-use Rattle.flow_lower.proofs.Growing as g
+use Rattle.flow_graph.proofs.Public.{length-statements_nodes}
+use Rattle.flow_lower.proofs.AddedNodes as g
 use Rattle.flow_lower.proofs.lowering.lower_thread.Goals as goal
 
 pub returns-clause-part : goal.returns-clause-part

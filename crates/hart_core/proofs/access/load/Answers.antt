@@ -3,7 +3,7 @@ use Rattle.ido_base.specs.Words.{Word, loaded}
 use Rattle.ido_base.specs.Layout.{byte_number}
 use Rattle.rv64_isa.specs.Rows.{load_bytes, load_signed}
 use Rattle.hart_core.proofs.Accesses.{load_refused, load_step}
-use Rattle.line_memory.specs.links.Stands.{Stands, threads_of}
+use Rattle.line_memory.specs.links.MemoryRepresentation.{Represents, threads_of}
 use Rattle.hart_core.specs.links.Refusals.{refusal}
 use Rattle.hart_core.proofs.access.load.Goals as goal
 
@@ -20,5 +20,5 @@ returns c =
     (load_step number c.args.address (load_bytes c.args.kind) c.args.register c.load.result (load_signed c.args.kind) phase c.args.hart.now c.args.memory.now
     locks (subst (λ (n : ℕ). refusal (threads_of c.args.memory.now) c.args.address n ≡ None) c.load_width-bytes.ensures
     (sym c.refused.ensures.cause ∙ c.in_default.is))
-    (subst (λ (n : ℕ). (words : List Word) → Stands c.args.memory.now words → c.load.result ≡ loaded words (byte_number c.args.address) n)
+    (subst (λ (n : ℕ). (words : List Word) → Represents c.args.memory.now words → c.load.result ≡ loaded words (byte_number c.args.address) n)
     c.load_width-bytes.ensures c.load.ensures.value))

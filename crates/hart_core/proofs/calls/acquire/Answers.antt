@@ -1,6 +1,6 @@
 use Rattle.std.proofs.Common.{Some, ap, ◌∙◌, arith}
 use Rattle.std.proofs.lemmas.Bool.{OnTrue_at}
-use Rattle.hart_core.proofs.Holding.{acquire_no_lock, acquire_waits, acquire_takes}
+use Rattle.hart_core.proofs.LockSteps.{acquire_no_lock, acquire_waits, acquire_takes}
 use Rattle.hart_core.proofs.calls.acquire.Goals as goal
 
 pub returns-then-lock-from-clause-step : goal.returns-then-lock-from-clause-step

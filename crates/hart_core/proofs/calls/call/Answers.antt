@@ -1,5 +1,5 @@
 use Rattle.std.proofs.Common.{arith, refl}
-use Rattle.hart_core.proofs.Holding.{call_step, no_call_step}
+use Rattle.hart_core.proofs.LockSteps.{call_step, no_call_step}
 use Rattle.hart_core.proofs.calls.call.Goals as goal
 
 pub returns-in-1-clause-step : goal.returns-in-1-clause-step

@@ -1,5 +1,5 @@
 use Rattle.std.proofs.Common.{sym, ◌∙◌}
-use Rattle.hart_core.proofs.Holding.{end_step, end_holding}
+use Rattle.hart_core.proofs.LockSteps.{end_step, end_holding}
 use Rattle.hart_core.proofs.calls.end.Goals as goal
 
 pub returns-in-Some-clause-step : goal.returns-in-Some-clause-step

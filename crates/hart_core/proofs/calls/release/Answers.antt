@@ -1,5 +1,5 @@
 use Rattle.std.proofs.Common.{sym, ◌∙◌, arith}
-use Rattle.hart_core.proofs.Holding.{release_no_lock, release_not_held, release_gives, other_holder, own_holder}
+use Rattle.hart_core.proofs.LockSteps.{release_no_lock, release_not_held, release_gives, other_holder, own_holder}
 use Rattle.hart_core.proofs.calls.release.Goals as goal
 
 pub returns-then-lock-from-clause-step : goal.returns-then-lock-from-clause-step

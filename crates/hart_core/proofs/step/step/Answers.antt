@@ -1,6 +1,6 @@
 use Rattle.std.proofs.Common.{Some, sym, ap, ◌∙◌}
 use Rattle.hart_core.specs.Effects.{effect_in}
-use Rattle.hart_core.proofs.Holding.{no_code_step, illegal_step, row_step}
+use Rattle.hart_core.proofs.LockSteps.{no_code_step, illegal_step, row_step}
 use Rattle.hart_core.proofs.step.step.Goals as goal
 
 pub returns-in-None-clause-step : goal.returns-in-None-clause-step

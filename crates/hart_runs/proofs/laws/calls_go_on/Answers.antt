@@ -1,4 +1,4 @@
-use Rattle.hart_runs.proofs.Calling.{acquires_take, acquires_wait, releases_give, ends_end}
+use Rattle.hart_runs.proofs.CallSteps.{acquires_take, acquires_wait, releases_give, ends_end}
 use Rattle.hart_runs.proofs.laws.calls_go_on.Goals as goal
 
 pub returns-clause-takes : goal.returns-clause-takes

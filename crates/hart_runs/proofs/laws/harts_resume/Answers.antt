@@ -1,5 +1,5 @@
-use Rattle.hart_runs.proofs.Crashing.{crashes_step}
-use Rattle.hart_runs.proofs.Recovering.{takes_step, waits_step, resumes_step, stopped_stay}
+use Rattle.hart_runs.proofs.WorldAfterCrash.{crashes_step}
+use Rattle.hart_runs.proofs.RecoverySteps.{takes_step, waits_step, resumes_step, stopped_stay}
 use Rattle.hart_runs.proofs.laws.harts_resume.Goals as goal
 
 pub returns-clause-crashes : goal.returns-clause-crashes

@@ -1,8 +1,8 @@
-use Rattle.hart_runs.proofs.Memory.{raised_agrees, beside_agrees, forward_agrees, drains_agree, evictions_agree}
+use Rattle.hart_runs.proofs.Memory.{persisted_agrees, beside_agrees, forward_agrees, drains_agree, evictions_agree}
 use Rattle.hart_runs.proofs.laws.memory_agrees.Goals as goal
 
-pub returns-clause-raised : goal.returns-clause-raised
-returns-clause-raised c = raised_agrees
+pub returns-clause-persisted : goal.returns-clause-persisted
+returns-clause-persisted c = persisted_agrees
 
 pub returns-clause-beside : goal.returns-clause-beside
 returns-clause-beside c = beside_agrees

@@ -1,4 +1,4 @@
-use Rattle.hart_runs.proofs.Others.{others_leave, others_keep_runs}
+use Rattle.hart_runs.proofs.OtherEventsKeepRuns.{others_leave, others_keep_runs}
 use Rattle.hart_runs.proofs.laws.others_keep_runs.Goals as goal
 
 pub returns-clause-hart : goal.returns-clause-hart

@@ -1,4 +1,4 @@
-use Rattle.hart_runs.proofs.Reaching.{forward_reaches, drains_reach, others_reach, cleans_reach_now, fences_settle}
+use Rattle.hart_runs.proofs.QueuePersistence.{forward_reaches, drains_reach, others_reach, cleans_reach_now, fences_settle}
 use Rattle.hart_runs.proofs.laws.queues_reach.Goals as goal
 
 pub returns-clause-forward : goal.returns-clause-forward

@@ -1,4 +1,4 @@
-use Rattle.hart_runs.proofs.Others.{runs_begin, moved_harts_begin, runs_join, runs_split, runs_stay_on}
+use Rattle.hart_runs.proofs.OtherEventsKeepRuns.{runs_begin, moved_harts_begin, runs_join, runs_split, runs_stay_on}
 use Rattle.hart_runs.proofs.laws.runs_join.Goals as goal
 
 pub returns-clause-begin : goal.returns-clause-begin

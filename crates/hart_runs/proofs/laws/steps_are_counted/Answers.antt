@@ -1,4 +1,4 @@
-use Rattle.hart_runs.proofs.Counting.{calls_count}
+use Rattle.hart_runs.proofs.CallCounts.{calls_count}
 use Rattle.hart_runs.proofs.laws.steps_are_counted.Goals as goal
 
 pub returns-clause-calls : goal.returns-clause-calls

@@ -1,4 +1,4 @@
-use Rattle.hart_runs.proofs.Going.{steps_go_on}
+use Rattle.hart_runs.proofs.RunStepEffects.{steps_go_on}
 use Rattle.hart_runs.proofs.laws.steps_go_on.Goals as goal
 
 pub returns : goal.returns

@@ -1,4 +1,4 @@
-use Rattle.ido_cli.proofs.Lists.{plays}
+use Rattle.ido_cli.proofs.InputAnswers.{plays}
 use Rattle.ido_cli.proofs.answer.scripted_input.Goals as goal
 
 pub returns : goal.returns

@@ -1,4 +1,4 @@
-use Rattle.ido_cli.proofs.Lists.{runs}
+use Rattle.ido_cli.proofs.InputAnswers.{runs}
 use Rattle.ido_cli.proofs.answer.source_input.Goals as goal
 
 pub returns : goal.returns

@@ -2,8 +2,8 @@ use Rattle.std.proofs.Common.{◌≡◌, ◌++◌, ◌∷◌, [], ◌∙◌, ap,
 use Rattle.std.specs.Iterator.Adapters.{zip_first, zip_second}
 use Rattle.std.specs.Slice.Iter.{iter_rest}
 use Rattle.std.proofs.lemmas.Slice.Zip.{zip_end, zip_turn}
-use Rattle.variable_layout.proofs.Laying.{length-variables}
-use Rattle.run_tracker.specs.Lives.{world_of}
+use Rattle.variable_words.proofs.Public.{length-shapes}
+use Rattle.run_tracker.specs.ObjectLives.{world_of}
 use Rattle.run_scripts.specs.declared.report.Variable as found
 use Rattle.run_scripts.specs.links.ReportViews as views
 use Rattle.ido_cli.proofs.DurableNumbers.{IsSoFar, named_from, named_start, variable_fits, variables_more, variables_whole}
@@ -55,4 +55,4 @@ returns c =
     c.into_iter-variable-iterator.result c.loop-variable.variable-iterator
     c.next.new.self c.next.result first second c.loop-variable.yielded_by c.in-None.is c.next.ensures.steps in
     variables_whole (world_of c.args.life.now).words c.args.declared.now (length c.loop-variable.yielded) c.loop-variable.found.items
-    (omega (arith, all, c.in_ok-addresses.ensures.count, length-variables c.args.declared.now)) c.loop-variable.invariant
+    (omega (arith, all, c.in_ok-addresses.ensures.count, length-shapes c.args.declared.now)) c.loop-variable.invariant

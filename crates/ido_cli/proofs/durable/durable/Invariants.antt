@@ -1,5 +1,5 @@
 use Rattle.std.proofs.Common.{length}
-use Rattle.run_tracker.specs.Lives.{world_of}
+use Rattle.run_tracker.specs.ObjectLives.{world_of}
 use Rattle.ido_cli.proofs.DurableNumbers.{IsSoFar}
 use Rattle.ido_cli.proofs.durable.durable.Given as goal
 

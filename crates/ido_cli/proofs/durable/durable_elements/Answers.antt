@@ -5,7 +5,7 @@ use Rattle.std.proofs.lemmas.Int.{to_z-of_z}
 use Rattle.ido_base.specs.Words.{durable_value}
 use Rattle.c_tree.specs.Programs.{variable_of}
 use Rattle.c_tree.specs.WellFormed.{elements_in}
-use Rattle.run_tracker.specs.Lives.{world_of}
+use Rattle.run_tracker.specs.ObjectLives.{world_of}
 use Rattle.variable_words.specs.Variables.{number_of_byte}
 use Rattle.ido_cli.specs.Reports.{durable_elements}
 use Rattle.ido_cli.proofs.DurableNumbers.{element_number, elements_more}

@@ -1,4 +1,4 @@
-use Rattle.ido_cli.proofs.Single.{one_answer}
+use Rattle.ido_cli.proofs.UniqueAnswers.{one_answer}
 use Rattle.ido_cli.proofs.laws.one_answer.Goals as goal
 
 pub returns : goal.returns

@@ -1,8 +1,8 @@
 use Rattle.std.proofs.Common.{◌≡◌, ◌⊎◌, ◌<◌, ◌≤◌, ◌+◌, true, false, length, ap, sym, ◌∙◌, subst, arith, inl, inr, rules}
 use Rattle.ido_base.specs.declared.event.Event.TheVariants.{Step}
 use Rattle.rv64_isa.specs.Machine.{World, after_events}
-use Rattle.run_tracker.specs.Lives.{Course, is_stopped, opening_of, with_event}
-use Rattle.ido_cli.proofs.Turns.{AreMade, above, all_made, beside, made_until, none_more, one_more, one_round_more, same_made, same_world, sound_behind}
+use Rattle.run_tracker.specs.ObjectLives.{Course, is_stopped, opening_of, with_event}
+use Rattle.ido_cli.proofs.Turns.{AreMade, above, all_made, beside, made_until, none_more, one_more, one_round_more, same_made, same_world, sound_after}
 use Rattle.ido_cli.proofs.leg.leg.Goals.{then-events-lt-MOST_LEG_EVENTS+then-not-stopped, else-events-lt-MOST_LEG_EVENTS}
 use Rattle.ido_cli.proofs.leg.leg.Goals.{else-events-lt-MOST_LEG_EVENTS-via-then-events-lt-MOST_LEG_EVENTS+else-not-stopped}
 use Rattle.ido_cli.proofs.leg.leg.Goals.{else-events-lt-MOST_LEG_EVENTS-via-else-events-lt-MOST_LEG_EVENTS}
@@ -22,7 +22,7 @@ loop-hart-preserved c =
     elim c.if-events-lt-MOST_LEG_EVENTS.branch [
       | then-events-lt-MOST_LEG_EVENTS+then-not-stopped w ↦
           let is : now ≡ with_event life (Step k) = w.life-is ∙ w.event.ensures.life in
-          let sound = sound_behind old c.requires.begins c.requires.harts c.requires.sound life.journal in
+          let sound = sound_after old c.requires.begins c.requires.harts c.requires.sound life.journal in
           let within : k < harts = omega (arith, c.loop-hart-test.true, inv.end) in
           let few : length life.journal < 3999000 = omega (arith, w.if-events-lt-MOST_LEG_EVENTS, c.events.ensures) in
           let no : w.stopped.result ≡ false = search (rules, w.if-not-stopped) in

@@ -1,5 +1,5 @@
 use Rattle.std.proofs.Common.{◌≡◌, ◌<◌, length}
-use Rattle.run_tracker.specs.Lives.{opening_of}
+use Rattle.run_tracker.specs.ObjectLives.{opening_of}
 use Rattle.ido_cli.proofs.Turns.{AreMade, made_until}
 use Rattle.ido_cli.proofs.leg.leg.Given as goal
 

@@ -1,10 +1,11 @@
+use Rattle.file_fields.specs.declared.error.ReadError.{ReadError}
+use Rattle.file_fields.specs.Fields.{Magic, Version, Cut, Field, Rest}
+use Rattle.file_fields.specs.links.ReaderResults.{Fails}
 use Rattle.object_format.specs.Contents.{contents_of}
-use Rattle.object_format.specs.Reading.{Magic, Version, Cut, Field, Rest, read}
-use Rattle.object_format.specs.declared.error.ReadError.{ReadError}
-use Rattle.object_format.specs.links.Gives.{Fails}
+use Rattle.object_format.specs.ObjectDecoder.{read}
 use Rattle.std.proofs.Common.{refl, subst}
 use Rattle.ido_cli.specs.Answers.{of_object}
-use Rattle.ido_cli.proofs.Lists.{refuses}
+use Rattle.ido_cli.proofs.InputAnswers.{refuses}
 use Rattle.ido_cli.proofs.list.list_answer.Goals as goal
 
 pub returns-in_ok-output-in-Ok : goal.returns-in_ok-output-in-Ok

@@ -1,5 +1,5 @@
 use Rattle.std.proofs.Common.{◌≡◌, ◌+◌, ◌*◌, ◌++◌, drop}
-use Rattle.ido_cli.specs.Listing.{word_lines}
+use Rattle.ido_cli.specs.ObjectListing.{word_lines}
 use Rattle.ido_cli.proofs.listing.put_words.Given as goal
 
 abbrev pub invariant-loop-word : goal.invariant-loop-word

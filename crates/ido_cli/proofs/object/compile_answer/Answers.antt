@@ -7,12 +7,13 @@ use Rattle.ido_cli.proofs.RefusedSources.{compile_refused}
 use Rattle.ido_cli.proofs.object.compile_answer.Goals as goal
 
 pub write_object-requires : goal.write_object-requires
-write_object-requires c = four_bytes_tell c.in-Ok.compiled.object c.in-Ok.ensures.translated.limits
+write_object-requires c = four_bytes_tell c.in-Ok.compiled.translated.object c.in-Ok.ensures.translated.limits
 
 pub returns-in_ok-output-in-Ok : goal.returns-in_ok-output-in-Ok
 returns-in_ok-output-in-Ok c =
     let it = c.in-Ok.compiled in
-    compiled (flat_of it.flat) c.in-Ok.ensures.accepted it.object it.marks it.cuts c.in-Ok.ensures.translated refl c.in_ok-output-in-Ok.ensures
+    let y = it.translated in
+    compiled (flat_of it.flat) c.in-Ok.ensures.accepted y.object y.marks y.cuts c.in-Ok.ensures.translated refl c.in_ok-output-in-Ok.ensures
 
 pub returns-in-Err : goal.returns-in-Err
 returns-in-Err c =

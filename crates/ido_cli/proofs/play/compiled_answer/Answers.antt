@@ -3,14 +3,14 @@ use Rattle.std.proofs.lemmas.Result.{IfOk-weaker}
 use Rattle.c_tree.specs.Flats.{flat_of}
 use Rattle.run_scripts.specs.links.ScriptViews as scripts
 use Rattle.std.specs.Prelude.{map}
-use Rattle.ido_compile.specs.Compiling.{translation_in}
+use Rattle.ido_compile.specs.CompileAnswers.{translation_in}
 use Rattle.ido_cli.specs.Inputs.{source_of}
 use Rattle.ido_cli.specs.Plays.{ScriptAnswer}
-use Rattle.ido_cli.specs.links.Asking.{Says}
-use Rattle.ido_cli.proofs.Played.{as_many_threads}
-use Rattle.ido_cli.proofs.Rests.{rest_short}
+use Rattle.ido_cli.specs.links.RunRequests.{Says}
+use Rattle.ido_cli.proofs.PlayedRuns.{as_many_threads}
+use Rattle.ido_cli.proofs.RestLengths.{rest_short}
 use Rattle.ido_cli.proofs.ScriptAnswers.{script_fault_answer, script_run_answer}
-use Rattle.ido_cli.proofs.Stops.{both_ok}
+use Rattle.ido_cli.proofs.RefusedSchedules.{both_ok}
 use Rattle.ido_cli.proofs.play.compiled_answer.Goals as goal
 
 pub read_script-requires : goal.read_script-requires
@@ -25,17 +25,18 @@ script_answer-requires-clause-short_source c = omega (arith, c.requires.short_so
 pub returns-in-Ok : goal.returns-in-Ok
 returns-in-Ok c =
     let x = c.args.compiled.now in
-    let threads = as_many_threads (flat_of x.flat) x.object x.marks x.cuts c.requires.compiled.translated in
-    let many : c.len.result ≡ length x.object.code.items = omega (arith, c.len.ensures, c.args.compiled.now.object.code.ok) in
+    let y = x.translated in
+    let threads = as_many_threads (flat_of x.flat) y.object y.marks y.cuts c.requires.compiled.translated in
+    let many : c.len.result ≡ length y.object.code.items = omega (arith, c.len.ensures, c.args.compiled.now.translated.object.code.ok) in
     IfOk-weaker c.script_answer.result _ _
     (λ said is.
     script_run_answer c.args.input.now c.args.rest.now (flat_of x.flat) _ c.requires.rest (many ∙ threads) c.requires.compiled.accepted
     (Says c.args.asked (source_of c.args.input.now)) (map scripts.line_of c.in-Ok.script.lines.items) (translation_in x) said.status said.output.items
     c.in-Ok.ensures.lines
     (record {
-      object = x.object;
-      marks = x.marks;
-      cuts = x.cuts;
+      object = y.object;
+      marks = y.marks;
+      cuts = y.cuts;
       translated = c.requires.compiled.translated;
       compilation = c.requires.compiled.compilation;
       is = refl;
@@ -49,8 +50,9 @@ returns-in-Ok c =
 pub returns-in-Err : goal.returns-in-Err
 returns-in-Err c =
     let x = c.args.compiled.now in
-    let threads = as_many_threads (flat_of x.flat) x.object x.marks x.cuts c.requires.compiled.translated in
-    let many : c.len.result ≡ length x.object.code.items = omega (arith, c.len.ensures, c.args.compiled.now.object.code.ok) in
+    let y = x.translated in
+    let threads = as_many_threads (flat_of x.flat) y.object y.marks y.cuts c.requires.compiled.translated in
+    let many : c.len.result ≡ length y.object.code.items = omega (arith, c.len.ensures, c.args.compiled.now.translated.object.code.ok) in
     IfOk-weaker c.script_refused.result _ _
     (λ said both.
     script_fault_answer c.args.input.now c.args.rest.now (flat_of x.flat) _ c.requires.rest (many ∙ threads) c.requires.compiled.accepted

@@ -5,22 +5,22 @@ use Rattle.std.specs.Prelude.{codes}
 use Rattle.c_tree.specs.Flats.{flat_of, thread_of}
 use Rattle.rv64_isa.specs.Programs.{slot_of}
 use Rattle.run_scripts.specs.links.ScriptViews as scripts
-use Rattle.run_tracker.specs.Lives.{Course}
+use Rattle.run_tracker.specs.ObjectLives.{Course}
 use Rattle.ido_cli.specs.declared.play.Asked.{Asked}
-use Rattle.ido_cli.specs.Images.{IsImageBehind}
+use Rattle.ido_cli.specs.Images.{IsImageAfter}
 use Rattle.ido_cli.specs.Plays.{events_by, ran}
 use Rattle.ido_cli.specs.Refusals.{line_at}
-use Rattle.ido_compile.specs.Compiling.{translation_in}
-use Rattle.ido_cli.specs.links.Asking.{Says}
-use Rattle.ido_cli.proofs.Imaged.{image_behind, logs_few, same_variables, steps_few, variables_few, variables_within}
-use Rattle.ido_cli.proofs.Played.{as_many_threads, fits, harts_of_life, has_played, has_room, passed_at, refused, run_by}
+use Rattle.ido_compile.specs.CompileAnswers.{translation_in}
+use Rattle.ido_cli.specs.links.RunRequests.{Says}
+use Rattle.ido_cli.proofs.RunImages.{image_after, logs_few, same_variables, steps_few, variables_few, variables_within}
+use Rattle.ido_cli.proofs.PlayedRuns.{as_many_threads, fits, harts_of_life, has_played, has_room, passed_at, refused, run_by}
 use Rattle.ido_cli.proofs.ScriptAnswers.{all_doable}
-use Rattle.ido_cli.proofs.Stops.{both_ok}
+use Rattle.ido_cli.proofs.RefusedSchedules.{both_ok}
 use Rattle.ido_cli.proofs.play.script_answer.Goals as goal
 
 pub play-requires-clause-lines : goal.play-requires-clause-lines
 play-requires-clause-lines c =
-    let object = c.args.compiled.now.object in
+    let object = c.args.compiled.now.translated.object in
     all_doable (length object.code.items) (length c.in_ok-life.life.program) c.args.script.now.lines.items
     (sym (length-map object.code.items (λ code. map slot_of code.items)) ∙ ap (λ (life : Course). length life.program) (sym c.in_ok-life.ensures))
     c.requires.doable
@@ -33,112 +33,123 @@ play-requires-clause-room c =
 pub say-requires-clause-few : goal.say-requires-clause-few
 say-requires-clause-few c =
     let x = c.args.compiled.now in
-    let threads = as_many_threads (flat_of x.flat) x.object x.marks x.cuts c.requires.translated in
+    let y = x.translated in
+    let threads = as_many_threads (flat_of x.flat) y.object y.marks y.cuts c.requires.translated in
     omega (arith, c.requires.translated.limits.threads, threads, length-map x.flat.threads.items thread_of)
 
 pub say-requires-clause-room : goal.say-requires-clause-room
 say-requires-clause-room c =
     let x = c.args.compiled.now in
-    has_room (flat_of x.flat) x.object x.marks x.cuts c.requires.translated
+    let y = x.translated in
+    has_room (flat_of x.flat) y.object y.marks y.cuts c.requires.translated
 
 pub say-requires-clause-harts : goal.say-requires-clause-harts
 say-requires-clause-harts c =
     let x = c.args.compiled.now in
+    let y = x.translated in
     let lines = map scripts.line_of c.args.script.now.lines.items in
-    let played = has_played (flat_of x.flat) x.object x.marks x.cuts lines 4000000 4000000 c.in_ok-life.life c.in_ok-life.ensures c.play.new.core
+    let played = has_played (flat_of x.flat) y.object y.marks y.cuts lines 4000000 4000000 c.in_ok-life.life c.in_ok-life.ensures c.play.new.core
     c.play.ensures.opening c.play.ensures.events c.in-Ok.ensures.whole in
-    harts_of_life (flat_of x.flat) x.object x.marks x.cuts c.play.new.core _ played
+    harts_of_life (flat_of x.flat) y.object y.marks y.cuts c.play.new.core _ played
 
 pub image-requires-clause-variables : goal.image-requires-clause-variables
 image-requires-clause-variables c =
     let x = c.args.compiled.now in
+    let y = x.translated in
     let flat = flat_of x.flat in
     let lines = map scripts.line_of c.args.script.now.lines.items in
-    let played = has_played flat x.object x.marks x.cuts lines 4000000 4000000 c.in_ok-life.life c.in_ok-life.ensures c.play.new.core c.play.ensures.opening
+    let played = has_played flat y.object y.marks y.cuts lines 4000000 4000000 c.in_ok-life.life c.in_ok-life.ensures c.play.new.core c.play.ensures.opening
     c.play.ensures.events c.in-Ok.ensures.whole in
-    variables_few flat x.object x.marks x.cuts c.play.new.core _ played c.requires.translated c.requires.compilation
+    variables_few flat y.object y.marks y.cuts c.play.new.core _ played c.requires.translated c.requires.compilation
 
 pub image-requires-clause-object : goal.image-requires-clause-object
 image-requires-clause-object c =
     let x = c.args.compiled.now in
+    let y = x.translated in
     let flat = flat_of x.flat in
     let lines = map scripts.line_of c.args.script.now.lines.items in
-    let played = has_played flat x.object x.marks x.cuts lines 4000000 4000000 c.in_ok-life.life c.in_ok-life.ensures c.play.new.core c.play.ensures.opening
+    let played = has_played flat y.object y.marks y.cuts lines 4000000 4000000 c.in_ok-life.life c.in_ok-life.ensures c.play.new.core c.play.ensures.opening
     c.play.ensures.events c.in-Ok.ensures.whole in
-    same_variables flat x.object x.marks x.cuts c.play.new.core _ played
+    same_variables flat y.object y.marks y.cuts c.play.new.core _ played
 
 pub image-requires-clause-within : goal.image-requires-clause-within
 image-requires-clause-within c =
     let x = c.args.compiled.now in
+    let y = x.translated in
     let flat = flat_of x.flat in
     let lines = map scripts.line_of c.args.script.now.lines.items in
-    let played = has_played flat x.object x.marks x.cuts lines 4000000 4000000 c.in_ok-life.life c.in_ok-life.ensures c.play.new.core c.play.ensures.opening
+    let played = has_played flat y.object y.marks y.cuts lines 4000000 4000000 c.in_ok-life.life c.in_ok-life.ensures c.play.new.core c.play.ensures.opening
     c.play.ensures.events c.in-Ok.ensures.whole in
-    variables_within flat x.object x.marks x.cuts c.play.new.core _ played c.requires.translated c.requires.compilation
+    variables_within flat y.object y.marks y.cuts c.play.new.core _ played c.requires.translated c.requires.compilation
 
 pub image-requires-clause-logs : goal.image-requires-clause-logs
 image-requires-clause-logs c =
     let x = c.args.compiled.now in
+    let y = x.translated in
     let flat = flat_of x.flat in
     let lines = map scripts.line_of c.args.script.now.lines.items in
-    let played = has_played flat x.object x.marks x.cuts lines 4000000 4000000 c.in_ok-life.life c.in_ok-life.ensures c.play.new.core c.play.ensures.opening
+    let played = has_played flat y.object y.marks y.cuts lines 4000000 4000000 c.in_ok-life.life c.in_ok-life.ensures c.play.new.core c.play.ensures.opening
     c.play.ensures.events c.in-Ok.ensures.whole in
-    logs_few flat x.object x.marks x.cuts c.play.new.core _ played c.requires.translated c.requires.compilation
+    logs_few flat y.object y.marks y.cuts c.play.new.core _ played c.requires.translated c.requires.compilation
 
 pub image-requires-clause-schedule : goal.image-requires-clause-schedule
 image-requires-clause-schedule c =
     let x = c.args.compiled.now in
+    let y = x.translated in
     let flat = flat_of x.flat in
     let lines = map scripts.line_of c.args.script.now.lines.items in
-    let played = has_played flat x.object x.marks x.cuts lines 4000000 4000000 c.in_ok-life.life c.in_ok-life.ensures c.play.new.core c.play.ensures.opening
+    let played = has_played flat y.object y.marks y.cuts lines 4000000 4000000 c.in_ok-life.life c.in_ok-life.ensures c.play.new.core c.play.ensures.opening
     c.play.ensures.events c.in-Ok.ensures.whole in
-    let fit = fits flat x.object x.marks x.cuts lines 4000000 4000000 c.in_ok-life.life c.in_ok-life.ensures c.in-Ok.ensures.whole in
-    omega (arith, fit, steps_few flat x.object x.marks x.cuts c.play.new.core _ played)
+    let fit = fits flat y.object y.marks y.cuts lines 4000000 4000000 c.in_ok-life.life c.in_ok-life.ensures c.in-Ok.ensures.whole in
+    omega (arith, fit, steps_few flat y.object y.marks y.cuts c.play.new.core _ played)
 
 pub returns-in-Report : goal.returns-in-Report
 returns-in-Report c =
     let x = c.args.compiled.now in
+    let y = x.translated in
     let flat = flat_of x.flat in
     let lines = map scripts.line_of c.args.script.now.lines.items in
     let life = c.play.new.core in
-    let played = has_played flat x.object x.marks x.cuts lines 4000000 4000000 c.in_ok-life.life c.in_ok-life.ensures life c.play.ensures.opening
+    let played = has_played flat y.object y.marks y.cuts lines 4000000 4000000 c.in_ok-life.life c.in_ok-life.ensures life c.play.ensures.opening
     c.play.ensures.events c.in-Ok.ensures.whole in
-    let fit = fits flat x.object x.marks x.cuts lines 4000000 4000000 c.in_ok-life.life c.in_ok-life.ensures c.in-Ok.ensures.whole in
+    let fit = fits flat y.object y.marks y.cuts lines 4000000 4000000 c.in_ok-life.life c.in_ok-life.ensures c.in-Ok.ensures.whole in
     IfOk-weaker c.say.result _ _
     (λ said is.
     ran fit (subst (λ (asked : Asked). Says asked x.text.items (translation_in x) (events_by (translation_in x) lines) said.status said.output.items)
     (sym c.in-Report.is)
-    (run_by flat x.object x.marks x.cuts life _ played c.requires.compilation said.status said.output.items is))) c.say.ensures
+    (run_by flat y.object y.marks y.cuts life _ played c.requires.compilation said.status said.output.items is))) c.say.ensures
 
 pub returns-in-Ok : goal.returns-in-Ok
 returns-in-Ok c =
     let x = c.args.compiled.now in
+    let y = x.translated in
     let flat = flat_of x.flat in
     let lines = map scripts.line_of c.args.script.now.lines.items in
     let life = c.play.new.core in
-    let played = has_played flat x.object x.marks x.cuts lines 4000000 4000000 c.in_ok-life.life c.in_ok-life.ensures life c.play.ensures.opening
+    let played = has_played flat y.object y.marks y.cuts lines 4000000 4000000 c.in_ok-life.life c.in_ok-life.ensures life c.play.ensures.opening
     c.play.ensures.events c.in-Ok.ensures.whole in
-    let fit = fits flat x.object x.marks x.cuts lines 4000000 4000000 c.in_ok-life.life c.in_ok-life.ensures c.in-Ok.ensures.whole in
+    let fit = fits flat y.object y.marks y.cuts lines 4000000 4000000 c.in_ok-life.life c.in_ok-life.ensures c.in-Ok.ensures.whole in
     IfOk-weaker c.image.result _ _
     (λ said both.
     ran fit (subst (λ (asked : Asked). Says asked x.text.items (translation_in x) (events_by (translation_in x) lines) said.status said.output.items)
     (sym c.in-Image.is)
-    (subst (λ (text : List ℕ). IsImageBehind text (translation_in x) (events_by (translation_in x) lines) said.status said.output.items) c.deref.ensures.value
-    (image_behind flat x.object x.marks x.cuts life _ played c.deref.result.now said.status said.output.items both.0 both.1))))
+    (subst (λ (text : List ℕ). IsImageAfter text (translation_in x) (events_by (translation_in x) lines) said.status said.output.items) c.deref.ensures.value
+    (image_after flat y.object y.marks y.cuts life _ played c.deref.result.now said.status said.output.items both.0 both.1))))
     (both_ok c.image.result _ _ c.image.ensures.status c.image.ensures.output)
 
 pub returns : goal.returns
 returns c =
     let x = c.args.compiled.now in
+    let y = x.translated in
     let flat = flat_of x.flat in
     let lines = map scripts.line_of c.args.script.now.lines.items in
     let input = c.args.input.now in
     let begins = c.args.begins in
-    let some = passed_at flat x.object x.marks x.cuts lines 4000000 4000000 c.in_ok-life.life c.in_ok-life.ensures c.in-Err.many.line.0
+    let some = passed_at flat y.object y.marks y.cuts lines 4000000 4000000 c.in_ok-life.life c.in_ok-life.ensures c.in-Err.many.line.0
     c.in-Err.ensures.excess in
     IfOk-weaker c.refused_at.result _ _
     (λ said both.
-    refused flat x.object x.marks x.cuts lines (Says c.args.asked x.text.items (translation_in x)) input begins c.in-Err.many.line.0 said.status
+    refused flat y.object y.marks y.cuts lines (Says c.args.asked x.text.items (translation_in x)) input begins c.in-Err.many.line.0 said.status
     said.output.items some
     (both.0, both.1 ∙ ap (λ (place : ℕ). line_at (codes "E1") input (begins + place)) c.from.ensures))
     (both_ok c.refused_at.result _ _ c.refused_at.ensures.status c.refused_at.ensures.output)

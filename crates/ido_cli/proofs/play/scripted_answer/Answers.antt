@@ -1,9 +1,9 @@
 use Rattle.std.proofs.Common.{List, ℕ, length, subst, ◌≤◌}
 use Rattle.std.proofs.lemmas.Result.{IfOk-weaker}
 use Rattle.ido_base.specs.declared.limits.TheConstants.{MOST_SOURCE_BYTES}
-use Rattle.ido_compile.specs.Compiling.{IsCompiled}
+use Rattle.ido_compile.specs.CompileAnswers.{IsCompiled}
 use Rattle.ido_cli.specs.Inputs.{source_of}
-use Rattle.ido_cli.specs.links.Asking.{Says}
+use Rattle.ido_cli.specs.links.RunRequests.{Says}
 use Rattle.ido_cli.proofs.RefusedSources.{script_refused}
 use Rattle.ido_cli.proofs.play.scripted_answer.Goals as goal
 

@@ -1,7 +1,7 @@
 use Rattle.std.proofs.lemmas.Result.{IfOk-weaker}
 use Rattle.ido_cli.specs.Answers.{no_image, of_image}
-use Rattle.ido_cli.proofs.Recovering.{compiled_in}
-use Rattle.ido_cli.proofs.Stops.{both_ok}
+use Rattle.ido_cli.proofs.RecoveredRuns.{compiled_in}
+use Rattle.ido_cli.proofs.RefusedSchedules.{both_ok}
 use Rattle.ido_cli.proofs.recover.recover_answer.Goals as goal
 
 pub recovered-requires-clause-translated : goal.recovered-requires-clause-translated

@@ -1,5 +1,5 @@
 use Rattle.std.proofs.Common.{◌<◌, ◌∙◌, length, refl, ap, Bool, arith, ◌++◌}
-use Rattle.flow_graph.specs.Cutting.{boundaries_of}
+use Rattle.flow_graph.specs.IdempotentCuts.{boundaries_of}
 use Rattle.flow_graph.specs.Nodes.{graph_of, node_of}
 use Rattle.ido_cli.specs.Regions.{node_line}
 use Rattle.ido_cli.proofs.NodeLines.{line_added, lines_whole, node_at}

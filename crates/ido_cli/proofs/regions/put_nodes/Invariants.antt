@@ -1,5 +1,5 @@
 use Rattle.std.proofs.Common.{◌≡◌, ◌++◌, ◌-◌}
-use Rattle.flow_graph.specs.Cutting.{boundaries_of}
+use Rattle.flow_graph.specs.IdempotentCuts.{boundaries_of}
 use Rattle.flow_graph.specs.Nodes.{graph_of}
 use Rattle.ido_cli.specs.Regions.{lines_from, node_lines}
 use Rattle.ido_cli.proofs.regions.put_nodes.Given as goal

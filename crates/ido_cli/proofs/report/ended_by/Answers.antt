@@ -4,7 +4,7 @@ use Rattle.std.proofs.lemmas.Result.{IfOk-weaker}
 use Rattle.c_tree.specs.Flats.{flat_of, thread_of}
 use Rattle.c_tree.specs.Source as m
 use Rattle.rv64_isa.specs.Machine.{numbers_from}
-use Rattle.ido_cli.proofs.Played.{ended_is}
+use Rattle.ido_cli.proofs.PlayedRuns.{ended_is}
 use Rattle.ido_cli.proofs.report.ended_by.Goals as goal
 
 pub ended-requires : goal.ended-requires

@@ -4,8 +4,8 @@ use Rattle.c_tree.specs.Flats.{flat_of, thread_of}
 use Rattle.c_tree.specs.Source as m
 use Rattle.rv64_isa.specs.Machine.{numbers_from}
 use Rattle.run_scripts.specs.links.ReportViews as views
-use Rattle.run_tracker.specs.Lives.{steps_in, world_of}
-use Rattle.ido_cli.proofs.Played.{machine_reported}
+use Rattle.run_tracker.specs.ObjectLives.{steps_in, world_of}
+use Rattle.ido_cli.proofs.PlayedRuns.{machine_reported}
 use Rattle.ido_cli.proofs.report.reported.Goals as goal
 
 pub returns : goal.returns

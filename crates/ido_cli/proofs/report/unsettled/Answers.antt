@@ -1,8 +1,8 @@
 use Rattle.std.proofs.Common.{◌≡◌, ◌<◌, rules, true, false, not, length, arith}
 use Rattle.rv64_isa.specs.Schedule.{is_settled_hart}
-use Rattle.run_tracker.specs.Lives.{world_of}
+use Rattle.run_tracker.specs.ObjectLives.{world_of}
 use Rattle.ido_cli.specs.Reports.{unsettled_harts}
-use Rattle.ido_cli.proofs.Gathered.{filter_passed, filter_pushed, filter_whole}
+use Rattle.ido_cli.proofs.GatheredReports.{filter_passed, filter_pushed, filter_whole}
 use Rattle.ido_cli.proofs.report.unsettled.Goals.{then-unsettled+in_ok-push, else-unsettled}
 use Rattle.ido_cli.proofs.report.unsettled.Goals as goal
 

@@ -1,6 +1,6 @@
 use Rattle.std.proofs.Common.{◌-◌, ◌^◌, min, length, arith}
 use Rattle.ido_cli.specs.Runs.{counted}
-use Rattle.ido_cli.proofs.Gathered.{map_pushed}
+use Rattle.ido_cli.proofs.GatheredReports.{map_pushed}
 use Rattle.ido_cli.proofs.source.ended.Goals as goal
 
 pub loop-thread-preserved : goal.loop-thread-preserved

@@ -4,8 +4,8 @@ use Rattle.c_tree.specs.Flats.{flat_of}
 use Rattle.run_scripts.specs.Schedules.{read}
 use Rattle.run_scripts.specs.links.WordLengths.{fault_of}
 use Rattle.ido_cli.specs.Answers.{of_schedule}
-use Rattle.ido_cli.proofs.Rests.{rest_short}
-use Rattle.ido_cli.proofs.Stops.{both_ok, fault_answer}
+use Rattle.ido_cli.proofs.RestLengths.{rest_short}
+use Rattle.ido_cli.proofs.RefusedSchedules.{both_ok, fault_answer}
 use Rattle.ido_cli.proofs.source.flat_answer.Goals as goal
 
 pub read_schedule-requires : goal.read_schedule-requires

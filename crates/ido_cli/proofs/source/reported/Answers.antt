@@ -3,7 +3,7 @@ use Rattle.std.proofs.lemmas.List.{length-map}
 use Rattle.c_tree.specs.Flats.{flat_of, thread_of}
 use Rattle.c_tree.specs.Source as m
 use Rattle.run_scripts.specs.links.ReportViews as views
-use Rattle.ido_cli.proofs.Gathered.{reported_is}
+use Rattle.ido_cli.proofs.GatheredReports.{reported_is}
 use Rattle.ido_cli.proofs.source.reported.Goals as goal
 
 pub unsettled-requires : goal.unsettled-requires

@@ -2,7 +2,7 @@ use Rattle.std.proofs.Common.{List, ℕ, subst}
 use Rattle.std.proofs.lemmas.Result.{IfOk-weaker}
 use Rattle.c_tree.specs.Flats.{flat_of}
 use Rattle.flow_graph.specs.Refusals.{IsAccepted}
-use Rattle.ido_compile.proofs.Checks.{few_threads}
+use Rattle.ido_compile.proofs.Public.{few_threads}
 use Rattle.ido_cli.proofs.RefusedSources.{run_refused}
 use Rattle.ido_cli.proofs.source.source_answer.Goals as goal
 

@@ -1,7 +1,7 @@
 use Rattle.std.proofs.Common.{◌≡◌, ◌<◌, rules, true, false, not, length, arith}
 use Rattle.c_tree.specs.Source.{is_between}
 use Rattle.ido_cli.specs.Runs.{unsettled_threads}
-use Rattle.ido_cli.proofs.Gathered.{filter_passed, filter_pushed, filter_whole}
+use Rattle.ido_cli.proofs.GatheredReports.{filter_passed, filter_pushed, filter_whole}
 use Rattle.ido_cli.proofs.source.unsettled.Goals.{then-not-between+in_ok-push, else-not-between}
 use Rattle.ido_cli.proofs.source.unsettled.Goals as goal
 

@@ -1,5 +1,5 @@
 use Rattle.std.proofs.Common.{map, string_bytes, sym, ◌∙◌}
-use Rattle.ido_cli.proofs.Tops.{answer_to_taken_words, answer_to_wrong_words}
+use Rattle.ido_cli.proofs.TopCallAnswers.{answer_to_taken_words, answer_to_wrong_words}
 use Rattle.ido_cli.proofs.top.say_to.Goals as goal
 
 pub returns-in_ok-said-in-Some-clause-said : goal.returns-in_ok-said-in-Some-clause-said

@@ -1,25 +1,36 @@
-use Rattle.std.proofs.Common.{sym, subst}
+-- What is translated of the flat form of an accepted text is a compilation of it.
 use Rattle.c_tree.specs.Flats.{flat_of}
-use Rattle.c_tree.specs.declared.flat.Flat.{Flat}
-use Rattle.flow_graph.specs.Refusals.{IsAccepted}
-use Rattle.flat_compile.specs.Translating.{IsTranslated, IsResumable}
+use Rattle.ido_compile.specs.CompileAnswers.{IsCompileAnswer}
+use Rattle.ido_compile.specs.declared.error.CompileError.TheVariants as error
+use Rattle.ido_compile.proofs.FrontEndChecks.{by_error, uncompiled}
 use Rattle.ido_compile.proofs.Translations.{is_compilation}
 use Rattle.ido_compile.proofs.compiler.compile.Goals as goal
 
-pub with_object-requires : goal.with_object-requires
-with_object-requires c = c.accepted_forms.ensures c.args.text.now (flat_of c.in-Ok.flat) c.in-Ok.ensures
+pub returns-in_err-flat : goal.returns-in_err-flat
+returns-in_err-flat c =
+    let refused = c.in_err-flat.field-0.0 in
+    by_error (IsCompileAnswer c.args.text.now) refused c.from_residual.result c.from_residual.ensures.1
+    (uncompiled c.args.text.now refused c.in_err-flat.ensures)
 
-pub returns-in_ok-compiled-in-Ok : goal.returns-in_ok-compiled-in-Ok
-returns-in_ok-compiled-in-Ok c =
-    let made = c.in_ok-compiled-in-Ok.compiled in
-    let translated =
-    subst (λ (x : Flat). IsTranslated (flat_of x) made.object made.marks made.cuts)
-    (sym c.in_ok-compiled-in-Ok.ensures.flat) c.in_ok-compiled-in-Ok.ensures.translated in
+pub returns-in_err-translated : goal.returns-in_err-translated
+returns-in_err-translated c =
+    let refused = c.in_err-translated.field-0.0 in
+    by_error (IsCompileAnswer c.args.text.now) refused c.from_residual-in_err-translated.result c.from_residual-in_err-translated.ensures.1
+    (uncompiled c.args.text.now refused c.in_err-translated.ensures)
+
+pub returns-in_err-text : goal.returns-in_err-text
+returns-in_err-text c =
+    by_error (IsCompileAnswer c.args.text.now) error.Memory c.from_residual-in_err-text.result c.from_residual-in_err-text.ensures.1 tt
+
+pub returns : goal.returns
+returns c =
+    let flat = flat_of c.in_ok-flat.flat in
+    let made = c.in_ok-translated.translated in
+    let is = c.in_ok-translated.ensures in
     record {
-      accepted = subst (λ (x : Flat). IsAccepted c.args.text.now (flat_of x)) (sym c.in_ok-compiled-in-Ok.ensures.flat) c.in-Ok.ensures;
-      text_is = c.in_ok-compiled-in-Ok.ensures.text;
-      translated = translated;
-      resumable = subst (λ (x : Flat). IsResumable (flat_of x) made.object made.marks made.cuts made.resumes.items)
-          (sym c.in_ok-compiled-in-Ok.ensures.flat) c.in_ok-compiled-in-Ok.ensures.resumes;
-      compilation = is_compilation c.systems_are_compilations.ensures (flat_of made.flat) made.object made.marks made.cuts translated;
+      text_is = c.in_ok-text.ensures;
+      accepted = is.0;
+      translated = is.1.0;
+      resumable = is.1.1;
+      compilation = is_compilation c.systems_are_compilations.ensures flat made.object made.marks made.cuts is.1.0;
     }

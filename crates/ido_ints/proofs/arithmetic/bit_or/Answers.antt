@@ -2,7 +2,7 @@
 use Rattle.std.proofs.Common.{◌∙◌, ap}
 use Rattle.std.specs.Prelude.{pos, bit_or}
 use Rattle.std.proofs.lemmas.Int.{to_z-of_z}
-use Rattle.ido_ints.specs.Typed.{typed, typed_reduced}
+use Rattle.ido_ints.specs.TypedNumbers.{typed, typed_reduced}
 use Rattle.ido_ints.proofs.LowBits.{reduced-bits_or}
 use Rattle.ido_ints.proofs.arithmetic.bit_or.Goals as goal
 

@@ -2,7 +2,7 @@
 use Rattle.std.proofs.Common.{◌∙◌, ap}
 use Rattle.std.specs.Prelude.{pos}
 use Rattle.std.proofs.lemmas.Int.{to_z-of_z}
-use Rattle.ido_ints.specs.Typed.{typed, typed_reduced}
+use Rattle.ido_ints.specs.TypedNumbers.{typed, typed_reduced}
 use Rattle.ido_ints.proofs.LowBits.{reduced-residue}
 use Rattle.ido_ints.proofs.arithmetic.converted.Goals as goal
 

@@ -2,7 +2,7 @@
 use Rattle.std.proofs.Common.{◌∙◌, ap, ◌-◌, ◌%◌, ◌^◌, zero-add}
 use Rattle.std.specs.Prelude.{pos}
 use Rattle.std.proofs.lemmas.Int.{to_z-of_z}
-use Rattle.ido_ints.specs.Typed.{typed, typed_reduced}
+use Rattle.ido_ints.specs.TypedNumbers.{typed, typed_reduced}
 use Rattle.ido_ints.proofs.LowBits.{reduced-bits_neg}
 use Rattle.ido_ints.proofs.arithmetic.negative.Goals as goal
 

@@ -5,7 +5,7 @@ use Rattle.std.specs.Int.{w128}
 use Rattle.std.proofs.lemmas.Int.{to_z-of_z}
 use Rattle.ido_ints.specs.Operators.{is_zero, quotient}
 use Rattle.ido_ints.specs.Reduction.{reduced}
-use Rattle.ido_ints.specs.Typed.{Typed, typed, typed_reduced}
+use Rattle.ido_ints.specs.TypedNumbers.{Typed, typed, typed_reduced}
 use Rattle.ido_ints.proofs.LowBits.{reduced-quotient_zero, reduced-quotient}
 use Rattle.ido_ints.proofs.arithmetic.quotient.Goals as goal
 

@@ -3,7 +3,7 @@ use Rattle.std.proofs.Common.{◌≡◌, ◌∙◌, ap, ◌*◌, ◌%◌, ◌^�
 use Rattle.std.specs.Prelude.{pos}
 use Rattle.std.proofs.lemmas.Int.{to_z-of_z}
 use Rattle.ido_ints.specs.Operators.{places}
-use Rattle.ido_ints.specs.Typed.{typed, typed_reduced}
+use Rattle.ido_ints.specs.TypedNumbers.{typed, typed_reduced}
 use Rattle.ido_ints.proofs.LowBits.{reduced-bits_shl}
 use Rattle.ido_ints.proofs.arithmetic.shift_left.Goals as goal
 

@@ -4,8 +4,8 @@ use Rattle.std.specs.Int.{int_shr}
 use Rattle.std.proofs.lemmas.Int.{to_z-of_z}
 use Rattle.ido_ints.specs.Operators.{places}
 use Rattle.ido_ints.specs.Reduction.{reduced}
-use Rattle.ido_ints.specs.Typed.{Typed, typed_reduced}
-use Rattle.ido_ints.proofs.Exact.{right_exact}
+use Rattle.ido_ints.specs.TypedNumbers.{Typed, typed_reduced}
+use Rattle.ido_ints.proofs.ExactArithmetic.{right_exact}
 use Rattle.ido_ints.proofs.arithmetic.shift_right.Goals as goal
 
 pub returns : goal.returns

@@ -4,7 +4,7 @@ use Rattle.std.specs.Int.{w128}
 use Rattle.std.proofs.lemmas.Int.{ints, to_z_pos}
 use Rattle.ido_ints.specs.Kinds.{Holds}
 use Rattle.ido_ints.proofs.LiteralKinds.{literal_kind_of-Holds}
-use Rattle.ido_ints.proofs.Reduced.{Holds-Bounded}
+use Rattle.ido_ints.proofs.ReductionLaws.{Holds-Bounded}
 use Rattle.ido_ints.proofs.literals.literal.Goals as goal
 
 pub new-requires : goal.new-requires

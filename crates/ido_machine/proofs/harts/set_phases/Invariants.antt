@@ -1,6 +1,6 @@
 use Rattle.std.proofs.Common.{◌≡◌, ℕ, ◌<◌, List, get_or, length}
 use Rattle.ido_base.specs.Words.{Word}
-use Rattle.line_memory.specs.links.Stands.{Stands}
+use Rattle.line_memory.specs.links.MemoryRepresentation.{Represents}
 use Rattle.rv64_isa.specs.declared.phase.Phase.TheVariants.{Done}
 use Rattle.rv64_isa.specs.Machine.{phase_after_crash, durable_point}
 use Rattle.ido_machine.proofs.harts.set_phases.Given as goal
@@ -8,5 +8,5 @@ use Rattle.ido_machine.proofs.harts.set_phases.Given as goal
 abbrev pub invariant-loop-thread : goal.invariant-loop-thread
 invariant-loop-thread l = record {
   size : length l.phases ≡ length l.initial.phases;
-  set : (words : List Word) → Stands l.memory words → (i : ℕ) → i < l.thread → get_or l.phases i Done ≡ phase_after_crash (durable_point words i);
+  set : (words : List Word) → Represents l.memory words → (i : ℕ) → i < l.thread → get_or l.phases i Done ≡ phase_after_crash (durable_point words i);
 }

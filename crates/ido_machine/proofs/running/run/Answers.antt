@@ -1,5 +1,5 @@
-use Rattle.hart_core.specs.Steps.{Parts}
-use Rattle.ido_machine.proofs.Steps.{run_on, run_done}
+use Rattle.hart_core.specs.StepsOnParts.{Parts}
+use Rattle.ido_machine.proofs.MachineEvents.{run_on, run_done}
 use Rattle.ido_machine.proofs.running.run.Goals as goal
 
 pub returns-then-is_over-clause-step : goal.returns-then-is_over-clause-step

@@ -2,19 +2,19 @@ use Rattle.std.proofs.Common.{◌<◌, List, length, slice_set, get_or, refl, sy
 use Rattle.rv64_isa.specs.declared.phase.Phase.{Phase}
 use Rattle.rv64_isa.specs.declared.phase.Phase.TheVariants.{Take}
 use Rattle.hart_core.specs.declared.hart.Hart.{Hart}
-use Rattle.hart_core.specs.Steps.{Parts}
+use Rattle.hart_core.specs.StepsOnParts.{Parts}
 use Rattle.rv64_isa.specs.Machine.{happens}
 use Rattle.ido_base.specs.declared.event.Event.TheVariants.{Step}
-use Rattle.resume_recovery.specs.Steps.{phase_at}
-use Rattle.resume_recovery.proofs.Steps.{phase_read}
-use Rattle.ido_machine.specs.Machines.{State, StateEnds}
-use Rattle.ido_machine.proofs.Steps.{run_end, recovery_end}
+use Rattle.resume_recovery.specs.RecoverySteps.{phase_at}
+use Rattle.resume_recovery.proofs.Public.{phase_read}
+use Rattle.ido_machine.specs.Machines.{MachineState, StateEnds}
+use Rattle.ido_machine.proofs.MachineEvents.{run_end, recovery_end}
 use Rattle.ido_machine.proofs.Lists.{get_is}
 use Rattle.ido_machine.proofs.running.step_one.Goals as goal
 
 pub returns-in-Run-clause-step : goal.returns-in-Run-clause-step
 returns-in-Run-clause-step c = λ w s.
-    let state : State =
+    let state : MachineState =
     record { phases = c.args.phases.now; harts = c.args.harts.now; memory = c.args.memory.now; locks = c.args.locks.now; recovering = c.args.recovering } in
     let after : Parts = record { phase = c.run.new.phase; hart = c.run.new.hart; memory = c.run.new.memory; locks = c.run.new.locks } in
     let phase : Phase = get_or c.args.phases.now c.args.number Take in
@@ -28,7 +28,7 @@ returns-in-Run-clause-step c = λ w s.
 pub returns-in_default : goal.returns-in_default
 returns-in_default c = record {
   step = λ w s.
-      let state : State =
+      let state : MachineState =
       record { phases = c.args.phases.now; harts = c.args.harts.now; memory = c.args.memory.now; locks = c.args.locks.now; recovering = c.args.recovering } in
       let after : Parts =
       record {

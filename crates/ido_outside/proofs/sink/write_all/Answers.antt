@@ -1,6 +1,6 @@
 -- What this write added goes on from what was added before.
 use Rattle.std.proofs.Common.{ℕ, arith, length-take, length-drop}
-use Rattle.ido_outside.proofs.Added.{Adds-more}
+use Rattle.ido_outside.proofs.AddedBytes.{Adds-more}
 use Rattle.ido_outside.proofs.sink.write_all.Goals as goal
 
 pub loop-done-preserved : goal.loop-done-preserved

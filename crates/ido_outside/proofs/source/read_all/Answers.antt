@@ -1,6 +1,6 @@
--- The bytes were empty at first, so what stands behind them is all that was taken.
+-- The bytes were empty at first, so what stands after them is all that was taken.
 use Rattle.std.proofs.lemmas.Result.{err_from_is_err_and}
-use Rattle.ido_outside.proofs.Taken.{Gathers-all, TakenAtFault-from_none, TakenAtFault-too_long}
+use Rattle.ido_outside.proofs.TakenBytes.{Gathers-all, TakenAtFault-from_none, TakenAtFault-too_long}
 use Rattle.ido_outside.proofs.source.read_all.Goals as goal
 
 pub returns-in_err-read_pieces-clause-taken : goal.returns-in_err-read_pieces-clause-taken

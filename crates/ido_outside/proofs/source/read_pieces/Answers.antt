@@ -1,6 +1,6 @@
--- What was taken before the fault is what stands behind the bytes, and what the last read took.
+-- What was taken before the fault is what stands after the bytes, and what the last read took.
 use Rattle.std.proofs.lemmas.Result.{err_from_is_err_and}
-use Rattle.ido_outside.proofs.Taken.{TakenAtFault-gathered}
+use Rattle.ido_outside.proofs.TakenBytes.{TakenAtFault-gathered}
 use Rattle.ido_outside.proofs.source.read_pieces.Goals as goal
 
 pub returns-in_err-read_piece-clause-taken : goal.returns-in_err-read_piece-clause-taken

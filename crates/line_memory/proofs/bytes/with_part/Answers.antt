@@ -1,5 +1,5 @@
 use Rattle.std.proofs.Common.{arith}
-use Rattle.line_memory.proofs.Parts.{with_part-shifts, with_part-below}
+use Rattle.line_memory.proofs.WordParts.{with_part-shifts, with_part-below}
 use Rattle.line_memory.proofs.bytes.with_part.Goals as goal
 
 pub overflow_add-result : goal.overflow_add-result

@@ -1,5 +1,5 @@
 use Rattle.std.proofs.Common.{sym, ◌∙◌}
-use Rattle.line_memory.proofs.Steps.{only_listed}
+use Rattle.line_memory.proofs.CellLoopSteps.{only_listed}
 use Rattle.line_memory.proofs.lines.crash.Goals as goal
 
 pub returns-then-is_all : goal.returns-then-is_all

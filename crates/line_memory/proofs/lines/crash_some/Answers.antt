@@ -1,5 +1,5 @@
 use Rattle.std.proofs.Common.{arith}
-use Rattle.line_memory.proofs.Steps.{CellsStand-some}
+use Rattle.line_memory.proofs.CellLoopSteps.{CellsStand-some}
 use Rattle.line_memory.proofs.lines.crash_some.Goals as goal
 
 pub returns : goal.returns

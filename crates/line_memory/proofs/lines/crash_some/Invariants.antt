@@ -1,4 +1,4 @@
-use Rattle.line_memory.proofs.Steps.{AreCrashed}
+use Rattle.line_memory.proofs.CellLoopSteps.{AreCrashed}
 use Rattle.line_memory.proofs.lines.crash_some.Given as goal
 
 abbrev pub invariant-loop-number : goal.invariant-loop-number

@@ -1,7 +1,7 @@
 use Rattle.std.proofs.Common.{◌≡◌, arith, subst}
 use Rattle.ido_base.specs.Words.{evicted_from}
 use Rattle.line_memory.specs.links.Cells.{CellsStand}
-use Rattle.line_memory.proofs.Steps.{evict_step, skip_step}
+use Rattle.line_memory.proofs.CellLoopSteps.{evict_step, skip_step}
 use Rattle.line_memory.proofs.lines.evict_words.Goals as goal
 use Rattle.line_memory.proofs.lines.evict_words.Goals.{then-mask-k-eq1, else-mask-k-eq1}
 

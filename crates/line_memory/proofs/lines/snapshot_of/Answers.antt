@@ -1,5 +1,5 @@
 use Rattle.std.proofs.Common.{arith}
-use Rattle.line_memory.proofs.Steps.{snapshot_stands}
+use Rattle.line_memory.proofs.CellLoopSteps.{snapshot_stands}
 use Rattle.line_memory.proofs.lines.snapshot_of.Goals as goal
 
 pub returns : goal.returns

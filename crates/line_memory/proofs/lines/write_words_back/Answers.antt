@@ -1,9 +1,9 @@
 use Rattle.std.proofs.Common.{◌≡◌, arith, rules, take, subst}
 use Rattle.std.proofs.lemmas.List.{take_all, length-map}
-use Rattle.ido_base.specs.Words.{raised}
+use Rattle.ido_base.specs.Words.{persisted}
 use Rattle.line_memory.specs.declared.queue.Saved.{Saved}
 use Rattle.line_memory.specs.links.Cells.{CellsStand, versions_in}
-use Rattle.line_memory.proofs.Steps.{raise_step}
+use Rattle.line_memory.proofs.CellLoopSteps.{raise_step}
 use Rattle.line_memory.proofs.lines.write_words_back.Goals as goal
 
 pub loop-k-preserved : goal.loop-k-preserved
@@ -15,4 +15,4 @@ pub returns : goal.returns
 returns c = λ words stores s kept.
     let all : take c.loop-k.k (versions_in c.args.saved.now) ≡ versions_in c.args.saved.now =
     take_all _ (versions_in c.args.saved.now) (omega (arith, length-map c.args.saved.now (λ (one : Saved). one.version))) in
-    subst (λ ps. CellsStand c.loop-k.cells (raised words c.args.base ps) stores) all (c.loop-k.invariant words stores s kept)
+    subst (λ ps. CellsStand c.loop-k.cells (persisted words c.args.base ps) stores) all (c.loop-k.invariant words stores s kept)

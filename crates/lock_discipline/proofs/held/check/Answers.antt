@@ -3,7 +3,7 @@ use Rattle.c_tree.specs.declared.flat.Thread.{Thread}
 use Rattle.std.proofs.lemmas.Result.{err_from_is_err_and}
 use Rattle.c_tree.specs.Flats.{flat_of, thread_of}
 use Rattle.c_tree.specs.Programs.{variable_of}
-use Rattle.c_tree.specs.Locking.{Broken, walk_thread, lock_fault}
+use Rattle.c_tree.specs.LockDiscipline.{Broken, walk_thread, lock_fault}
 use Rattle.lock_discipline.specs.Faults.{fault_of}
 use Rattle.lock_discipline.proofs.Refusals.{same_fault}
 use Rattle.lock_discipline.proofs.Threads.{thread_breaks, thread_keeps, no_thread_breaks, next_row, all_rows}

@@ -1,4 +1,4 @@
-use Rattle.lock_discipline.proofs.Standing.{held_is_held}
+use Rattle.lock_discipline.proofs.DisciplinedContinuations.{held_is_held}
 use Rattle.lock_discipline.proofs.laws.held_is_held.Goals as goal
 
 pub returns : goal.returns

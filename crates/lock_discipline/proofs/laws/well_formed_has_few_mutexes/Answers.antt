@@ -1,4 +1,4 @@
--- It is one of the limits.
+-- That there are few mutexes is one of the limits.
 use Rattle.lock_discipline.proofs.laws.well_formed_has_few_mutexes.Goals as goal
 
 pub returns : goal.returns

@@ -2,9 +2,9 @@ use Rattle.std.proofs.Common.{◌≡◌, ◌++◌, length, map, refl, ap, ◌∙
 use Rattle.std.proofs.lemmas.Result.{err_from_is_err_and}
 use Rattle.c_tree.specs.Programs.{variable_of}
 use Rattle.c_tree.specs.Exprs.{expr_of}
-use Rattle.c_tree.specs.Locking.{expr_uses}
+use Rattle.c_tree.specs.LockDiscipline.{expr_uses}
 use Rattle.c_tree.specs.declared.expr.Expr.{Expr}
-use Rattle.lock_discipline.proofs.Walks.{behind_then}
+use Rattle.lock_discipline.proofs.CheckerCorrectness.{after_then}
 use Rattle.lock_discipline.proofs.Refusals.{refuses_then, refuses_as, matches_as, uses_split}
 use Rattle.lock_discipline.proofs.uses.+check_expr.Goals as goal
 
@@ -27,7 +27,7 @@ returns-in_ok-check_expr-in-Binary t c =
     rw (left, right) (ap (λ (x : Expr). expr_uses (expr_of x)) w.is) in
     matches_as c.check_expr-in-Binary-2.result _ _ (λ _. c.args.held)
     (uses_split (map variable_of c.args.variables.now) (length c.args.held) c.args.held _ _ _ all
-    ∙ behind_then _ _ c.args.held c.in_ok-check_expr-in-Binary.ensures)
+    ∙ after_then _ _ c.args.held c.in_ok-check_expr-in-Binary.ensures)
     c.check_expr-in-Binary-2.ensures
 
 pub returns-in_err-check_expr-in-Conditional : goal.returns-in_err-check_expr-in-Conditional
@@ -58,7 +58,7 @@ returns-in_err-check_expr-in-Conditional-2 t c =
     let h = c.args.held in
     rw (p.1, p.2) (refuses_then _ _ _ _ (uses_split vs n h _ _ _ all)
     (refuses_as _ _ _ (uses_split vs n h _ _ _ refl
-    ∙ behind_then _ _ h c.in_ok-check_expr-in-Conditional.ensures) c.in_err-check_expr-in-Conditional-2.ensures))
+    ∙ after_then _ _ h c.in_ok-check_expr-in-Conditional.ensures) c.in_err-check_expr-in-Conditional-2.ensures))
 
 pub returns-in_ok-check_expr-in-Conditional-2 : goal.returns-in_ok-check_expr-in-Conditional-2
 returns-in_ok-check_expr-in-Conditional-2 t c =
@@ -73,6 +73,6 @@ returns-in_ok-check_expr-in-Conditional-2 t c =
     let n = length c.args.held in
     let h = c.args.held in
     matches_as c.check_expr-in-Conditional-3.result _ _ (λ _. h)
-    (uses_split vs n h _ _ _ all ∙ behind_then _ _ h (uses_split vs n h _ _ _ refl ∙ behind_then _ _ h c.in_ok-check_expr-in-Conditional.ensures
+    (uses_split vs n h _ _ _ all ∙ after_then _ _ h (uses_split vs n h _ _ _ refl ∙ after_then _ _ h c.in_ok-check_expr-in-Conditional.ensures
     ∙ c.in_ok-check_expr-in-Conditional-2.ensures))
     c.check_expr-in-Conditional-3.ensures

@@ -3,10 +3,10 @@ use Rattle.std.proofs.lemmas.Result.{err_from_is_err_and}
 use Rattle.std.proofs.lemmas.List.Elements.{All-push, All-same}
 use Rattle.c_tree.specs.Programs.{variable_of}
 use Rattle.c_tree.specs.Flats.{statement_of, statements_of, arms_list_of}
-use Rattle.c_tree.specs.Locking.{Held, walk_arms}
-use Rattle.lock_discipline.proofs.Walks.{behind_then}
+use Rattle.c_tree.specs.LockDiscipline.{Held, walk_arms}
+use Rattle.lock_discipline.proofs.CheckerCorrectness.{after_then}
 use Rattle.lock_discipline.proofs.Refusals.{refuses_then, refuses_as, refuses_any, refuses_one}
-use Rattle.lock_discipline.proofs.Parts as p
+use Rattle.lock_discipline.proofs.CheckerByStatement as p
 use Rattle.lock_discipline.proofs.walk.+walk.Goals as goal
 
 pub walk_statement-returns-in_err-check_expr-in-Assign-clause-walk : goal.walk_statement-returns-in_err-check_expr-in-Assign-clause-walk
@@ -24,14 +24,14 @@ walk_statement-returns-in_err-check_target-in-Assign-clause-walk t c =
     let h = c.args.held in
     let w = c.in-Assign in
     rw (q.1, q.2) (refuses_as _ _ _ (p.assign_is vs h c.args.statement.now w.place w.target w.value w.is
-    ∙ behind_then _ _ h c.in_ok-check_expr-in-Assign.ensures) c.in_err-check_target-in-Assign.ensures)
+    ∙ after_then _ _ h c.in_ok-check_expr-in-Assign.ensures) c.in_err-check_target-in-Assign.ensures)
 
 pub walk_statement-returns-after-target-clause-walk : goal.walk_statement-returns-after-target-clause-walk
 walk_statement-returns-after-target-clause-walk t c =
     let vs = map variable_of c.args.variables.now in
     let h = c.args.held in
     let w = c.in-Assign in
-    p.assign_is vs h c.args.statement.now w.place w.target w.value w.is ∙ behind_then _ _ h c.in_ok-check_expr-in-Assign.ensures
+    p.assign_is vs h c.args.statement.now w.place w.target w.value w.is ∙ after_then _ _ h c.in_ok-check_expr-in-Assign.ensures
     ∙ c.in_ok-check_target-in-Assign.ensures
 
 pub walk_statement-returns-in_err-ends-in-If-clause-walk : goal.walk_statement-returns-in_err-ends-in-If-clause-walk
@@ -124,7 +124,7 @@ walk_statement-returns-in_err-join-in-While-clause-walk t c =
     let same : c.deref-in-While.result.now ≡ w.body.items = c.deref-in-While.ensures.value in
     rw (q.1, q.2) (refuses_as _ _ _
     (p.while_is vs h c.args.statement.now w.place w.condition w.body c.deref-in-While.result.now w.is same c.in_ok-check_expr-in-While.ensures
-    ∙ behind_then _ _ c.in_ok-end-in-While.end c.in_ok-end-in-While.ensures.walk) c.in_err-join-in-While.ensures)
+    ∙ after_then _ _ c.in_ok-end-in-While.end c.in_ok-end-in-While.ensures.walk) c.in_err-join-in-While.ensures)
 
 pub walk_statement-returns-in_ok-join-in-While-clause-walk : goal.walk_statement-returns-in_ok-join-in-While-clause-walk
 walk_statement-returns-in_ok-join-in-While-clause-walk t c =
@@ -133,7 +133,7 @@ walk_statement-returns-in_ok-join-in-While-clause-walk t c =
     let w = c.in-While in
     let same : c.deref-in-While.result.now ≡ w.body.items = c.deref-in-While.ensures.value in
     p.while_is vs h c.args.statement.now w.place w.condition w.body c.deref-in-While.result.now w.is same c.in_ok-check_expr-in-While.ensures
-    ∙ behind_then _ _ c.in_ok-end-in-While.end c.in_ok-end-in-While.ensures.walk ∙ c.in_ok-join-in-While.ensures
+    ∙ after_then _ _ c.in_ok-end-in-While.end c.in_ok-end-in-While.ensures.walk ∙ c.in_ok-join-in-While.ensures
 
 pub walk_statement-returns-in_ok-join-in-While-clause-sets : goal.walk_statement-returns-in_ok-join-in-While-clause-sets
 walk_statement-returns-in_ok-join-in-While-clause-sets t c =
@@ -181,7 +181,7 @@ walk_statement-returns-in_err-join-in-Do-clause-walk t c =
     let same : c.deref-in-Do.result.now ≡ w.body.items = c.deref-in-Do.ensures.value in
     rw (q.1, q.2) (refuses_as _ _ _
     (p.do_tests vs h c.args.statement.now w.place w.body w.condition c.deref-in-Do.result.now c.in_ok-after-in-Do.after w.is same
-    c.in_ok-after-in-Do.ensures.walk ∙ behind_then _ _ c.in_ok-after-in-Do.after c.in_ok-check_expr-in-Do.ensures) c.in_err-join-in-Do.ensures)
+    c.in_ok-after-in-Do.ensures.walk ∙ after_then _ _ c.in_ok-after-in-Do.after c.in_ok-check_expr-in-Do.ensures) c.in_err-join-in-Do.ensures)
 
 pub walk_statement-returns-in_ok-join-in-Do-clause-walk : goal.walk_statement-returns-in_ok-join-in-Do-clause-walk
 walk_statement-returns-in_ok-join-in-Do-clause-walk t c =
@@ -190,7 +190,7 @@ walk_statement-returns-in_ok-join-in-Do-clause-walk t c =
     let w = c.in-Do in
     let same : c.deref-in-Do.result.now ≡ w.body.items = c.deref-in-Do.ensures.value in
     p.do_tests vs h c.args.statement.now w.place w.body w.condition c.deref-in-Do.result.now c.in_ok-after-in-Do.after w.is same
-    c.in_ok-after-in-Do.ensures.walk ∙ behind_then _ _ c.in_ok-after-in-Do.after c.in_ok-check_expr-in-Do.ensures ∙ c.in_ok-join-in-Do.ensures
+    c.in_ok-after-in-Do.ensures.walk ∙ after_then _ _ c.in_ok-after-in-Do.after c.in_ok-check_expr-in-Do.ensures ∙ c.in_ok-join-in-Do.ensures
 
 pub walk_statement-returns-in_ok-join-in-Do-clause-sets : goal.walk_statement-returns-in_ok-join-in-Do-clause-sets
 walk_statement-returns-in_ok-join-in-Do-clause-sets t c =
@@ -215,7 +215,7 @@ walk_statements-loop-statement-preserved t c =
       walk = p.next_walk vs (length c.args.held) _ h k xs c.loop-statement.statement-index x within c.statement-item.is kept.long kept.walk
           c.in_ok-end.ensures.walk;
       sets = p.next_sets h k xs c.loop-statement.statement-index x _ _ _ within c.statement-item.is
-          (p.walked_behind vs h (statement_of x) k c.in_ok-end.ensures.walk) c.in_ok-end.ensures.sets kept.sets;
+          (p.walked_after vs h (statement_of x) k c.in_ok-end.ensures.walk) c.in_ok-end.ensures.sets kept.sets;
     }
 
 pub walk_arms-returns-in_err-check_expr-clause-walk : goal.walk_arms-returns-in_err-check_expr-clause-walk

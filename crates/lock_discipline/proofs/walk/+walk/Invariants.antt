@@ -1,7 +1,7 @@
 use Rattle.std.proofs.Common.{◌≡◌, ◌++◌, [], List, length, map, drop, All}
 use Rattle.c_tree.specs.Programs.{variable_of}
 use Rattle.c_tree.specs.Flats.{statements_of, arms_list_of}
-use Rattle.c_tree.specs.Locking.{Held, Walked, walk_all, walk_arms}
+use Rattle.c_tree.specs.LockDiscipline.{Held, Walked, walk_all, walk_arms}
 use Rattle.lock_discipline.specs.links.Flow.{sets_in_all, sets_in_arms}
 use Rattle.lock_discipline.proofs.walk.+walk.Given as goal
 
@@ -17,7 +17,7 @@ invariant-walk_statements-loop-statement l = record {
 abbrev pub invariant-walk_arms-loop-arm : goal.invariant-walk_arms-loop-arm
 invariant-walk_arms-loop-arm l = record {
   long : All (λ h. length h ≡ length l.held) l.ends.items;
-  walk : (behind : List Held → Walked) → walk_arms (map variable_of l.variables) (length l.held) l.held [] (arms_list_of l.arms) behind
-      ≡ walk_arms (map variable_of l.variables) (length l.held) l.held l.ends.items (arms_list_of (drop l.arm-index l.arms)) behind;
+  walk : (after : List Held → Walked) → walk_arms (map variable_of l.variables) (length l.held) l.held [] (arms_list_of l.arms) after
+      ≡ walk_arms (map variable_of l.variables) (length l.held) l.held l.ends.items (arms_list_of (drop l.arm-index l.arms)) after;
   sets : l.sets.items ++ sets_in_arms l.held (arms_list_of (drop l.arm-index l.arms)) ≡ l.initial.sets.items ++ sets_in_arms l.held (arms_list_of l.arms);
 }

@@ -1,5 +1,5 @@
-use Rattle.log_states.proofs.Beginning.{begins}
-use Rattle.log_states.proofs.Keeping.{keeps, ends, rests}
+use Rattle.log_states.proofs.BoundaryStarts.{begins}
+use Rattle.log_states.proofs.EventsKeepLog.{keeps, ends, rests}
 use Rattle.log_states.proofs.laws.boundaries_record.Goals as goal
 
 pub returns-clause-begins : goal.returns-clause-begins

@@ -1,5 +1,5 @@
-use Rattle.log_states.proofs.Committing as committing
-use Rattle.log_states.proofs.Resuming.{crashes_resume}
+use Rattle.log_states.proofs.BoundaryCommits as committing
+use Rattle.log_states.proofs.RecoveredRecords.{crashes_resume}
 use Rattle.log_states.proofs.laws.crashes_leave.Goals as goal
 
 pub returns-clause-boundary : goal.returns-clause-boundary

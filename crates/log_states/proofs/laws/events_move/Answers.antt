@@ -1,5 +1,5 @@
 use Rattle.log_states.proofs.Machines.{own_steps_move, steps_move, evictions_move, crashes_crash}
-use Rattle.log_states.proofs.Going.{boundaries_stay_in, log_effects_go}
+use Rattle.log_states.proofs.BoundaryEffectsInLog.{boundaries_stay_in, log_effects_go}
 use Rattle.log_states.proofs.laws.events_move.Goals as goal
 
 pub returns-clause-effects : goal.returns-clause-effects

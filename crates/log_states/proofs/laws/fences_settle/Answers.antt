@@ -1,5 +1,5 @@
-use Rattle.log_states.proofs.Settling as settling
-use Rattle.log_states.proofs.Committing.{committed_behind_fence}
+use Rattle.log_states.proofs.FencesMakeDurable as settling
+use Rattle.log_states.proofs.BoundaryCommits.{committed_after_fence}
 use Rattle.log_states.proofs.laws.fences_settle.Goals as goal
 
 pub returns-clause-durable : goal.returns-clause-durable
@@ -15,4 +15,4 @@ pub returns-clause-two : goal.returns-clause-two
 returns-clause-two c = settling.boundaries_fence
 
 pub returns-clause-committed : goal.returns-clause-committed
-returns-clause-committed c = committed_behind_fence
+returns-clause-committed c = committed_after_fence

@@ -1,4 +1,4 @@
-use Rattle.log_states.proofs.Standing.{starts_standing, begins_standing, own_steps_keep, steps_keep, evictions_keep, crashes_standing}
+use Rattle.log_states.proofs.LogInvariantHolds.{starts_standing, begins_standing, own_steps_keep, steps_keep, evictions_keep, crashes_standing}
 use Rattle.log_states.proofs.laws.logs_stand.Goals as goal
 
 pub returns-clause-start : goal.returns-clause-start

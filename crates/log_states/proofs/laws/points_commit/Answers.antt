@@ -1,5 +1,5 @@
-use Rattle.log_states.proofs.Committing.{begins_uncommitted, point_is, stays_committed, ends_committed, point_store_is_last, position_stays}
-use Rattle.log_states.proofs.Committing.{committed_where_durable}
+use Rattle.log_states.proofs.BoundaryCommits.{begins_uncommitted, point_is, stays_committed, ends_committed, point_store_is_last, position_stays}
+use Rattle.log_states.proofs.BoundaryCommits.{committed_where_durable}
 use Rattle.log_states.proofs.laws.points_commit.Goals as goal
 
 pub returns-clause-begins : goal.returns-clause-begins

@@ -1,5 +1,5 @@
-use Rattle.log_states.proofs.Resuming.{record_is_resumed}
-use Rattle.log_states.proofs.Beginning.{point_says, offset_follows, kept_are_keepable}
+use Rattle.log_states.proofs.RecoveredRecords.{record_is_resumed}
+use Rattle.log_states.proofs.BoundaryStarts.{point_says, offset_follows, kept_are_keepable}
 use Rattle.log_states.proofs.laws.records_resume.Goals as goal
 
 pub returns-clause-record : goal.returns-clause-record

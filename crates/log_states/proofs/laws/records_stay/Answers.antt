@@ -1,4 +1,4 @@
-use Rattle.log_states.proofs.Keeping.{stays_recorded, stores_elsewhere}
+use Rattle.log_states.proofs.EventsKeepLog.{stays_recorded, stores_elsewhere}
 use Rattle.log_states.proofs.Numbers.{logs_are_apart, slot_in_log, variables_are_apart}
 use Rattle.log_states.proofs.Words.{durable_is_stable}
 use Rattle.log_states.proofs.laws.records_stay.Goals as goal

@@ -1,4 +1,4 @@
-use Rattle.log_states.proofs.Resuming as resuming
+use Rattle.log_states.proofs.RecoveredRecords as resuming
 use Rattle.log_states.proofs.laws.starts_empty.Goals as goal
 
 pub returns : goal.returns

@@ -1,4 +1,4 @@
-use Rattle.log_states.proofs.Apart.{stores_nothing, stores_to_variable, stores_to_other_log}
+use Rattle.log_states.proofs.StoresOutsideLog.{stores_nothing, stores_to_variable, stores_to_other_log}
 use Rattle.log_states.proofs.laws.steps_apart.Goals as goal
 
 pub returns-clause-nothing : goal.returns-clause-nothing

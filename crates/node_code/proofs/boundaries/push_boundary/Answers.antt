@@ -3,8 +3,8 @@ use Rattle.std.proofs.lemmas.Result.{on_ok_weaker}
 use Rattle.rv64_isa.specs.declared.instr.Instr.{Instr}
 use Rattle.boundary_code.specs.Boundaries.{Boundary}
 use Rattle.node_code.specs.Pieces.{boundary_of}
-use Rattle.node_code.specs.links.Kept.{IsCodeOf}
-use Rattle.node_code.proofs.Keeping.{is_boundary}
+use Rattle.node_code.specs.links.BoundaryCode.{IsCodeOf}
+use Rattle.node_code.proofs.BoundaryPieces.{is_boundary}
 use Rattle.node_code.proofs.boundaries.push_boundary.Goals as goal
 
 pub returns : goal.returns

@@ -1,5 +1,5 @@
 use Rattle.std.proofs.lemmas.Result.{on_ok_weaker}
-use Rattle.node_code.proofs.Asking.{is_end}
+use Rattle.node_code.proofs.CallPieces.{is_end}
 use Rattle.node_code.proofs.calls.push_end.Goals as goal
 
 pub returns : goal.returns

@@ -3,8 +3,8 @@ use Rattle.std.proofs.lemmas.Result.{on_ok_weaker}
 use Rattle.rv64_isa.specs.declared.instr.Instr.{Instr}
 use Rattle.boundary_code.specs.Boundaries.{Boundary}
 use Rattle.node_code.specs.Pieces.{boundary_of}
-use Rattle.node_code.specs.links.Kept.{IsCodeOf}
-use Rattle.node_code.proofs.Asking.{is_lock}
+use Rattle.node_code.specs.links.BoundaryCode.{IsCodeOf}
+use Rattle.node_code.proofs.CallPieces.{is_lock}
 use Rattle.node_code.proofs.calls.push_lock.Goals as goal
 
 pub returns : goal.returns

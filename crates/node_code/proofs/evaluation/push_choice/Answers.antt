@@ -1,5 +1,5 @@
 use Rattle.std.proofs.lemmas.Result.{on_ok_weaker}
-use Rattle.node_code.proofs.Computing.{is_choice}
+use Rattle.node_code.proofs.ComputingPieces.{is_choice}
 use Rattle.node_code.proofs.evaluation.push_choice.Goals as goal
 
 pub returns : goal.returns

@@ -1,5 +1,5 @@
 use Rattle.std.proofs.Common.{◌≡◌, ◌++◌, drop}
-use Rattle.node_code.specs.links.Listing.{plain}
+use Rattle.node_code.specs.links.ItemLists.{plain}
 use Rattle.node_code.proofs.items.push_plain.Given as goal
 
 abbrev pub invariant-loop-instr : goal.invariant-loop-instr

@@ -1,5 +1,5 @@
 use Rattle.std.proofs.lemmas.Result.{on_ok_weaker}
-use Rattle.node_code.proofs.Jumping.{is_branch}
+use Rattle.node_code.proofs.JumpPieces.{is_branch}
 use Rattle.node_code.proofs.jumps.push_branch.Goals as goal
 
 pub returns : goal.returns

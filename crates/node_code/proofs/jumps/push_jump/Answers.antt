@@ -1,5 +1,5 @@
 use Rattle.std.proofs.lemmas.Result.{on_ok_weaker}
-use Rattle.node_code.proofs.Jumping.{is_jump}
+use Rattle.node_code.proofs.JumpPieces.{is_jump}
 use Rattle.node_code.proofs.jumps.push_jump.Goals as goal
 
 pub returns : goal.returns

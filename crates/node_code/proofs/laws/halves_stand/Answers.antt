@@ -1,4 +1,4 @@
-use Rattle.node_code.proofs.Halves.{halves_stand}
+use Rattle.node_code.proofs.TwoPartPieces.{halves_stand}
 use Rattle.node_code.proofs.laws.halves_stand.Goals as goal
 
 pub returns : goal.returns

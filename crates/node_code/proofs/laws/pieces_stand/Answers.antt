@@ -1,4 +1,4 @@
-use Rattle.node_code.proofs.Places.{joined_stand}
+use Rattle.node_code.proofs.PiecePlaces.{joined_stand}
 use Rattle.node_code.proofs.laws.pieces_stand.Goals as goal
 
 pub returns : goal.returns

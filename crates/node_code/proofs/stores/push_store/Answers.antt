@@ -1,5 +1,5 @@
 use Rattle.std.proofs.lemmas.Result.{on_ok_weaker}
-use Rattle.node_code.proofs.Making.{is_store}
+use Rattle.node_code.proofs.StorePieces.{is_store}
 use Rattle.node_code.proofs.stores.push_store.Goals as goal
 
 pub returns : goal.returns

@@ -1,7 +1,7 @@
 use Rattle.std.proofs.Common.{ap, subst, ◌∙◌, arith}
+use Rattle.file_fields.specs.links.ReaderResults.{Gives}
 use Rattle.object_format.specs.Contents.{contents_of}
-use Rattle.object_format.specs.Reading.{read}
-use Rattle.object_format.specs.links.Gives.{Gives}
+use Rattle.object_format.specs.ObjectDecoder.{read}
 use Rattle.object_format.proofs.Objects.{is_found, object_again}
 use Rattle.object_format.proofs.reading.read_object.Goals as goal
 

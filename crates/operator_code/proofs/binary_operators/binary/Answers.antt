@@ -4,10 +4,10 @@ use Rattle.ido_ints.specs.declared.kinds.Kind.{Kind}
 use Rattle.rv64_isa.specs.declared.instr.Instr.{Instr}
 use Rattle.rv64_isa.specs.declared.instr.Operation.{Operation}
 use Rattle.operator_code.specs.declared.branches.Test.{Test}
-use Rattle.operator_code.specs.Computing.{IsBinary, IsFlag, left_kind}
+use Rattle.operator_code.specs.ComputingCode.{IsBinary, IsFlag, left_kind}
 use Rattle.operator_code.specs.Sequences.{listed}
-use Rattle.operator_code.specs.links.Performing.{test_of, instruction_of}
-use Rattle.operator_code.proofs.Performing.{Gives, given, by_op, flag_performed}
+use Rattle.operator_code.specs.links.OperatorInstructions.{test_of, instruction_of}
+use Rattle.operator_code.proofs.BinaryOperators.{OperatorGives, given, by_op, flag_performed}
 use Rattle.operator_code.proofs.binary_operators.binary.Goals as goal
 
 pub returns-in-Some-clause-code : goal.returns-in-Some-clause-code
@@ -26,4 +26,4 @@ returns-in-Some-arithmetic-clause-code c =
     let operator = c.args.operation.operator in
     subst (λ (i : Instr). IsBinary c.args.operation c.args.rd c.args.rs1 c.args.rs2 (i ∷ [])) (sym c.op.ensures)
     (by_op c.args.operation c.args.rd c.args.rs1 c.args.rs2 c.in-Some-arithmetic.code c.requires
-    (subst (λ (o : Option Operation). IfSome o (λ i. Gives c.args.operation i)) is (given operator c.args.operation.left c.args.operation.right)))
+    (subst (λ (o : Option Operation). IfSome o (λ i. OperatorGives c.args.operation i)) is (given operator c.args.operation.left c.args.operation.right)))

@@ -1,6 +1,6 @@
 use Rattle.std.proofs.Common.{◌<◌, sym, subst, List, rules}
 use Rattle.rv64_isa.specs.declared.instr.Instr.{Instr}
-use Rattle.operator_code.specs.Computing.{IsFlag}
+use Rattle.operator_code.specs.ComputingCode.{IsFlag}
 use Rattle.operator_code.proofs.Flags.{flagged}
 use Rattle.operator_code.proofs.binary_operators.flag.Goals as goal
 

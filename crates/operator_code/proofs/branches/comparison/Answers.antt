@@ -2,9 +2,9 @@ use Rattle.std.proofs.Common.{sym, ◌∙◌, ap, subst, Option}
 use Rattle.std.specs.Prelude.{IfSome}
 use Rattle.ido_ints.specs.declared.kinds.Kind.{Kind}
 use Rattle.operator_code.specs.declared.branches.Test.{Test}
-use Rattle.operator_code.specs.Computing.{IsComparison}
-use Rattle.operator_code.specs.links.Performing.{test_of}
-use Rattle.operator_code.proofs.Comparing.{compared}
+use Rattle.operator_code.specs.ComputingCode.{IsComparison}
+use Rattle.operator_code.specs.links.OperatorInstructions.{test_of}
+use Rattle.operator_code.proofs.Comparisons.{compared}
 use Rattle.operator_code.proofs.branches.comparison.Goals as goal
 
 pub returns-clause-test : goal.returns-clause-test

@@ -1,4 +1,4 @@
-use Rattle.operator_code.proofs.Comparing.{nonzero_where}
+use Rattle.operator_code.proofs.Comparisons.{nonzero_where}
 use Rattle.operator_code.proofs.branches.nonzero.Goals as goal
 
 pub returns : goal.returns

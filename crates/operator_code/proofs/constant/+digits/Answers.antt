@@ -2,8 +2,8 @@ use Rattle.std.proofs.Common.{rules, ◌<◌, ◌%◌, ◌^◌, List, [], ◌∷
 use Rattle.std.proofs.lemmas.Result.{IfOk-weaker}
 use Rattle.rv64_isa.specs.declared.instr.Instr.{Instr}
 use Rattle.operator_code.specs.links.Digits.{IsConstantOfBits}
-use Rattle.operator_code.specs.links.Listing.{word_code}
-use Rattle.operator_code.proofs.Steps.{addi_digits, word_digits, word_is, far, more_digits, word_below}
+use Rattle.operator_code.specs.links.InstructionLists.{word_code}
+use Rattle.operator_code.proofs.ConstantSteps.{addi_digits, word_digits, word_is, far, more_digits, word_below}
 use Rattle.operator_code.proofs.constant.+digits.Goals as goal
 
 pub returns-then-is_near-clause-code : goal.returns-then-is_near-clause-code

@@ -1,5 +1,5 @@
 use Rattle.std.proofs.lemmas.Result.{IfOk-weaker}
-use Rattle.operator_code.proofs.Steps.{all_digits}
+use Rattle.operator_code.proofs.ConstantSteps.{all_digits}
 use Rattle.operator_code.proofs.constant.constant.Goals as goal
 
 pub returns-clause-code : goal.returns-clause-code

@@ -1,8 +1,8 @@
 use Rattle.std.proofs.Common.{sym, ◌∙◌, subst, List, ◌<◌, rules}
 use Rattle.rv64_isa.specs.declared.instr.Instr.{Instr}
-use Rattle.operator_code.specs.Computing.{IsConversion}
+use Rattle.operator_code.specs.ComputingCode.{IsConversion}
 use Rattle.operator_code.specs.Sequences.{listed}
-use Rattle.operator_code.proofs.Converting.{kept, extended}
+use Rattle.operator_code.proofs.ConversionCode.{kept, extended}
 use Rattle.operator_code.proofs.conversions.convert.Goals as goal
 
 pub returns-then-is_kept : goal.returns-then-is_kept

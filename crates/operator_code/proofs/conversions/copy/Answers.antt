@@ -1,8 +1,8 @@
 use Rattle.std.proofs.Common.{sym, ◌∙◌, subst, [], ◌∷◌}
 use Rattle.rv64_isa.specs.declared.instr.Instr.{Instr}
-use Rattle.operator_code.specs.Computing.{IsCopy}
-use Rattle.operator_code.proofs.Steps.{equal_by}
-use Rattle.operator_code.proofs.Converting.{moved, unmoved}
+use Rattle.operator_code.specs.ComputingCode.{IsCopy}
+use Rattle.operator_code.proofs.ConstantSteps.{equal_by}
+use Rattle.operator_code.proofs.ConversionCode.{moved, unmoved}
 use Rattle.operator_code.proofs.conversions.copy.Goals as goal
 
 pub returns-then-eq : goal.returns-then-eq

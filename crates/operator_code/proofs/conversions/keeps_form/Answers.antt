@@ -1,6 +1,6 @@
 use Rattle.std.proofs.Common.{sym, ◌∙◌}
-use Rattle.operator_code.proofs.Extending.{keeps_law}
-use Rattle.operator_code.proofs.Losing.{keeps_where}
+use Rattle.operator_code.proofs.RegisterExtensions.{keeps_law}
+use Rattle.operator_code.proofs.LossyConversions.{keeps_where}
 use Rattle.operator_code.proofs.conversions.keeps_form.Goals as goal
 
 pub returns : goal.returns

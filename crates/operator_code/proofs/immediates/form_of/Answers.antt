@@ -4,7 +4,7 @@ use Rattle.std.proofs.lemmas.Option.{IfSome_then}
 use Rattle.rv64_isa.specs.declared.instr.Operation.{Operation}
 use Rattle.rv64_isa.specs.declared.instr.Operation.TheVariants.{Add, Addw}
 use Rattle.operator_code.specs.links.Immediates.{HasForm}
-use Rattle.operator_code.proofs.ByConstant.{difference, word_difference}
+use Rattle.operator_code.proofs.ConstantOperands.{difference, word_difference}
 use Rattle.operator_code.proofs.immediates.form_of.Goals as goal
 
 pub returns-in-Sub-clause-form : goal.returns-in-Sub-clause-form

@@ -3,7 +3,7 @@ use Rattle.rv64_isa.specs.Arithmetic.{operation_of}
 use Rattle.operator_code.specs.declared.immediates.ImmediateForm.TheVariants.{Number}
 use Rattle.operator_code.specs.Constants.{is_immediate}
 use Rattle.operator_code.specs.links.Immediates.{HasForm}
-use Rattle.operator_code.proofs.ByConstant.{low_bits, number_form}
+use Rattle.operator_code.proofs.ConstantOperands.{low_bits, number_form}
 use Rattle.operator_code.proofs.immediates.number.Goals as goal
 
 pub returns-then-is_near-clause-form : goal.returns-then-is_near-clause-form

@@ -2,7 +2,7 @@ use Rattle.std.proofs.Common.{◌≡◌, ◌%◌, ℕ, sym, subst, rules}
 use Rattle.rv64_isa.specs.Arithmetic.{shift_of}
 use Rattle.operator_code.specs.declared.immediates.ImmediateForm.TheVariants.{Shift}
 use Rattle.operator_code.specs.links.Immediates.{HasForm}
-use Rattle.operator_code.proofs.ByConstant.{shift_form}
+use Rattle.operator_code.proofs.ConstantOperands.{shift_form}
 use Rattle.operator_code.proofs.immediates.shift.Goals as goal
 
 pub returns : goal.returns

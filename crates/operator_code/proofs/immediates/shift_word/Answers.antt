@@ -2,7 +2,7 @@ use Rattle.std.proofs.Common.{◌≡◌, ◌%◌, ℕ, sym, subst, rules}
 use Rattle.rv64_isa.specs.Arithmetic.{word_shift_of}
 use Rattle.operator_code.specs.declared.immediates.ImmediateForm.TheVariants.{ShiftWord}
 use Rattle.operator_code.specs.links.Immediates.{HasForm}
-use Rattle.operator_code.proofs.ByConstant.{shift_word_form}
+use Rattle.operator_code.proofs.ConstantOperands.{shift_word_form}
 use Rattle.operator_code.proofs.immediates.shift_word.Goals as goal
 
 pub returns : goal.returns

@@ -3,12 +3,12 @@ use Rattle.std.specs.Prelude.{IfSome}
 use Rattle.std.proofs.lemmas.Option.{IfSome_then}
 use Rattle.ido_ints.specs.declared.kinds.Kind.{Kind}
 use Rattle.rv64_isa.specs.declared.instr.Operation.{Operation}
-use Rattle.operator_code.specs.Computing.{left_kind}
+use Rattle.operator_code.specs.ComputingCode.{left_kind}
 use Rattle.operator_code.specs.Constants.{has_immediate}
 use Rattle.operator_code.specs.links.Immediates.{takes}
-use Rattle.operator_code.specs.links.Performing.{instruction_of}
-use Rattle.operator_code.proofs.ByConstant.{where_some}
-use Rattle.operator_code.proofs.Performing.{Gives, given, by_form}
+use Rattle.operator_code.specs.links.OperatorInstructions.{instruction_of}
+use Rattle.operator_code.proofs.ConstantOperands.{where_some}
+use Rattle.operator_code.proofs.BinaryOperators.{OperatorGives, given, by_form}
 use Rattle.operator_code.proofs.immediates.with_constant.Goals as goal
 
 pub returns-clause-some : goal.returns-clause-some
@@ -25,5 +25,5 @@ returns-clause-code c =
     let o = c.args.operation in
     let found : instruction_of o.operator (left_kind o) ≡ Some c.in_ok-code.code =
     sym (c.in_ok-code.ensures ∙ ap (λ (k : Kind). instruction_of o.operator k) c.left_kind.ensures) in
-    let law : Gives o c.in_ok-code.code = subst (λ (x : Option Operation). IfSome x (λ i. Gives o i)) found (given o.operator o.left o.right) in
+    let law : OperatorGives o c.in_ok-code.code = subst (λ (x : Option Operation). IfSome x (λ i. OperatorGives o i)) found (given o.operator o.left o.right) in
     IfSome_then c.form_of.result c.form_of.ensures.form (λ f h. by_form o c.in_ok-code.code c.args.constant f law h)

@@ -1,7 +1,7 @@
 use Rattle.std.proofs.Common.{sym, subst, [], ◌∷◌}
 use Rattle.rv64_isa.specs.declared.instr.Instr.{Instr}
-use Rattle.operator_code.specs.Computing.{IsTruth}
-use Rattle.operator_code.proofs.Negating.{true_where}
+use Rattle.operator_code.specs.ComputingCode.{IsTruth}
+use Rattle.operator_code.proofs.UnaryOperators.{true_where}
 use Rattle.operator_code.proofs.unary_operators.truth.Goals as goal
 
 pub returns : goal.returns

@@ -7,10 +7,10 @@ use Rattle.rv64_isa.specs.declared.instr.Instr.{Instr}
 use Rattle.rv64_isa.specs.declared.instr.Instr.TheVariants.{Op}
 use Rattle.rv64_isa.specs.declared.instr.Operation.{Operation}
 use Rattle.rv64_isa.specs.declared.instr.Operation.TheVariants.{Sub, Subw}
-use Rattle.operator_code.specs.links.Performing.{by_width}
-use Rattle.operator_code.specs.Computing.{IsUnary}
+use Rattle.operator_code.specs.links.OperatorInstructions.{by_width}
+use Rattle.operator_code.specs.ComputingCode.{IsUnary}
 use Rattle.operator_code.specs.Sequences.{listed}
-use Rattle.operator_code.proofs.Negating.{plus, minus, complement, inverted}
+use Rattle.operator_code.proofs.UnaryOperators.{plus, minus, complement, inverted}
 use Rattle.operator_code.proofs.unary_operators.unary.Goals as goal
 
 pub returns-in-Plus : goal.returns-in-Plus

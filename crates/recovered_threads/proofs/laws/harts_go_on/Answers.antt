@@ -1,4 +1,4 @@
-use Rattle.recovered_threads.proofs.Resuming.{harts_go_on}
+use Rattle.recovered_threads.proofs.ResumedHarts.{harts_go_on}
 use Rattle.recovered_threads.proofs.laws.harts_go_on.Goals as goal
 
 pub returns : goal.returns

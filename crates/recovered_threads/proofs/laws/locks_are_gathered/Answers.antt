@@ -1,7 +1,7 @@
-use Rattle.recovered_threads.proofs.Crashing.{crashes_gather, crashes_again}
+use Rattle.recovered_threads.proofs.RecoveryAfterCrash.{crashes_gather, crashes_again}
 use Rattle.recovered_threads.proofs.Events.{events_recover}
-use Rattle.recovered_threads.proofs.Gathering.{takes_never_wait, waits_for_takers, gathered_go_on}
-use Rattle.recovered_threads.proofs.Kept.{gathered_are_kept, ready_as_kept}
+use Rattle.recovered_threads.proofs.GatheringSteps.{takes_never_wait, waits_for_takers, gathered_go_on}
+use Rattle.recovered_threads.proofs.GatheredLocks.{gathered_are_kept, ready_as_kept}
 use Rattle.recovered_threads.proofs.laws.locks_are_gathered.Goals as goal
 
 pub returns-clause-crash : goal.returns-clause-crash

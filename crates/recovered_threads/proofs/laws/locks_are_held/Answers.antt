@@ -1,5 +1,5 @@
-use Rattle.recovered_threads.proofs.Crashing.{logs_have_locks}
-use Rattle.recovered_threads.proofs.Holding.{locks_are_held, points_have_locks, records_are_apart}
+use Rattle.recovered_threads.proofs.RecoveryAfterCrash.{logs_have_locks}
+use Rattle.recovered_threads.proofs.RecordedLocks.{locks_are_held, points_have_locks, records_are_apart}
 use Rattle.recovered_threads.proofs.laws.locks_are_held.Goals as goal
 
 pub returns-clause-held : goal.returns-clause-held

@@ -1,4 +1,4 @@
-use Rattle.recovered_threads.proofs.Kept.{points_settle}
+use Rattle.recovered_threads.proofs.GatheredLocks.{points_settle}
 use Rattle.recovered_threads.proofs.laws.points_settle.Goals as goal
 
 pub returns : goal.returns

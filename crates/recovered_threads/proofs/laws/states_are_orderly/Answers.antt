@@ -1,4 +1,4 @@
-use Rattle.recovered_threads.proofs.Orderly.{starts_orderly, steps_orderly, starts_told}
+use Rattle.recovered_threads.proofs.OrderlyStates.{starts_orderly, steps_orderly, starts_told}
 use Rattle.recovered_threads.proofs.laws.states_are_orderly.Goals as goal
 
 pub returns-clause-start : goal.returns-clause-start

@@ -5,7 +5,7 @@ use Rattle.flow_graph.specs.Nodes.{graph_of}
 use Rattle.flow_graph.specs.Colours.{colouring_of}
 use Rattle.reg_colour.specs.declared.checking.Found.{Found}
 use Rattle.reg_colour.specs.links.Intervals.{Intervals, AreIntervals}
-use Rattle.reg_colour.specs.links.Clashing.{IsLeastOf}
+use Rattle.reg_colour.specs.links.LeastClash.{IsLeastOf}
 use Rattle.reg_colour.proofs.Clashes.{ClashBelow, one_in, none_more, registers_at, no_registers, no_clash_at_all, first_clash}
 use Rattle.reg_colour.proofs.checking.check_colours.Goals as goal
 use Rattle.reg_colour.proofs.checking.check_colours.Goals.{then-thread-len+in_ok-intervals, else-thread-len}

@@ -1,6 +1,6 @@
 use Rattle.flow_graph.specs.Nodes.{graph_of}
 use Rattle.flow_graph.specs.Colours.{colouring_of}
-use Rattle.reg_colour.specs.links.Clashing.{IsLeastOf}
+use Rattle.reg_colour.specs.links.LeastClash.{IsLeastOf}
 use Rattle.reg_colour.proofs.Clashes.{ClashBelow}
 use Rattle.reg_colour.proofs.checking.check_colours.Given as goal
 

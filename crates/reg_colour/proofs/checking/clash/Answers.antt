@@ -1,7 +1,7 @@
 use Rattle.std.proofs.Common.{◌≡◌, ◌<◌, Option, None, length, get_or, sym, subst, arith}
 use Rattle.std.proofs.lemmas.Option.{slice_get-get_or}
 use Rattle.reg_colour.specs.declared.checking.Found.{Found}
-use Rattle.reg_colour.specs.links.Clashing.{IsLeastOf, ClashBoth, locals_of}
+use Rattle.reg_colour.specs.links.LeastClash.{IsLeastOf, ClashBoth, locals_of}
 use Rattle.reg_colour.proofs.Clashes.{disjoint, shared_first}
 use Rattle.reg_colour.proofs.checking.clash.Goals as goal
 

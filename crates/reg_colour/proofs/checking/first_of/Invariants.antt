@@ -1,4 +1,4 @@
-use Rattle.reg_colour.specs.links.Clashing.{IsLeastOf}
+use Rattle.reg_colour.specs.links.LeastClash.{IsLeastOf}
 use Rattle.reg_colour.proofs.Clashes.{ClashOfBelow}
 use Rattle.reg_colour.proofs.checking.first_of.Given as goal
 

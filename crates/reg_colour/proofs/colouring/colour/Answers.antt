@@ -6,9 +6,9 @@ use Rattle.flow_graph.specs.Nodes.{node_of, graph_of}
 use Rattle.reg_colour.specs.declared.scan.Crowd.{Crowd}
 use Rattle.reg_colour.specs.declared.scan.Outcome.{Outcome}
 use Rattle.reg_colour.specs.links.Threads.{lists_of, IsThread, IsColoured, IsCrowdOf, IsLeastCrowd, ColouredTo}
-use Rattle.reg_colour.proofs.Bridge.{spanning_within}
+use Rattle.reg_colour.proofs.IntervalCorrectness.{spanning_within}
 use Rattle.reg_colour.proofs.Threads.{one_more, crowd_more, more_lists, named, all_registers, all_apart, all_room, all_crowded}
-use Rattle.reg_colour.proofs.Touching.{node_at}
+use Rattle.reg_colour.proofs.AssigningNodes.{node_at}
 use Rattle.reg_colour.proofs.colouring.colour.Goals as goal
 use Rattle.reg_colour.proofs.colouring.colour.Goals.{in-Coloured+in_ok-push-in-Coloured, in-Crowded}
 

@@ -2,7 +2,7 @@ use Rattle.std.proofs.Common.{◌≡◌, ◌∙◌, length, sym, ap, subst}
 use Rattle.std.proofs.lemmas.Result.{IfOk-weaker}
 use Rattle.flow_graph.specs.Nodes.{graph_of}
 use Rattle.reg_colour.specs.links.Intervals.{Intervals, AreIntervals}
-use Rattle.reg_colour.proofs.Bridge.{filled, within, thread_of}
+use Rattle.reg_colour.proofs.IntervalCorrectness.{filled, within, thread_of}
 use Rattle.reg_colour.proofs.colouring.colour_thread.Goals as goal
 
 pub scan-requires-clause-filled : goal.scan-requires-clause-filled

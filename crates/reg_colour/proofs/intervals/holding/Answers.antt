@@ -1,6 +1,6 @@
 use Rattle.std.proofs.Common.{◌≡◌, ◌<◌, true, None, length, get_or, arith}
 use Rattle.std.proofs.lemmas.Option.{slice_get-get_or}
-use Rattle.reg_colour.proofs.Counting.{counted_more, counted_same, all_counted}
+use Rattle.reg_colour.proofs.IntervalCounts.{counted_more, counted_same, all_counted}
 use Rattle.reg_colour.proofs.intervals.holding.Goals as goal
 use Rattle.reg_colour.proofs.intervals.holding.Goals.{then-is_in, else-is_in}
 

@@ -1,4 +1,4 @@
-use Rattle.reg_colour.proofs.Counting.{CountedTo}
+use Rattle.reg_colour.proofs.IntervalCounts.{CountedTo}
 use Rattle.reg_colour.proofs.intervals.holding.Given as goal
 
 abbrev pub invariant-loop-interval : goal.invariant-loop-interval

@@ -2,7 +2,7 @@ use Rattle.std.proofs.Common.{◌≡◌, ◌∙◌, ◌+◌, [], ◌∷◌, ◌+
 use Rattle.std.proofs.lemmas.List.{length-append}
 use Rattle.flow_graph.specs.Nodes.{graph_of}
 use Rattle.reg_colour.specs.links.Intervals.{Intervals, AreIntervals}
-use Rattle.reg_colour.proofs.Pushing.{one_interval_more}
+use Rattle.reg_colour.proofs.AppendedIntervals.{one_interval_more}
 use Rattle.reg_colour.proofs.intervals.intervals.Goals as goal
 
 pub loop-local-preserved : goal.loop-local-preserved

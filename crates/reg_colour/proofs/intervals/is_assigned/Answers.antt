@@ -1,5 +1,5 @@
 use Rattle.std.proofs.Common.{arith}
-use Rattle.reg_colour.proofs.Touching.{assigned, assigns_none, no_node}
+use Rattle.reg_colour.proofs.AssigningNodes.{assigned, assigns_none, no_node}
 use Rattle.reg_colour.proofs.intervals.is_assigned.Goals as goal
 
 pub returns-in-Some : goal.returns-in-Some

@@ -1,4 +1,4 @@
-use Rattle.reg_colour.specs.links.Scanning.{ScannedTo}
+use Rattle.reg_colour.specs.links.LinearScan.{ScannedTo}
 use Rattle.reg_colour.proofs.scan.scan.Given as goal
 
 abbrev pub invariant-loop-node : goal.invariant-loop-node

@@ -1,4 +1,4 @@
-use Rattle.region_attempts.proofs.Whole.{attempts_are_whole}
+use Rattle.region_attempts.proofs.WholeAttempts.{attempts_are_whole}
 use Rattle.region_attempts.proofs.laws.attempts_are_whole.Goals as goal
 
 pub returns : goal.returns

@@ -1,4 +1,4 @@
-use Rattle.region_attempts.proofs.Keeping.{start_stays, events_stay}
+use Rattle.region_attempts.proofs.AttemptsStayInRegion.{start_stays, events_stay}
 use Rattle.region_attempts.proofs.laws.attempts_stay_inside.Goals as goal
 
 pub returns-clause-start : goal.returns-clause-start

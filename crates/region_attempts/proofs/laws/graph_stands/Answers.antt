@@ -1,4 +1,4 @@
-use Rattle.region_attempts.proofs.Following.{graph_stands, graph_follows, graph_settles}
+use Rattle.region_attempts.proofs.GraphFollowsSource.{graph_stands, graph_follows, graph_settles}
 use Rattle.region_attempts.proofs.laws.graph_stands.Goals as goal
 
 pub returns-clause-stands : goal.returns-clause-stands

@@ -1,4 +1,4 @@
-use Rattle.region_attempts.proofs.Keeping.{next_resumes}
+use Rattle.region_attempts.proofs.AttemptsStayInRegion.{next_resumes}
 use Rattle.region_attempts.proofs.laws.next_resumes.Goals as goal
 
 pub returns : goal.returns

@@ -1,4 +1,4 @@
-use Rattle.region_attempts.proofs.Reading.{readers_guard, readers_guard_still, reads_are_right, reads_stay_right, reads_are_as_made}
+use Rattle.region_attempts.proofs.AttemptReads.{readers_guard, readers_guard_still, reads_are_right, reads_stay_right, reads_are_as_made}
 use Rattle.region_attempts.proofs.laws.reads_are_right.Goals as goal
 
 pub returns-clause-guard : goal.returns-clause-guard

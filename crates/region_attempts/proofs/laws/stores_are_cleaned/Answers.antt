@@ -1,4 +1,4 @@
-use Rattle.region_attempts.proofs.Flushing.{stores_are_cleaned}
+use Rattle.region_attempts.proofs.RegionEndCleans.{stores_are_cleaned}
 use Rattle.region_attempts.proofs.laws.stores_are_cleaned.Goals as goal
 
 pub returns : goal.returns

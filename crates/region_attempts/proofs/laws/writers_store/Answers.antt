@@ -1,5 +1,5 @@
 use Rattle.region_attempts.proofs.Paths.{writers_store}
-use Rattle.region_attempts.proofs.Keeping.{nothing_is_written}
+use Rattle.region_attempts.proofs.AttemptsStayInRegion.{nothing_is_written}
 use Rattle.region_attempts.proofs.laws.writers_store.Goals as goal
 
 pub returns-clause-store : goal.returns-clause-store

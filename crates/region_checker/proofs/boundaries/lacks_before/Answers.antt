@@ -2,7 +2,7 @@ use Rattle.std.proofs.Common.{◌≡◌, ◌↔◌, Bool, List, length, refl, sy
 use Rattle.std.specs.Prelude.{IsTrue, slice_get, Some, true}
 use Rattle.std.proofs.lemmas.Option.{slice_get_read}
 use Rattle.flow_graph.specs.Nodes.{graph_of, node_of}
-use Rattle.flow_graph.specs.Cutting.{boundaries_of}
+use Rattle.flow_graph.specs.IdempotentCuts.{boundaries_of}
 use Rattle.flow_graph.specs.Liveness.{NodeAt}
 use Rattle.region_checker.specs.Conflicts.{LacksBefore}
 use Rattle.region_checker.proofs.Nodes.{node_at, is_unlock_at, lacks_before, off}

@@ -1,5 +1,5 @@
 use Rattle.flow_graph.specs.Nodes.{graph_of}
-use Rattle.flow_graph.specs.Cutting.{boundaries_of}
+use Rattle.flow_graph.specs.IdempotentCuts.{boundaries_of}
 use Rattle.region_checker.specs.Conflicts.{AreThereBelow}
 use Rattle.region_checker.proofs.boundaries.missing.Given as goal
 

@@ -1,9 +1,9 @@
 use Rattle.std.proofs.Common.{ℕ, Option, Some, sym, subst}
 use Rattle.flow_graph.specs.Nodes.{graph_of}
-use Rattle.flow_graph.specs.Cutting.{boundaries_of}
+use Rattle.flow_graph.specs.IdempotentCuts.{boundaries_of}
 use Rattle.region_checker.specs.declared.checking.Conflict as found
-use Rattle.region_checker.specs.links.Hitting.{IsLeastOf, IsHitSome, IsFirstFound}
-use Rattle.region_checker.proofs.Finding.{no_hit, first_found}
+use Rattle.region_checker.specs.links.ConflictSearch.{IsLeastOf, IsHitSome, IsFirstFound}
+use Rattle.region_checker.proofs.FoundConflicts.{no_hit, first_found}
 use Rattle.region_checker.proofs.checking.first_conflict.Goals as goal
 
 pub returns : goal.returns

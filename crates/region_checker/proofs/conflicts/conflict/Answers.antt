@@ -1,6 +1,6 @@
 use Rattle.std.proofs.Common.{◌≡◌, true, false, sym, ◌∙◌}
 use Rattle.flow_graph.specs.Nodes.{graph_of}
-use Rattle.region_checker.proofs.Finding.{hits_is, hits_exposes, hits_follows}
+use Rattle.region_checker.proofs.FoundConflicts.{hits_is, hits_exposes, hits_follows}
 use Rattle.region_checker.proofs.conflicts.conflict.Goals as goal
 
 pub returns-in_ok-follows : goal.returns-in_ok-follows

@@ -1,6 +1,6 @@
 use Rattle.std.proofs.Common.{◌≡◌, arith}
 use Rattle.std.specs.Prelude.{true}
-use Rattle.region_checker.proofs.Finding.{exposed_at_is}
+use Rattle.region_checker.proofs.FoundConflicts.{exposed_at_is}
 use Rattle.region_checker.proofs.conflicts.exposes_at.Goals as goal
 
 pub returns : goal.returns

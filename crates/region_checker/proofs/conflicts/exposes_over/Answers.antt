@@ -3,9 +3,9 @@ use Rattle.std.specs.Prelude.{slice_get}
 use Rattle.std.proofs.lemmas.Option.{slice_get_read, slice_get-get_or}
 use Rattle.ido_base.specs.declared.location.Location.{Location}
 use Rattle.flow_graph.specs.Nodes.{graph_of}
-use Rattle.flow_graph.proofs.Words.{same_or_other}
-use Rattle.region_checker.specs.links.Hitting.{IsExposedAt}
-use Rattle.region_checker.proofs.Finding.{exposes_from, exposes_none}
+use Rattle.flow_graph.proofs.Public.{same_or_other}
+use Rattle.region_checker.specs.links.ConflictSearch.{IsExposedAt}
+use Rattle.region_checker.proofs.FoundConflicts.{exposes_from, exposes_none}
 use Rattle.region_checker.proofs.conflicts.exposes_over.Goals as goal
 
 some_same : (a b : Location) → Some a ≡ Some b → a ≡ b

@@ -1,18 +1,18 @@
 use Rattle.std.proofs.Common.{◌≡◌, ℕ, Option, Some, inl, inr, sym, subst}
 use Rattle.flow_graph.specs.Nodes.{graph_of}
-use Rattle.region_checker.specs.links.Spreading.{IsOn}
-use Rattle.region_checker.specs.links.Hitting.{IsOver, IsLeastOf}
-use Rattle.region_checker.proofs.Least.{least_both}
+use Rattle.region_checker.specs.links.MarkPropagation.{IsOn}
+use Rattle.region_checker.specs.links.ConflictSearch.{IsOver, IsLeastOf}
+use Rattle.region_checker.proofs.LeastNumbers.{least_both}
 use Rattle.region_checker.proofs.conflicts.first_on.Goals as goal
 
 pub returns : goal.returns
 returns c =
     let g = graph_of c.args.graph.now in
-    let way = c.args.way.now in
+    let path = c.args.path.now in
     let location = c.args.location in
-    let R : ℕ → Type 0 = IsOver g location (IsOn way) in
-    let P : ℕ → Type 0 = IsOver g location (λ k. way.next ≡ Some k) in
-    let Q : ℕ → Type 0 = IsOver g location (λ k. way.other ≡ Some k) in
+    let R : ℕ → Type 0 = IsOver g location (IsOn path) in
+    let P : ℕ → Type 0 = IsOver g location (λ k. path.next ≡ Some k) in
+    let Q : ℕ → Type 0 = IsOver g location (λ k. path.other ≡ Some k) in
     subst (λ (o : Option ℕ). IsLeastOf R o) (sym c.earlier.ensures)
     (least_both P Q R c.over.result c.over-2.result c.over.ensures c.over-2.ensures
     (λ n h. record { is = inl h.is; writes = h.writes })

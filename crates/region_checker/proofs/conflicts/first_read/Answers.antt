@@ -1,7 +1,7 @@
 use Rattle.std.proofs.Common.{◌≡◌, ℕ, true, false, sym, ◌∙◌, arith}
 use Rattle.flow_graph.specs.Nodes.{graph_of}
-use Rattle.region_checker.specs.links.Hitting.{HitsAny}
-use Rattle.region_checker.proofs.Finding.{least_here, none_more, reads_within}
+use Rattle.region_checker.specs.links.ConflictSearch.{HitsAny}
+use Rattle.region_checker.proofs.FoundConflicts.{least_here, none_more, reads_within}
 use Rattle.region_checker.proofs.conflicts.first_read.Goals as goal
 
 pub returns-then-branch : goal.returns-then-branch

@@ -1,6 +1,6 @@
 use Rattle.std.proofs.Common.{ℕ, ◌<◌}
 use Rattle.flow_graph.specs.Nodes.{graph_of}
-use Rattle.region_checker.specs.links.Hitting.{ForRegions, HitsAny}
+use Rattle.region_checker.specs.links.ConflictSearch.{ForRegions, HitsAny}
 use Rattle.region_checker.proofs.conflicts.first_read.Given as goal
 
 abbrev pub invariant-loop-read : goal.invariant-loop-read

@@ -2,8 +2,8 @@ use Rattle.std.proofs.Common.{◌+◌, ◌<◌, ℕ, List, Option, length, sym, 
 use Rattle.std.proofs.lemmas.Option.{slice_get-get_or}
 use Rattle.ido_base.specs.declared.location.Location.{Location}
 use Rattle.flow_graph.specs.Nodes.{graph_of}
-use Rattle.region_checker.specs.links.Hitting.{IsLeastOf, AreAllRead}
-use Rattle.region_checker.proofs.Least.{IsHitBelow, hit_none, hit_more, hit_all}
+use Rattle.region_checker.specs.links.ConflictSearch.{IsLeastOf, AreAllRead}
+use Rattle.region_checker.proofs.LeastNumbers.{IsHitBelow, hit_none, hit_more, hit_all}
 use Rattle.region_checker.proofs.conflicts.first_store.Goals as goal
 
 pub loop-location-init : goal.loop-location-init

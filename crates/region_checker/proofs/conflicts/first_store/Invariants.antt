@@ -1,6 +1,6 @@
 use Rattle.flow_graph.specs.Nodes.{graph_of}
-use Rattle.region_checker.specs.links.Hitting.{ForRegions, IsLeastOf}
-use Rattle.region_checker.proofs.Least.{IsHitBelow}
+use Rattle.region_checker.specs.links.ConflictSearch.{ForRegions, IsLeastOf}
+use Rattle.region_checker.proofs.LeastNumbers.{IsHitBelow}
 use Rattle.region_checker.proofs.conflicts.first_store.Given as goal
 
 abbrev pub invariant-loop-location : goal.invariant-loop-location

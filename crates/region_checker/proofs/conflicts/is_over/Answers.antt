@@ -2,7 +2,7 @@ use Rattle.std.proofs.Common.{◌↔◌, Bool, length, ap, sym, subst, arith}
 use Rattle.std.specs.Prelude.{IsTrue}
 use Rattle.flow_graph.specs.Nodes.{graph_of, node_of}
 use Rattle.flow_graph.specs.Liveness.{NodeAt}
-use Rattle.region_checker.specs.links.Hitting.{WritesOver}
+use Rattle.region_checker.specs.links.ConflictSearch.{WritesOver}
 use Rattle.region_checker.proofs.Nodes.{found_at, over_at, node_in}
 use Rattle.region_checker.proofs.conflicts.is_over.Goals as goal
 

@@ -1,7 +1,7 @@
 use Rattle.std.proofs.Common.{◌≡◌, ◌↔◌, ℕ, ◌<◌, length, Some}
 use Rattle.std.specs.Prelude.{Contains, slice_get}
 use Rattle.flow_graph.specs.declared.graph.Node as code
-use Rattle.region_checker.specs.links.Spreading.{IsMarked}
+use Rattle.region_checker.specs.links.MarkPropagation.{IsMarked}
 use Rattle.region_checker.proofs.exposure.read_at.Given as goal
 
 abbrev pub invariant-loop-number : goal.invariant-loop-number

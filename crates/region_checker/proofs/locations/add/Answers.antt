@@ -1,7 +1,7 @@
 use Rattle.std.proofs.Common.{◌≡◌, [], ◌∷◌, ◌++◌, List, subst}
 use Rattle.std.specs.Prelude.{Contains}
 use Rattle.ido_base.specs.declared.location.Location.{Location}
-use Rattle.region_checker.proofs.Collected.{kept, pushed}
+use Rattle.region_checker.proofs.CollectedLocations.{kept, pushed}
 use Rattle.region_checker.proofs.locations.add.Goals as goal
 
 pub returns-then-is_among : goal.returns-then-is_among

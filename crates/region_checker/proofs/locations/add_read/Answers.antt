@@ -1,6 +1,6 @@
 use Rattle.std.proofs.Common.{◌<◌, length, arith}
 use Rattle.std.proofs.lemmas.Option.{slice_get-get_or}
-use Rattle.region_checker.proofs.Collected.{added_next, at_contains}
+use Rattle.region_checker.proofs.CollectedLocations.{added_next, at_contains}
 use Rattle.region_checker.proofs.locations.add_read.Goals as goal
 
 pub loop-read-init : goal.loop-read-init

@@ -1,4 +1,4 @@
-use Rattle.region_checker.proofs.Collected.{Added}
+use Rattle.region_checker.proofs.CollectedLocations.{Added}
 use Rattle.region_checker.proofs.locations.add_read.Given as goal
 
 abbrev pub invariant-loop-read : goal.invariant-loop-read

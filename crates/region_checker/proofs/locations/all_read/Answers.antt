@@ -3,7 +3,7 @@ use Rattle.std.specs.Prelude.{Contains, slice_get}
 use Rattle.std.proofs.lemmas.Option.{slice_get_read}
 use Rattle.ido_base.specs.declared.location.Location.{Location}
 use Rattle.flow_graph.specs.declared.graph.Node as code
-use Rattle.region_checker.proofs.Collected.{read_more, read_all}
+use Rattle.region_checker.proofs.CollectedLocations.{read_more, read_all}
 use Rattle.region_checker.proofs.locations.all_read.Goals as goal
 
 pub loop-node-preserved : goal.loop-node-preserved

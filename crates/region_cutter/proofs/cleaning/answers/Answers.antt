@@ -1,6 +1,6 @@
 use Rattle.std.proofs.Common.{◌≡◌, ◌+◌, ℕ, Bool, List, length, sym, subst, arith}
 use Rattle.flow_graph.specs.Nodes.{graph_of}
-use Rattle.flow_graph.specs.Cutting.{boundaries_of}
+use Rattle.flow_graph.specs.IdempotentCuts.{boundaries_of}
 use Rattle.region_cutter.specs.links.Lines.{AreAnswers}
 use Rattle.region_cutter.proofs.Lines.{answers_none, answers_more}
 use Rattle.region_cutter.proofs.cleaning.answers.Goals as goal

@@ -1,5 +1,5 @@
 use Rattle.flow_graph.specs.Nodes.{graph_of}
-use Rattle.flow_graph.specs.Cutting.{boundaries_of}
+use Rattle.flow_graph.specs.IdempotentCuts.{boundaries_of}
 use Rattle.region_cutter.specs.links.Lines.{AreAnswers}
 use Rattle.region_cutter.proofs.cleaning.answers.Given as goal
 

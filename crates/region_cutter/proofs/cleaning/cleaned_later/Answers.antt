@@ -1,6 +1,6 @@
 use Rattle.std.proofs.Common.{Option, ℕ, List, length, subst}
 use Rattle.flow_graph.specs.Nodes.{graph_of}
-use Rattle.flow_graph.specs.Cutting.{boundaries_of}
+use Rattle.flow_graph.specs.IdempotentCuts.{boundaries_of}
 use Rattle.region_cutter.specs.links.Lines.{AreAnswers}
 use Rattle.region_cutter.proofs.Lines.{answers_all}
 use Rattle.region_cutter.proofs.cleaning.cleaned_later.Goals as goal

@@ -2,7 +2,7 @@ use Rattle.std.proofs.Common.{◌≡◌, ◌⊎◌, Some}
 use Rattle.flow_graph.specs.Nodes.{node_of}
 use Rattle.region_cutter.specs.links.Lines.{IsPast}
 use Rattle.region_cutter.proofs.Lines.{past_both}
-use Rattle.region_cutter.proofs.Searching.{follows_as, follows_both}
+use Rattle.region_cutter.proofs.GraphSearchComplete.{follows_as, follows_both}
 use Rattle.region_cutter.proofs.cleaning.go_on.Goals as goal
 
 pub returns : goal.returns

@@ -3,7 +3,7 @@ use Rattle.std.specs.Prelude.{IsTrue}
 use Rattle.std.specs.Option.{option_map}
 use Rattle.std.proofs.lemmas.Option.{slice_get-map}
 use Rattle.flow_graph.specs.Nodes.{graph_of, node_of}
-use Rattle.flow_graph.specs.Cutting.{boundaries_of}
+use Rattle.flow_graph.specs.IdempotentCuts.{boundaries_of}
 use Rattle.region_cutter.specs.links.Lines.{Leaves, LeadsOver}
 use Rattle.region_cutter.proofs.Edges.{leaves_is, or_then, or_else}
 use Rattle.region_cutter.proofs.cleaning.leaves.Goals as goal
@@ -15,11 +15,11 @@ asked c =
     let nodes = c.args.graph.now.nodes.items in
     let n = c.args.number in
     let b = boundaries_of c.args.cuts.now in
-    let behind = c.has_behind-behind.result in
-    leaves_is (graph_of c.args.graph.now) b n (node_of c.args.node.now) behind c.leads_over-next.result c.leads_over-other.result
-    (slice_get-map node_of nodes n ∙ ap (option_map node_of) c.requires) c.has_behind-behind.ensures
-    (subst (λ (to : Option ℕ). IsTrue c.leads_over-next.result ↔ LeadsOver b behind to) c.next.ensures c.leads_over-next.ensures)
-    (subst (λ (to : Option ℕ). IsTrue c.leads_over-other.result ↔ LeadsOver b behind to) c.other.ensures c.leads_over-other.ensures)
+    let after = c.has_after-after.result in
+    leaves_is (graph_of c.args.graph.now) b n (node_of c.args.node.now) after c.leads_over-next.result c.leads_over-other.result
+    (slice_get-map node_of nodes n ∙ ap (option_map node_of) c.requires) c.has_after-after.ensures
+    (subst (λ (to : Option ℕ). IsTrue c.leads_over-next.result ↔ LeadsOver b after to) c.next.ensures c.leads_over-next.ensures)
+    (subst (λ (to : Option ℕ). IsTrue c.leads_over-other.result ↔ LeadsOver b after to) c.other.ensures c.leads_over-other.ensures)
 
 pub returns-then-next : goal.returns-then-next
 returns-then-next c =

@@ -6,12 +6,12 @@ use Rattle.std.proofs.lemmas.List.Elements.{Contains-push}
 use Rattle.std.proofs.lemmas.Option.{slice_get-map, slice_get_read}
 use Rattle.flow_graph.specs.Nodes.{graph_of, node_of}
 use Rattle.flow_graph.specs.Liveness.{NodeAt}
-use Rattle.flow_graph.specs.Cutting.{boundaries_of}
+use Rattle.flow_graph.specs.IdempotentCuts.{boundaries_of}
 use Rattle.region_cutter.specs.links.Lines.{GoesOnPast, IsPast, Leaves}
-use Rattle.region_cutter.specs.links.Searching.{Comes, Follows, left}
+use Rattle.region_cutter.specs.links.GraphSearch.{ReachesEnd, IsSearchStep, left}
 use Rattle.region_cutter.proofs.Edges.{past_is}
 use Rattle.region_cutter.proofs.Lines.{comes_within}
-use Rattle.region_cutter.proofs.Searching.{follows_as, searched_first, searched_step, searched_found, searched_none}
+use Rattle.region_cutter.proofs.GraphSearchComplete.{follows_as, searched_first, searched_step, searched_found, searched_none}
 use Rattle.region_cutter.proofs.cleaning.reaches_uncleaned.Goals as goal
 use Rattle.region_cutter.proofs.cleaning.reaches_uncleaned.Goals.{In-Some, After-index-node}
 
@@ -23,8 +23,8 @@ loop-number-init c =
     let start : ℕ → Type 0 = λ n. c.args.from ≡ n in
     let f = c.in_ok-search.ensures in (
       searched_first Step (Leaves g b) start
-          (Comes Step (Leaves g b) c.args.from) start c.len.result c.in_ok-search.search.seen.items c.in_ok-search.search.waiting.items f
-          (λ n is comes. subst (λ (m : ℕ). Comes Step (Leaves g b) m) (sym is) comes) (λ n is lt. is),
+          (ReachesEnd Step (Leaves g b) c.args.from) start c.len.result c.in_ok-search.search.seen.items c.in_ok-search.search.waiting.items f
+          (λ n is comes. subst (λ (m : ℕ). ReachesEnd Step (Leaves g b) m) (sym is) comes) (λ n is lt. is),
       omega (arith, f.long, length-replicate c.len.result false, c.len.ensures, c.args.graph.now.nodes.ok.0),
     )
 
@@ -52,7 +52,7 @@ returns-then-leaves c =
     let g = graph_of c.args.graph.now in
     let b = boundaries_of c.args.cuts.now in (
       λ _. searched_found (GoesOnPast g b c.args.lines.now c.args.line) (Leaves g b) (λ n. c.args.from ≡ n)
-          (Comes (GoesOnPast g b c.args.lines.now c.args.line)
+          (ReachesEnd (GoesOnPast g b c.args.lines.now c.args.line)
           (Leaves g b) c.args.from) c.loop-number.search.seen.items c.loop-number.search.waiting.items c.pop.new.self.items c.in-Some.number
           c.in-Some.ensures.items c.loop-number.invariant.0 (c.leaves.ensures.0 c.if-leaves.true),
       λ _. refl,
@@ -74,11 +74,11 @@ loop-number-preserved c =
     ap (option_map node_of) (found (goal.at.loop-number-preserved c).After-index-node lt) in
     let stays : ¬ (Leaves g b n) = λ h. let yes' : c.leaves.result ≡ true = c.leaves.ensures.1 h in let no' : c.leaves.result ≡ false =
     c.if-leaves.false in cc in
-    let f : Follows (IsPast lines line x) s.seen.items rest s'.seen.items s'.waiting.items = c.in_ok-go_on.ensures in
+    let f : IsSearchStep (IsPast lines line x) s.seen.items rest s'.seen.items s'.waiting.items = c.in_ok-go_on.ensures in
     let f' = follows_as (IsPast lines line x) (GoesOnPast g b lines line n) s.seen.items rest s'.seen.items s'.waiting.items
     (past_is g b lines line n x at stays) f in (
       searched_step (GoesOnPast g b lines line) (Leaves g b) (λ m. c.args.from ≡ m)
-          (Comes (GoesOnPast g b lines line)
+          (ReachesEnd (GoesOnPast g b lines line)
           (Leaves g b) c.args.from) s.seen.items s.waiting.items rest s'.seen.items s'.waiting.items n c.in-Some.ensures.items
           c.loop-number.invariant.0 stays f',
       f.long ∙ c.loop-number.invariant.1,
@@ -104,7 +104,7 @@ returns c =
     let none : s.waiting.items ≡ [] = nil_from_length s.waiting.items (omega (arith, c.in_default.ensures.cases.0, s.waiting.ok.0)) in
     let count : length s.seen.items ≡ length g.nodes = c.loop-number.invariant.1 ∙ sym (length-map c.args.graph.now.nodes.items node_of) in
     let no' = searched_none (GoesOnPast g b lines line) (Leaves g b) (λ n. c.args.from ≡ n)
-    (Comes (GoesOnPast g b lines line) (Leaves g b) c.args.from) s.seen.items s.waiting.items none
+    (ReachesEnd (GoesOnPast g b lines line) (Leaves g b) c.args.from) s.seen.items s.waiting.items none
     (λ n comes. omega (arith, comes_within g b lines line n comes, count)) c.loop-number.invariant.0 c.args.from refl in (
       λ e. let wrong : false ≡ true = e in absurd (cc),
       λ comes. absurd (no' comes),

@@ -1,13 +1,13 @@
 use Rattle.std.proofs.Common.{◌≡◌, length}
 use Rattle.flow_graph.specs.Nodes.{graph_of}
-use Rattle.flow_graph.specs.Cutting.{boundaries_of}
-use Rattle.region_cutter.specs.links.Searching.{Comes, Searched, left}
+use Rattle.flow_graph.specs.IdempotentCuts.{boundaries_of}
+use Rattle.region_cutter.specs.links.GraphSearch.{ReachesEnd, Searched, left}
 use Rattle.region_cutter.specs.links.Lines.{GoesOnPast, Leaves}
 use Rattle.region_cutter.proofs.cleaning.reaches_uncleaned.Given as goal
 
 abbrev pub invariant-loop-number : goal.invariant-loop-number
 invariant-loop-number l = Searched (GoesOnPast (graph_of l.graph) (boundaries_of l.cuts) l.lines l.line) (Leaves (graph_of l.graph) (boundaries_of l.cuts))
-    (λ n. l.from ≡ n) (Comes (GoesOnPast (graph_of l.graph) (boundaries_of l.cuts) l.lines l.line)
+    (λ n. l.from ≡ n) (ReachesEnd (GoesOnPast (graph_of l.graph) (boundaries_of l.cuts) l.lines l.line)
     (Leaves (graph_of l.graph) (boundaries_of l.cuts)) l.from) l.search.seen.items l.search.waiting.items
     × (length l.search.seen.items ≡ length l.graph.nodes.items)
 

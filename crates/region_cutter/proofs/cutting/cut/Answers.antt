@@ -1,9 +1,9 @@
 use Rattle.std.proofs.Common.{length}
 use Rattle.std.proofs.lemmas.List.{length-map}
 use Rattle.flow_graph.specs.Nodes.{graph_of}
-use Rattle.flow_graph.specs.Cutting.{boundaries_of}
-use Rattle.region_cutter.proofs.Starting.{everywhere_kept}
-use Rattle.region_cutter.proofs.Trials.{pass_minimal}
+use Rattle.flow_graph.specs.IdempotentCuts.{boundaries_of}
+use Rattle.region_cutter.proofs.BoundariesEverywhere.{everywhere_kept}
+use Rattle.region_cutter.proofs.TrialPasses.{pass_minimal}
 use Rattle.region_cutter.proofs.cutting.cut.Goals as goal
 
 pub loop-marks-init : goal.loop-marks-init

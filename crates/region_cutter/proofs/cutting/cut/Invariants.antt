@@ -1,6 +1,6 @@
 use Rattle.flow_graph.specs.Nodes.{graph_of}
-use Rattle.flow_graph.specs.Cutting.{boundaries_of}
-use Rattle.region_cutter.specs.links.Trying.{AreKept, standing}
+use Rattle.flow_graph.specs.IdempotentCuts.{boundaries_of}
+use Rattle.region_cutter.specs.links.BoundaryTrials.{AreKept, standing}
 use Rattle.region_cutter.proofs.cutting.cut.Given as goal
 
 abbrev pub invariant-loop-marks : goal.invariant-loop-marks

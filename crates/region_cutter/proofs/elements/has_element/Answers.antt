@@ -1,7 +1,7 @@
 use Rattle.std.proofs.Common.{rules, ◌↔◌, ◌<◌, nat_lt, length, refl}
 use Rattle.std.specs.Prelude.{IsTrue}
 use Rattle.std.proofs.lemmas.Option.{slice_get_read}
-use Rattle.region_cutter.proofs.Single.{element_some}
+use Rattle.region_cutter.proofs.SingleElements.{element_some}
 use Rattle.region_cutter.proofs.elements.has_element.Goals as goal
 
 pub returns-in-Some : goal.returns-in-Some

@@ -4,8 +4,8 @@ use Rattle.std.proofs.lemmas.Option.{slice_get_read}
 use Rattle.flow_graph.specs.declared.graph.Node as code
 use Rattle.flow_graph.specs.Nodes.{graph_of, node_of}
 use Rattle.region_cutter.specs.Places.{WritesAnElement}
-use Rattle.region_cutter.proofs.Exposing.{below_more}
-use Rattle.region_cutter.proofs.Single.{all_elements, no_element}
+use Rattle.region_cutter.proofs.TrialParts.{below_more}
+use Rattle.region_cutter.proofs.SingleElements.{all_elements, no_element}
 use Rattle.region_cutter.proofs.elements.write_elements.Goals as goal
 
 at_hand : (nodes items : List code.Node) (i : ℕ) (x : code.Node) → items ≡ nodes → i < length items → x ≡ get_or items i x → slice_get nodes i ≡ Some x

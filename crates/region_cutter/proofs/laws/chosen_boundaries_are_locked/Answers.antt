@@ -1,4 +1,4 @@
-use Rattle.region_cutter.proofs.Locked.{chosen_are_locked, nodes_are_steps}
+use Rattle.region_cutter.proofs.LocksAtStores.{chosen_are_locked, nodes_are_steps}
 use Rattle.region_cutter.proofs.laws.chosen_boundaries_are_locked.Goals as goal
 
 pub returns-clause-locked : goal.returns-clause-locked

@@ -2,8 +2,8 @@ use Rattle.std.proofs.Common.{◌≤◌, List, length, get_or, subst}
 use Rattle.std.specs.Prelude.{Contains}
 use Rattle.std.proofs.lemmas.Option.{slice_get-get_or}
 use Rattle.ido_base.specs.declared.location.Location.{Location}
-use Rattle.region_cutter.specs.links.Local.{AddsRead}
-use Rattle.region_cutter.proofs.Exposing.{adds_none, adds_more, adds_all}
+use Rattle.region_cutter.specs.links.RemovalWindows.{AddsRead}
+use Rattle.region_cutter.proofs.TrialParts.{adds_none, adds_more, adds_all}
 use Rattle.region_cutter.proofs.local.add_reads.Goals as goal
 
 pub loop-elements-init : goal.loop-elements-init

@@ -1,6 +1,6 @@
 use Rattle.std.proofs.Common.{◌≡◌, ℕ, ◌<◌, Some}
 use Rattle.std.specs.Prelude.{slice_get}
-use Rattle.region_cutter.specs.links.Local.{AddsRead}
+use Rattle.region_cutter.specs.links.RemovalWindows.{AddsRead}
 use Rattle.region_cutter.proofs.local.add_reads.Given as goal
 
 abbrev pub invariant-loop-elements : goal.invariant-loop-elements

@@ -4,14 +4,14 @@ use Rattle.std.proofs.lemmas.List.{length-map, length-replicate, length_push, ni
 use Rattle.std.proofs.lemmas.List.Elements.{Contains-push}
 use Rattle.std.proofs.lemmas.Option.{slice_get_read}
 use Rattle.flow_graph.specs.Nodes.{Graph, graph_of, node_of}
-use Rattle.flow_graph.specs.Cutting.{Boundaries, boundaries_of}
-use Rattle.region_cutter.specs.links.Local.{Inside, AreAhead, Never}
-use Rattle.region_cutter.specs.links.Searching.{Comes, there, goes_on, Follows, left}
-use Rattle.region_cutter.proofs.Searching.{searched_first, searched_step, all_followed}
+use Rattle.flow_graph.specs.IdempotentCuts.{Boundaries, boundaries_of}
+use Rattle.region_cutter.specs.links.RemovalWindows.{Inside, AreAhead, Never}
+use Rattle.region_cutter.specs.links.GraphSearch.{ReachesEnd, there, goes_on, IsSearchStep, left}
+use Rattle.region_cutter.proofs.GraphSearchComplete.{searched_first, searched_step, all_followed}
 use Rattle.region_cutter.proofs.local.ahead.Goals as goal
 use Rattle.region_cutter.proofs.local.ahead.Goals.{In-Some, After-index}
 
-never : (g : Graph) (b : Boundaries) (n : ℕ) → Comes (Inside g b) Never n → ⊥
+never : (g : Graph) (b : Boundaries) (n : ℕ) → ReachesEnd (Inside g b) Never n → ⊥
 never g b n (there _ end) = end
 never g b n (goes_on _ to step rest) = never g b to rest
 
@@ -52,7 +52,7 @@ loop-number-preserved c =
     let s = c.loop-number.search in
     let rest = c.pop.new.self.items in
     let s' = c.go_on.new.search in
-    let f : Follows (λ to. Inside g b n to) s.seen.items rest s'.seen.items s'.waiting.items = c.in_ok-go_on.ensures in (
+    let f : IsSearchStep (λ to. Inside g b n to) s.seen.items rest s'.seen.items s'.waiting.items = c.in_ok-go_on.ensures in (
       searched_step (Inside g b) Never
           (λ m. c.args.from ≡ m) ⊥ s.seen.items s.waiting.items rest s'.seen.items s'.waiting.items n c.in-Some.ensures.items
           c.loop-number.invariant.0 (λ h. h) f,

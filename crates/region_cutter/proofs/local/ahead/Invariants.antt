@@ -1,8 +1,8 @@
 use Rattle.std.proofs.Common.{◌≡◌, length}
 use Rattle.flow_graph.specs.Nodes.{graph_of}
-use Rattle.flow_graph.specs.Cutting.{boundaries_of}
-use Rattle.region_cutter.specs.links.Searching.{Searched, left}
-use Rattle.region_cutter.specs.links.Local.{Inside, Never}
+use Rattle.flow_graph.specs.IdempotentCuts.{boundaries_of}
+use Rattle.region_cutter.specs.links.GraphSearch.{Searched, left}
+use Rattle.region_cutter.specs.links.RemovalWindows.{Inside, Never}
 use Rattle.region_cutter.proofs.local.ahead.Given as goal
 
 abbrev pub invariant-loop-number : goal.invariant-loop-number

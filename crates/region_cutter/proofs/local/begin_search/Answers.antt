@@ -1,10 +1,10 @@
 use Rattle.std.proofs.Common.{◌≡◌, ◌⊎◌, ◌+◌, ℕ, Bool, List, [], length, replicate, false, sym, subst, arith}
 use Rattle.flow_graph.specs.Nodes.{graph_of}
-use Rattle.flow_graph.specs.Cutting.{boundaries_of}
-use Rattle.region_cutter.specs.links.Searching.{Follows}
-use Rattle.region_cutter.specs.links.Local.{BeginsBelow, BeginsBy, BeginsIn}
-use Rattle.region_cutter.proofs.Exposing.{begins_first, begins_next, begins_all}
-use Rattle.region_cutter.proofs.Searching.{follows_none, follows_as, follows_both}
+use Rattle.flow_graph.specs.IdempotentCuts.{boundaries_of}
+use Rattle.region_cutter.specs.links.GraphSearch.{IsSearchStep}
+use Rattle.region_cutter.specs.links.RemovalWindows.{BeginsBelow, BeginsBy, BeginsIn}
+use Rattle.region_cutter.proofs.TrialParts.{begins_first, begins_next, begins_all}
+use Rattle.region_cutter.proofs.GraphSearchComplete.{follows_none, follows_as, follows_both}
 use Rattle.region_cutter.proofs.local.begin_search.Goals as goal
 
 pub loop-number-init : goal.loop-number-init
@@ -17,8 +17,8 @@ loop-number-init c =
     let count : c.len.result ≡ length c.args.graph.now.nodes.items = omega (arith, c.len.ensures, c.args.graph.now.nodes.ok.0) in
     let none = follows_none (BeginsBelow g b w w.first) seen0 [] (λ n below lt. absurd (begins_first g b w n below)) in
     let long : s.seen.items ≡ seen0 = subst (λ (k : ℕ). s.seen.items ≡ replicate k false) count c.in_ok-search.ensures.seen in (
-      subst (λ (w' : List ℕ). Follows (BeginsBelow g b w w.first) seen0 [] s.seen.items w') (sym c.in_ok-search.ensures.waiting)
-          (subst (λ (v : List Bool). Follows (BeginsBelow g b w w.first) seen0 [] v []) (sym long) none),
+      subst (λ (w' : List ℕ). IsSearchStep (BeginsBelow g b w w.first) seen0 [] s.seen.items w') (sym c.in_ok-search.ensures.waiting)
+          (subst (λ (v : List Bool). IsSearchStep (BeginsBelow g b w w.first) seen0 [] v []) (sym long) none),
       omega arith,
     )
 

@@ -4,10 +4,10 @@ use Rattle.ido_base.specs.declared.location.Location.{Location}
 use Rattle.std.specs.Option.{option_map}
 use Rattle.std.proofs.lemmas.Option.{slice_get-map}
 use Rattle.flow_graph.specs.Nodes.{graph_of, node_of}
-use Rattle.flow_graph.specs.Cutting.{boundaries_of}
-use Rattle.region_cutter.specs.links.Local.{Exposes}
+use Rattle.flow_graph.specs.IdempotentCuts.{boundaries_of}
+use Rattle.region_cutter.specs.links.RemovalWindows.{Exposes}
 use Rattle.region_cutter.proofs.Edges.{and_then}
-use Rattle.region_cutter.proofs.Exposing.{exposes_is, exposes_none}
+use Rattle.region_cutter.proofs.TrialParts.{exposes_is, exposes_none}
 use Rattle.region_cutter.proofs.local.exposes.Goals as goal
 
 pub returns-then-stands : goal.returns-then-stands

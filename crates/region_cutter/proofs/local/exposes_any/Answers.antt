@@ -3,9 +3,9 @@ use Rattle.std.specs.Prelude.{Contains}
 use Rattle.std.proofs.lemmas.Option.{slice_get-get_or}
 use Rattle.ido_base.specs.declared.location.Location.{Location}
 use Rattle.flow_graph.specs.Nodes.{graph_of}
-use Rattle.flow_graph.specs.Cutting.{boundaries_of}
-use Rattle.region_cutter.specs.links.Local.{IsExposed}
-use Rattle.region_cutter.proofs.Exposing.{any_exposed, below_more, contained, none_of_reads}
+use Rattle.flow_graph.specs.IdempotentCuts.{boundaries_of}
+use Rattle.region_cutter.specs.links.RemovalWindows.{IsExposed}
+use Rattle.region_cutter.proofs.TrialParts.{any_exposed, below_more, contained, none_of_reads}
 use Rattle.region_cutter.proofs.local.exposes_any.Goals as goal
 
 pub returns-then-exposed : goal.returns-then-exposed

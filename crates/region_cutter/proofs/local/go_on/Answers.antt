@@ -2,10 +2,10 @@ use Rattle.std.proofs.Common.{◌≡◌, ◌⊎◌, Some, ap, ◌∙◌}
 use Rattle.std.specs.Option.{option_map}
 use Rattle.std.proofs.lemmas.Option.{slice_get-map}
 use Rattle.flow_graph.specs.Nodes.{graph_of, node_of}
-use Rattle.flow_graph.specs.Cutting.{boundaries_of}
-use Rattle.region_cutter.specs.links.Local.{Inside}
-use Rattle.region_cutter.proofs.Exposing.{inside_both}
-use Rattle.region_cutter.proofs.Searching.{follows_as, follows_both}
+use Rattle.flow_graph.specs.IdempotentCuts.{boundaries_of}
+use Rattle.region_cutter.specs.links.RemovalWindows.{Inside}
+use Rattle.region_cutter.proofs.TrialParts.{inside_both}
+use Rattle.region_cutter.proofs.GraphSearchComplete.{follows_as, follows_both}
 use Rattle.region_cutter.proofs.local.go_on.Goals as goal
 
 pub returns : goal.returns
@@ -19,9 +19,9 @@ returns c =
     let s' = c.come_to_any.new.self in
     let s'' = c.come_to_any-2.new.self in
     follows_as (λ to. (one ≡ Some to) ⊎ (two ≡ Some to)) (Inside g b n) s.seen.items s.waiting.items s''.seen.items s''.waiting.items
-    (inside_both g b n (node_of c.args.node.now) c.has_behind-behind.result c.next.result c.other.result one two
+    (inside_both g b n (node_of c.args.node.now) c.has_after-after.result c.next.result c.other.result one two
     (slice_get-map node_of c.args.graph.now.nodes.items n ∙ ap (option_map node_of) c.requires)
-    c.has_behind-behind.ensures c.next.ensures c.other.ensures c.inside.ensures c.inside-2.ensures)
+    c.has_after-after.ensures c.next.ensures c.other.ensures c.inside.ensures c.inside-2.ensures)
     (follows_both (λ to. one ≡ Some to)
     (λ to. two ≡ Some to) s.seen.items s.waiting.items s'.seen.items s'.waiting.items s''.seen.items s''.waiting.items c.in_ok-come_to_any.ensures
     c.in_ok-come_to_any-2.ensures)

@@ -1,8 +1,8 @@
 use Rattle.std.proofs.Common.{◌≡◌, true, false}
 use Rattle.flow_graph.specs.Nodes.{graph_of}
-use Rattle.flow_graph.specs.Cutting.{boundaries_of}
-use Rattle.region_cutter.specs.links.Local.{Inside, InsidePast}
-use Rattle.region_cutter.proofs.Searching.{follows_as}
+use Rattle.flow_graph.specs.IdempotentCuts.{boundaries_of}
+use Rattle.region_cutter.specs.links.RemovalWindows.{Inside, InsidePast}
+use Rattle.region_cutter.proofs.GraphSearchComplete.{follows_as}
 use Rattle.region_cutter.proofs.local.go_on_past.Goals as goal
 
 pub returns-in_ok-go_on : goal.returns-in_ok-go_on

@@ -4,11 +4,11 @@ use Rattle.std.proofs.lemmas.List.{length-map, length-replicate, length_push, ni
 use Rattle.std.proofs.lemmas.List.Elements.{Contains-push}
 use Rattle.std.proofs.lemmas.Option.{slice_get_read}
 use Rattle.flow_graph.specs.Nodes.{graph_of, node_of}
-use Rattle.flow_graph.specs.Cutting.{boundaries_of}
-use Rattle.region_cutter.specs.links.Local.{Inside, WritesOver, IsBehindExposedIn, IsExposed}
-use Rattle.region_cutter.specs.links.Searching.{Follows, left}
-use Rattle.region_cutter.proofs.Exposing.{comes_over_within, exposed_found}
-use Rattle.region_cutter.proofs.Searching.{searched_first, searched_step, searched_found, searched_none}
+use Rattle.flow_graph.specs.IdempotentCuts.{boundaries_of}
+use Rattle.region_cutter.specs.links.RemovalWindows.{Inside, WritesOver, IsAfterExposedIn, IsExposed}
+use Rattle.region_cutter.specs.links.GraphSearch.{IsSearchStep, left}
+use Rattle.region_cutter.proofs.TrialParts.{comes_over_within, exposed_found}
+use Rattle.region_cutter.proofs.GraphSearchComplete.{searched_first, searched_step, searched_found, searched_none}
 use Rattle.region_cutter.proofs.local.is_exposed.Goals as goal
 use Rattle.region_cutter.proofs.local.is_exposed.Goals.{In-Some, After-index-node}
 
@@ -28,7 +28,7 @@ loop-number-init c =
     let End = WritesOver g c.args.elements in
     let w = c.args.window in
     let e = c.args.elements in
-    let Start = IsBehindExposedIn g b w e in
+    let Start = IsAfterExposedIn g b w e in
     let f = c.in_ok-search.ensures in (
       searched_first Step End Start (IsExposed g b w e) Start
           (length c.args.graph.now.nodes.items) c.in_ok-search.search.seen.items c.in_ok-search.search.waiting.items f
@@ -58,7 +58,7 @@ returns-then-writes_over c =
     let End = WritesOver g c.args.elements in
     let w = c.args.window in
     let e = c.args.elements in
-    let Start = IsBehindExposedIn g b w e in (
+    let Start = IsAfterExposedIn g b w e in (
       λ _. searched_found Step End Start
           (IsExposed g b w e) c.loop-number.search.seen.items c.loop-number.search.waiting.items c.pop.new.self.items c.in-Some.number
           c.in-Some.ensures.items c.loop-number.invariant.0 (c.writes_over.ensures.0 c.if-writes_over.true),
@@ -73,14 +73,14 @@ loop-number-preserved c =
     let End = WritesOver g c.args.elements in
     let w = c.args.window in
     let e = c.args.elements in
-    let Start = IsBehindExposedIn g b w e in
+    let Start = IsAfterExposedIn g b w e in
     let n = c.in-Some.number in
     let s = c.loop-number.search in
     let rest = c.pop.new.self.items in
     let s' = c.go_on.new.search in
     let stays : ¬ (End n) = λ h. let yes' : c.writes_over.result ≡ true = c.writes_over.ensures.1 h in let no' : c.writes_over.result ≡ false =
     c.if-writes_over.false in cc in
-    let f : Follows (λ to. Step n to) s.seen.items rest s'.seen.items s'.waiting.items = c.in_ok-go_on.ensures in (
+    let f : IsSearchStep (λ to. Step n to) s.seen.items rest s'.seen.items s'.waiting.items = c.in_ok-go_on.ensures in (
       searched_step Step End Start (IsExposed g b w e) s.seen.items s.waiting.items rest s'.seen.items s'.waiting.items n c.in-Some.ensures.items
           c.loop-number.invariant.0 stays f,
       f.long ∙ c.loop-number.invariant.1,
@@ -104,7 +104,7 @@ returns c =
     let End = WritesOver g c.args.elements in
     let w = c.args.window in
     let e = c.args.elements in
-    let Start = IsBehindExposedIn g b w e in
+    let Start = IsAfterExposedIn g b w e in
     let s = c.loop-number.search in
     let none : s.waiting.items ≡ [] = nil_from_length s.waiting.items (omega (arith, c.in_default.ensures.cases.0, s.waiting.ok.0)) in
     let count : length s.seen.items ≡ length g.nodes = c.loop-number.invariant.1 ∙ sym (length-map c.args.graph.now.nodes.items node_of) in

@@ -1,9 +1,9 @@
 use Rattle.std.proofs.Common.{List, Bool, subst}
 use Rattle.ido_base.specs.declared.location.Location.{Location}
 use Rattle.flow_graph.specs.Nodes.{graph_of}
-use Rattle.flow_graph.specs.Cutting.{boundaries_of}
-use Rattle.region_cutter.specs.links.Local.{AreWritten, IsExposedAny}
-use Rattle.region_cutter.proofs.Exposing.{known_by}
+use Rattle.flow_graph.specs.IdempotentCuts.{boundaries_of}
+use Rattle.region_cutter.specs.links.RemovalWindows.{AreWritten, IsExposedAny}
+use Rattle.region_cutter.proofs.TrialParts.{known_by}
 use Rattle.region_cutter.proofs.local.is_idempotent_without.Goals as goal
 
 pub returns : goal.returns

@@ -2,7 +2,7 @@ use Rattle.std.proofs.Common.{◌<◌, ◌≤◌, length, ap, refl, ◌∙◌, a
 use Rattle.std.specs.Option.{option_map}
 use Rattle.std.proofs.lemmas.Option.{slice_get-map, slice_get_read}
 use Rattle.flow_graph.specs.Nodes.{graph_of, node_of}
-use Rattle.region_cutter.proofs.Exposing.{reads_more}
+use Rattle.region_cutter.proofs.TrialParts.{reads_more}
 use Rattle.region_cutter.proofs.local.reads_over.Goals as goal
 
 pub loop-number-init : goal.loop-number-init

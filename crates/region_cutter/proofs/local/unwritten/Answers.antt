@@ -4,16 +4,16 @@ use Rattle.std.proofs.lemmas.List.{length-map, length-replicate, length_push, ni
 use Rattle.std.proofs.lemmas.List.Elements.{Contains-push, Contains-append_left}
 use Rattle.std.proofs.lemmas.Option.{slice_get_read}
 use Rattle.flow_graph.specs.Nodes.{Graph, graph_of, node_of}
-use Rattle.flow_graph.specs.Cutting.{Boundaries, boundaries_of}
+use Rattle.flow_graph.specs.IdempotentCuts.{Boundaries, boundaries_of}
 use Rattle.ido_base.specs.declared.location.Location.{Location}
-use Rattle.region_cutter.specs.links.Local.{BeginsIn, InsidePast, IsUnwritten, AreUnwritten, Never}
-use Rattle.region_cutter.specs.links.Searching.{Comes, there, goes_on, Follows, left}
-use Rattle.region_cutter.proofs.Exposing.{begun_unwritten, unwritten_more, unwritten_seen}
-use Rattle.region_cutter.proofs.Searching.{searched_first, searched_step, all_followed, none_seen, none_waits}
+use Rattle.region_cutter.specs.links.RemovalWindows.{BeginsIn, InsidePast, IsUnwritten, AreUnwritten, Never}
+use Rattle.region_cutter.specs.links.GraphSearch.{ReachesEnd, there, goes_on, IsSearchStep, left}
+use Rattle.region_cutter.proofs.TrialParts.{begun_unwritten, unwritten_more, unwritten_seen}
+use Rattle.region_cutter.proofs.GraphSearchComplete.{searched_first, searched_step, all_followed, none_seen, none_waits}
 use Rattle.region_cutter.proofs.local.unwritten.Goals as goal
 use Rattle.region_cutter.proofs.local.unwritten.Goals.{In-Some, After-index}
 
-never : (g : Graph) (b : Boundaries) (e : Location) (n : ℕ) → Comes (InsidePast g b e) Never n → ⊥
+never : (g : Graph) (b : Boundaries) (e : Location) (n : ℕ) → ReachesEnd (InsidePast g b e) Never n → ⊥
 never g b e n (there _ end) = end
 never g b e n (goes_on _ to step rest) = never g b e to rest
 
@@ -21,7 +21,7 @@ never g b e n (goes_on _ to step rest) = never g b e to rest
 waited : (c : In-Some) → Contains c.loop-number.search.waiting.items c.in-Some.number
 waited c = subst (λ (x : List ℕ). Contains x c.in-Some.number) (sym c.in-Some.ensures.items) (Contains-push c.pop.new.self.items c.in-Some.number)
 
--- it is one of a node
+-- the number that was taken is one of a node
 popped : (c : In-Some) → c.in-Some.number < length c.args.graph.now.nodes.items
 popped c = (let lt = (c.loop-number.invariant.0.led c.in-Some.number (waited c)).0 in omega (arith, lt, c.loop-number.invariant.1))
 
@@ -67,7 +67,7 @@ loop-number-preserved c =
     let s = c.loop-number.search in
     let rest = c.pop.new.self.items in
     let s' = c.go_on_past.new.search in
-    let f : Follows (λ to. InsidePast g b e n to) s.seen.items rest s'.seen.items s'.waiting.items = c.in_ok-go_on_past.ensures in
+    let f : IsSearchStep (λ to. InsidePast g b e n to) s.seen.items rest s'.seen.items s'.waiting.items = c.in_ok-go_on_past.ensures in
     let here : IsUnwritten g b w e n = c.loop-number.invariant.2 n (waited (goal.at.loop-number-preserved c).In-Some) in
     let waits : (m : ℕ) → Contains s'.waiting.items m → IsUnwritten g b w e m = λ m k. elim (f.new m k) [
       | inl old ↦ c.loop-number.invariant.2 m (subst (λ (x : List ℕ). Contains x m) (sym c.in-Some.ensures.items) (Contains-append_left rest (n ∷ []) m old))

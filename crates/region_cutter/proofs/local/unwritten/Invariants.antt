@@ -1,9 +1,9 @@
 use Rattle.std.proofs.Common.{◌≡◌, ℕ, length}
 use Rattle.std.specs.Prelude.{Contains}
 use Rattle.flow_graph.specs.Nodes.{graph_of}
-use Rattle.flow_graph.specs.Cutting.{boundaries_of}
-use Rattle.region_cutter.specs.links.Searching.{IsSeen, Searched, left}
-use Rattle.region_cutter.specs.links.Local.{BeginsIn, InsidePast, IsUnwritten, Never}
+use Rattle.flow_graph.specs.IdempotentCuts.{boundaries_of}
+use Rattle.region_cutter.specs.links.GraphSearch.{IsSeen, Searched, left}
+use Rattle.region_cutter.specs.links.RemovalWindows.{BeginsIn, InsidePast, IsUnwritten, Never}
 use Rattle.region_cutter.proofs.local.unwritten.Given as goal
 
 abbrev pub invariant-loop-number : goal.invariant-loop-number

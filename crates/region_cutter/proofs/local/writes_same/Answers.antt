@@ -2,7 +2,7 @@ use Rattle.std.proofs.Common.{ap, ◌∙◌}
 use Rattle.std.specs.Option.{option_map}
 use Rattle.std.proofs.lemmas.Option.{slice_get-map}
 use Rattle.flow_graph.specs.Nodes.{graph_of, node_of}
-use Rattle.region_cutter.proofs.Exposing.{same_some, same_none}
+use Rattle.region_cutter.proofs.TrialParts.{same_some, same_none}
 use Rattle.region_cutter.proofs.local.writes_same.Goals as goal
 
 pub returns-in-Some : goal.returns-in-Some

@@ -5,8 +5,8 @@ use Rattle.std.proofs.lemmas.Option.{slice_get-map, slice_get_read}
 use Rattle.ido_base.specs.declared.location.Location.{Location}
 use Rattle.flow_graph.specs.declared.graph.Node as code
 use Rattle.flow_graph.specs.Nodes.{graph_of, node_of}
-use Rattle.flow_graph.proofs.Lockstep.{found_in}
-use Rattle.region_cutter.proofs.Exposing.{written_more}
+use Rattle.flow_graph.proofs.Public.{found_in}
+use Rattle.region_cutter.proofs.TrialParts.{written_more}
 use Rattle.region_cutter.proofs.local.written.Goals as goal
 use Rattle.region_cutter.proofs.local.written.Goals.{then-stands+in_ok-add_written, else-stands}
 

@@ -1,6 +1,6 @@
 use Rattle.std.proofs.Common.{◌≡◌, ◌+◌, ◌≤◌, Bool, true, List, Vec, Global, length, set, refl, ap, sym, subst, arith, length-set}
-use Rattle.region_cutter.specs.links.Marking.{MarksRange}
-use Rattle.region_cutter.proofs.Marking.{set_kept, set_marked, range_none, range_more, range_all}
+use Rattle.region_cutter.specs.links.PassedPlaces.{MarksRange}
+use Rattle.region_cutter.proofs.PassedPlaceMarks.{set_kept, set_marked, range_none, range_more, range_all}
 use Rattle.region_cutter.proofs.marks.mark_range.Goals as goal
 use Rattle.region_cutter.proofs.marks.mark_range.Goals.{then-number-len, else-number-len}
 

@@ -1,4 +1,4 @@
-use Rattle.region_cutter.specs.links.Marking.{MarksRange}
+use Rattle.region_cutter.specs.links.PassedPlaces.{MarksRange}
 use Rattle.region_cutter.proofs.marks.mark_range.Given as goal
 
 abbrev pub invariant-loop-number : goal.invariant-loop-number

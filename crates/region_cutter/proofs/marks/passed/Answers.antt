@@ -3,7 +3,7 @@ use Rattle.std.specs.Option.{option_map}
 use Rattle.std.proofs.lemmas.List.{length-map}
 use Rattle.std.proofs.lemmas.Option.{slice_get-map, slice_get_read}
 use Rattle.flow_graph.specs.Nodes.{graph_of, node_of}
-use Rattle.region_cutter.proofs.Marking.{passed_more, passed_all}
+use Rattle.region_cutter.proofs.PassedPlaceMarks.{passed_more, passed_all}
 use Rattle.region_cutter.proofs.marks.passed.Goals as goal
 
 pub loop-number-preserved : goal.loop-number-preserved

@@ -1,5 +1,5 @@
 use Rattle.flow_graph.specs.Nodes.{graph_of}
-use Rattle.region_cutter.proofs.Marking.{ArePassedBelow}
+use Rattle.region_cutter.proofs.PassedPlaceMarks.{ArePassedBelow}
 use Rattle.region_cutter.proofs.marks.passed.Given as goal
 
 abbrev pub invariant-loop-number : goal.invariant-loop-number

@@ -3,13 +3,13 @@ use Rattle.std.proofs.lemmas.Bool.{cases_lt}
 use Rattle.std.proofs.lemmas.List.{length-map}
 use Rattle.ido_base.specs.declared.location.Location.{Location}
 use Rattle.flow_graph.specs.Nodes.{graph_of, node_of}
-use Rattle.flow_graph.specs.Cutting.{boundaries_of}
+use Rattle.flow_graph.specs.IdempotentCuts.{boundaries_of}
 use Rattle.region_cutter.specs.declared.window.Window.{Window}
-use Rattle.region_cutter.specs.links.Searching.{IsSeen}
-use Rattle.region_cutter.specs.links.Local.{IsExposedAny, IsIn}
-use Rattle.region_cutter.proofs.Searching.{all_seen}
-use Rattle.region_cutter.proofs.Marking.{border_first, window_is}
-use Rattle.region_cutter.proofs.Passing.{all_safe, exposed_conflicts, window_safe}
+use Rattle.region_cutter.specs.links.GraphSearch.{IsSeen}
+use Rattle.region_cutter.specs.links.RemovalWindows.{IsExposedAny, IsInWindow}
+use Rattle.region_cutter.proofs.GraphSearchComplete.{all_seen}
+use Rattle.region_cutter.proofs.PassedPlaceMarks.{border_first, window_is}
+use Rattle.region_cutter.proofs.ConflictPaths.{all_safe, exposed_conflicts, window_safe}
 use Rattle.region_cutter.proofs.regions.is_idempotent.Goals as goal
 
 pub loop-first-init : goal.loop-first-init
@@ -29,7 +29,7 @@ loop-first-preserved c =
     c.in_ok-exposes_any.ensures in
     let none : IsExposedAny g b w writes false = subst (λ (t : Bool). IsExposedAny g b w writes t) c.if-branch.false told in
     let all : c.deref.result.now ≡ replicate c.len.result true = c.deref.ensures.value ∙ c.in_ok-all.ensures.items_if_clones_equal (λ y e. e) in
-    let among = λ (m : ℕ) (near : IsIn w m). subst (λ (xs : List Bool). IsSeen xs m) (sym all)
+    let among = λ (m : ℕ) (near : IsInWindow w m). subst (λ (xs : List Bool). IsSeen xs m) (sym all)
     (all_seen c.len.result m (let lt = near.below_end in omega (arith, lt, c.end_near-end.ensures.within, c.len.ensures, c.args.graph.now.nodes.ok.0))) in (
       c.end_near-end.ensures.border,
       λ from lt. elim (cases_lt from first) [

@@ -1,7 +1,7 @@
 use Rattle.std.proofs.Common.{ℕ, ◌<◌, ◌-◌, length}
 use Rattle.flow_graph.specs.Nodes.{graph_of}
-use Rattle.flow_graph.specs.Cutting.{boundaries_of}
-use Rattle.region_cutter.specs.links.Local.{IsBorder, IsIdempotentFrom}
+use Rattle.flow_graph.specs.IdempotentCuts.{boundaries_of}
+use Rattle.region_cutter.specs.links.RemovalWindows.{IsBorder, IsIdempotentFrom}
 use Rattle.region_cutter.proofs.regions.is_idempotent.Given as goal
 
 abbrev pub invariant-loop-first : goal.invariant-loop-first

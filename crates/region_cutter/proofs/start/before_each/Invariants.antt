@@ -1,6 +1,6 @@
 use Rattle.std.proofs.Common.{◌≡◌, map, take}
 use Rattle.flow_graph.specs.Nodes.{node_of}
-use Rattle.region_cutter.specs.links.Trying.{may_stand}
+use Rattle.region_cutter.specs.links.BoundaryTrials.{may_stand}
 use Rattle.region_cutter.proofs.start.before_each.Given as goal
 
 abbrev pub invariant-loop-node : goal.invariant-loop-node

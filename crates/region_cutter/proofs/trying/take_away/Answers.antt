@@ -6,10 +6,10 @@ use Rattle.std.specs.Option.{option_map}
 use Rattle.flow_graph.specs.declared.cuts.Cuts.{Cuts}
 use Rattle.flow_graph.specs.Nodes.{graph_of, node_of}
 use Rattle.flow_graph.specs.Liveness.{NodeAt}
-use Rattle.flow_graph.specs.Cutting.{IsChosen, HasBefore, boundaries_of}
-use Rattle.region_cutter.specs.links.Trying.{IsTried, Passes, unlocks}
-use Rattle.region_cutter.proofs.Starting.{unlocked, not_unlocked}
-use Rattle.region_cutter.proofs.Trials.{pass_first, pass_over, pass_gone, pass_kept}
+use Rattle.flow_graph.specs.IdempotentCuts.{IsChosen, HasBefore, boundaries_of}
+use Rattle.region_cutter.specs.links.BoundaryTrials.{IsTried, IsTrialPass, unlocks}
+use Rattle.region_cutter.proofs.BoundariesEverywhere.{unlocked, not_unlocked}
+use Rattle.region_cutter.proofs.TrialPasses.{pass_first, pass_over, pass_gone, pass_kept}
 use Rattle.region_cutter.proofs.trying.take_away.Goals as goal
 use Rattle.region_cutter.proofs.trying.take_away.Goals.{Joined-index, then-index+then-not-unlocks+in_ok-try_without+then-branch}
 use Rattle.region_cutter.proofs.trying.take_away.Goals.{then-index+then-not-unlocks+in_ok-try_without+else-branch, else-index}
@@ -54,16 +54,16 @@ loop-number-preserved c =
           let tried : IsTried g now next i w.in_ok-try_without.field-0 = w.in_ok-try_without.ensures in
           let gone : IsTried g now next i true = subst (λ (b : Bool). IsTried g now next i b) w.if-branch.true tried in
           let no : unlocks (node_of c.node-item.result).action ≡ false = cc (w.unlocks.ensures, w.if-not-unlocks.true) in
-          subst (λ (x : Cuts). Passes g old (boundaries_of x) (i + 1) c.if-index.any) (sym w.cuts-is)
-          (subst (λ (b : Bool). Passes g old next (i + 1) b) (sym w.any-is)
+          subst (λ (x : Cuts). IsTrialPass g old (boundaries_of x) (i + 1) c.if-index.any) (sym w.cuts-is)
+          (subst (λ (b : Bool). IsTrialPass g old next (i + 1) b) (sym w.any-is)
           (pass_gone g old now next i any c.loop-number.invariant (chosen w.if-index.true no) gone)))
       | then-index+then-not-unlocks+in_ok-try_without+else-branch w ↦ (
           let next = boundaries_of w.try_without.new.cuts in
           let tried : IsTried g now next i w.in_ok-try_without.field-0 = w.in_ok-try_without.ensures in
           let kept : IsTried g now next i false = subst (λ (b : Bool). IsTried g now next i b) w.if-branch.false tried in
           let no : unlocks (node_of c.node-item.result).action ≡ false = cc (w.unlocks.ensures, w.if-not-unlocks.true) in
-          subst (λ (x : Cuts). Passes g old (boundaries_of x) (i + 1) c.if-index.any) (sym w.cuts-is)
-          (subst (λ (b : Bool). Passes g old next (i + 1) b) (sym w.any-is)
+          subst (λ (x : Cuts). IsTrialPass g old (boundaries_of x) (i + 1) c.if-index.any) (sym w.cuts-is)
+          (subst (λ (b : Bool). IsTrialPass g old next (i + 1) b) (sym w.any-is)
           (pass_kept g old now next i any c.loop-number.invariant (chosen w.if-index.true no) kept)))
       | else-index w ↦ (
           let free : ¬ (IsChosen g now i) = elim w.else-index.branch [
@@ -76,6 +76,6 @@ loop-number-preserved c =
                 let no = v.if-index.false in
                 cc)
           ] in
-          subst (λ (x : Cuts). Passes g old (boundaries_of x) (i + 1) c.if-index.any) (sym w.cuts-is)
-          (subst (λ (b : Bool). Passes g old now (i + 1) b) (sym w.any-is) (over free)))
+          subst (λ (x : Cuts). IsTrialPass g old (boundaries_of x) (i + 1) c.if-index.any) (sym w.cuts-is)
+          (subst (λ (b : Bool). IsTrialPass g old now (i + 1) b) (sym w.any-is) (over free)))
     ]

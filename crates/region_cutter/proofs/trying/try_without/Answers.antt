@@ -2,9 +2,9 @@ use Rattle.std.proofs.Common.{◌≡◌, ◌↔◌, Bool, true, false, List, set
 use Rattle.std.specs.Prelude.{IsTrue}
 use Rattle.std.proofs.lemmas.Option.{slice_get_within}
 use Rattle.flow_graph.specs.Nodes.{graph_of}
-use Rattle.flow_graph.specs.Cutting.{Boundaries, IsIdempotent, boundaries_of, without}
+use Rattle.flow_graph.specs.IdempotentCuts.{Boundaries, IsIdempotent, boundaries_of, without}
 use Rattle.region_cutter.proofs.Lists.{set_back}
-use Rattle.region_cutter.proofs.Trials.{tried}
+use Rattle.region_cutter.proofs.TrialPasses.{tried}
 use Rattle.region_cutter.proofs.trying.try_without.Goals as goal
 
 pub is_idempotent_without-requires-clause-locks : goal.is_idempotent_without-requires-clause-locks

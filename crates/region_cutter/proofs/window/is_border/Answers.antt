@@ -4,9 +4,9 @@ use Rattle.std.specs.Option.{option_map}
 use Rattle.std.proofs.lemmas.List.{length-map}
 use Rattle.std.proofs.lemmas.Option.{slice_get-map, slice_get_read}
 use Rattle.flow_graph.specs.Nodes.{graph_of, node_of}
-use Rattle.flow_graph.specs.Cutting.{boundaries_of}
-use Rattle.region_cutter.proofs.Exposing.{inside_both}
-use Rattle.region_cutter.proofs.Marking.{border_is}
+use Rattle.flow_graph.specs.IdempotentCuts.{boundaries_of}
+use Rattle.region_cutter.proofs.TrialParts.{inside_both}
+use Rattle.region_cutter.proofs.PassedPlaceMarks.{border_is}
 use Rattle.region_cutter.proofs.window.is_border.Goals as goal
 
 not_both : (a : Bool) → a ≡ true → not a ≡ true → ⊥
@@ -25,10 +25,10 @@ returns-then-not-leads_to c = λ free.
     let two = c.inside-other.result in
     let lt : before < length nodes = omega (arith, c.requires.exists) in
     let at = slice_get_read nodes (length nodes) before c.index-node.result.now refl lt c.index-node.ensures in
-    let ways = inside_both g b before (node_of c.index-node.result.now) c.has_behind-behind.result c.next.result c.other.result one two
+    let ways = inside_both g b before (node_of c.index-node.result.now) c.has_after-after.result c.next.result c.other.result one two
     (slice_get-map node_of nodes before ∙ ap (option_map node_of) at)
-    c.has_behind-behind.ensures c.next.ensures c.other.ensures c.inside-next.ensures c.inside-other.ensures in
-    border_is g b passed before place c.requires.marks.passed (omega (arith, c.requires.behind)) (omega (arith, c.requires.exists, length-map nodes node_of))
+    c.has_after-after.ensures c.next.ensures c.other.ensures c.inside-next.ensures c.inside-other.ensures in
+    border_is g b passed before place c.requires.marks.passed (omega (arith, c.requires.after)) (omega (arith, c.requires.exists, length-map nodes node_of))
     (λ s.
     let marked = subst (λ (xs : List Bool). IsTrue c.stands.result ↔ (slice_get xs place ≡ Some true)) c.deref.ensures.value c.stands.ensures in
     let yes' : c.stands.result ≡ true = marked.1 s in

@@ -1,8 +1,8 @@
 use Rattle.std.proofs.Common.{arith}
 use Rattle.std.proofs.lemmas.List.{length-map}
 use Rattle.flow_graph.specs.Nodes.{graph_of, node_of}
-use Rattle.flow_graph.specs.Cutting.{boundaries_of}
-use Rattle.region_cutter.proofs.Marking.{window_is}
+use Rattle.flow_graph.specs.IdempotentCuts.{boundaries_of}
+use Rattle.region_cutter.proofs.PassedPlaceMarks.{window_is}
 use Rattle.region_cutter.proofs.window.window_at.Goals as goal
 
 pub returns : goal.returns

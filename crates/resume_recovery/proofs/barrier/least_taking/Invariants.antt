@@ -1,5 +1,5 @@
 use Rattle.std.proofs.Common.{◌≡◌, drop}
-use Rattle.resume_recovery.specs.links.Taking.{taking_among}
+use Rattle.resume_recovery.specs.links.LeastLockTaker.{taking_among}
 use Rattle.resume_recovery.proofs.barrier.least_taking.Given as goal
 
 abbrev pub invariant-loop-hart : goal.invariant-loop-hart

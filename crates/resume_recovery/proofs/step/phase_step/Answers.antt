@@ -2,9 +2,9 @@ use Rattle.std.proofs.Common.{◌≡◌, get_or, refl, ◌∙◌}
 use Rattle.ido_base.specs.declared.event.Reply.TheVariants.{Still}
 use Rattle.rv64_isa.specs.declared.phase.Phase.{Phase}
 use Rattle.rv64_isa.specs.declared.phase.Phase.TheVariants.{Take, Wait, Resume}
-use Rattle.hart_core.specs.Steps.{Parts}
-use Rattle.resume_recovery.specs.Steps.{phase_at}
-use Rattle.resume_recovery.proofs.Steps.{phase_read, placed_step, still_step}
+use Rattle.hart_core.specs.StepsOnParts.{Parts}
+use Rattle.resume_recovery.specs.RecoverySteps.{phase_at}
+use Rattle.resume_recovery.proofs.RecoveryStepCases.{phase_read, placed_step, still_step}
 use Rattle.resume_recovery.proofs.step.phase_step.Goals as goal
 use Rattle.resume_recovery.proofs.step.phase_step.Goals.{in-Take, in-Wait, in-Resume, in_default}
 

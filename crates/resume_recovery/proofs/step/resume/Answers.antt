@@ -1,5 +1,5 @@
 use Rattle.std.proofs.Common.{refl}
-use Rattle.resume_recovery.proofs.Steps.{resume_step}
+use Rattle.resume_recovery.proofs.RecoveryStepCases.{resume_step}
 use Rattle.resume_recovery.proofs.step.resume.Goals as goal
 
 pub returns : goal.returns

@@ -1,5 +1,5 @@
 use Rattle.std.proofs.Common.{◌≡◌, slice_get, Some, None, true, rules, ap, sym, ◌∙◌}
-use Rattle.resume_recovery.proofs.Steps.{take_waits, take_takes}
+use Rattle.resume_recovery.proofs.RecoveryStepCases.{take_waits, take_takes}
 use Rattle.resume_recovery.proofs.step.take.Goals as goal
 
 pub returns-in-Some-held_by-clause-step : goal.returns-in-Some-held_by-clause-step

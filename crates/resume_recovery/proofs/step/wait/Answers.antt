@@ -1,5 +1,5 @@
 use Rattle.std.proofs.Common.{sym, ◌∙◌}
-use Rattle.resume_recovery.proofs.Steps.{wait_ends, wait_stays}
+use Rattle.resume_recovery.proofs.RecoveryStepCases.{wait_ends, wait_stays}
 use Rattle.resume_recovery.proofs.step.wait.Goals as goal
 
 pub returns-in-None : goal.returns-in-None

@@ -5,7 +5,7 @@ use Rattle.run_scripts.specs.Plays.{script_events, excess_at, line_events}
 use Rattle.run_scripts.specs.declared.script.Line.{Line}
 use Rattle.run_scripts.specs.declared.script.Command.TheVariants.{Steps}
 use Rattle.run_scripts.specs.links.ScriptViews.{line_of}
-use Rattle.run_scripts.proofs.Cuts as cuts
+use Rattle.run_scripts.proofs.EventsWithinRoom as cuts
 use Rattle.run_scripts.proofs.Lines.{all_made, line_made, no_excess, excess_left, nothing_left}
 use Rattle.run_scripts.proofs.play.play.Goals as goal
 

@@ -1,6 +1,6 @@
 use Rattle.std.proofs.Common.{◌≡◌, ◌-◌, ◌++◌, min, ◌∙◌, ap, arith}
 use Rattle.ido_base.specs.declared.event.Event.TheVariants.{Step}
-use Rattle.run_scripts.proofs.Cuts.{take-replicate}
+use Rattle.run_scripts.proofs.EventsWithinRoom.{take-replicate}
 use Rattle.run_scripts.proofs.play.play_steps.Goals as goal
 
 pub returns-clause-history : goal.returns-clause-history

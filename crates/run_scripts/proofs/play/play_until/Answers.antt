@@ -1,9 +1,10 @@
 use Rattle.std.proofs.Common.{◌≡◌, ◌+◌, ◌-◌, length, true, false, sym, ◌∙◌, ap, arith, length-append}
+use Rattle.ido_base.specs.declared.limits.TheConstants.{MOST_STEPS_TO}
 use Rattle.ido_base.specs.declared.event.Event.TheVariants.{Step}
 use Rattle.ido_base.specs.Cores.{played, passed_count}
 use Rattle.run_scripts.specs.links.Goals.{reaches}
-use Rattle.run_scripts.proofs.Cuts.{whole, whole_fits}
-use Rattle.run_scripts.proofs.Stepping as s
+use Rattle.run_scripts.proofs.EventsWithinRoom.{whole, whole_fits}
+use Rattle.run_scripts.proofs.GoalSteps as s
 use Rattle.run_scripts.proofs.play.play_until.Goals as goal
 
 pub returns-then-stopped-clause-history : goal.returns-then-stopped-clause-history
@@ -17,7 +18,7 @@ returns-then-stopped-clause-history g c =
     let inv = c.loop.invariant in
     let stopped : b.is_stopped (played b opening now) c.args.hart ≡ true =
     sym (c.stopped.ensures ∙ ap (λ o. b.is_stopped (played b o now) c.args.hart) inv.0) ∙ c.if-stopped.true in
-    let made = s.stops b t c.args.hart opening before 65536 left now c.loop.counter inv.1 c.loop-test.true stopped in
+    let made = s.stops b t c.args.hart opening before MOST_STEPS_TO left now c.loop.counter inv.1 c.loop-test.true stopped in
     whole before now _ left made (omega (arith, inv.3, inv.4, c.requires.floor))
 
 pub returns-clause-history : goal.returns-clause-history
@@ -29,7 +30,7 @@ returns-clause-history g c =
     let now = g.C.Core.history c.loop.core in
     let left = g.C.Core.space c.args.core.now - c.args.floor in
     let inv = c.loop.invariant in
-    let made = s.over b t c.args.hart opening before 65536 left now c.loop.counter inv.1 c.loop-test.false in
+    let made = s.over b t c.args.hart opening before MOST_STEPS_TO left now c.loop.counter inv.1 c.loop-test.false in
     whole before now _ left made (omega (arith, inv.3, inv.4, c.requires.floor))
 
 pub returns-then-times_reached-before-clause-history : goal.returns-then-times_reached-before-clause-history
@@ -49,7 +50,8 @@ returns-then-times_reached-before-clause-history g c =
     let longer : length new ≡ length now + 1 = ap length c.event.ensures.history ∙ length-append now _ in
     let reached = s.passes b t c.args.hart opening now new (Step c.args.hart) c.times_reached-before.result c.event.ensures.history
     (inv.2 ∙ sym c.times_reached-before.ensures) (omega (arith, count, c.if-times_reached-before.true)) in
-    let made = s.reaches_it b t c.args.hart opening before 65536 left now c.loop.counter inv.1 new c.loop-test.true going reached c.event.ensures.history in
+    let made = s.reaches_it b t c.args.hart opening before MOST_STEPS_TO left now c.loop.counter inv.1 new c.loop-test.true going reached
+    c.event.ensures.history in
     whole before new _ left made (omega (arith, inv.3, inv.4, longer, c.event.ensures.room, c.room.ensures, c.if-room-floor.false, c.requires.floor))
 
 pub returns-then-stopped-clause-all : goal.returns-then-stopped-clause-all
@@ -63,7 +65,7 @@ returns-then-stopped-clause-all g c =
     let inv = c.loop.invariant in
     let stopped : b.is_stopped (played b opening now) c.args.hart ≡ true =
     sym (c.stopped.ensures ∙ ap (λ o. b.is_stopped (played b o now) c.args.hart) inv.0) ∙ c.if-stopped.true in
-    let made = s.stops b t c.args.hart opening before 65536 left now c.loop.counter inv.1 c.loop-test.true stopped in
+    let made = s.stops b t c.args.hart opening before MOST_STEPS_TO left now c.loop.counter inv.1 c.loop-test.true stopped in
     sym (whole_fits before now _ left made (omega (arith, inv.3, inv.4, c.requires.floor)))
 
 pub returns-clause-all : goal.returns-clause-all
@@ -75,7 +77,7 @@ returns-clause-all g c =
     let now = g.C.Core.history c.loop.core in
     let left = g.C.Core.space c.args.core.now - c.args.floor in
     let inv = c.loop.invariant in
-    let made = s.over b t c.args.hart opening before 65536 left now c.loop.counter inv.1 c.loop-test.false in
+    let made = s.over b t c.args.hart opening before MOST_STEPS_TO left now c.loop.counter inv.1 c.loop-test.false in
     sym (whole_fits before now _ left made (omega (arith, inv.3, inv.4, c.requires.floor)))
 
 pub returns-then-times_reached-before-clause-all : goal.returns-then-times_reached-before-clause-all
@@ -95,7 +97,8 @@ returns-then-times_reached-before-clause-all g c =
     let longer : length new ≡ length now + 1 = ap length c.event.ensures.history ∙ length-append now _ in
     let reached = s.passes b t c.args.hart opening now new (Step c.args.hart) c.times_reached-before.result c.event.ensures.history
     (inv.2 ∙ sym c.times_reached-before.ensures) (omega (arith, count, c.if-times_reached-before.true)) in
-    let made = s.reaches_it b t c.args.hart opening before 65536 left now c.loop.counter inv.1 new c.loop-test.true going reached c.event.ensures.history in
+    let made = s.reaches_it b t c.args.hart opening before MOST_STEPS_TO left now c.loop.counter inv.1 new c.loop-test.true going reached
+    c.event.ensures.history in
     sym (whole_fits before new _ left made (omega (arith, inv.3, inv.4, longer, c.event.ensures.room, c.room.ensures, c.if-room-floor.false, c.requires.floor)))
 
 pub returns-then-room-floor-clause-history : goal.returns-then-room-floor-clause-history
@@ -109,7 +112,7 @@ returns-then-room-floor-clause-history g c =
     let inv = c.loop.invariant in
     let going : b.is_stopped (played b opening now) c.args.hart ≡ false =
     sym (c.stopped.ensures ∙ ap (λ o. b.is_stopped (played b o now) c.args.hart) inv.0) ∙ c.if-stopped.false in
-    (s.is_cut b t c.args.hart opening before 65536 left now c.loop.counter inv.1 c.loop-test.true going
+    (s.is_cut b t c.args.hart opening before MOST_STEPS_TO left now c.loop.counter inv.1 c.loop-test.true going
     (omega (arith, inv.3, c.room.ensures, c.if-room-floor.true, c.requires.floor))).0
 
 pub returns-then-room-floor-clause-all : goal.returns-then-room-floor-clause-all
@@ -123,7 +126,7 @@ returns-then-room-floor-clause-all g c =
     let inv = c.loop.invariant in
     let going : b.is_stopped (played b opening now) c.args.hart ≡ false =
     sym (c.stopped.ensures ∙ ap (λ o. b.is_stopped (played b o now) c.args.hart) inv.0) ∙ c.if-stopped.false in
-    sym (s.is_cut b t c.args.hart opening before 65536 left now c.loop.counter inv.1 c.loop-test.true going
+    sym (s.is_cut b t c.args.hart opening before MOST_STEPS_TO left now c.loop.counter inv.1 c.loop-test.true going
     (omega (arith, inv.3, c.room.ensures, c.if-room-floor.true, c.requires.floor))).1
 
 pub loop-preserved : goal.loop-preserved
@@ -144,7 +147,7 @@ loop-preserved g c =
     let missed = s.fails b t c.args.hart opening now new (Step c.args.hart) c.times_reached-before.result c.event.ensures.history
     (inv.2 ∙ sym c.times_reached-before.ensures) (omega (arith, count, c.if-times_reached-before.false)) in (
       opens,
-      s.goes_on b t c.args.hart opening before 65536 left now c.loop.counter inv.1 new c.loop-test.true going missed.0 c.event.ensures.history,
+      s.goes_on b t c.args.hart opening before MOST_STEPS_TO left now c.loop.counter inv.1 new c.loop-test.true going missed.0 c.event.ensures.history,
       missed.1 ∙ c.times_reached-before.ensures,
       omega (arith, inv.3, longer, c.event.ensures.room),
       omega (arith, inv.4, c.event.ensures.room, c.room.ensures, c.if-room-floor.false),

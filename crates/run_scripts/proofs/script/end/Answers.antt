@@ -1,5 +1,5 @@
 use Rattle.std.proofs.Common.{◌+◌, arith}
-use Rattle.run_scripts.proofs.Reading.{end_fails}
+use Rattle.run_scripts.proofs.LineReader.{end_fails}
 use Rattle.run_scripts.proofs.script.end.Goals as goal
 
 pub returns-else-at-line-clause-refused : goal.returns-else-at-line-clause-refused

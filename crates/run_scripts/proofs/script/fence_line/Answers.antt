@@ -1,5 +1,5 @@
 use Rattle.run_scripts.specs.declared.script.Command.TheVariants.{Fence}
-use Rattle.run_scripts.proofs.Reading.{failed}
+use Rattle.run_scripts.proofs.LineReader.{failed}
 use Rattle.run_scripts.proofs.script.fence_line.Goals as goal
 
 pub returns-in_err-hart : goal.returns-in_err-hart

@@ -2,17 +2,17 @@ use Rattle.std.proofs.lemmas.Grind.{common_steps}
 use Rattle.std.proofs.Common.{◌≡◌, ◌+◌, length, map, drop, sym, ◌∙◌, ap, arith}
 use Rattle.run_scripts.specs.Pieces.{lines_at}
 use Rattle.run_scripts.specs.Scripts.{read, lines_of, Lines}
-use Rattle.run_scripts.proofs.Doable.{script_doable}
-use Rattle.run_scripts.specs.links.ScriptViews.{line_of, behind_lines}
-use Rattle.run_scripts.proofs.Reading.{behind_no_line, script_goes_on}
+use Rattle.run_scripts.proofs.ScriptTargetsExist.{script_doable}
+use Rattle.run_scripts.specs.links.ScriptViews.{line_of, after_lines}
+use Rattle.run_scripts.proofs.LineReader.{after_no_line, script_goes_on}
 use Rattle.run_scripts.proofs.script.read_script.Goals as goal
 
 pub loop-at-init : goal.loop-at-init
 unfolding read
 loop-at-init c =
     let lines = lines_of c.args.harts (lines_at c.next_piece-at.result (drop c.next_piece-at.result c.args.text.now)) in (
-      ap (lines_of c.args.harts) c.next_piece-at.ensures.pieces ∙ sym (behind_no_line lines)
-          ∙ sym (ap (λ ls. behind_lines (map line_of ls) lines) c.new-lines.ensures.items),
+      ap (lines_of c.args.harts) c.next_piece-at.ensures.pieces ∙ sym (after_no_line lines)
+          ∙ sym (ap (λ ls. after_lines (map line_of ls) lines) c.new-lines.ensures.items),
       c.next_piece-at.ensures.bound,
       c.next_piece-at.ensures.piece,
     )

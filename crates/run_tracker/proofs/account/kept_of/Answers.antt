@@ -1,6 +1,6 @@
 use Rattle.std.proofs.Common.{drop, sym, ◌∙◌, arith}
-use Rattle.run_tracker.specs.links.Accounts.{bound_in}
-use Rattle.run_tracker.proofs.Scans.{stops_steps, stops_later, counts, durable_few}
+use Rattle.run_tracker.specs.links.AccountRepresentation.{bound_in}
+use Rattle.run_tracker.proofs.StoreScans.{stops_steps, stops_later, counts, durable_few}
 use Rattle.run_tracker.proofs.account.kept_of.Goals as goal
 
 pub returns-then-store-durable-clause-steps : goal.returns-then-store-durable-clause-steps

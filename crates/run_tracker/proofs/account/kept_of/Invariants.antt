@@ -1,7 +1,7 @@
 use Rattle.std.proofs.Common.{◌≡◌, ◌+◌, drop}
 use Rattle.rv64_isa.specs.Schedule.{durable_steps}
-use Rattle.run_tracker.specs.links.Accounts.{IsAscending, bound_in}
-use Rattle.run_tracker.proofs.Bounds.{later}
+use Rattle.run_tracker.specs.links.AccountRepresentation.{IsAscending, bound_in}
+use Rattle.run_tracker.proofs.BoundSteps.{later}
 use Rattle.run_tracker.proofs.account.kept_of.Given as goal
 
 abbrev pub invariant-loop-at : goal.invariant-loop-at

@@ -1,8 +1,8 @@
 use Rattle.std.proofs.Common.{◌≡◌, true}
 use Rattle.rv64_isa.specs.Machine.{World}
 use Rattle.rv64_isa.specs.Schedule.{are_settled}
-use Rattle.ido_machine.specs.Machines.{MachineStands}
+use Rattle.ido_machine.specs.Machines.{RepresentsMachine}
 use Rattle.run_tracker.proofs.life.are_settled.Given as goal
 
 abbrev pub invariant-loop-hart : goal.invariant-loop-hart
-invariant-loop-hart l = (w : World) → MachineStands l.machine w → are_settled w l.hart ≡ true
+invariant-loop-hart l = (w : World) → RepresentsMachine l.machine w → are_settled w l.hart ≡ true

@@ -1,7 +1,7 @@
 use Rattle.std.proofs.Common.{◌≡◌, ℕ, ◌+◌, ◌*◌, ◌/◌, ◌%◌, ◌∷◌, ◌++◌, List, [], ap, sym, ◌∙◌, arith}
 use Rattle.std.proofs.lemmas.List.{append_assoc}
 use Rattle.ido_base.specs.Words.{word_at, durable_value}
-use Rattle.run_tracker.proofs.Durables.{durable_from, durable_next}
+use Rattle.run_tracker.proofs.DurableWords.{durable_from, durable_next}
 use Rattle.run_tracker.proofs.life.push_durable.Goals as goal
 
 pub loop-at-preserved : goal.loop-at-preserved

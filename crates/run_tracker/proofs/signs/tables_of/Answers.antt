@@ -2,7 +2,7 @@ use Rattle.std.proofs.Common.{◌≡◌, ℕ, [], ◌∷◌, ◌<◌, List, leng
 use Rattle.rv64_isa.specs.declared.object.ThreadMarks.{ThreadMarks}
 use Rattle.rv64_isa.specs.declared.object.Slot.{Slot}
 use Rattle.rv64_isa.specs.Programs.{program_of, code_of, code_start, slot_of}
-use Rattle.ido_machine.proofs.Lists.{get_is, get_map, get_push}
+use Rattle.ido_machine.proofs.Public.{get_is, get_map, get_push}
 use Rattle.run_tracker.specs.declared.signs.SignTable.{SignTable}
 use Rattle.run_tracker.specs.links.SignTables.{IsTableOf}
 use Rattle.run_tracker.proofs.signs.tables_of.Goals as goal

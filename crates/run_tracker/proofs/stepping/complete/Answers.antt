@@ -4,83 +4,85 @@ use Rattle.ido_base.specs.declared.event.Event.TheVariants.{Step}
 use Rattle.rv64_isa.specs.Machine.{after_event}
 use Rattle.rv64_isa.specs.Schedule.{is_fence, is_point_store, finishes_fence, stores_point}
 use Rattle.ido_machine.specs.Machines.{program_in}
-use Rattle.ido_machine.proofs.Lists.{get_is}
+use Rattle.ido_machine.proofs.Public.{get_is}
 use Rattle.run_tracker.specs.declared.signs.Sign.{Sign}
-use Rattle.run_tracker.specs.links.Accounts.{AccountStands}
+use Rattle.run_tracker.specs.links.AccountRepresentation.{AccountInv}
 use Rattle.run_tracker.specs.links.SignTables.{is_plain}
-use Rattle.run_tracker.proofs.Behind.{fence_done, in_table, mark_is, plain_counts, plain_steps, point_is, position_is}
-use Rattle.run_tracker.proofs.Counting.{completes-other, counted-one}
+use Rattle.run_tracker.proofs.StepsByObservation.{fence_done, in_table, mark_is, plain_counts, plain_steps, point_is, position_is}
+use Rattle.run_tracker.proofs.EventCounts.{completes-other, counted-one}
 use Rattle.run_tracker.proofs.Events.{begun_if, noted_is}
 use Rattle.run_tracker.proofs.stepping.complete.Goals as goal
 
 pub sign_at-sign-requires : goal.sign_at-sign-requires
 sign_at-sign-requires c =
-    let behind = c.requires.behind in
-    let within : c.args.hart < length c.args.tables.now = omega (arith, behind.stepped.tables_are.count, c.requires.exists) in
-    let place = in_table (program_in c.args.machine.now) c.args.tables.now behind.marks c.args.machine.now c.args.hart c.args.sight Moved behind.world
-    behind.stepped c.requires.running refl
+    let after = c.requires.after in
+    let within : c.args.hart < length c.args.tables.now = omega (arith, after.stepped.tables_are.count, c.requires.exists) in
+    let place = in_table (program_in c.args.machine.now) c.args.tables.now after.marks c.args.machine.now c.args.hart c.args.observation Moved after.world
+    after.stepped c.requires.running refl
     c.index-tables-hart.result (get_is c.args.tables.now c.args.hart c.index-tables-hart.result within ∙ ap Some (sym c.index-tables-hart.is)) in
     record { from = place.0; within = place.1 }
 
 pub returns-then-is_plain-clause-steps : goal.returns-then-is_plain-clause-steps
 returns-then-is_plain-clause-steps c = λ program marks w s stepped a.
     let h = c.args.hart in
-    let within : h < length c.args.tables.now = omega (arith, c.requires.behind.stepped.tables_are.count, c.requires.exists) in
+    let within : h < length c.args.tables.now = omega (arith, c.requires.after.stepped.tables_are.count, c.requires.exists) in
     let found = get_is c.args.tables.now h c.index-tables-hart.result within ∙ ap Some (sym c.index-tables-hart.is) in
     let plain = sym (c.is_plain.ensures ∙ ap is_plain c.sign_at-sign.ensures) ∙ c.if-is_plain.true in
-    subst (AccountStands c.args.account.now)
-    (sym (plain_steps program c.args.tables.now marks c.args.machine.now h c.args.sight Moved w stepped c.requires.running refl c.index-tables-hart.result found
+    subst (AccountInv c.args.account.now)
+    (sym (plain_steps program c.args.tables.now marks c.args.machine.now h c.args.observation Moved w stepped c.requires.running refl
+    c.index-tables-hart.result found
     plain s)) a
 
 pub returns-then-is_plain-clause-counts : goal.returns-then-is_plain-clause-counts
 returns-then-is_plain-clause-counts c = λ program marks w stepped.
     let h = c.args.hart in
-    let within : h < length c.args.tables.now = omega (arith, c.requires.behind.stepped.tables_are.count, c.requires.exists) in
+    let within : h < length c.args.tables.now = omega (arith, c.requires.after.stepped.tables_are.count, c.requires.exists) in
     let found = get_is c.args.tables.now h c.index-tables-hart.result within ∙ ap Some (sym c.index-tables-hart.is) in
     let plain = sym (c.is_plain.ensures ∙ ap is_plain c.sign_at-sign.ensures) ∙ c.if-is_plain.true in
-    plain_counts program c.args.tables.now marks c.args.machine.now h c.args.sight Moved w stepped c.requires.running refl c.index-tables-hart.result found
+    plain_counts program c.args.tables.now marks c.args.machine.now h c.args.observation Moved w stepped c.requires.running refl
+    c.index-tables-hart.result found
     plain c.args.counts.now
 
 pub returns-clause-steps : goal.returns-clause-steps
 returns-clause-steps c = λ program marks w s stepped a.
     let h = c.args.hart in
-    let within : h < length c.args.tables.now = omega (arith, c.requires.behind.stepped.tables_are.count, c.requires.exists) in
+    let within : h < length c.args.tables.now = omega (arith, c.requires.after.stepped.tables_are.count, c.requires.exists) in
     let found = get_is c.args.tables.now h c.index-tables-hart.result within ∙ ap Some (sym c.index-tables-hart.is) in
     let mark = c.sign_at-sign.result.mark in
-    let position = c.position_behind-position.result in
-    let at = position_is program c.args.tables.now marks c.args.machine.now h c.args.sight Moved w stepped c.requires.running refl
+    let position = c.position_after-position.result in
+    let at = position_is program c.args.tables.now marks c.args.machine.now h c.args.observation Moved w stepped c.requires.running refl
     c.index-tables-hart.result found position c.sign_at-sign.result.store (ap (λ (x : Sign). x.store) c.sign_at-sign.ensures)
-    (λ stores. c.position_behind-position.ensures.stored stores (after_event program w (Step h)) stepped.stands) c.position_behind-position.ensures.unstored in
-    subst (AccountStands c.bind_if.new.self)
-    (noted_is marks program w h s mark (not (position == c.args.sight.position)) position
+    (λ stores. c.position_after-position.ensures.stored stores (after_event program w (Step h)) stepped.stands) c.position_after-position.ensures.unstored in
+    subst (AccountInv c.bind_if.new.self)
+    (noted_is marks program w h s mark (not (position == c.args.observation.position)) position
     (ap (λ (x : Sign). x.mark) c.sign_at-sign.ensures
-    ∙ mark_is program c.args.tables.now marks c.args.machine.now h c.args.sight Moved w stepped c.requires.running refl c.index-tables-hart.result found)
-    (point_is program c.args.tables.now marks c.args.machine.now h c.args.sight Moved w stepped c.requires.running refl position at)
+    ∙ mark_is program c.args.tables.now marks c.args.machine.now h c.args.observation Moved w stepped c.requires.running refl c.index-tables-hart.result found)
+    (point_is program c.args.tables.now marks c.args.machine.now h c.args.observation Moved w stepped c.requires.running refl position at)
     at)
     (c.bind_if.ensures.stands (begun_if mark h s) (c.begin_if.ensures.stands s a))
 
 pub returns-clause-counts : goal.returns-clause-counts
 returns-clause-counts c = λ program marks w stepped.
     let h = c.args.hart in
-    let within : h < length c.args.tables.now = omega (arith, c.requires.behind.stepped.tables_are.count, c.requires.exists) in
+    let within : h < length c.args.tables.now = omega (arith, c.requires.after.stepped.tables_are.count, c.requires.exists) in
     let found = get_is c.args.tables.now h c.index-tables-hart.result within ∙ ap Some (sym c.index-tables-hart.is) in
-    let position = c.position_behind-position.result in
-    let at = position_is program c.args.tables.now marks c.args.machine.now h c.args.sight Moved w stepped c.requires.running refl
+    let position = c.position_after-position.result in
+    let at = position_is program c.args.tables.now marks c.args.machine.now h c.args.observation Moved w stepped c.requires.running refl
     c.index-tables-hart.result found position c.sign_at-sign.result.store (ap (λ (x : Sign). x.store) c.sign_at-sign.ensures)
-    (λ stores. c.position_behind-position.ensures.stored stores (after_event program w (Step h)) stepped.stands) c.position_behind-position.ensures.unstored in
+    (λ stores. c.position_after-position.ensures.stored stores (after_event program w (Step h)) stepped.stands) c.position_after-position.ensures.unstored in
     record {
       points =
-          counted-one c.args.counts.now.points.items c.add.new.self.points.items h (not (position == c.args.sight.position))
+          counted-one c.args.counts.now.points.items c.add.new.self.points.items h (not (position == c.args.observation.position))
           (λ g. stores_point program w (Step h) g) c.add.ensures.points
           (omega (arith, c.requires.counts.points, c.requires.exists))
-          (point_is program c.args.tables.now marks c.args.machine.now h c.args.sight Moved w stepped c.requires.running refl position at)
+          (point_is program c.args.tables.now marks c.args.machine.now h c.args.observation Moved w stepped c.requires.running refl position at)
           (λ g ne. completes-other (is_point_store g) program w h g ne);
       fences =
           counted-one c.args.counts.now.fences.items c.add.new.self.fences.items h c.sign_at-sign.result.fence (λ g. finishes_fence program w (Step h) g)
           c.add.ensures.fences
           (omega (arith, c.requires.counts.fences, c.requires.exists))
           (ap (λ (x : Sign). x.fence) c.sign_at-sign.ensures
-          ∙ fence_done program c.args.tables.now marks c.args.machine.now h c.args.sight Moved w stepped c.requires.running refl
+          ∙ fence_done program c.args.tables.now marks c.args.machine.now h c.args.observation Moved w stepped c.requires.running refl
           c.index-tables-hart.result found)
           (λ g ne. completes-other is_fence program w h g ne);
     }

@@ -2,7 +2,7 @@ use Rattle.std.proofs.Common.{length, sym, subst}
 use Rattle.ido_base.specs.declared.event.Event.TheVariants.{Evict}
 use Rattle.rv64_isa.specs.Machine.{World, after_event}
 use Rattle.ido_machine.specs.Machines.{program_in}
-use Rattle.run_tracker.specs.links.Accounts.{AccountStands}
+use Rattle.run_tracker.specs.links.AccountRepresentation.{AccountInv}
 use Rattle.run_tracker.proofs.Events.{eviction_is}
 use Rattle.run_tracker.proofs.stepping.evict.Goals as goal
 
@@ -24,5 +24,5 @@ returns-clause-steps c = λ marks w s m a.
     let program = program_in c.args.machine.now in
     let next : World = after_event program w (Evict c.args.line c.args.mask) in
     let after = c.evict-reply.ensures.world w m in
-    subst (AccountStands c.keep_all.new.account) (eviction_is marks program w c.args.line c.args.mask s (length c.args.account.now.harts.items) (sym a.count))
+    subst (AccountInv c.keep_all.new.account) (eviction_is marks program w c.args.line c.args.mask s (length c.args.account.now.harts.items) (sym a.count))
     (c.keep_all.ensures.stands next s after.stands a)

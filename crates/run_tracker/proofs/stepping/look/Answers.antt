@@ -1,9 +1,9 @@
 use Rattle.std.proofs.Common.{◌≡◌, ◌<◌, length, slice_get, Some, arith, ap, ◌∙◌}
 use Rattle.rv64_isa.specs.Machine.{Hart}
 use Rattle.rv64_isa.specs.Schedule.{is_running}
-use Rattle.ido_machine.proofs.Lists.{get_some}
-use Rattle.run_tracker.specs.links.Accounts.{point_word}
-use Rattle.run_tracker.proofs.Places.{point_place}
+use Rattle.ido_machine.proofs.Public.{get_some}
+use Rattle.run_tracker.specs.links.AccountRepresentation.{point_word}
+use Rattle.run_tracker.proofs.PointWords.{point_place}
 use Rattle.run_tracker.proofs.stepping.look.Goals as goal
 
 pub returns : goal.returns

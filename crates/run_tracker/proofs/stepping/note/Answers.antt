@@ -4,9 +4,9 @@ use Rattle.ido_base.specs.declared.event.Reply.{Reply}
 use Rattle.ido_base.specs.declared.event.Reply.TheVariants.{Moved, Drained, Waits, Barrier, Still, Stuck, Device}
 use Rattle.rv64_isa.specs.Machine.{after_event}
 use Rattle.rv64_isa.specs.Schedule.{has_moved}
-use Rattle.run_tracker.specs.links.Accounts.{AccountStands}
-use Rattle.run_tracker.specs.links.Parts.{is_drained, seen_step, HasStepped}
-use Rattle.run_tracker.proofs.Behind.{counts_none, held_up, idle, kept_after, kept_none, steps_none}
+use Rattle.run_tracker.specs.links.AccountRepresentation.{AccountInv}
+use Rattle.run_tracker.specs.links.LifeParts.{is_drained, seen_step, HasStepped}
+use Rattle.run_tracker.proofs.StepsByObservation.{counts_none, held_up, idle, kept_after, kept_none, steps_none}
 use Rattle.run_tracker.proofs.stepping.note.Goals as goal
 
 unmoved : (reply : Reply) → (reply ≡ Moved → ⊥) → has_moved reply ≡ false
@@ -27,54 +27,57 @@ undrained Still ne = refl
 undrained (Stuck cause) ne = refl
 undrained Device ne = refl
 
-pub returns-then-sight-clause-steps : goal.returns-then-sight-clause-steps
-returns-then-sight-clause-steps c = λ program marks w s stepped a is_open.
-    let kept = kept_none program c.args.tables.now marks c.args.machine.now c.args.hart c.args.sight c.args.reply w stepped
+pub returns-then-observation-clause-steps : goal.returns-then-observation-clause-steps
+returns-then-observation-clause-steps c = λ program marks w s stepped a is_open.
+    let kept = kept_none program c.args.tables.now marks c.args.machine.now c.args.hart c.args.observation c.args.reply w stepped
     (ap is_drained c.in-Moved.is) s is_open in
-    let moved = subst (λ (r : Reply). HasStepped program c.args.tables.now marks c.args.machine.now (seen_step c.args.hart c.args.sight r) w) c.in-Moved.is
+    let moved = subst (λ (r : Reply). HasStepped program c.args.tables.now marks c.args.machine.now (seen_step c.args.hart c.args.observation r) w)
+    c.in-Moved.is
     stepped in
-    subst (AccountStands c.complete.new.account) (sym kept) (c.complete.ensures.steps program marks w s moved a)
+    subst (AccountInv c.complete.new.account) (sym kept) (c.complete.ensures.steps program marks w s moved a)
 
-pub returns-then-sight-clause-counts : goal.returns-then-sight-clause-counts
-returns-then-sight-clause-counts c = λ program marks w stepped.
+pub returns-then-observation-clause-counts : goal.returns-then-observation-clause-counts
+returns-then-observation-clause-counts c = λ program marks w stepped.
     c.complete.ensures.counts program marks w
-    (subst (λ (r : Reply). HasStepped program c.args.tables.now marks c.args.machine.now (seen_step c.args.hart c.args.sight r) w) c.in-Moved.is stepped)
+    (subst (λ (r : Reply). HasStepped program c.args.tables.now marks c.args.machine.now (seen_step c.args.hart c.args.observation r) w) c.in-Moved.is stepped)
 
-pub returns-else-sight-clause-steps : goal.returns-else-sight-clause-steps
-returns-else-sight-clause-steps c = λ program marks w s stepped a is_open.
-    let none = idle program c.args.tables.now marks c.args.machine.now c.args.hart c.args.sight c.args.reply w stepped c.if-sight.false in
-    let kept = kept_none program c.args.tables.now marks c.args.machine.now c.args.hart c.args.sight c.args.reply w stepped
+pub returns-else-observation-clause-steps : goal.returns-else-observation-clause-steps
+returns-else-observation-clause-steps c = λ program marks w s stepped a is_open.
+    let none = idle program c.args.tables.now marks c.args.machine.now c.args.hart c.args.observation c.args.reply w stepped c.if-observation.false in
+    let kept = kept_none program c.args.tables.now marks c.args.machine.now c.args.hart c.args.observation c.args.reply w stepped
     (ap is_drained c.in-Moved.is) s is_open in
-    let same = steps_none program c.args.tables.now marks c.args.machine.now c.args.hart c.args.sight c.args.reply w stepped none s in
-    subst (AccountStands c.args.account.now) (sym (kept ∙ same)) a
+    let same = steps_none program c.args.tables.now marks c.args.machine.now c.args.hart c.args.observation c.args.reply w stepped none s in
+    subst (AccountInv c.args.account.now) (sym (kept ∙ same)) a
 
-pub returns-else-sight-clause-counts : goal.returns-else-sight-clause-counts
-returns-else-sight-clause-counts c = λ program marks w stepped.
-    let none = idle program c.args.tables.now marks c.args.machine.now c.args.hart c.args.sight c.args.reply w stepped c.if-sight.false in
-    counts_none program c.args.tables.now marks c.args.machine.now c.args.hart c.args.sight c.args.reply w stepped none c.args.counts.now
+pub returns-else-observation-clause-counts : goal.returns-else-observation-clause-counts
+returns-else-observation-clause-counts c = λ program marks w stepped.
+    let none = idle program c.args.tables.now marks c.args.machine.now c.args.hart c.args.observation c.args.reply w stepped c.if-observation.false in
+    counts_none program c.args.tables.now marks c.args.machine.now c.args.hart c.args.observation c.args.reply w stepped none c.args.counts.now
 
 pub returns-in-Drained-clause-steps : goal.returns-in-Drained-clause-steps
 returns-in-Drained-clause-steps c = λ program marks w s stepped a is_open.
-    let none = held_up program c.args.tables.now marks c.args.machine.now c.args.hart c.args.sight c.args.reply w stepped (ap has_moved c.in-Drained.is) in
-    let after = kept_after program c.args.tables.now marks c.args.machine.now c.args.hart c.args.sight c.args.reply w stepped none s _ (sym a.count) in
-    subst (AccountStands c.keep_all.new.account) after (c.keep_all.ensures.stands (after_event program w (Step c.args.hart)) s stepped.stands a)
+    let none = held_up program c.args.tables.now marks c.args.machine.now c.args.hart c.args.observation c.args.reply w stepped
+    (ap has_moved c.in-Drained.is) in
+    let after = kept_after program c.args.tables.now marks c.args.machine.now c.args.hart c.args.observation c.args.reply w stepped none s _ (sym a.count) in
+    subst (AccountInv c.keep_all.new.account) after (c.keep_all.ensures.stands (after_event program w (Step c.args.hart)) s stepped.stands a)
 
 pub returns-in-Drained-clause-counts : goal.returns-in-Drained-clause-counts
 returns-in-Drained-clause-counts c = λ program marks w stepped.
-    let none = held_up program c.args.tables.now marks c.args.machine.now c.args.hart c.args.sight c.args.reply w stepped (ap has_moved c.in-Drained.is) in
-    counts_none program c.args.tables.now marks c.args.machine.now c.args.hart c.args.sight c.args.reply w stepped none c.args.counts.now
+    let none = held_up program c.args.tables.now marks c.args.machine.now c.args.hart c.args.observation c.args.reply w stepped
+    (ap has_moved c.in-Drained.is) in
+    counts_none program c.args.tables.now marks c.args.machine.now c.args.hart c.args.observation c.args.reply w stepped none c.args.counts.now
 
 pub returns-in_default-clause-steps : goal.returns-in_default-clause-steps
 returns-in_default-clause-steps c = λ program marks w s stepped a is_open.
-    let none = held_up program c.args.tables.now marks c.args.machine.now c.args.hart c.args.sight c.args.reply w stepped
+    let none = held_up program c.args.tables.now marks c.args.machine.now c.args.hart c.args.observation c.args.reply w stepped
     (unmoved c.args.reply c.in_default.not-Moved) in
-    let kept = kept_none program c.args.tables.now marks c.args.machine.now c.args.hart c.args.sight c.args.reply w stepped
+    let kept = kept_none program c.args.tables.now marks c.args.machine.now c.args.hart c.args.observation c.args.reply w stepped
     (undrained c.args.reply c.in_default.not-Drained) s is_open in
-    let same = steps_none program c.args.tables.now marks c.args.machine.now c.args.hart c.args.sight c.args.reply w stepped none s in
-    subst (AccountStands c.args.account.now) (sym (kept ∙ same)) a
+    let same = steps_none program c.args.tables.now marks c.args.machine.now c.args.hart c.args.observation c.args.reply w stepped none s in
+    subst (AccountInv c.args.account.now) (sym (kept ∙ same)) a
 
 pub returns-in_default-clause-counts : goal.returns-in_default-clause-counts
 returns-in_default-clause-counts c = λ program marks w stepped.
-    let none = held_up program c.args.tables.now marks c.args.machine.now c.args.hart c.args.sight c.args.reply w stepped
+    let none = held_up program c.args.tables.now marks c.args.machine.now c.args.hart c.args.observation c.args.reply w stepped
     (unmoved c.args.reply c.in_default.not-Moved) in
-    counts_none program c.args.tables.now marks c.args.machine.now c.args.hart c.args.sight c.args.reply w stepped none c.args.counts.now
+    counts_none program c.args.tables.now marks c.args.machine.now c.args.hart c.args.observation c.args.reply w stepped none c.args.counts.now

@@ -1,6 +1,6 @@
 use Rattle.std.proofs.Common.{ℕ, sym, ap, ◌∙◌}
 use Rattle.ido_base.specs.Words.{word_at, last_position}
-use Rattle.run_tracker.proofs.Places.{point_place}
+use Rattle.run_tracker.proofs.PointWords.{point_place}
 use Rattle.run_tracker.proofs.stepping.point_position.Goals as goal
 
 pub returns : goal.returns

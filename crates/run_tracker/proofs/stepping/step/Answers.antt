@@ -3,11 +3,11 @@ use Rattle.ido_base.specs.declared.event.Event.TheVariants.{Step}
 use Rattle.rv64_isa.specs.declared.object.Slot.{Slot}
 use Rattle.rv64_isa.specs.Machine.{after_event}
 use Rattle.ido_machine.specs.Machines.{program_in}
-use Rattle.run_tracker.specs.links.Parts.{seen_step, HasStepped}
+use Rattle.run_tracker.specs.links.LifeParts.{seen_step, HasStepped}
 use Rattle.run_tracker.proofs.stepping.step.Goals as goal
 
-pub note-requires-clause-behind : goal.note-requires-clause-behind
-note-requires-clause-behind c =
+pub note-requires-clause-after : goal.note-requires-clause-after
+note-requires-clause-after c =
     let program = program_in c.args.machine.now in
     let ready = c.requires.at in
     let after = c.step-reply.ensures.world ready.world ready.at.stands in
@@ -16,10 +16,10 @@ note-requires-clause-behind c =
       world = ready.world;
       stepped =
           subst (λ (p : List (List Slot)).
-          HasStepped p c.args.tables.now ready.marks c.step-reply.new.self (seen_step c.args.hart c.look-sight.result c.step-reply.result) ready.world)
+          HasStepped p c.args.tables.now ready.marks c.step-reply.new.self (seen_step c.args.hart c.look-observation.result c.step-reply.result) ready.world)
           (sym c.step-reply.ensures.program) (record {
             tables_are = ready.tables_are;
-            seen = c.look-sight.ensures ready.world ready.at.stands;
+            seen = c.look-observation.ensures ready.world ready.at.stands;
             replied = after.replied;
             stands = after.stands;
           });
@@ -38,10 +38,10 @@ pub returns-clause-steps : goal.returns-clause-steps
 returns-clause-steps c = λ marks w s tables stands a is_open.
     let after = c.step-reply.ensures.world w stands in
     c.note.ensures.steps (program_in c.args.machine.now) marks w s
-    (record { tables_are = tables; seen = c.look-sight.ensures w stands; replied = after.replied; stands = after.stands }) a is_open
+    (record { tables_are = tables; seen = c.look-observation.ensures w stands; replied = after.replied; stands = after.stands }) a is_open
 
 pub returns-clause-counts : goal.returns-clause-counts
 returns-clause-counts c = λ w stands.
     let after = c.step-reply.ensures.world w stands in
     c.note.ensures.counts (program_in c.args.machine.now) c.requires.at.marks w
-    (record { tables_are = c.requires.at.tables_are; seen = c.look-sight.ensures w stands; replied = after.replied; stands = after.stands })
+    (record { tables_are = c.requires.at.tables_are; seen = c.look-observation.ensures w stands; replied = after.replied; stands = after.stands })

@@ -4,9 +4,9 @@ use Rattle.std.proofs.lemmas.Option.{slice_get-map}
 use Rattle.std.proofs.lemmas.List.{length-map}
 use Rattle.flow_graph.specs.Nodes.{node_of, graph_of}
 use Rattle.flow_graph.specs.Liveness.{NodeAt}
-use Rattle.rv64_codegen.proofs.Chosen.{read_get}
-use Rattle.rv64_codegen.proofs.Gathering.{at_node}
-use Rattle.rv64_codegen.proofs.Opened.{exists_at}
+use Rattle.rv64_codegen.proofs.ChosenBoundaries.{read_get}
+use Rattle.rv64_codegen.proofs.JoinedPieces.{at_node}
+use Rattle.rv64_codegen.proofs.NodePieces.{exists_at}
 use Rattle.rv64_codegen.proofs.actions.push_action.Goals as goal
 use Rattle.rv64_codegen.proofs.actions.push_action.Goals.{After-index}
 

@@ -1,5 +1,5 @@
 use Rattle.std.proofs.lemmas.Result.{on_ok_weaker}
-use Rattle.rv64_codegen.proofs.Doing.{end_done}
+use Rattle.rv64_codegen.proofs.AppendedParts.{end_done}
 use Rattle.rv64_codegen.proofs.actions.push_ending.Goals as goal
 
 pub returns : goal.returns

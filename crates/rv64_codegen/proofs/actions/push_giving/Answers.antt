@@ -1,8 +1,8 @@
 use Rattle.std.proofs.Common.{arith}
 use Rattle.std.proofs.lemmas.Result.{on_ok_weaker}
 use Rattle.flow_graph.specs.Nodes.{Unlock}
-use Rattle.rv64_codegen.proofs.Doing.{unlock_done}
-use Rattle.rv64_codegen.proofs.Opened.{formed_at, kept_thread, kept_live}
+use Rattle.rv64_codegen.proofs.AppendedParts.{unlock_done}
+use Rattle.rv64_codegen.proofs.NodePieces.{formed_at, kept_thread, kept_live}
 use Rattle.rv64_codegen.proofs.actions.push_giving.Goals as goal
 
 pub kept-kept-requires : goal.kept-kept-requires
@@ -22,12 +22,12 @@ push_unlock-requires-clause-live c =
 pub push_unlock-requires-clause-mutex : goal.push_unlock-requires-clause-mutex
 push_unlock-requires-clause-mutex c = (formed_at c.args.thread.now c.args.node (Unlock c.args.mutex c.args.next) c.requires).0
 
-pub push_way-requires : goal.push_way-requires
-push_way-requires c = (formed_at c.args.thread.now c.args.node (Unlock c.args.mutex c.args.next) c.requires).1
+pub push_fragment-requires : goal.push_fragment-requires
+push_fragment-requires c = (formed_at c.args.thread.now c.args.node (Unlock c.args.mutex c.args.next) c.requires).1
 
 pub returns : goal.returns
 returns c =
     let next = (formed_at c.args.thread.now c.args.node (Unlock c.args.mutex c.args.next) c.requires).1 in
-    on_ok_weaker c.push_way.result
-    (λ way. unlock_done c.args.thread.now c.args.node c.args.mutex c.args.next c.kept-kept.result _ _ _ c.requires next c.kept-kept.ensures
-    c.in_ok-push_unlock.ensures way) c.push_way.ensures
+    on_ok_weaker c.push_fragment.result
+    (λ fragment. unlock_done c.args.thread.now c.args.node c.args.mutex c.args.next c.kept-kept.result _ _ _ c.requires next c.kept-kept.ensures
+    c.in_ok-push_unlock.ensures fragment) c.push_fragment.ensures

@@ -1,9 +1,9 @@
 use Rattle.std.proofs.Common.{[], ◌∷◌}
 use Rattle.c_tree.specs.Exprs.{placed_of}
 use Rattle.flow_graph.specs.Nodes.{Test}
-use Rattle.rv64_codegen.proofs.Doing.{straight_done}
-use Rattle.rv64_codegen.proofs.Opened.{formed_at, cheap_at}
-use Rattle.rv64_codegen.proofs.Refused.{same_refused}
+use Rattle.rv64_codegen.proofs.AppendedParts.{straight_done}
+use Rattle.rv64_codegen.proofs.NodePieces.{formed_at, cheap_at}
+use Rattle.rv64_codegen.proofs.RefusedEvaluations.{same_refused}
 use Rattle.rv64_codegen.proofs.actions.push_straight.Goals as goal
 
 pub label-to-requires : goal.label-to-requires
@@ -18,16 +18,16 @@ pub push_test-requires-clause-price : goal.push_test-requires-clause-price
 push_test-requires-clause-price c =
     cheap_at c.args.thread.now c.args.node (Test (placed_of c.args.condition.now) c.args.holds c.args.fails) c.requires
 
-pub push_way-requires : goal.push_way-requires
-push_way-requires c =
+pub push_fragment-requires : goal.push_fragment-requires
+push_fragment-requires c =
     (formed_at c.args.thread.now c.args.node (Test (placed_of c.args.condition.now) c.args.holds c.args.fails) c.requires).1.1
 
 pub returns-in-Err : goal.returns-in-Err
 returns-in-Err c = same_refused (placed_of c.args.condition.now ∷ []) c.in-Err.error c.emit_error.result c.in-Err.ensures c.emit_error.ensures
 
-pub returns-in-Ok-push_way : goal.returns-in-Ok-push_way
-returns-in-Ok-push_way c = (
+pub returns-in-Ok-push_fragment : goal.returns-in-Ok-push_fragment
+returns-in-Ok-push_fragment c = (
   c.in-Ok.ensures.0,
   straight_done c.args.thread.now c.args.node (placed_of c.args.condition.now) c.args.holds c.args.fails c.label-to.result.0 _ _ _ c.requires
-      c.label-to.ensures c.in-Ok.ensures.1 c.in-Ok-push_way.ensures,
+      c.label-to.ensures c.in-Ok.ensures.1 c.in-Ok-push_fragment.ensures,
 )

@@ -1,9 +1,9 @@
 use Rattle.std.proofs.Common.{◌+◌, [], ◌∷◌}
 use Rattle.c_tree.specs.Exprs.{placed_of}
 use Rattle.flow_graph.specs.Nodes.{Test}
-use Rattle.rv64_codegen.proofs.Doing.{turned_done}
-use Rattle.rv64_codegen.proofs.Opened.{formed_at, cheap_at}
-use Rattle.rv64_codegen.proofs.Refused.{same_refused}
+use Rattle.rv64_codegen.proofs.AppendedParts.{turned_done}
+use Rattle.rv64_codegen.proofs.NodePieces.{formed_at, cheap_at}
+use Rattle.rv64_codegen.proofs.RefusedEvaluations.{same_refused}
 use Rattle.rv64_codegen.proofs.actions.push_turned.Goals as goal
 
 pub label-to-requires : goal.label-to-requires

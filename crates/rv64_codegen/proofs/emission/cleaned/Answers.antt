@@ -3,10 +3,11 @@ use Rattle.ido_base.specs.declared.location.Shape.{Shape}
 use Rattle.c_tree.specs.declared.program.Variable as variable
 use Rattle.c_tree.specs.Programs.{variable_of}
 use Rattle.c_tree.specs.WellFormed.{shape_of}
-use Rattle.log_layout.specs.Variables.{are_sizes}
+use Rattle.memory_layout.specs.Variables.{are_sizes}
 use Rattle.region_cutter.specs.Places.{WriteElements}
 use Rattle.rv64_codegen.specs.Plans.{plan_of}
-use Rattle.rv64_codegen.proofs.Planned.{sizes, writes_exist}
+use Rattle.rv64_codegen.proofs.PlannedThreads.{writes_exist}
+use Rattle.rv64_codegen.proofs.Shaped.{sizes}
 use Rattle.rv64_codegen.proofs.emission.cleaned.Goals as goal
 
 pub cleaned_later-requires-clause-sizes : goal.cleaned_later-requires-clause-sizes

@@ -1,9 +1,18 @@
-use Rattle.std.proofs.Common.{arith}
+use Rattle.std.proofs.Common.{arith, subst, sym, ap, map, List}
+use Rattle.c_tree.specs.Programs as p
+use Rattle.c_tree.specs.Programs.{variable_of}
+use Rattle.c_tree.specs.WellFormed.{shape_of, initial_numbers}
+use Rattle.memory_layout.specs.Variables.{AreCounted}
 use Rattle.rv64_codegen.specs.Plans.{plan_of}
-use Rattle.rv64_codegen.proofs.Gathering.{are_emitted, all_need_few, few_words}
-use Rattle.rv64_codegen.proofs.Coded.{are_code}
-use Rattle.rv64_codegen.proofs.Planned.{few_threads}
+use Rattle.rv64_codegen.proofs.JoinedPieces.{are_emitted, all_need_few, few_words}
+use Rattle.rv64_codegen.proofs.ProgramCode.{are_code}
+use Rattle.rv64_codegen.proofs.PlannedThreads.{all_counted, few_threads}
 use Rattle.rv64_codegen.proofs.emission.emit.Goals as goal
+
+pub initial_bytes-requires : goal.initial_bytes-requires
+initial_bytes-requires c =
+    subst (λ (vs : List p.Variable). AreCounted (map shape_of vs) (map initial_numbers vs)) (sym (ap (map variable_of) c.deref.ensures.value))
+    (all_counted (plan_of c.args.plan.now) c.requires)
 
 pub returns-clause-code : goal.returns-clause-code
 returns-clause-code c =

@@ -2,9 +2,9 @@ use Rattle.std.proofs.Common.{refl, arith}
 use Rattle.rv64_codegen.specs.declared.thread.ThreadPlan as opened
 use Rattle.rv64_codegen.specs.Plans.{plan_of}
 use Rattle.rv64_codegen.specs.links.Threads.{IsOpen}
-use Rattle.rv64_codegen.proofs.Chosen.{read_get}
-use Rattle.rv64_codegen.proofs.Gathering.{number_done}
-use Rattle.rv64_codegen.proofs.Planned.{few_threads, is_open}
+use Rattle.rv64_codegen.proofs.ChosenBoundaries.{read_get}
+use Rattle.rv64_codegen.proofs.JoinedPieces.{number_done}
+use Rattle.rv64_codegen.proofs.PlannedThreads.{few_threads, is_open}
 use Rattle.rv64_codegen.proofs.emission.emit_from.Goals as goal
 use Rattle.rv64_codegen.proofs.emission.emit_from.Goals.{After-index}
 

@@ -2,15 +2,15 @@ use Rattle.std.proofs.Common.{◌≡◌, ◌∙◌, ℕ, List, Vec, Some, ap, sy
 use Rattle.std.specs.Global.{Global}
 use Rattle.std.specs.Prelude.{slice_get, slice_index}
 use Rattle.std.proofs.lemmas.List.{length-map}
-use Rattle.log_layout.specs.declared.roles.TheConstants.{LOCALS}
+use Rattle.memory_layout.specs.declared.roles.TheConstants.{LOCALS}
 use Rattle.flow_graph.specs.declared.graph.Part.{Part}
 use Rattle.flow_graph.specs.Colours.{colouring_of}
 use Rattle.flow_graph.specs.Nodes.{node_of}
 use Rattle.rv64_codegen.specs.Plans.{plan_of}
-use Rattle.rv64_codegen.specs.links.Live.{AreLists}
-use Rattle.rv64_codegen.proofs.Chosen.{read_get}
+use Rattle.rv64_codegen.specs.links.LiveRegisters.{AreLists}
+use Rattle.rv64_codegen.proofs.ChosenBoundaries.{read_get}
 use Rattle.rv64_codegen.proofs.Homes.{same_some}
-use Rattle.rv64_codegen.proofs.Planned.{colours_at, part_order, part_end}
+use Rattle.rv64_codegen.proofs.PlannedThreads.{colours_at, part_order, part_end}
 use Rattle.rv64_codegen.proofs.emission.emit_thread.Goals as goal
 use Rattle.rv64_codegen.proofs.emission.emit_thread.Goals.{After-deref, After-index-part}
 

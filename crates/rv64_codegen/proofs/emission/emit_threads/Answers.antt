@@ -1,10 +1,10 @@
 use Rattle.std.proofs.Common.{◌+◌, List, Vec, sym, subst, arith}
 use Rattle.std.specs.Global.{Global}
 use Rattle.rv64_isa.specs.declared.object.CodeItem.{CodeItem}
-use Rattle.flow_graph.proofs.Lockstep.{found_in}
+use Rattle.flow_graph.proofs.Public.{found_in}
 use Rattle.rv64_codegen.specs.Plans.{plan_of}
 use Rattle.rv64_codegen.specs.links.Emission.{AreEmittedTo}
-use Rattle.rv64_codegen.proofs.Gathering.{emitted_more, graph_refused}
+use Rattle.rv64_codegen.proofs.JoinedPieces.{emitted_more, graph_refused}
 use Rattle.rv64_codegen.proofs.emission.emit_threads.Goals as goal
 
 pub returns-in-Err : goal.returns-in-Err

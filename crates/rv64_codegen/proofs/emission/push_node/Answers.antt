@@ -1,5 +1,5 @@
-use Rattle.rv64_codegen.proofs.Gathering.{weaker_ok}
-use Rattle.rv64_codegen.proofs.Opened.{node_is}
+use Rattle.rv64_codegen.proofs.JoinedPieces.{weaker_ok}
+use Rattle.rv64_codegen.proofs.NodePieces.{node_is}
 use Rattle.rv64_codegen.proofs.emission.push_node.Goals as goal
 
 pub returns : goal.returns

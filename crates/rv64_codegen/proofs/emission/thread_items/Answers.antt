@@ -1,7 +1,7 @@
 use Rattle.std.proofs.Common.{◌≡◌, ℕ, arith, subst}
 use Rattle.rv64_codegen.specs.links.Threads.{IsOwn, plan_in, thread_of}
-use Rattle.rv64_codegen.proofs.Gathering.{Begun, begun_more, thread_emitted, refused_at}
-use Rattle.rv64_codegen.proofs.Known.{first_below}
+use Rattle.rv64_codegen.proofs.JoinedPieces.{Begun, begun_more, thread_emitted, refused_at}
+use Rattle.rv64_codegen.proofs.PlannedNodes.{first_below}
 use Rattle.rv64_codegen.proofs.emission.thread_items.Goals as goal
 
 pub returns-in-Err : goal.returns-in-Err

@@ -1,4 +1,4 @@
-use Rattle.rv64_codegen.proofs.Gathering.{Begun}
+use Rattle.rv64_codegen.proofs.JoinedPieces.{Begun}
 use Rattle.rv64_codegen.proofs.emission.thread_items.Given as goal
 
 abbrev pub invariant-loop-node : goal.invariant-loop-node

@@ -1,7 +1,7 @@
 use Rattle.std.proofs.Common.{List, subst}
 use Rattle.rv64_isa.specs.declared.instr.Instr.{Instr}
 use Rattle.c_tree.specs.Exprs.{placed_of, lvalue_of}
-use Rattle.expr_code.specs.Evaluating.{homes_of}
+use Rattle.expr_code.specs.EvaluationCode.{homes_of}
 use Rattle.node_code.specs.Pieces.{IsComputing}
 use Rattle.rv64_codegen.proofs.Pieces.{is_evaluation}
 use Rattle.rv64_codegen.proofs.evaluations.push_evaluation.Goals as goal

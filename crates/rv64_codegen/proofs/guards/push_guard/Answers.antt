@@ -1,7 +1,7 @@
 use Rattle.std.proofs.Common.{arith}
 use Rattle.std.proofs.lemmas.List.{length-map}
 use Rattle.flow_graph.specs.Nodes.{node_of}
-use Rattle.rv64_codegen.proofs.Opened.{exists_at, kept_thread, kept_live}
+use Rattle.rv64_codegen.proofs.NodePieces.{exists_at, kept_thread, kept_live}
 use Rattle.rv64_codegen.proofs.guards.push_guard.Goals as goal
 
 pub is_chosen-requires-clause-node : goal.is_chosen-requires-clause-node

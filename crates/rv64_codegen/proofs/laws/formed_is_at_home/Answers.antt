@@ -1,4 +1,4 @@
-use Rattle.rv64_codegen.proofs.Reading.{formed_is_at_home}
+use Rattle.rv64_codegen.proofs.ReadLocals.{formed_is_at_home}
 use Rattle.rv64_codegen.proofs.laws.formed_is_at_home.Goals as goal
 
 pub returns : goal.returns

@@ -1,4 +1,4 @@
-use Rattle.rv64_codegen.proofs.Reading.{reads_are_held}
+use Rattle.rv64_codegen.proofs.ReadLocals.{reads_are_held}
 use Rattle.rv64_codegen.proofs.laws.reads_are_held.Goals as goal
 
 pub returns : goal.returns

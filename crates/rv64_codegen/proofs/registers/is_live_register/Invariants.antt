@@ -1,4 +1,4 @@
-use Rattle.rv64_codegen.proofs.Live.{NoneBefore}
+use Rattle.rv64_codegen.proofs.LiveRegisterLists.{NoneBefore}
 use Rattle.rv64_codegen.proofs.registers.is_live_register.Given as goal
 
 abbrev pub invariant-loop-local : goal.invariant-loop-local

@@ -1,8 +1,8 @@
 use Rattle.std.proofs.Common.{List, ℕ, ◌+◌, Vec, sym, subst}
 use Rattle.std.specs.Global.{Global}
 use Rattle.flow_graph.specs.Nodes.{graph_of}
-use Rattle.rv64_codegen.specs.links.Live.{AreLists}
-use Rattle.rv64_codegen.proofs.Live.{lists_more}
+use Rattle.rv64_codegen.specs.links.LiveRegisters.{AreLists}
+use Rattle.rv64_codegen.proofs.LiveRegisterLists.{lists_more}
 use Rattle.rv64_codegen.proofs.registers.live_lists.Goals as goal
 
 pub loop-node-preserved : goal.loop-node-preserved

@@ -1,5 +1,5 @@
 use Rattle.flow_graph.specs.Nodes.{graph_of}
-use Rattle.rv64_codegen.specs.links.Live.{AreLists}
+use Rattle.rv64_codegen.specs.links.LiveRegisters.{AreLists}
 use Rattle.rv64_codegen.proofs.registers.live_lists.Given as goal
 
 abbrev pub invariant-loop-node : goal.invariant-loop-node

@@ -1,7 +1,7 @@
 use Rattle.std.proofs.Common.{List, ℕ, ◌+◌, ◌≡◌, ◌∙◌, Vec, ap, sym, subst, true, false}
 use Rattle.std.specs.Global.{Global}
-use Rattle.rv64_codegen.specs.links.Live.{AreLiveLocals, HasLive}
-use Rattle.rv64_codegen.proofs.Live.{live_more, live_same}
+use Rattle.rv64_codegen.specs.links.LiveRegisters.{AreLiveLocals, HasLive}
+use Rattle.rv64_codegen.proofs.LiveRegisterLists.{live_more, live_same}
 use Rattle.rv64_codegen.proofs.registers.live_locals.Goals as goal
 use Rattle.rv64_codegen.proofs.registers.live_locals.Goals.{then-is_live_register+in_ok-push, else-is_live_register}
 

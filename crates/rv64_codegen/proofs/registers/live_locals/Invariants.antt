@@ -1,4 +1,4 @@
-use Rattle.rv64_codegen.specs.links.Live.{AreLiveLocals}
+use Rattle.rv64_codegen.specs.links.LiveRegisters.{AreLiveLocals}
 use Rattle.rv64_codegen.proofs.registers.live_locals.Given as goal
 
 abbrev pub invariant-loop-number : goal.invariant-loop-number

@@ -2,9 +2,9 @@ use Rattle.std.proofs.Common.{◌∙◌, ap, refl, subst, Bool}
 use Rattle.std.specs.Option.{option_map}
 use Rattle.std.proofs.lemmas.Option.{slice_get-map}
 use Rattle.flow_graph.specs.Nodes.{graph_of, node_of}
-use Rattle.rv64_codegen.specs.links.Live.{AreWithPending}
-use Rattle.rv64_codegen.proofs.Chosen.{read_get}
-use Rattle.rv64_codegen.proofs.Live.{ok_weaker, with_pending_live}
+use Rattle.rv64_codegen.specs.links.LiveRegisters.{AreWithPending}
+use Rattle.rv64_codegen.proofs.ChosenBoundaries.{read_get}
+use Rattle.rv64_codegen.proofs.LiveRegisterLists.{ok_weaker, with_pending_live}
 use Rattle.rv64_codegen.proofs.registers.live_registers.Goals as goal
 
 pub returns : goal.returns

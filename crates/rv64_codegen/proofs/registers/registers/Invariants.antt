@@ -1,6 +1,6 @@
 use Rattle.std.proofs.Common.{◌≡◌, ◌++◌, ℕ, map, drop}
 use Rattle.std.specs.Prelude.{slice_index}
-use Rattle.log_layout.specs.declared.roles.TheConstants.{LOCALS}
+use Rattle.memory_layout.specs.declared.roles.TheConstants.{LOCALS}
 use Rattle.rv64_codegen.proofs.registers.registers.Given as goal
 
 abbrev pub invariant-loop-colour : goal.invariant-loop-colour

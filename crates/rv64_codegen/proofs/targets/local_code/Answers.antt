@@ -1,7 +1,7 @@
 use Rattle.std.proofs.Common.{get_or}
 use Rattle.std.proofs.lemmas.Grind.{get_or_default_zero}
 use Rattle.c_tree.specs.Exprs.{placed_of}
-use Rattle.expr_code.specs.Evaluating.{homes_of}
+use Rattle.expr_code.specs.EvaluationCode.{homes_of}
 use Rattle.rv64_codegen.proofs.Results.{local_result}
 use Rattle.rv64_codegen.proofs.targets.local_code.Goals as goal
 

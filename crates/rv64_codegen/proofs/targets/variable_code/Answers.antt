@@ -1,8 +1,8 @@
 use Rattle.std.proofs.Common.{List, [], ◌∷◌, ◌∙◌, ◌++◌, ap}
 use Rattle.rv64_isa.specs.declared.instr.Instr.{Instr}
 use Rattle.c_tree.specs.Exprs.{placed_of}
-use Rattle.expr_code.specs.Evaluating.{homes_of}
-use Rattle.rv64_codegen.proofs.Refused.{refused, found_first}
+use Rattle.expr_code.specs.EvaluationCode.{homes_of}
+use Rattle.rv64_codegen.proofs.RefusedEvaluations.{refused, found_first}
 use Rattle.rv64_codegen.proofs.Results.{first_of_all, variable_selected}
 use Rattle.rv64_codegen.proofs.targets.variable_code.Goals as goal
 

@@ -2,10 +2,10 @@ use Rattle.std.proofs.Common.{List, [], ◌∷◌, subst}
 use Rattle.rv64_isa.specs.declared.instr.Instr.{Instr}
 use Rattle.c_tree.specs.Exprs as e
 use Rattle.c_tree.specs.Exprs.{placed_of, expr_of}
-use Rattle.expr_code.specs.Evaluating.{homes_of}
+use Rattle.expr_code.specs.EvaluationCode.{homes_of}
 use Rattle.node_code.specs.Pieces.{IsChoice}
 use Rattle.rv64_codegen.proofs.Pieces.{is_test}
-use Rattle.rv64_codegen.proofs.Refused.{refused, found_first}
+use Rattle.rv64_codegen.proofs.RefusedEvaluations.{refused, found_first}
 use Rattle.rv64_codegen.proofs.Results.{first_of_all}
 use Rattle.rv64_codegen.proofs.tests_of_conditions.push_test.Goals as goal
 

@@ -1,6 +1,6 @@
 -- The arguments of `decode_fields` are the word's fields.
 use Rattle.std.proofs.Common.{◌/◌, ◌%◌, ◌∙◌, arith}
-use Rattle.rv64_isa.proofs.Read.{decoded_at}
+use Rattle.rv64_isa.proofs.EncodeThenDecode.{decoded_at}
 use Rattle.rv64_isa.proofs.Words.{found_at, complete_at}
 use Rattle.rv64_isa.proofs.word.decode.Goals as goal
 

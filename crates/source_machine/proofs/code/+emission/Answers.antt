@@ -7,7 +7,7 @@ use Rattle.c_tree.specs.declared.flat.Statement.{Statement}
 use Rattle.c_tree.specs.declared.flat.Arm.{Arm}
 use Rattle.source_machine.specs.declared.code.Node.TheVariants as node
 use Rattle.c_tree.specs.Source.{opened, opened_all}
-use Rattle.c_tree.proofs.FlatRows.{of_while, of_do, of_if}
+use Rattle.c_tree.proofs.Public.{flat_rows_of_while as of_while, flat_rows_of_do as of_do, flat_rows_of_if as of_if}
 use Rattle.source_machine.specs.links.Codes.{Emits, EmitsLoop, EmitsArms}
 use Rattle.source_machine.proofs.Emission.{emits_longer, emits_loop, ok_node, ok_never, ok_if, ok_test, all_none, all_more, arms_none, arms_more}
 use Rattle.source_machine.proofs.code.+emission.Goals as goal

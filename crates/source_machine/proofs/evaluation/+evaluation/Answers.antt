@@ -5,7 +5,7 @@ use Rattle.c_tree.specs.Exprs.{expr_of}
 use Rattle.c_tree.specs.Values.{value}
 use Rattle.ido_ints.specs.Operators.{is_zero, unary_of, binary_of}
 use Rattle.ido_ints.specs.Reduction.{residue}
-use Rattle.ido_ints.specs.Typed.{Typed, converted}
+use Rattle.ido_ints.specs.TypedNumbers.{Typed, converted}
 use Rattle.source_machine.proofs.LowBits.{whole_unary, whole_binary, whole_converted, unary_low, converted_low, binary_low}
 use Rattle.source_machine.proofs.evaluation.+evaluation.Goals as goal
 

@@ -1,5 +1,5 @@
 -- By what stops a thread.
-use Rattle.source_machine.proofs.FormedSteps.{ended_over, waits_held}
+use Rattle.source_machine.proofs.WellFormedSteps.{ended_over, waits_held}
 use Rattle.source_machine.proofs.formed.answers_say_why.Goals as goal
 
 pub returns-clause-ended : goal.returns-clause-ended

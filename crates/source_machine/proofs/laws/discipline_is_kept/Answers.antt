@@ -1,5 +1,5 @@
 use Rattle.source_machine.proofs.Discipline.{start_keeps, step_keeps, run_keeps, reached_keeps}
-use Rattle.source_machine.proofs.Before.{held_is_given}
+use Rattle.source_machine.proofs.HeldBeforeContinuations.{held_is_given}
 use Rattle.source_machine.proofs.laws.discipline_is_kept.Goals as goal
 
 pub returns-clause-start : goal.returns-clause-start

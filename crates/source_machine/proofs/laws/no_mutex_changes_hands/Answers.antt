@@ -1,4 +1,4 @@
-use Rattle.source_machine.proofs.Hands.{step_added, steps_dropped}
+use Rattle.source_machine.proofs.NoLockTransfer.{step_added, steps_dropped}
 use Rattle.source_machine.proofs.laws.no_mutex_changes_hands.Goals as goal
 
 pub returns-clause-added : goal.returns-clause-added

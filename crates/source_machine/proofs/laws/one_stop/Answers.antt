@@ -1,4 +1,4 @@
-use Rattle.source_machine.proofs.Single.{one_stop, not_whole}
+use Rattle.source_machine.proofs.UniqueRefusals.{one_stop, not_whole}
 use Rattle.source_machine.proofs.laws.one_stop.Goals as goal
 
 pub returns-clause-stop : goal.returns-clause-stop

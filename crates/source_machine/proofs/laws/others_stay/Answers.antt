@@ -1,4 +1,4 @@
-use Rattle.source_machine.proofs.Others.{others, resting}
+use Rattle.source_machine.proofs.StepsKeepOthers.{others, resting}
 use Rattle.source_machine.proofs.laws.others_stay.Goals as goal
 
 pub returns-clause-step : goal.returns-clause-step

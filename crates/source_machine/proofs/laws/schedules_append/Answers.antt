@@ -1,4 +1,4 @@
-use Rattle.source_machine.proofs.Appending.{after_appended, runs_appended, ended_appended}
+use Rattle.source_machine.proofs.AppendedScheduleRuns.{after_appended, runs_appended, ended_appended}
 use Rattle.source_machine.proofs.laws.schedules_append.Goals as goal
 
 pub returns-clause-after : goal.returns-clause-after

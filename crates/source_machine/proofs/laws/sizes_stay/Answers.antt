@@ -1,4 +1,4 @@
-use Rattle.source_machine.proofs.Others.{sizes_stay}
+use Rattle.source_machine.proofs.StepsKeepOthers.{sizes_stay}
 use Rattle.source_machine.proofs.laws.sizes_stay.Goals as goal
 
 pub returns : goal.returns

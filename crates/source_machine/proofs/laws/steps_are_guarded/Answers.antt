@@ -1,4 +1,4 @@
-use Rattle.source_machine.proofs.Guarded.{writes_guarded, leaves_others, leaves_held, reads_guarded}
+use Rattle.source_machine.proofs.GuardedAccesses.{writes_guarded, leaves_others, leaves_held, reads_guarded}
 use Rattle.source_machine.proofs.laws.steps_are_guarded.Goals as goal
 
 pub returns-clause-writes : goal.returns-clause-writes

@@ -1,5 +1,5 @@
-use Rattle.source_machine.proofs.Swapping.{swap}
-use Rattle.source_machine.proofs.Exchanging.{exchange, solo}
+use Rattle.source_machine.proofs.StepSwaps.{swap}
+use Rattle.source_machine.proofs.ExchangedSchedules.{exchange, solo}
 use Rattle.source_machine.proofs.laws.steps_exchange.Goals as goal
 
 pub returns-clause-swap : goal.returns-clause-swap

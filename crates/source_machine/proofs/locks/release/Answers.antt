@@ -1,6 +1,6 @@
 use Rattle.std.proofs.Common.{sym, Some}
-use Rattle.source_machine.specs.links.Ends.{is_one}
-use Rattle.source_machine.proofs.Ends.{ends_freed, ends_freed_none, counted_same, counted_as, holder_read}
+use Rattle.source_machine.specs.links.SectionEnds.{is_one}
+use Rattle.source_machine.proofs.SectionEndCases.{ends_freed, ends_freed_none, counted_same, counted_as, holder_read}
 use Rattle.source_machine.proofs.locks.release.Goals as goal
 
 pub returns-then-holds_none-clause-sections : goal.returns-then-holds_none-clause-sections

@@ -1,6 +1,6 @@
 use Rattle.std.proofs.Common.{arith, refl}
 use Rattle.std.proofs.lemmas.Option.{slice_get_read}
-use Rattle.source_machine.proofs.Parts.{span_within, place_found, place_past}
+use Rattle.source_machine.proofs.ConsecutiveLists.{span_within, place_found, place_past}
 use Rattle.source_machine.proofs.variables.place_in.Goals as goal
 
 pub overflow_add-result : goal.overflow_add-result

@@ -1,4 +1,4 @@
-use Rattle.thread_code.proofs.Entering.{enters_again}
+use Rattle.thread_code.proofs.KeptRegistersAtNodes.{enters_again}
 use Rattle.thread_code.proofs.laws.kept_registers_suffice.Goals as goal
 
 pub returns : goal.returns

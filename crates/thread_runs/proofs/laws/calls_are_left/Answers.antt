@@ -1,4 +1,4 @@
-use Rattle.thread_runs.proofs.Arriving.{locks_go_on, unlocks_go_on, took_end}
+use Rattle.thread_runs.proofs.FragmentStarts.{locks_go_on, unlocks_go_on, took_end}
 use Rattle.thread_runs.proofs.laws.calls_are_left.Goals as goal
 
 pub returns-clause-locks : goal.returns-clause-locks

@@ -1,5 +1,5 @@
-use Rattle.thread_runs.proofs.Locking.{locks_take, locks_wait}
-use Rattle.thread_runs.proofs.Unlocking.{unlocks_give, ends_end}
+use Rattle.thread_runs.proofs.LockCalls.{locks_take, locks_wait}
+use Rattle.thread_runs.proofs.UnlockAndEndCalls.{unlocks_give, ends_end}
 use Rattle.thread_runs.proofs.laws.calls_are_made.Goals as goal
 
 pub returns-clause-takes : goal.returns-clause-takes

@@ -1,4 +1,4 @@
-use Rattle.thread_runs.proofs.Marks.{marks_pass}
+use Rattle.thread_runs.proofs.MarkSteps.{marks_pass}
 use Rattle.thread_runs.proofs.laws.marks_pass.Goals as goal
 
 pub returns : goal.returns

@@ -1,4 +1,4 @@
-use Rattle.thread_runs.proofs.Resuming.{resumed_go_on}
+use Rattle.thread_runs.proofs.ResumedThreads.{resumed_go_on}
 use Rattle.thread_runs.proofs.laws.resumed_go_on.Goals as goal
 
 pub returns : goal.returns

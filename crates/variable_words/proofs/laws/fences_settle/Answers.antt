@@ -1,4 +1,4 @@
-use Rattle.variable_words.proofs.Lasting.{cleans_reach, reach_lasts, empty_is_durable, fences_settle}
+use Rattle.variable_words.proofs.MemoryAlongEvents.{cleans_reach, reach_lasts, empty_is_durable, fences_settle}
 use Rattle.variable_words.proofs.laws.fences_settle.Goals as goal
 
 pub returns-clause-clean : goal.returns-clause-clean

@@ -1,4 +1,4 @@
-use Rattle.variable_words.proofs.Logging.{logs_reach, logs_hold_none, logs_apart, lines_apart}
+use Rattle.variable_words.proofs.LogWords.{logs_reach, logs_hold_none, logs_apart, lines_apart}
 use Rattle.variable_words.proofs.laws.logs_stand.Goals as goal
 
 pub returns-clause-access : goal.returns-clause-access

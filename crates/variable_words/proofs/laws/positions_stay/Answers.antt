@@ -1,4 +1,4 @@
-use Rattle.variable_words.proofs.Lasting.{positions_meet, positions_grow}
+use Rattle.variable_words.proofs.MemoryAlongEvents.{positions_meet, positions_grow}
 use Rattle.variable_words.proofs.laws.positions_stay.Goals as goal
 
 pub returns-clause-meet : goal.returns-clause-meet

@@ -1,5 +1,5 @@
-use Rattle.variable_words.proofs.Steps.{steps_work}
-use Rattle.variable_words.proofs.Lasting.{stores_store, events_raise}
+use Rattle.variable_words.proofs.StepEffects.{steps_work}
+use Rattle.variable_words.proofs.MemoryAlongEvents.{stores_store, events_raise}
 use Rattle.variable_words.proofs.laws.steps_work.Goals as goal
 
 pub returns-clause-steps : goal.returns-clause-steps

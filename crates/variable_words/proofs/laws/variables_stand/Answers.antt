@@ -1,4 +1,4 @@
-use Rattle.variable_words.proofs.Standing.{well_formed_placed, variables_apart, addresses_reach}
+use Rattle.variable_words.proofs.ElementsInWords.{well_formed_placed, variables_apart, addresses_reach}
 use Rattle.variable_words.proofs.laws.variables_stand.Goals as goal
 
 pub returns-clause-placed : goal.returns-clause-placed

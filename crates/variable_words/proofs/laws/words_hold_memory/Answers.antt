@@ -1,4 +1,4 @@
-use Rattle.variable_words.proofs.Beginning.{starts_hold, crashes_hold, images_hold}
+use Rattle.variable_words.proofs.InitialMemory.{starts_hold, crashes_hold, images_hold}
 use Rattle.variable_words.proofs.laws.words_hold_memory.Goals as goal
 
 pub returns-clause-start : goal.returns-clause-start

@@ -2,7 +2,7 @@ use Rattle.std.proofs.Common.{◌≡◌, ◌∙◌, ap, length, arith, List, rep
 use Rattle.std.proofs.lemmas.List.{take_all}
 use Rattle.c_tree.specs.Programs.{variable_of}
 use Rattle.c_tree.specs.declared.program.Variable.{Variable}
-use Rattle.flow_graph.specs.Actions.{walker_start}
+use Rattle.flow_graph.specs.Actions.{graph_thread_start}
 use Rattle.flow_graph.specs.declared.graph.Part.{Part}
 use Rattle.flow_machine.proofs.Runs.{starts}
 use Rattle.flow_machine.proofs.state.FlowState.start.Goals as goal
@@ -19,5 +19,5 @@ returns c =
     let none : Option ℕ = None in
     let zero : ℕ = 0 in
     starts _ flat variables (c.in_ok-holders.ensures ∙ ap (λ n. replicate n none) mutexes)
-    (c.loop-part.invariant.started ∙ ap (λ (ps : List Part). map walker_start ps) (take_all c.loop-part.part-index graph.threads.items all))
+    (c.loop-part.invariant.started ∙ ap (λ (ps : List Part). map graph_thread_start ps) (take_all c.loop-part.part-index graph.threads.items all))
     (c.in_ok-sections.ensures.items_if_clones_equal (λ y e. e) ∙ ap (λ n. replicate n zero) threads)

@@ -1,7 +1,7 @@
 -- The bounds follow from the range of the kind.
 use Rattle.std.proofs.Common.{arith}
 use Rattle.std.proofs.lemmas.Int.{ints}
-use Rattle.ido_ints.proofs.Reduced.{Holds-Bounded}
+use Rattle.ido_ints.proofs.ReductionLaws.{Holds-Bounded}
 use Rattle.ido_ints.proofs.values.Value.number.Goals as goal
 
 pub returns-clause-at_least : goal.returns-clause-at_least

@@ -4,7 +4,7 @@ use Rattle.rv64_isa.specs.Machine.{phase_after_crash, durable_point, numbers_fro
 use Rattle.hart_core.specs.declared.hart.Hart.{Hart}
 use Rattle.ido_machine.specs.Harts.{AreFresh}
 use Rattle.ido_machine.specs.Machines.{state_of}
-use Rattle.ido_machine.proofs.Steps.{crash_end}
+use Rattle.ido_machine.proofs.MachineEvents.{crash_end}
 use Rattle.ido_machine.proofs.machine.Machine.crash.Goals as goal
 
 pub returns-clause-world : goal.returns-clause-world

@@ -1,5 +1,5 @@
 use Rattle.ido_machine.specs.Machines.{state_of}
-use Rattle.ido_machine.proofs.Steps.{evict_end}
+use Rattle.ido_machine.proofs.MachineEvents.{evict_end}
 use Rattle.ido_machine.proofs.machine.Machine.evict.Goals as goal
 
 pub returns-clause-world : goal.returns-clause-world

@@ -1,19 +1,19 @@
 use Rattle.std.proofs.Common.{◌≡◌, ℕ, List, false, length, map, replicate, rules, refl, ap, subst, ◌∙◌}
 use Rattle.ido_base.specs.Words.{word_of}
 use Rattle.ido_base.specs.Layout.{initial_words}
-use Rattle.line_memory.specs.links.Stands.{Stands}
+use Rattle.line_memory.specs.links.MemoryRepresentation.{Represents}
 use Rattle.rv64_isa.specs.declared.object.Slot.{Slot}
 use Rattle.rv64_isa.specs.declared.phase.Phase.TheVariants.{Run}
 use Rattle.rv64_isa.specs.Machine.{start_of}
-use Rattle.ido_machine.specs.Machines.{State, StateStands}
-use Rattle.ido_machine.proofs.Starts.{start_stands}
+use Rattle.ido_machine.specs.Machines.{MachineState, RepresentsMachineState}
+use Rattle.ido_machine.proofs.Starts.{start_simulates}
 use Rattle.ido_machine.proofs.machine.Machine.start.Goals as goal
 
 pub returns-clause-stands : goal.returns-clause-stands
 returns-clause-stands c =
     let object = c.args.object.now in
     let program = c.in_ok-program.program in
-    let state : State =
+    let state : MachineState =
     record {
       phases = c.in_ok-phases.phases.items;
       harts = c.in_ok-harts.harts.items;
@@ -21,11 +21,11 @@ returns-clause-stands c =
       locks = c.in_ok-locks.locks;
       recovering = false;
     } in
-    let stands : Stands c.in_ok-memory.memory (map word_of (initial_words (length program) object.initial.items)) =
-    subst (λ (n : ℕ). Stands c.in_ok-memory.memory (map word_of (initial_words n object.initial.items))) c.threads.ensures.count
-    (subst (λ (bytes : List ℕ). Stands c.in_ok-memory.memory (map word_of (initial_words c.threads.result bytes))) c.deref.ensures.value
+    let stands : Represents c.in_ok-memory.memory (map word_of (initial_words (length program) object.initial.items)) =
+    subst (λ (n : ℕ). Represents c.in_ok-memory.memory (map word_of (initial_words n object.initial.items))) c.threads.ensures.count
+    (subst (λ (bytes : List ℕ). Represents c.in_ok-memory.memory (map word_of (initial_words c.threads.result bytes))) c.deref.ensures.value
     c.in_ok-memory.ensures.stands) in
     let runs : c.in_ok-phases.phases.items ≡ replicate c.threads-2.result Run = search rules in
     let phases : c.in_ok-phases.phases.items ≡ replicate (length program) Run = runs ∙ ap (λ (n : ℕ). replicate n Run) c.threads-2.ensures.count in
-    subst (λ (p : List (List Slot)). StateStands state (start_of p object.mutexes object.initial.items)) c.in_ok-program.ensures
-    (start_stands program object.mutexes object.initial.items state c.in_ok-harts.ensures phases stands c.in_ok-locks.ensures refl)
+    subst (λ (p : List (List Slot)). RepresentsMachineState state (start_of p object.mutexes object.initial.items)) c.in_ok-program.ensures
+    (start_simulates program object.mutexes object.initial.items state c.in_ok-harts.ensures phases stands c.in_ok-locks.ensures refl)

@@ -1,5 +1,5 @@
 use Rattle.std.proofs.Common.{rules, ◌∙◌, sym}
-use Rattle.lock_table.proofs.Missing.{halved, goes_on}
+use Rattle.lock_table.proofs.MissingLockSearch.{halved, goes_on}
 use Rattle.lock_table.proofs.table.LockTable.least_missing.Goals as goal
 
 pub loop-lock-preserved : goal.loop-lock-preserved

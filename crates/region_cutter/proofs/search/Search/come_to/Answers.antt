@@ -1,8 +1,8 @@
 use Rattle.std.proofs.Common.{◌≡◌, ℕ, ◌<◌, ◌≤◌, Bool, true, false, Some, List, length, get_or, set, refl, sym, subst, arith, rules}
 use Rattle.std.specs.Prelude.{slice_get}
 use Rattle.std.proofs.lemmas.Option.{slice_get_read}
-use Rattle.region_cutter.specs.links.Searching.{IsSeen, Follows}
-use Rattle.region_cutter.proofs.Searching.{follows_none, follows_new}
+use Rattle.region_cutter.specs.links.GraphSearch.{IsSeen, IsSearchStep}
+use Rattle.region_cutter.proofs.GraphSearchComplete.{follows_none, follows_new}
 use Rattle.region_cutter.proofs.search.Search.come_to.Goals as goal
 use Rattle.region_cutter.proofs.search.Search.come_to.Goals.{else-number-len-via-then-number-len+else-not-index, else-number-len-via-else-number-len}
 
@@ -18,7 +18,7 @@ returns-in_ok-push c =
     let number = c.args.number in
     let lt : number < length seen = search rules in
     let was : slice_get seen number ≡ Some false = found seen number c.index.result.now false lt c.index.ensures c.if-not-index.true in
-    subst (λ (w : List ℕ). Follows (λ n. number ≡ n) seen waiting (set seen number true) w) (sym c.in_ok-push.ensures.items)
+    subst (λ (w : List ℕ). IsSearchStep (λ n. number ≡ n) seen waiting (set seen number true) w) (sym c.in_ok-push.ensures.items)
     (follows_new seen waiting number was)
 
 pub returns-else-number-len : goal.returns-else-number-len

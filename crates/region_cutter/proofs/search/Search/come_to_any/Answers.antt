@@ -1,5 +1,5 @@
 use Rattle.std.proofs.Common.{◌≡◌, ◌↔◌, ℕ, Some, sym, ap, ◌∙◌}
-use Rattle.region_cutter.proofs.Searching.{follows_as}
+use Rattle.region_cutter.proofs.GraphSearchComplete.{follows_as}
 use Rattle.region_cutter.proofs.search.Search.come_to_any.Goals as goal
 
 same : (a b : ℕ) → (a ≡ b) ↔ (Some a ≡ Some b)

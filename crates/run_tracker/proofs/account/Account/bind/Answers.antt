@@ -1,7 +1,7 @@
 use Rattle.std.proofs.Common.{◌≡◌, ap, sym, ◌∙◌, refl}
 use Rattle.run_tracker.specs.declared.account.OpenSteps.{OpenSteps}
-use Rattle.run_tracker.specs.links.Accounts.{open_at, nothing_open}
-use Rattle.run_tracker.proofs.Updates.{found, bound-stands}
+use Rattle.run_tracker.specs.links.AccountRepresentation.{open_at, nothing_open}
+use Rattle.run_tracker.proofs.AccountUpdates.{found, bound-stands}
 use Rattle.run_tracker.proofs.account.Account.bind.Goals as goal
 
 pub returns-clause-stands : goal.returns-clause-stands

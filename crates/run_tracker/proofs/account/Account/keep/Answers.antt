@@ -2,10 +2,10 @@ use Rattle.std.proofs.Common.{◌≡◌, ◌≤◌, List, length, drop, sym, ap,
 use Rattle.rv64_isa.specs.Schedule.{durable_steps}
 use Rattle.run_tracker.specs.declared.account.OpenSteps.{OpenSteps}
 use Rattle.run_tracker.specs.declared.account.PointStore.{PointStore}
-use Rattle.run_tracker.specs.links.Accounts.{bound_in, open_at, nothing_open, total}
-use Rattle.run_tracker.proofs.Bounds.{later}
-use Rattle.run_tracker.proofs.Scans.{durable_few}
-use Rattle.run_tracker.proofs.Updates.{found, kept-stands}
+use Rattle.run_tracker.specs.links.AccountRepresentation.{bound_in, open_at, nothing_open, total}
+use Rattle.run_tracker.proofs.BoundSteps.{later}
+use Rattle.run_tracker.proofs.StoreScans.{durable_few}
+use Rattle.run_tracker.proofs.AccountUpdates.{found, kept-stands}
 use Rattle.run_tracker.proofs.account.Account.keep.Goals as goal
 
 pub push_steps-requires : goal.push_steps-requires

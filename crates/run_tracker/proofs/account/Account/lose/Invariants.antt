@@ -1,5 +1,5 @@
 use Rattle.std.proofs.Common.{◌≡◌, ℕ, ◌<◌, length}
-use Rattle.run_tracker.specs.links.Accounts.{open_at, nothing_open}
+use Rattle.run_tracker.specs.links.AccountRepresentation.{open_at, nothing_open}
 use Rattle.run_tracker.proofs.account.Account.lose.Given as goal
 
 abbrev pub invariant-loop-hart : goal.invariant-loop-hart

@@ -1,20 +1,20 @@
 use Rattle.std.proofs.Common.{◌≡◌, ℕ, zero, suc, ◌+◌, ◌≤◌, List, length, replicate, get_or, map, ap, sym, subst, ◌∙◌, refl, arith, rules}
 use Rattle.std.proofs.lemmas.List.{length-replicate}
 use Rattle.rv64_isa.specs.declared.object.Slot.{Slot}
-use Rattle.rv64_isa.specs.Frames.{IsSound}
+use Rattle.rv64_isa.specs.Frames.{IsWellFormedWorld}
 use Rattle.rv64_isa.specs.Programs.{program_of}
 use Rattle.rv64_isa.specs.Machine.{World}
 use Rattle.rv64_isa.specs.Schedule.{first_steps, no_steps}
 use Rattle.ido_base.specs.Cores.{point_stores, finished_fences}
-use Rattle.ido_machine.specs.Machines.{MachineStands, program_in}
+use Rattle.ido_machine.specs.Machines.{RepresentsMachine, program_in}
 use Rattle.run_tracker.specs.links.Journals.{Recorded}
-use Rattle.run_tracker.specs.links.Accounts.{AccountStands, AreOpen, AreOrdered, weight}
+use Rattle.run_tracker.specs.links.AccountRepresentation.{AccountInv, AreOpen, AreOrdered, weight}
 use Rattle.run_tracker.specs.links.SignTables.{AreTables}
-use Rattle.run_tracker.specs.Lives.{Course, life_at, world_of, steps_in, living, opening_of}
-use Rattle.run_tracker.specs.links.Insides.{course_of, opening_by, AreCounts}
+use Rattle.run_tracker.specs.ObjectLives.{Course, life_at, world_of, steps_in, living, opening_of}
+use Rattle.run_tracker.specs.links.LifeRepresentation.{course_of, opening_by, AreCounts}
 use Rattle.run_tracker.proofs.Events.{weightless}
-use Rattle.run_tracker.proofs.Opens.{open-none}
-use Rattle.run_tracker.proofs.Orders.{ordered-none}
+use Rattle.run_tracker.proofs.StepsStayOpen.{open-none}
+use Rattle.run_tracker.proofs.BoundStepOrder.{ordered-none}
 use Rattle.run_tracker.proofs.life.Life.begun.Goals as goal
 
 each_is : {X : Type 0} (count h : ℕ) (x : X) → get_or (replicate count x) h x ≡ x
@@ -48,21 +48,21 @@ invariant_of-result c =
     let program_is : program_in machine ≡ program_of object = c.requires.program in
     let count : c.harts-harts.result ≡ length (program_of object) = c.harts-harts.ensures ∙ ap length program_is in
     let none_yet : length journal.events ≡ 0 = ap (λ (j : Recorded). length j.events) c.in_ok-new-2.ensures in
-    let stands : AccountStands account (first_steps (length (program_of object)) before) =
-    subst (λ (n : ℕ). AccountStands account (first_steps n before)) count c.in_ok-new.ensures.stands in
+    let stands : AccountInv account (first_steps (length (program_of object)) before) =
+    subst (λ (n : ℕ). AccountInv account (first_steps n before)) count c.in_ok-new.ensures.stands in
     let same_before : length c.in_ok-to_vec-2.field-0.items ≡ length before = search rules in
     let same_bytes : c.in_ok-to_vec.field-0.items ≡ object.initial.items = search rules in
     let counts = c.in_ok-new-3.field-0 in
     let points = c.in_ok-new-3.ensures.points in
     let fences = c.in_ok-new-3.ensures.fences in
     record {
-      machine = subst (λ (x : Course). MachineStands machine (world_of x)) is c.requires.stands;
-      sound = subst (λ (x : Course). IsSound (world_of x)) is c.requires.sound;
+      machine = subst (λ (x : Course). RepresentsMachine machine (world_of x)) is c.requires.stands;
+      sound = subst (λ (x : Course). IsWellFormedWorld (world_of x)) is c.requires.sound;
       events = c.requires.events ∙ sym none_yet;
       tables =
           subst (λ (p : List (List Slot)). AreTables c.in_ok-tables_of.field-0.items p (map (λ a. a.items) c.in_ok-nodes_of.field-0.items)) (sym program_is)
           (subst (AreTables c.in_ok-tables_of.field-0.items (program_of object)) (sym c.in_ok-nodes_of.ensures) c.in_ok-tables_of.ensures);
-      account = subst (λ (x : Course). AccountStands account (steps_in x)) is stands;
+      account = subst (λ (x : Course). AccountInv account (steps_in x)) is stands;
       harts = sym stands.count ∙ length-replicate (length (program_of object)) no_steps ∙ ap length (sym program_is);
       ordered =
           subst (λ (x : Course). AreOrdered (world_of x).words (steps_in x)) is

@@ -1,8 +1,8 @@
 use Rattle.std.proofs.Common.{◌≡◌, ℕ, ◌+◌, ◌*◌, ◌/◌, ◌++◌, List, length, ap, subst, ◌∙◌, arith, rules}
 use Rattle.rv64_isa.specs.Machine.{World}
-use Rattle.run_tracker.specs.Lives.{Course, world_of, left_words}
-use Rattle.run_tracker.specs.links.Insides.{course_of}
-use Rattle.run_tracker.proofs.Durables.{durable_from, left_is}
+use Rattle.run_tracker.specs.ObjectLives.{Course, world_of, left_words}
+use Rattle.run_tracker.specs.links.LifeRepresentation.{course_of}
+use Rattle.run_tracker.proofs.DurableWords.{durable_from, left_is}
 use Rattle.run_tracker.proofs.life.Life.durable_words.Goals as goal
 
 pub returns : goal.returns

@@ -3,9 +3,9 @@ use Rattle.rv64_isa.specs.Machine.{IsValidEvent}
 use Rattle.ido_machine.specs.Machines.{program_in}
 use Rattle.run_tracker.specs.declared.signs.SignTable.{SignTable}
 use Rattle.run_tracker.specs.links.SignTables.{AreTables}
-use Rattle.run_tracker.specs.Lives.{Course, world_of, steps_in}
-use Rattle.run_tracker.specs.links.Insides.{course_of}
-use Rattle.run_tracker.proofs.Lasting.{has_counts, lasts}
+use Rattle.run_tracker.specs.ObjectLives.{Course, world_of, steps_in}
+use Rattle.run_tracker.specs.links.LifeRepresentation.{course_of}
+use Rattle.run_tracker.proofs.LifeAfterEvent.{has_counts, lasts}
 use Rattle.run_tracker.proofs.life.Life.event.Goals as goal
 
 pub make-requires-clause-counts : goal.make-requires-clause-counts

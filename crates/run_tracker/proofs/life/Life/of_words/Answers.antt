@@ -1,8 +1,8 @@
 use Rattle.std.proofs.Common.{ap, ◌∙◌, rules}
 use Rattle.std.proofs.lemmas.Result.{IfOk-weaker}
 use Rattle.rv64_isa.specs.Machine.{World}
-use Rattle.run_tracker.specs.Lives.{life_at}
-use Rattle.run_tracker.proofs.Openings.{opening_is, left_stands, left_sound}
+use Rattle.run_tracker.specs.ObjectLives.{life_at}
+use Rattle.run_tracker.proofs.LifeOpenings.{opening_is, left_stands, left_sound}
 use Rattle.run_tracker.proofs.life.Life.of_words.Goals as goal
 
 pub begun-requires-clause-stands : goal.begun-requires-clause-stands

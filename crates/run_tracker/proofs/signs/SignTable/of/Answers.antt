@@ -3,10 +3,10 @@ use Rattle.std.proofs.lemmas.List.{length-map, get_or-map, take_all}
 use Rattle.std.specs.List.{list_any}
 use Rattle.rv64_isa.specs.declared.object.Slot.{Slot}
 use Rattle.rv64_isa.specs.Programs.{slot_of}
-use Rattle.ido_machine.proofs.Lists.{get_map, get_some}
+use Rattle.ido_machine.proofs.Public.{get_map, get_some}
 use Rattle.run_tracker.specs.declared.signs.Sign.{Sign}
 use Rattle.run_tracker.specs.links.SignTables.{is_fence_slot, is_store_slot, is_word_at, no_sign, plain_sign, sign_in}
-use Rattle.run_tracker.proofs.Sights.{in_length}
+use Rattle.run_tracker.proofs.SignObservations.{in_length}
 use Rattle.run_tracker.proofs.signs.SignTable.of.Goals as goal
 
 get_found : {X : Type 0} (xs : List X) (k : ℕ) (x : X) → slice_get xs k ≡ Some x → get_or xs k x ≡ x

@@ -1,7 +1,7 @@
 use Rattle.std.proofs.Common.{arith}
 use Rattle.rv64_codegen.specs.links.Threads.{plan_in, thread_of}
-use Rattle.rv64_codegen.proofs.Known.{held_there, held_sets}
-use Rattle.rv64_codegen.proofs.Opened.{label_at}
+use Rattle.rv64_codegen.proofs.PlannedNodes.{held_there, held_sets}
+use Rattle.rv64_codegen.proofs.NodePieces.{label_at}
 use Rattle.rv64_codegen.proofs.thread.ThreadPlan.kept.Goals as goal
 
 pub overflow_cast-step : goal.overflow_cast-step

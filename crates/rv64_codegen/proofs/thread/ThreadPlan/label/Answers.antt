@@ -1,5 +1,5 @@
 use Rattle.std.proofs.Common.{arith}
-use Rattle.rv64_codegen.proofs.Opened.{label_at}
+use Rattle.rv64_codegen.proofs.NodePieces.{label_at}
 use Rattle.rv64_codegen.proofs.thread.ThreadPlan.label.Goals as goal
 
 pub overflow_cast-result : goal.overflow_cast-result

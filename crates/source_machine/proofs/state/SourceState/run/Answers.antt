@@ -2,7 +2,7 @@ use Rattle.std.proofs.Common.{◌∙◌, ◌+◌, take, drop, get_or, arith}
 use Rattle.std.proofs.lemmas.List.{length-take-le}
 use Rattle.c_tree.specs.Source.{after_from, ended_from}
 use Rattle.source_machine.specs.declared.answers.RefusedKind.TheVariants as kind
-use Rattle.source_machine.proofs.Running.{did_more, unknown, waits_stuck, ended_stuck, ran_all, ran_refused, ran_stuck, split_at, one_more, whole}
+use Rattle.source_machine.proofs.StateRuns.{did_more, unknown, waits_stuck, ended_stuck, ran_all, ran_refused, ran_stuck, split_at, one_more, whole}
 use Rattle.source_machine.proofs.state.SourceState.run.Goals as goal
 
 pub returns-then-thread-len-clause-ran : goal.returns-then-thread-len-clause-ran

@@ -1,11 +1,11 @@
 use Rattle.std.proofs.Common.{◌≡◌, ℕ, take}
 use Rattle.c_tree.specs.Source.{State}
-use Rattle.source_machine.specs.links.States.{Stands, threads_in}
-use Rattle.source_machine.proofs.Running.{Going}
+use Rattle.source_machine.specs.links.States.{RepresentsState, threads_in}
+use Rattle.source_machine.proofs.StateRuns.{Going}
 use Rattle.source_machine.proofs.state.SourceState.run.Given as goal
 
 abbrev pub invariant-loop-i : goal.invariant-loop-i
 invariant-loop-i l = record {
-  going : (s : State) (ended : ℕ → ℕ) → Stands l.fn.self s ended → Going l.self s ended (take l.i l.schedule);
+  going : (s : State) (ended : ℕ → ℕ) → RepresentsState l.fn.self s ended → Going l.self s ended (take l.i l.schedule);
   threads : threads_in l.self ≡ threads_in l.fn.self;
 }

@@ -4,7 +4,7 @@ use Rattle.std.proofs.lemmas.List.{length-append}
 use Rattle.c_tree.specs.Programs.{variable_of}
 use Rattle.c_tree.specs.declared.program.Variable.{Variable}
 use Rattle.c_tree.specs.declared.flat.Thread.{Thread}
-use Rattle.source_machine.proofs.Starting.{one_started, starts}
+use Rattle.source_machine.proofs.StartStates.{one_started, starts}
 use Rattle.source_machine.proofs.state.SourceState.start.Goals as goal
 
 pub invariant_of-result : goal.invariant_of-result

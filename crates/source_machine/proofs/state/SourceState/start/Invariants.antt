@@ -1,5 +1,5 @@
 use Rattle.std.proofs.Common.{◌≡◌, length}
-use Rattle.source_machine.proofs.Starting.{AreStarted}
+use Rattle.source_machine.proofs.StartStates.{AreStarted}
 use Rattle.source_machine.proofs.state.SourceState.start.Given as goal
 
 abbrev pub invariant-loop-thread : goal.invariant-loop-thread

@@ -3,9 +3,9 @@ use Rattle.std.specs.Vec.{with_items}
 use Rattle.std.proofs.lemmas.List.{with_items_is}
 use Rattle.std.proofs.lemmas.Option.{slice_get_read}
 use Rattle.source_machine.specs.Sections.{AreCounted}
-use Rattle.source_machine.specs.links.Ends.{ends}
+use Rattle.source_machine.specs.links.SectionEnds.{ends}
 use Rattle.source_machine.specs.links.Threads.{IsMade, hand}
-use Rattle.source_machine.proofs.Running.{after_step}
+use Rattle.source_machine.proofs.StateRuns.{after_step}
 use Rattle.source_machine.proofs.state.SourceState.step.Goals as goal
 
 pub returns-clause-after : goal.returns-clause-after

@@ -7,14 +7,14 @@ use Rattle.c_tree.specs.Source as m
 use Rattle.c_tree.specs.Exprs.{expr_of, lvalue_of}
 use Rattle.c_tree.specs.Values.{value}
 use Rattle.ido_ints.specs.Operators.{is_zero}
-use Rattle.ido_ints.specs.Typed.{Typed}
+use Rattle.ido_ints.specs.TypedNumbers.{Typed}
 use Rattle.source_machine.specs.declared.answers.Stepped.TheVariants.{Did, Waits}
 use Rattle.source_machine.specs.declared.thread.ThreadState.{ThreadState}
 use Rattle.source_machine.specs.Assignments.{Evaluates, assigning, pending_of, thread_with}
-use Rattle.source_machine.specs.links.Ends.{ends}
+use Rattle.source_machine.specs.links.SectionEnds.{ends}
 use Rattle.source_machine.specs.links.Threads.{IsMade, hand, model_of, state_in}
-use Rattle.source_machine.proofs.Ends.{ends_taken, counted_same}
-use Rattle.source_machine.proofs.Steps.{node_read, end_over, end_made, never_made, unlock_made, lock_made, lock_waits, fails_made, holds_made, assign_made}
+use Rattle.source_machine.proofs.SectionEndCases.{ends_taken, counted_same}
+use Rattle.source_machine.proofs.NodeSteps.{node_read, end_over, end_made, never_made, unlock_made, lock_made, lock_waits, fails_made, holds_made, assign_made}
 use Rattle.source_machine.proofs.thread.ThreadState.step.Goals as goal
 use Rattle.source_machine.proofs.thread.ThreadState.step.Goals.{then-is_zero, else-is_zero}
 

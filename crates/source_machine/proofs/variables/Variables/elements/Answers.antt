@@ -1,6 +1,6 @@
 use Rattle.std.proofs.Common.{sym, ◌∙◌, length}
 use Rattle.std.proofs.Common.{zero-add}
-use Rattle.source_machine.proofs.Parts.{joined}
+use Rattle.source_machine.proofs.ConsecutiveLists.{joined}
 use Rattle.source_machine.proofs.variables.Variables.elements.Goals as goal
 
 pub returns : goal.returns

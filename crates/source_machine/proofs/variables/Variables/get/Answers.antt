@@ -3,7 +3,7 @@ use Rattle.std.specs.Int.{w128}
 use Rattle.std.specs.Prelude.{pos, unwrap_or}
 use Rattle.std.proofs.lemmas.Int.{ints, to_z-of_z}
 use Rattle.source_machine.specs.links.Spans.{place_in}
-use Rattle.source_machine.proofs.Parts.{get_read, unread}
+use Rattle.source_machine.proofs.ConsecutiveLists.{get_read, unread}
 use Rattle.source_machine.proofs.variables.Variables.get.Goals as goal
 
 pub returns-in-Some : goal.returns-in-Some

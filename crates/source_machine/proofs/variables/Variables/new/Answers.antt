@@ -1,6 +1,6 @@
 use Rattle.std.proofs.Common.{◌≡◌, arith, length}
 use Rattle.c_tree.specs.declared.program.Variable.{Variable}
-use Rattle.source_machine.proofs.Parts.{map_more, grown}
+use Rattle.source_machine.proofs.ConsecutiveLists.{map_more, grown}
 use Rattle.source_machine.proofs.variables.Variables.new.Goals as goal
 
 pub loop-variable-preserved : goal.loop-variable-preserved

@@ -2,7 +2,7 @@ use Rattle.std.proofs.Common.{◌∙◌, arith, FitsSigned, sym, ap}
 use Rattle.std.specs.Int.{w128}
 use Rattle.std.proofs.lemmas.Int.{ints, to_z-of_z}
 use Rattle.source_machine.specs.links.Spans.{place_in}
-use Rattle.source_machine.proofs.Parts.{set_read, unwritten}
+use Rattle.source_machine.proofs.ConsecutiveLists.{set_read, unwritten}
 use Rattle.source_machine.proofs.variables.Variables.set.Goals as goal
 
 pub returns-in-Some : goal.returns-in-Some

@@ -1,0 +1,146 @@
+-- What a step evaluates, and what stops a thread, in a state of a well formed flat form.
+use Rattle.std.proofs.Common.{◌≡◌, refl, sym, ◌∙◌, subst, ◌⊎◌, inl, inr, ℕ, ◌<◌, List, [], ◌∷◌, ◌++◌, length, Bool, true, false, Option, Some, None, arith}
+use Rattle.std.specs.Prelude.{ℤ, slice_get, if◌then◌else◌}
+use Rattle.std.specs.List.{AllByRecursion, AllZip}
+use Rattle.std.proofs.lemmas.Option.{none-some, slice_get-get_or}
+use Rattle.ido_base.specs.declared.place.Place.{Place}
+use Rattle.ido_ints.specs.declared.kinds.Kind.{Kind}
+use Rattle.ido_ints.specs.Kinds.{Holds}
+use Rattle.c_tree.specs.Exprs as e
+use Rattle.c_tree.specs.Flats as f
+use Rattle.c_tree.specs.Ranges.{expr_indexes}
+use Rattle.c_tree.specs.Source as m
+use Rattle.c_tree.specs.Source.{source_step}
+use Rattle.c_tree.specs.WellFormed.{IsExpr, Fits, IsFlatPlaced, IsFlatStatement}
+use Rattle.c_ranges.specs.Laws.{IsForeseen}
+use Rattle.c_ranges.specs.RunInvariants.{AreNumbersOf, IsStatementLeft, IsThreadOf, IsStateOf, IsElement}
+use Rattle.c_ranges.specs.RunInvariants.{IsNext, IsOver, IsAtHeldLock, step_exprs, step_indexes}
+use Rattle.c_ranges.proofs.ValuesInRanges.{foreseen, fits_element}
+use Rattle.c_ranges.proofs.HeldNumberLists.{Pair, zip_found, all_append, all_held}
+use Rattle.c_ranges.proofs.RunsKeepInvariants.{step_is}
+
+-- ---- What is evaluated
+
+module _ (x : f.Flat) (ks : List Kind) (ls : List ℤ) (ns : List (List ℤ)) (locals : AllZip Holds ks ls) (variables : AllZip AreNumbersOf x.variables ns) where
+  seen : (z : e.Placed) → IsFlatPlaced x ks z → IsForeseen ls ns z.expr
+  seen z h = foreseen ls ns z.expr (all_held x.variables ks ls ns locals variables z.expr h.0)
+
+  all_seen : (y : f.Statement) → IsFlatStatement x ks y → AllByRecursion (λ (z : e.Placed). IsForeseen ls ns z.expr) (step_exprs y)
+  all_seen (f.Assign place (e.ToLocal local kind) value) h = (seen value h.1, tt)
+  all_seen (f.Assign place (e.ToVariable at variable kind) value) h = (seen value h.1, tt)
+  all_seen (f.Assign place (e.ToElement at variable kind index) value) h = (seen index (h.0.0.1, h.0.1.1), (seen value h.1, tt))
+  all_seen (f.If place f.no_arm otherwise) h = tt
+  all_seen (f.If place (f.arm_and condition body arms) otherwise) h = (seen condition h.1.0, tt)
+  all_seen (f.While place condition body) h = (seen condition h.0, tt)
+  all_seen (f.Do place body condition) h = tt
+  all_seen (f.Lock place mutex) h = tt
+  all_seen (f.Unlock place mutex) h = tt
+
+  elements : (z : e.Expr) → IsExpr x.variables ks z → Fits x.variables z → AllByRecursion (IsElement x.variables ls ns) (expr_indexes z)
+  elements (e.Constant value) h g = tt
+  elements (e.Local local kind) h g = tt
+  elements (e.Variable place variable kind) h g = tt
+  elements (e.Element place variable kind index_place index) h g = (
+    fits_element x.variables (record { variable = variable; place = index_place; expr = index }) g.0 ls ns
+        (all_held x.variables ks ls ns locals variables index h.1),
+    elements index h.1 g.1,
+  )
+  elements (e.Unary op operand) h g = elements operand h g
+  elements (e.Cast kind operand) h g = elements operand h g
+  elements (e.Converted kind operand) h g = elements operand h g
+  elements (e.Binary op left right) h g = all_append (IsElement x.variables ls ns) (expr_indexes left) (expr_indexes right) (elements left h.0 g.0)
+      (elements right h.1 g.1)
+  elements (e.Conditional kind condition chosen otherwise) h g =
+      all_append (IsElement x.variables ls ns) (expr_indexes condition ++ expr_indexes chosen) (expr_indexes otherwise)
+      (all_append (IsElement x.variables ls ns) (expr_indexes condition) (expr_indexes chosen) (elements condition h.0 g.0) (elements chosen h.1 g.1))
+      (elements otherwise h.2 g.2)
+
+  all_elements : (y : f.Statement) → IsFlatStatement x ks y → AllByRecursion (IsElement x.variables ls ns) (step_indexes y)
+  all_elements (f.Assign place (e.ToLocal local kind) value) h = elements value.expr h.1.0 h.1.1
+  all_elements (f.Assign place (e.ToVariable at variable kind) value) h = elements value.expr h.1.0 h.1.1
+  all_elements (f.Assign place (e.ToElement at variable kind index) value) h = (
+    fits_element x.variables (record { variable = variable; place = index.place; expr = index.expr }) h.0.1.0 ls ns
+        (all_held x.variables ks ls ns locals variables index.expr h.0.0.1),
+    all_append (IsElement x.variables ls ns) (expr_indexes index.expr) (expr_indexes value.expr) (elements index.expr h.0.0.1 h.0.1.1)
+        (elements value.expr h.1.0 h.1.1),
+  )
+  all_elements (f.If place f.no_arm otherwise) h = tt
+  all_elements (f.If place (f.arm_and condition body arms) otherwise) h = elements condition.expr h.1.0.0 h.1.0.1
+  all_elements (f.While place condition body) h = elements condition.expr h.0.0 h.0.1
+  all_elements (f.Do place body condition) h = tt
+  all_elements (f.Lock place mutex) h = tt
+  all_elements (f.Unlock place mutex) h = tt
+
+module _ (x : f.Flat) (s : m.State) (t : ℕ) (it : m.Thread) (is : IsStateOf x s) where
+  abbrev Own : Type 0
+  Own = Pair (λ (u : f.Thread) (own : m.Thread). IsThreadOf x u.locals own) x.threads t it
+
+  own_of : slice_get s.threads t ≡ Some it → Own
+  own_of found = zip_found (λ (u : f.Thread) (own : m.Thread). IsThreadOf x u.locals own) x.threads s.threads t it is.threads found
+
+  -- the next statement is well formed
+  next_of : (y : f.Statement) (rest : List f.Statement) (own : Own) → it.left ≡ y ∷ rest → AllByRecursion (IsStatementLeft x own.it.locals) (y ∷ rest)
+  next_of y rest own first = subst (AllByRecursion (IsStatementLeft x own.it.locals)) first own.related.left
+
+  pub values_foreseen : (y : f.Statement) (rest : List f.Statement) → IsNext s t it y rest →
+      AllByRecursion (λ (z : e.Placed). IsForeseen it.locals s.variables z.expr) (step_exprs y)
+  values_foreseen y rest n =
+      let own = own_of n.found in
+      let kept = next_of y rest own n.first in
+      all_seen x own.it.locals it.locals s.variables own.related.locals is.variables y kept.0.1
+
+  pub indexes_in_range : (y : f.Statement) (rest : List f.Statement) → IsNext s t it y rest →
+      AllByRecursion (IsElement x.variables it.locals s.variables) (step_indexes y)
+  indexes_in_range y rest n =
+      let own = own_of n.found in
+      let kept = next_of y rest own n.first in
+      all_elements x own.it.locals it.locals s.variables own.related.locals is.variables y kept.0.1
+
+  -- ---- What stops the thread
+
+  abbrev Stops : Type 0
+  Stops = IsOver it ⊎ ((mutex : ℕ) × IsAtHeldLock s t it mutex)
+
+  module _ (found : slice_get s.threads t ≡ Some it) (idle : it.pending ≡ None) where
+    at_end : (b : Bool) → it.ended ≡ b → it.left ≡ [] →
+        (let o : Option m.State = if b then None else Some (m.with_thread s t (record it { ended = true })) in o ≡ None) → Stops
+    at_end true e done h = inl (record { idle = idle; done = done; ended = e })
+    at_end false e done h = absurd (none-some _ (sym h))
+
+    at_lock : (place : Place) (mutex : ℕ) (rest : List f.Statement) (o : Option (Option ℕ)) → slice_get s.holders mutex ≡ o →
+        it.left ≡ f.Lock place mutex ∷ rest → mutex < length x.mutexes → m.statement_step s t it (f.Lock place mutex) rest ≡ None → Stops
+    at_lock place mutex rest None e first below h = let there = slice_get-get_or s.holders mutex None (omega (arith, below, is.holders)) in absurd
+        (none-some _ (sym e ∙ there))
+    at_lock place mutex rest (Some None) e first below h =
+        let yes : m.statement_step s t it (f.Lock place mutex) rest ≡ Some
+        (m.with_thread (m.with_holder s mutex (Some t)) t (record it { left = rest })) = rw (m.statement_step, e) refl in
+        absurd (none-some _ (sym h ∙ yes))
+    at_lock place mutex rest (Some (Some u)) e first below h = inr
+        (mutex, record { place = place; rest = rest; next = record { found = found; idle = idle; first = first }; holder = u; held = e })
+
+    at_statement : (own : Own) (y : f.Statement) (rest : List f.Statement) → it.left ≡ y ∷ rest → AllByRecursion (IsStatementLeft x own.it.locals) (y ∷ rest) →
+        m.statement_step s t it y rest ≡ None → Stops
+    at_statement own (f.Assign place target value) rest first k h = absurd (none-some _ (sym h))
+    at_statement own (f.If place f.no_arm otherwise) rest first k h = absurd k.0.1.0
+    at_statement own (f.If place (f.arm_and condition body arms) otherwise) rest first k h = absurd (none-some _ (sym h))
+    at_statement own (f.While place condition body) rest first k h = absurd (none-some _ (sym h))
+    at_statement own (f.Do place body condition) rest first k h = absurd k.0.0
+    at_statement own (f.Lock place mutex) rest first k h = at_lock place mutex rest (slice_get s.holders mutex) refl first k.0.1 h
+    at_statement own (f.Unlock place mutex) rest first k h = absurd (none-some _ (sym h))
+
+    at_left : (own : Own) (left : List f.Statement) → it.left ≡ left → m.left_step s t it left ≡ None → Stops
+    at_left own [] first h = at_end it.ended refl first h
+    at_left own (y ∷ rest) first h = at_statement own y rest first (next_of y rest own first) h
+
+  abbrev pending_by : Option m.Pending → Option m.State
+  pending_by o = elim o [
+    | Some q ↦ Some (m.with_thread (m.stored s q) t (record it { pending = None }))
+    | None ↦ m.left_step s t it it.left
+  ]
+
+  at_pending : slice_get s.threads t ≡ Some it → (o : Option m.Pending) → it.pending ≡ o → pending_by o ≡ None → Stops
+  at_pending found None e h = at_left found e (own_of found) it.left refl h
+  at_pending found (Some q) e h = absurd (none-some _ (sym h))
+
+  pub stops : slice_get s.threads t ≡ Some it → source_step s t ≡ None → Stops
+  stops found h = at_pending found it.pending refl (sym (step_is s t (Some it) found) ∙ h)

@@ -1,0 +1,117 @@
+-- What every run of a well formed flat form keeps: numbers of their kinds, elements that are there, and what stops a thread.
+use Rattle.std.specs.Prelude.{◌≡◌, ◌⊎◌, ℕ, ◌<◌, List, [], ◌∷◌, ◌++◌, length, slice_get, Some, None, true, ℤ, pos, ◌≤ℤ◌}
+use Rattle.std.specs.List.{AllByRecursion, AllZip}
+use Rattle.ido_base.specs.declared.place.Place.{Place}
+use Rattle.ido_ints.specs.declared.kinds.Kind.{Kind}
+use Rattle.ido_ints.specs.Kinds.{Holds}
+use Rattle.c_tree.specs.Exprs as e
+use Rattle.c_tree.specs.Programs.{Variable}
+use Rattle.c_tree.specs.Flats as f
+use Rattle.c_tree.specs.Ranges.{Index, elements_of, target_indexes, placed_indexes}
+use Rattle.c_tree.specs.Source as m
+use Rattle.c_tree.specs.Source.{State, source_step, start, after_from}
+use Rattle.c_tree.specs.Temporaries.{assign_exprs}
+use Rattle.c_tree.specs.Values.{value, element_at}
+use Rattle.c_tree.specs.WellFormed.{elements_in, IsFlatStatement, IsWellFormed}
+use Rattle.c_ranges.specs.Laws.{IsForeseen}
+
+-- ---- States
+
+-- a number for each element of the variable, of its kind
+pub record AreNumbersOf (v : Variable) (numbers : List ℤ) : Type 0 where
+  pub count : length numbers ≡ elements_in v.length
+  pub held : AllByRecursion (Holds v.kind) numbers
+
+-- an element that is there, and a number of its kind
+pub record IsStoreInRange (vs : List Variable) (q : m.Pending) : Type 0 where
+  pub it : Variable
+  pub found : slice_get vs q.variable ≡ Some it
+  pub element : q.element < elements_in it.length
+  pub held : Holds it.kind q.number
+
+-- no `do`: it was opened
+abbrev pub IsOpened : f.Statement → Type 0
+IsOpened (f.Do place body condition) = ⊥
+IsOpened _ = Unit {0}
+
+abbrev pub IsStatementLeft : f.Flat → List Kind → f.Statement → Type 0
+IsStatementLeft x ks y = IsOpened y × IsFlatStatement x ks y
+
+-- a thread whose locals are of these kinds
+pub record IsThreadOf (x : f.Flat) (ks : List Kind) (thread : m.Thread) : Type 0 where
+  pub left : AllByRecursion (IsStatementLeft x ks) thread.left
+  pub locals : AllZip Holds ks thread.locals
+  pub pending : (q : m.Pending) → thread.pending ≡ Some q → IsStoreInRange x.variables q
+
+-- a state of the flat form: every number is of its kind, and what is left to do is well formed
+pub record IsStateOf (x : f.Flat) (s : State) : Type 0 where
+  pub variables : AllZip AreNumbersOf x.variables s.variables
+  pub holders : length s.holders ≡ length x.mutexes
+  pub threads : AllZip (λ (t : f.Thread) (thread : m.Thread). IsThreadOf x t.locals thread) x.threads s.threads
+
+-- a run of a well formed form begins with one, and each step keeps it
+abbrev pub BeginsSo : Type 0
+BeginsSo = (x : f.Flat) → IsWellFormed x → IsStateOf x (start x)
+
+abbrev pub StaysSo : Type 0
+StaysSo = (x : f.Flat) (s next : State) (thread : ℕ) → IsStateOf x s → source_step s thread ≡ Some next → IsStateOf x next
+
+abbrev pub IsSoInEveryRun : Type 0
+IsSoInEveryRun = (x : f.Flat) (schedule : List ℕ) → IsWellFormed x → IsStateOf x (after_from (start x) schedule)
+
+-- ---- What a step evaluates
+
+-- the expressions of the statement's own step
+abbrev pub step_exprs : f.Statement → List e.Placed
+step_exprs (f.Assign place target x) = assign_exprs target x
+step_exprs (f.If place (f.arm_and condition body arms) otherwise) = condition ∷ []
+step_exprs (f.While place condition body) = condition ∷ []
+step_exprs _ = []
+
+-- the indexes of the statement's own step: those of its expressions, and that of its target
+abbrev pub step_indexes : f.Statement → List Index
+step_indexes (f.Assign place target x) = target_indexes target ++ placed_indexes x
+step_indexes (f.If place (f.arm_and condition body arms) otherwise) = placed_indexes condition
+step_indexes (f.While place condition body) = placed_indexes condition
+step_indexes _ = []
+
+-- the index's value is the number of an element
+pub record IsElement (vs : List Variable) (ls : List ℤ) (ns : List (List ℤ)) (i : Index) : Type 0 where
+  pub from_zero : pos 0 ≤ℤ (value ls ns i.expr).number
+  pub below : element_at (value ls ns i.expr) < elements_of vs i.variable
+
+-- the statement is the next that the thread does
+pub record IsNext (s : State) (thread : ℕ) (it : m.Thread) (y : f.Statement) (rest : List f.Statement) : Type 0 where
+  pub found : slice_get s.threads thread ≡ Some it
+  pub idle : it.pending ≡ None
+  pub first : it.left ≡ y ∷ rest
+
+-- every value that a step evaluates lies in its range and is of its kind
+abbrev pub ValuesForeseen : Type 0
+ValuesForeseen = (x : f.Flat) (s : State) (thread : ℕ) (it : m.Thread) (y : f.Statement) (rest : List f.Statement) → IsStateOf x s → IsNext s thread it y rest →
+    AllByRecursion (λ (z : e.Placed). IsForeseen it.locals s.variables z.expr) (step_exprs y)
+
+-- every index that a step evaluates names an element
+abbrev pub IndexesInRange : Type 0
+IndexesInRange = (x : f.Flat) (s : State) (thread : ℕ) (it : m.Thread) (y : f.Statement) (rest : List f.Statement) → IsStateOf x s → IsNext s thread it y rest →
+    AllByRecursion (IsElement x.variables it.locals s.variables) (step_indexes y)
+
+-- ---- A thread that has no step
+
+-- the thread's last step is done
+pub record IsOver (it : m.Thread) : Type 0 where
+  pub idle : it.pending ≡ None
+  pub done : it.left ≡ []
+  pub ended : it.ended ≡ true
+
+-- the thread stands at the lock of a mutex that a thread holds
+pub record IsAtHeldLock (s : State) (thread : ℕ) (it : m.Thread) (mutex : ℕ) : Type 0 where
+  pub place : Place
+  pub rest : List f.Statement
+  pub next : IsNext s thread it (f.Lock place mutex) rest
+  pub holder : ℕ
+  pub held : slice_get s.holders mutex ≡ Some (Some holder)
+
+abbrev pub StopsForReason : Type 0
+StopsForReason = (x : f.Flat) (s : State) (thread : ℕ) (it : m.Thread) → IsStateOf x s → slice_get s.threads thread ≡ Some it → source_step s thread ≡ None →
+    IsOver it ⊎ ((mutex : ℕ) × IsAtHeldLock s thread it mutex)

@@ -1,0 +1,4 @@
+-- What crates above may use of this crate's proofs, passed on from one place. Declares nothing.
+pub use Rattle.c_tree.proofs.FlatRows.{of_do as flat_rows_of_do, of_if as flat_rows_of_if, of_while as flat_rows_of_while}
+pub use Rattle.c_tree.proofs.ProgramRows.{of_do as program_rows_of_do, of_if as program_rows_of_if, of_while as program_rows_of_while}
+pub use Rattle.c_tree.proofs.TreeRows.{of_block, of_do as tree_rows_of_do, of_for, of_if as tree_rows_of_if, of_while as tree_rows_of_while}

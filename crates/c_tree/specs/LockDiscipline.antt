@@ -1,0 +1,190 @@
+-- The lock discipline: which mutexes a thread holds where, and the first place that breaks it.
+use Rattle.std.specs.Prelude.{◌≡◌, ℕ, zero, suc, List, [], ◌∷◌, ◌++◌, length, replicate, slice_index_or, slice_get}
+use Rattle.std.specs.Prelude.{slice_set, Option, Some, None, Bool, true, false, not, find, ◌&&◌, if◌then◌else◌}
+use Rattle.std.specs.List.{list_any, list_all}
+use Rattle.ido_base.specs.declared.place.Place.{Place}
+use Rattle.c_tree.specs.declared.rule.Rule as r
+use Rattle.c_tree.specs.declared.rule.Rule.TheVariants as rule
+use Rattle.c_tree.specs.Exprs as e
+use Rattle.c_tree.specs.Programs.{Variable}
+use Rattle.c_tree.specs.Flats as f
+
+-- 0 up to a number, without it
+abbrev pub numbers_below : ℕ → List ℕ
+numbers_below zero = []
+numbers_below (suc n) = numbers_below n ++ n ∷ []
+
+-- of each mutex whether it is held
+abbrev pub Held : Type 0
+Held = List Bool
+
+abbrev pub holds : Held → (mutex : ℕ) → Bool
+holds h mutex = slice_index_or h mutex false
+
+abbrev pub none_held : (mutexes : ℕ) → Held
+none_held mutexes = replicate mutexes false
+
+-- ---- What a step reads and writes
+
+-- a variable, where its name stands
+pub record Use : Type 0 where
+  pub variable : ℕ
+  pub place : Place
+
+-- the uses of an expression, from left to right
+abbrev pub expr_uses : e.Expr → List Use
+expr_uses (e.Constant value) = []
+expr_uses (e.Local local kind) = []
+expr_uses (e.Variable place variable kind) = record { variable = variable; place = place } ∷ []
+expr_uses (e.Element place variable kind index_place index) = record { variable = variable; place = place } ∷ expr_uses index
+expr_uses (e.Unary operator operand) = expr_uses operand
+expr_uses (e.Cast kind operand) = expr_uses operand
+expr_uses (e.Converted kind operand) = expr_uses operand
+expr_uses (e.Binary operator left right) = expr_uses left ++ expr_uses right
+expr_uses (e.Conditional kind condition chosen otherwise) = expr_uses condition ++ expr_uses chosen ++ expr_uses otherwise
+
+abbrev pub target_uses : e.Lvalue → List Use
+target_uses (e.ToLocal local kind) = []
+target_uses (e.ToVariable place variable kind) = record { variable = variable; place = place } ∷ []
+target_uses (e.ToElement place variable kind index) = record { variable = variable; place = place } ∷ expr_uses index.expr
+
+-- the value before the target
+abbrev pub assign_uses : e.Lvalue → (value : e.Placed) → List Use
+assign_uses target value = expr_uses value.expr ++ target_uses target
+
+abbrev pub guard_of : List Variable → (variable : ℕ) → ℕ
+guard_of vs variable = elim (slice_get vs variable) [
+  | Some x ↦ x.guard
+  | None ↦ 0
+]
+
+abbrev pub is_guarded : List Variable → Held → Use → Bool
+is_guarded vs h u = holds h (guard_of vs u.variable)
+
+-- every use is of a variable whose mutex is held
+abbrev pub AreGuarded : List Variable → Held → List Use → Type 0
+AreGuarded vs h us = find (λ u. not (is_guarded vs h u)) us ≡ None
+
+-- ---- Before, statement, after
+
+-- from the one set, the part keeps the discipline and leaves the other
+module _ (vs : List Variable) where
+  mutual
+    pub data Keeps : Held → f.Statement → Held → Type 0 where
+      assign : {h : Held} (place : Place) (target : e.Lvalue) (value : e.Placed) → AreGuarded vs h (assign_uses target value)
+          → Keeps h (f.Assign place target value) h
+      choose : {h after : Held} (place : Place) (arms : f.Arms) (otherwise : f.Statements) → KeepArms h arms after → KeepAll h otherwise after
+          → Keeps h (f.If place arms otherwise) after
+      repeat : {h : Held} (place : Place) (condition : e.Placed) (body : f.Statements) → AreGuarded vs h (expr_uses condition.expr) → KeepAll h body h
+          → Keeps h (f.While place condition body) h
+      again : {h : Held} (place : Place) (body : f.Statements) (condition : e.Placed) → KeepAll h body h → AreGuarded vs h (expr_uses condition.expr)
+          → Keeps h (f.Do place body condition) h
+      lock : {h : Held} (place : Place) (mutex : ℕ) → holds h mutex ≡ false → Keeps h (f.Lock place mutex) (slice_set h mutex true)
+      unlock : {h : Held} (place : Place) (mutex : ℕ) → holds h mutex ≡ true → Keeps h (f.Unlock place mutex) (slice_set h mutex false)
+
+    pub data KeepAll : Held → f.Statements → Held → Type 0 where
+      no_more : {h : Held} → KeepAll h f.no_statement h
+      then : {h between after : Held} (x : f.Statement) (rest : f.Statements) → Keeps h x between → KeepAll between rest after
+          → KeepAll h (f.statement_and x rest) after
+
+    -- each condition is tested with the set before, and each arm leaves the same set
+    pub data KeepArms : Held → f.Arms → Held → Type 0 where
+      no_more_arms : {h after : Held} → KeepArms h f.no_arm after
+      arm : {h after : Held} (condition : e.Placed) (body : f.Statements) (rest : f.Arms) → AreGuarded vs h (expr_uses condition.expr) → KeepAll h body after
+          → KeepArms h rest after → KeepArms h (f.arm_and condition body rest) after
+
+-- a thread begins and ends with no mutex held
+abbrev pub IsDisciplined : f.Flat → f.Thread → Type 0
+IsDisciplined x t = KeepAll x.variables (none_held (length x.mutexes)) t.body (none_held (length x.mutexes))
+
+-- ---- The first place that breaks it, walking through a thread
+
+-- a rule, a place and a mutex
+pub record Fault : Type 0 where
+  pub rule : r.Rule
+  pub place : Place
+  pub mutex : ℕ
+
+-- the set after a part, or the first fault in it
+pub data Walked : Type 0 where
+  After : Held → Walked
+  Broken : Fault → Walked
+
+abbrev pub and_then : Walked → (Held → Walked) → Walked
+and_then (After h) next = next h
+and_then (Broken x) next = Broken x
+
+-- the least mutex that is in some of the sets and not in all
+abbrev pub is_in_some : List Held → (mutex : ℕ) → Bool
+is_in_some hs m = list_any (λ h. holds h m) hs
+
+abbrev pub is_in_all : List Held → (mutex : ℕ) → Bool
+is_in_all hs m = list_all (λ h. holds h m) hs
+
+abbrev pub least_difference : (mutexes : ℕ) → List Held → Option ℕ
+least_difference mutexes hs = find (λ m. is_in_some hs m && not (is_in_all hs m)) (numbers_below mutexes)
+
+module _ (vs : List Variable) (mutexes : ℕ) where
+  abbrev pub broken : r.Rule → Place → (mutex : ℕ) → Walked
+  broken found place mutex = Broken (record { rule = found; place = place; mutex = mutex })
+
+  -- the first use whose guard isn't held
+  abbrev pub walk_uses : Held → List Use → Walked
+  walk_uses h us = elim (find (λ u. not (is_guarded vs h u)) us) [
+    | Some u ↦ broken rule.Unheld u.place (guard_of vs u.variable)
+    | None ↦ After h
+  ]
+
+  -- the sets at a join; they are as the first one
+  abbrev pub join : Place → Held → List Held → Walked
+  join place h hs = elim (least_difference mutexes (h ∷ hs)) [
+    | Some m ↦ broken rule.Join place m
+    | None ↦ After h
+  ]
+
+  -- the sets after the arms so far
+  abbrev pub join_all : Place → List Held → Walked
+  join_all place [] = After []
+  join_all place (h ∷ hs) = join place h hs
+
+  abbrev mutual
+    pub walk : Held → f.Statement → Walked
+    walk h (f.Assign place target value) = walk_uses h (assign_uses target value)
+    walk h (f.If place arms otherwise) = walk_arms h [] arms (λ left. and_then (walk_all h otherwise) (λ after. join_all place (left ++ after ∷ [])))
+    walk h (f.While place condition body) =
+        and_then (walk_uses h (expr_uses condition.expr)) (λ _. and_then (walk_all h body) (λ after. join place h (after ∷ [])))
+    walk h (f.Do place body condition) =
+        and_then (walk_all h body) (λ after. and_then (walk_uses after (expr_uses condition.expr)) (λ _. join place h (after ∷ [])))
+    walk h (f.Lock place mutex) = if holds h mutex then broken rule.Again place mutex else After (slice_set h mutex true)
+    walk h (f.Unlock place mutex) = if holds h mutex then After (slice_set h mutex false) else broken rule.NotHeld place mutex
+
+    pub walk_all : Held → f.Statements → Walked
+    walk_all h f.no_statement = After h
+    walk_all h (f.statement_and x rest) = and_then (walk h x) (λ after. walk_all after rest)
+
+    -- the arms of an `if` in order, and then what comes after them, from the sets that they leave
+    pub walk_arms : Held → (left : List Held) → f.Arms → (later : List Held → Walked) → Walked
+    walk_arms h left f.no_arm later = later left
+    walk_arms h left (f.arm_and condition body rest) later =
+        and_then (walk_uses h (expr_uses condition.expr)) (λ _. and_then (walk_all h body) (λ after. walk_arms h (left ++ after ∷ []) rest later))
+
+  -- nothing is held at the end
+  abbrev pub walk_end : Place → Held → Walked
+  walk_end closing h = elim (find (λ m. holds h m) (numbers_below mutexes)) [
+    | Some m ↦ broken rule.EndHeld closing m
+    | None ↦ After h
+  ]
+
+  abbrev pub walk_thread : f.Thread → Walked
+  walk_thread t = and_then (walk_all (none_held mutexes) t.body) (walk_end t.closing)
+
+  -- the first fault of the first thread that has one
+  abbrev pub walk_threads : List f.Thread → Option Fault
+  walk_threads [] = None
+  walk_threads (t ∷ ts) = elim (walk_thread t) [
+    | Broken x ↦ Some x
+    | After h ↦ walk_threads ts
+  ]
+
+unfoldable pub lock_fault : f.Flat → Option Fault
+lock_fault x = walk_threads x.variables (length x.mutexes) x.threads

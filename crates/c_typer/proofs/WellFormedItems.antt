@@ -1,0 +1,311 @@
+-- What is made of items without faults is a well formed program.
+use Rattle.std.proofs.Common.{◌≡◌, refl, sym, ◌∙◌, subst, ℕ, zero, suc, ◌+◌, ◌*◌, ◌-◌, ◌<◌, ◌≤◌, List, [], ◌∷◌, ◌++◌, length, map, flat_map}
+use Rattle.std.proofs.Common.{take, replicate, Bool, true, false, not, ◌==◌, ◌||◌, nat_lt, is_some, if◌then◌else◌, Option, Some, None, arith}
+use Rattle.std.specs.Prelude.{ℤ, pos, slice_get}
+use Rattle.std.specs.List.{AllByRecursion}
+use Rattle.std.specs.Option.{option_map}
+use Rattle.std.proofs.lemmas.Bool.Decides.{nat_tests}
+use Rattle.std.proofs.lemmas.List.{length-map, length-append, length-take, length-replicate}
+use Rattle.ido_base.specs.Layout.{aligned_up, end_from}
+use Rattle.ido_base.specs.declared.limits.TheConstants.{MOST_THREADS, MOST_MUTEXES, MOST_VARIABLE_BYTES, MOST_ELEMENTS}
+use Rattle.ido_ints.specs.declared.kinds.Kind.{Kind}
+use Rattle.ido_ints.specs.Kinds.{bytes_of, Holds}
+use Rattle.ido_ints.specs.Reduction.{reduced}
+use Rattle.ido_ints.proofs.Public.{Holds-zero, Holds-reduced}
+use Rattle.c_tree.specs.declared.rule.Rule.TheVariants as rule
+use Rattle.c_tree.specs.AcceptedTexts.{IsTyped}
+use Rattle.c_tree.specs.Languages.{all_of}
+use Rattle.c_tree.specs.Tokens.{Token}
+use Rattle.c_tree.specs.Trees as t
+use Rattle.c_tree.specs.Grammar as g
+use Rattle.c_tree.specs.Names as n
+use Rattle.c_tree.specs.Programs as p
+use Rattle.c_tree.specs.TypeRules as rules
+use Rattle.c_tree.specs.TypeRules.{broken, broken_if, type_faults}
+use Rattle.c_tree.specs.Elaboration as made
+use Rattle.c_tree.specs.Elaboration.{typed_program}
+use Rattle.c_tree.specs.WellFormed.{elements_in, shape_of, IsVariable, AreStatements, IsReturned, IsFunction, IsProgram}
+use Rattle.c_typer.proofs.LocalKindsGrow.{Into, into_self, into_length, Known, grow_statements, known_parameters}
+use Rattle.c_typer.proofs.WellFormedStatements.{nil_left, nil_right, not_broken, unbroken, SortIn, lock_formed, expr_formed, known_all, statements_formed}
+
+-- ---- Counts
+
+past_most : (found : _) (most : ℕ) (xs : List t.Name) → rules.past found most xs ≡ [] → length xs ≤ most
+past_most found most [] h = omega arith
+past_most found zero (x ∷ xs) h = absurd (not_broken found x.place h)
+past_most found (suc most) (x ∷ xs) h = omega (arith, past_most found most xs h)
+
+module _ (gs : List n.Global) where
+  mutexes_named : (xs : List t.Item) → length (made.program_from gs xs).mutexes ≡ length (rules.mutex_names xs)
+  mutexes_named [] = refl
+  mutexes_named (t.MutexItem x ∷ xs) = omega (arith, mutexes_named xs)
+  mutexes_named (t.PersistentItem x ∷ xs) = mutexes_named xs
+  mutexes_named (t.ThreadItem x ∷ xs) = mutexes_named xs
+  mutexes_named (t.FunctionItem x ∷ xs) = mutexes_named xs
+
+  threads_named : (xs : List t.Item) → length (made.program_from gs xs).threads ≡ length (rules.thread_names xs)
+  threads_named [] = refl
+  threads_named (t.MutexItem x ∷ xs) = threads_named xs
+  threads_named (t.PersistentItem x ∷ xs) = threads_named xs
+  threads_named (t.ThreadItem x ∷ xs) = omega (arith, threads_named xs)
+  threads_named (t.FunctionItem x ∷ xs) = threads_named xs
+
+-- ---- Elements and bytes
+
+size_is : (o : Option t.Length) → elements_in (option_map made.length_number o) ≡ made.element_count o
+size_is None = refl
+size_is (Some x) = refl
+
+abbrev Ends : ℕ → List p.Variable → Type 0
+Ends m vs = end_from m (map shape_of vs) ≤ MOST_VARIABLE_BYTES
+
+module _ (gs : List n.Global) where
+  -- the variables end where the rule of bytes says
+  ends_within : (k : ℕ) (xs : List t.Item) → k ≤ MOST_VARIABLE_BYTES → rules.too_many_bytes k xs ≡ [] →
+      end_from k (map shape_of (made.program_from gs xs).variables) ≤ MOST_VARIABLE_BYTES
+  ends_within k [] le h = le
+  ends_within k (t.MutexItem x ∷ xs) le h = ends_within k xs le h
+  ends_within k (t.ThreadItem x ∷ xs) le h = ends_within k xs le h
+  ends_within k (t.FunctionItem x ∷ xs) le h = ends_within k xs le h
+  ends_within k (t.PersistentItem x ∷ xs) le h = go (nat_lt MOST_VARIABLE_BYTES (rules.end_after k x)) refl
+      (λ fits q. ends_within (rules.end_after k x) xs fits q) h
+    where
+      go : (c : Bool) → nat_lt MOST_VARIABLE_BYTES (rules.end_after k x) ≡ c →
+          (rules.end_after k x ≤ MOST_VARIABLE_BYTES → rules.too_many_bytes (rules.end_after k x) xs ≡ [] →
+          Ends (rules.end_after k x) (made.program_from gs xs).variables) →
+          (if c then broken rule.Bytes x.name.place else rules.too_many_bytes (rules.end_after k x) xs) ≡ [] →
+          end_from k (map shape_of (made.variable gs x ∷ (made.program_from gs xs).variables)) ≤ MOST_VARIABLE_BYTES
+      go true e more q = absurd (not_broken rule.Bytes x.name.place q)
+      go false e more q =
+          let fits : rules.end_after k x ≤ MOST_VARIABLE_BYTES = grind (arith, nat_tests) in
+          subst (λ (m : ℕ). end_from (aligned_up k (bytes_of x.kind) + bytes_of x.kind * m)
+          (map shape_of (made.program_from gs xs).variables) ≤ MOST_VARIABLE_BYTES) (sym (size_is x.length)) (more fits q)
+
+-- ---- A variable
+
+all_taken : (k : Kind) (m : ℕ) (zs : List ℤ) → AllByRecursion (Holds k) (take m (map (reduced k) zs))
+all_taken k zero zs = tt
+all_taken k (suc m) [] = tt
+all_taken k (suc m) (z ∷ zs) = (Holds-reduced k z, all_taken k m zs)
+
+all_zeros : (k : Kind) (m : ℕ) → AllByRecursion (Holds k) (replicate m (pos 0))
+all_zeros k zero = tt
+all_zeros k (suc m) = (Holds-zero k, all_zeros k m)
+
+all_both : {A : Type 0} (P : A → Type 0) (xs ys : List A) → AllByRecursion P xs → AllByRecursion P ys → AllByRecursion P (xs ++ ys)
+all_both P [] ys h k = k
+all_both P (x ∷ xs) ys h k = (h.0, all_both P xs ys h.1 k)
+
+filled_length : (count : ℕ) (zs : List ℤ) → length (made.filled count zs) ≡ count
+filled_length count zs = omega (
+  arith,
+  length-append (take count zs) (replicate (count - length zs) (pos 0)),
+  length-take count zs,
+  length-replicate
+      (count - length zs) (pos 0),
+)
+
+record InBounds (count : ℕ) : Type 0 where
+  not_empty : 0 < count
+  not_too_long : count ≤ MOST_ELEMENTS
+
+bounds : (o : Option t.Length) → rules.length_faults o ≡ [] → InBounds (made.element_count o)
+bounds None h = record { not_empty = omega arith; not_too_long = omega arith }
+bounds (Some x) h =
+    let no = unbroken (made.length_number x == 0 || nat_lt MOST_ELEMENTS (made.length_number x)) rule.Length x.place h in
+    record { not_empty = grind (arith, nat_tests); not_too_long = grind (arith, nat_tests) }
+
+-- ---- Items, in a program in which their names stand
+
+module _ (q : p.Program) (gs : List n.Global) (sorts : AllByRecursion (λ (y : n.Global). SortIn q y.sort) gs) where
+  variable_formed : (x : t.Persistent) → rules.item_faults gs (t.PersistentItem x) ≡ [] → IsVariable (length q.mutexes) (made.variable gs x)
+  variable_formed x h =
+      let first = nil_left (rules.mutex_faults gs n.no_locals x.guard ++ rules.length_faults x.length) (rules.initialiser_faults x.length x.initialiser) h in
+      let guard = nil_left (rules.mutex_faults gs n.no_locals x.guard) (rules.length_faults x.length) first in
+      let size = bounds x.length (nil_right (rules.mutex_faults gs n.no_locals x.guard) (rules.length_faults x.length) first) in
+      let count = made.element_count x.length in
+      let zs = map (reduced x.kind) (made.numbers_of x.initialiser) in record {
+        guarded = lock_formed q gs sorts [] n.no_locals tt x.guard guard;
+        not_empty = subst (λ (m : ℕ). 0 < m) (sym (size_is x.length)) size.not_empty;
+        not_too_long = subst (λ (m : ℕ). m ≤ MOST_ELEMENTS) (sym (size_is x.length)) size.not_too_long;
+        count = filled_length count zs ∙ sym (size_is x.length);
+        held = all_both (Holds x.kind) (take count zs) (replicate (count - length zs) (pos 0)) (all_taken x.kind count (made.numbers_of x.initialiser))
+            (all_zeros x.kind (count - length zs));
+      }
+
+  block_formed : (ks : List Kind) (s : n.Scope) (x : t.Block) (ts : List Token) → g.block x ts → Known ks s.known →
+      Into (made.statements gs s (made.body_of x)).scope.kinds ks → rules.statements_faults gs s (made.body_of x) ≡ [] →
+      AreStatements q ks (made.statements gs s (made.body_of x)).made
+  block_formed ks s (t.Braced opening xs closing) ts d known into h = statements_formed q gs sorts ks s xs d.4.0 d.4.3 known into h
+
+  thread_formed : (x : t.Thread) (ts : List Token) → g.block x.block ts → rules.item_faults gs (t.ThreadItem x) ≡ [] →
+      AreStatements q (made.thread gs x).locals (made.thread gs x).body
+  thread_formed x ts d h = let ks = (made.statements gs n.no_locals (made.body_of x.block)).scope.kinds in block_formed ks n.no_locals x.block ts d tt
+      (into_self ks) h
+
+  returned_formed : (ks : List Kind) (s : n.Scope) (kind : Option Kind) (o : Option t.Return) → Known ks s.known → rules.returned_faults gs s o ≡ [] →
+      IsReturned q ks (made.returned gs s kind o)
+  returned_formed ks s None o known h = tt
+  returned_formed ks s (Some kind) None known h = tt
+  returned_formed ks s (Some kind) (Some x) known h = go x.value h
+    where
+      go : (o : Option t.Expression) → rules.maybe_faults gs s o ≡ [] → IsReturned q ks (option_map (λ v. record { kind = kind; value = made.placed gs s v }) o)
+      go None k = tt
+      go (Some v) k = expr_formed q gs sorts ks s known v k
+
+  function_formed : (x : t.Function) (ts : List Token) → g.function x ts → rules.item_faults gs (t.FunctionItem x) ≡ [] → IsFunction q (made.function gs x)
+  function_formed x ts d h =
+      let s = made.with_parameters n.no_locals x.parameters in
+      let m = made.statements gs s x.body.statements in
+      let ks = m.scope.kinds in
+      let known = known_parameters ks n.no_locals x.parameters tt (grow_statements gs s x.body.statements) in
+      let p1 = rules.parameters_faults gs n.no_locals x.parameters in
+      let p2 = rules.statements_faults gs s x.body.statements in
+      let p3 = rules.returned_faults gs m.scope x.body.returned in
+      let h3 = nil_left ((p1 ++ p2) ++ p3) (rules.return_faults gs x) h in
+      let h2 = nil_left (p1 ++ p2) p3 h3 in record {
+        parameters = omega (arith, into_length s.kinds ks (grow_statements gs s x.body.statements), parameters_count n.no_locals x.parameters);
+        body = statements_formed q gs sorts ks s x.body.statements d.4.4.4.4.4.4.0 d.4.4.4.4.4.4.3 known (into_self ks) (nil_right p1 p2 h2);
+        result = returned_formed ks m.scope x.kind x.body.returned (known_all q gs sorts ks s x.body.statements known (into_self ks))
+            (nil_right (p1 ++ p2) p3 h3);
+      }
+    where
+      parameters_count : (s : n.Scope) (ys : List t.Parameter) → length (made.with_parameters s ys).kinds ≡ length s.kinds + length ys
+      parameters_count s [] = omega arith
+      parameters_count s (y ∷ ys) = omega (arith, parameters_count (n.declared s y.name.text y.kind) ys, length-append s.kinds (y.kind ∷ []))
+
+  -- the parts of a program that are made of the items
+  record Parts (made_of : p.Program) : Type 0 where
+    variables : AllByRecursion (IsVariable (length q.mutexes)) made_of.variables
+    functions : AllByRecursion (IsFunction q) made_of.functions
+    threads : AllByRecursion (λ (y : p.Thread). AreStatements q y.locals y.body) made_of.threads
+
+  parts_formed : (xs : List t.Item) (ts : List Token) → all_of g.item xs ts → flat_map (rules.item_faults gs) xs ≡ [] → Parts (made.program_from gs xs)
+  parts_formed [] ts d h = record { variables = tt; functions = tt; threads = tt }
+  parts_formed (x ∷ xs) ts d h = add x d.0 d.3 (nil_left (rules.item_faults gs x) (flat_map (rules.item_faults gs) xs) h)
+      (parts_formed xs d.1 d.4 (nil_right (rules.item_faults gs x) (flat_map (rules.item_faults gs) xs) h))
+    where
+      add : (y : t.Item) (us : List Token) → g.item y us → rules.item_faults gs y ≡ [] → Parts (made.program_from gs xs) →
+          Parts (made.with_item gs y (made.program_from gs xs))
+      add (t.MutexItem y) us c k r = record { variables = r.variables; functions = r.functions; threads = r.threads }
+      add (t.PersistentItem y) us c k r = record { variables = (variable_formed y k, r.variables); functions = r.functions; threads = r.threads }
+      add (t.ThreadItem y) us c k r = record { variables = r.variables; functions = r.functions; threads = (thread_formed y c.4.1 c.4.4 k, r.threads) }
+      add (t.FunctionItem y) us c k r = record { variables = r.variables; functions = (function_formed y us c k, r.functions); threads = r.threads }
+
+-- ---- What names stand for
+
+-- the part stands in the program, after so many of each sort
+record After (q : p.Program) (c : n.Counts) (part : p.Program) : Type 0 where
+  mutexes : c.mutexes + length part.mutexes ≤ length q.mutexes
+  variables : (k : ℕ) (v : p.Variable) → slice_get part.variables k ≡ Some v → slice_get q.variables (c.variables + k) ≡ Some v
+  functions : (k : ℕ) (f : p.Function) → slice_get part.functions k ≡ Some f → slice_get q.functions (c.functions + k) ≡ Some f
+
+some_mapped : {A B : Type 0} (f : A → B) (o : Option A) → is_some (option_map f o) ≡ is_some o
+some_mapped f None = refl
+some_mapped f (Some x) = refl
+
+module _ (q : p.Program) (gs : List n.Global) where
+  -- the result is there where one is declared
+  gives_formed : (s : n.Scope) (x : t.Function) → rules.return_faults gs x ≡ [] → is_some (made.returned gs s x.kind x.body.returned) ≡ is_some x.kind
+  gives_formed s x h = go x.kind x.body.returned (unbroken
+      (if is_some x.kind then not (rules.returns_value gs x.body.returned) else rules.returns_value gs x.body.returned) rule.Return x.name.place h)
+    where
+      value : (kind : Kind) (o : Option t.Expression) → not (is_some o) ≡ false →
+          is_some {T = p.Returned} (option_map (λ v. record { kind = kind; value = made.placed gs s v }) o) ≡ true
+      value kind None k = absurd (cc)
+      value kind (Some v) k = refl
+
+      go : (kind : Option Kind) (o : Option t.Return) → (if is_some kind then not (rules.returns_value gs o) else rules.returns_value gs o) ≡ false →
+          is_some (made.returned gs s kind o) ≡ is_some kind
+      go None o k = refl
+      go (Some kind) None k = absurd (cc)
+      go (Some kind) (Some r) k = value kind r.value k
+
+  abbrev at : (A : Type 0) → List A → ℕ → A → Type 0
+  at A xs i y = slice_get xs i ≡ Some y
+
+  sorts_formed : (c : n.Counts) (xs : List t.Item) → After q c (made.program_from gs xs) → flat_map (rules.item_faults gs) xs ≡ [] →
+      AllByRecursion (λ (y : n.Global). SortIn q y.sort) (n.globals_from c xs)
+  sorts_formed c [] b h = tt
+  sorts_formed c (x ∷ xs) b h = go x b (nil_left (rules.item_faults gs x) (flat_map (rules.item_faults gs) xs) h)
+      (λ d e. sorts_formed d xs e (nil_right (rules.item_faults gs x) (flat_map (rules.item_faults gs) xs) h))
+    where
+      go : (y : t.Item) → After q c (made.with_item gs y (made.program_from gs xs)) → rules.item_faults gs y ≡ [] →
+          ((d : n.Counts) → After q d (made.program_from gs xs) → AllByRecursion (λ (z : n.Global). SortIn q z.sort) (n.globals_from d xs)) →
+          AllByRecursion (λ (z : n.Global). SortIn q z.sort) (n.globals_from c (y ∷ xs))
+      go (t.MutexItem y) e k rest = (
+        omega (arith, e.mutexes),
+        rest (n.counted c (t.MutexItem y))
+            (record { mutexes = omega (arith, e.mutexes); variables = e.variables; functions = e.functions }),
+      )
+      go (t.PersistentItem y) e k rest =
+          let here : at p.Variable q.variables c.variables (made.variable gs y) = subst (λ (i : ℕ). at p.Variable q.variables i (made.variable gs y))
+          (omega arith) (e.variables 0 (made.variable gs y) refl) in (
+            record { it = made.variable gs y; found = here; kind = refl; array = some_mapped made.length_number y.length },
+            rest (n.counted c (t.PersistentItem y)) (record {
+              mutexes = e.mutexes;
+              variables = λ i v l. subst (λ (j : ℕ). at p.Variable q.variables j v) (omega arith) (e.variables (suc i) v l);
+              functions = e.functions;
+            }),
+          )
+      go (t.ThreadItem y) e k rest = (tt, rest c (record { mutexes = e.mutexes; variables = e.variables; functions = e.functions }))
+      go (t.FunctionItem y) e k rest =
+          let here : at p.Function q.functions c.functions (made.function gs y) = subst (λ (i : ℕ). at p.Function q.functions i (made.function gs y))
+          (omega arith) (e.functions 0 (made.function gs y) refl) in
+          let s = made.with_parameters n.no_locals y.parameters in
+          let m = made.statements gs s y.body.statements in
+          let before = (rules.parameters_faults gs n.no_locals y.parameters ++ rules.statements_faults gs s y.body.statements)
+          ++ rules.returned_faults gs m.scope y.body.returned in (
+            record {
+              it = made.function gs y;
+              found = here;
+              count = length-map y.parameters (λ (z : t.Parameter). z.kind);
+              gives = gives_formed m.scope y (nil_right before (rules.return_faults gs y) k);
+            },
+            rest (n.counted c (t.FunctionItem y)) (record {
+              mutexes = e.mutexes;
+              variables = e.variables;
+              functions = λ i f l. subst (λ (j : ℕ). at p.Function q.functions j f) (omega arith) (e.functions (suc i) f l);
+            }),
+          )
+
+-- ---- The whole text
+
+formed : (xs : List t.Item) (ts : List Token) → all_of g.item xs ts → type_faults xs ≡ [] → IsProgram (typed_program xs)
+unfolding type_faults typed_program
+formed xs ts d h =
+    let gs = n.globals_of xs in
+    let q = made.program_from gs xs in
+    let a = rules.twice_from [] gs in
+    let b = rules.past rule.Threads MOST_THREADS (rules.thread_names xs) in
+    let m = rules.past rule.Mutexes MOST_MUTEXES (rules.mutex_names xs) in
+    let e = rules.too_many_bytes 0 xs in
+    let f = flat_map (rules.item_faults gs) xs in
+    let h4 = nil_left (((a ++ b) ++ m) ++ e) f h in
+    let h3 = nil_left ((a ++ b) ++ m) e h4 in
+    let h2 = nil_left (a ++ b) m h3 in
+    let items = nil_right (((a ++ b) ++ m) ++ e) f h in
+    let whole : After q n.none_yet q = record {
+      mutexes = omega arith;
+      variables = λ k v l. subst (λ (i : ℕ). slice_get q.variables i ≡ Some v)
+          (omega arith) l;
+      functions = λ k v l. subst (λ (i : ℕ). slice_get q.functions i ≡ Some v) (omega arith) l;
+    } in
+    let sorts = sorts_formed q gs n.none_yet xs whole items in
+    let parts = parts_formed q gs sorts xs ts d items in record {
+      shared = record {
+        mutexes = omega (arith, mutexes_named gs xs, past_most rule.Mutexes MOST_MUTEXES (rules.mutex_names xs) (nil_right (a ++ b) m h3));
+        threads = omega (arith, threads_named gs xs, past_most rule.Threads MOST_THREADS (rules.thread_names xs) (nil_right a b h2));
+        variables = parts.variables;
+        bytes = ends_within gs 0 xs (omega arith) (nil_right ((a ++ b) ++ m) e h4);
+      };
+      functions = parts.functions;
+      threads = parts.threads;
+    }
+
+spelled_items : (xs : List t.Item) (ts : List Token) → g.program xs ts → all_of g.item xs ts
+spelled_items [] ts d = absurd d
+spelled_items (x ∷ xs) ts d = d
+
+pub typed_formed : (text : List ℕ) (x : p.Program) → IsTyped text x → IsProgram x
+typed_formed text x h = subst IsProgram (sym h.typed) (formed h.items _ (spelled_items h.items _ h.read.spelled) h.faultless)

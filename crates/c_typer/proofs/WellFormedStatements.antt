@@ -1,0 +1,505 @@
+-- What is made of statements without faults is well formed.
+use Rattle.std.proofs.Common.{◌≡◌, refl, ◌∙◌, subst, ℕ, ◌<◌, List, [], ◌∷◌, ◌++◌, length, map, find, flat_map, Bool}
+use Rattle.std.proofs.Common.{true, false, not, ◌==◌, is_some, if◌then◌else◌, cond, Option, Some, None, arith}
+use Rattle.std.specs.Prelude.{slice_get}
+use Rattle.std.specs.List.{AllByRecursion}
+use Rattle.std.proofs.lemmas.Bool.Decides.{nat_tests}
+use Rattle.std.proofs.lemmas.List.{length-map}
+use Rattle.std.proofs.lemmas.Option.{none-some, same_Some}
+use Rattle.ido_base.specs.declared.place.Place.{Place}
+use Rattle.ido_ints.specs.declared.kinds.Kind.{Kind}
+use Rattle.ido_ints.specs.declared.kinds.Kind.TheVariants.{Int}
+use Rattle.c_tree.specs.declared.rule.Rule.TheVariants as rule
+use Rattle.c_tree.specs.Tokens.{Token}
+use Rattle.c_tree.specs.Trees as t
+use Rattle.c_tree.specs.Grammar as g
+use Rattle.c_tree.specs.Exprs as e
+use Rattle.c_tree.specs.Names as n
+use Rattle.c_tree.specs.Programs as p
+use Rattle.c_tree.specs.TypeRules as rules
+use Rattle.c_tree.specs.TypeRules.{broken, broken_if}
+use Rattle.c_tree.specs.Elaboration as made
+use Rattle.c_tree.specs.LexicalScan.{Fault}
+use Rattle.c_tree.specs.WellFormed.{IsDeclared, IsExpr, IsPlaced, IsTarget, IsCall, IsResult, IsStatement, AreStatements, AreArms, HasProgramArm}
+use Rattle.c_typer.proofs.LocalKindsGrow.{Into, into_both, Known, into_declared, grow_statements, grow_inside, grow_arms, grow_otherwise}
+
+-- ---- Lists of faults that are empty
+
+pub nil_left : {A : Type 0} (xs ys : List A) → xs ++ ys ≡ [] → xs ≡ []
+nil_left [] ys h = refl
+nil_left (x ∷ xs) ys h = absurd (cc)
+
+pub nil_right : {A : Type 0} (xs ys : List A) → xs ++ ys ≡ [] → ys ≡ []
+nil_right [] ys h = h
+nil_right (x ∷ xs) ys h = absurd (cc)
+
+pub not_broken : (found : _) (place : Place) → broken found place ≡ [] → ⊥
+not_broken found place h = cc
+
+pub unbroken : (c : Bool) (found : _) (place : Place) → broken_if c found place ≡ [] → c ≡ false
+unbroken true found place h = absurd (not_broken found place h)
+unbroken false found place h = refl
+
+-- ---- Blocks of arms, as they are spelled
+
+abbrev Spelled : t.Arms → Type 0
+Spelled t.no_arm = Unit {0}
+Spelled (t.arm_and y body rest) = ((us : List Token) × g.block body us) × Spelled rest
+
+spelled_more : (ys : t.Arms) (ts : List Token) → g.more_arms_of ys ts → Spelled ys
+spelled_more t.no_arm ts d = tt
+spelled_more (t.arm_and y body rest) ts d = ((d.4.4.4.0, d.4.4.4.3), spelled_more rest d.4.4.4.1 d.4.4.4.4)
+
+spelled_arms : (ys : t.Arms) (ts : List Token) → g.arms_of ys ts → Spelled ys
+spelled_arms t.no_arm ts d = absurd d
+spelled_arms (t.arm_and y body rest) ts d = ((d.4.4.0, d.4.4.3), spelled_more rest d.4.4.1 d.4.4.4)
+
+-- ---- What a name means in a program
+
+-- what stands for it is there
+abbrev pub SortIn : p.Program → n.Sort → Type 0
+SortIn x (n.Mutex number) = number < length x.mutexes
+SortIn x (n.Variable number kind is_array) = IsDeclared x.variables number kind is_array
+SortIn x (n.Function number gives parameters) = IsCall x.functions number (length parameters) (is_some gives)
+SortIn x n.Thread = Unit {0}
+
+abbrev pub MeaningIn : p.Program → List Kind → n.Meaning → Type 0
+MeaningIn x ks (n.IsLocal l) = slice_get ks l.number ≡ Some l.kind
+MeaningIn x ks (n.IsGlobal s) = SortIn x s
+MeaningIn x ks n.IsUnknown = Unit {0}
+
+found_in : {A : Type 0} (P : A → Type 0) (test : A → Bool) (xs : List A) (x : A) → AllByRecursion P xs → find test xs ≡ Some x → P x
+found_in P test [] x h e = absurd (none-some x e)
+found_in P test (y ∷ ys) x h e = go (test y) (λ k. found_in P test ys x h.1 k) e
+  where
+    go : (c : Bool) → (find test ys ≡ Some x → P x) → cond c (Some y) (find test ys) ≡ Some x → P x
+    go true more k = subst P (same_Some y x k) h.0
+    go false more k = more k
+
+equal_bools : (a c : Bool) → (if a then not c else c) ≡ false → a ≡ c
+equal_bools true true h = refl
+equal_bools true false h = absurd (cc)
+equal_bools false true h = absurd (cc)
+equal_bools false false h = refl
+
+equal_counts : (i j : ℕ) → not (i == j) ≡ false → i ≡ j
+equal_counts i j h = grind (arith, nat_tests)
+
+-- the whole text's names stand in the program, and locals are of these kinds
+module _ (x : p.Program) (gs : List n.Global) (sorts : AllByRecursion (λ (y : n.Global). SortIn x y.sort) gs) (ks : List Kind) where
+  meaning_in : (s : n.Scope) (name : List ℕ) → Known ks s.known → MeaningIn x ks (n.meaning gs s name)
+  meaning_in s name known = local (find (λ (y : n.Local). n.same_name y.name name) s.known) refl
+    where
+      global : (o : Option n.Global) → find (λ (y : n.Global). n.same_name y.name.text name) gs ≡ o → MeaningIn x ks (elim o [
+        | Some y ↦ n.IsGlobal y.sort
+        | None ↦ n.IsUnknown
+      ])
+      global None q = tt
+      global (Some y) q = found_in (λ (z : n.Global). SortIn x z.sort) (λ (z : n.Global). n.same_name z.name.text name) gs y sorts q
+
+      local : (o : Option n.Local) → find (λ (y : n.Local). n.same_name y.name name) s.known ≡ o → MeaningIn x ks (elim o [
+        | Some y ↦ n.IsLocal y
+        | None ↦ n.global_meaning gs name
+      ])
+      local None q = global (find (λ (y : n.Global). n.same_name y.name.text name) gs) refl
+      local (Some y) q = found_in (λ (z : n.Local). slice_get ks z.number ≡ Some z.kind) (λ (z : n.Local). n.same_name z.name name) s.known y known q
+
+  -- ---- Expressions
+
+  -- a name, with an index or without
+  module _ (s : n.Scope) (known : Known ks s.known) where
+    named_formed : (y : t.Name) → rules.use_faults gs s y false ≡ [] → IsExpr x.variables ks (made.named gs s y)
+    named_formed y h = go (n.meaning gs s y.text) (meaning_in s y.text known) h
+      where
+        go : (m : n.Meaning) → MeaningIn x ks m → ◌≡◌ {A = List Fault} (elim m [
+          | n.IsUnknown ↦ broken rule.Unknown y.place
+          | n.IsLocal l ↦ broken_if false rule.WrongSort y.place
+          | n.IsGlobal (n.Variable number kind is_array) ↦ broken_if (if is_array then not false else false) rule.WrongSort y.place
+          | _ ↦ broken rule.WrongSort y.place
+        ]) [] → IsExpr x.variables ks (elim m [
+          | n.IsLocal l ↦ e.Local l.number l.kind
+          | n.IsGlobal (n.Variable number kind is_array) ↦ e.Variable y.place number kind
+          | _ ↦ made.int 0
+        ])
+        go n.IsUnknown k q = absurd (not_broken rule.Unknown y.place q)
+        go (n.IsLocal l) k q = k
+        go (n.IsGlobal (n.Mutex number)) k q = tt
+        go (n.IsGlobal (n.Variable number kind is_array)) k q =
+            subst (IsDeclared x.variables number kind) (equal_bools is_array false
+            (unbroken (if is_array then not false else false) rule.WrongSort y.place q)) k
+        go (n.IsGlobal (n.Function number gives parameters)) k q = tt
+        go (n.IsGlobal n.Thread) k q = tt
+
+    element_formed : (y : t.Name) (place : Place) (index : e.Expr) → rules.use_faults gs s y true ≡ [] → IsExpr x.variables ks index →
+        IsExpr x.variables ks (made.element gs s y place index)
+    element_formed y place index h i = go (n.meaning gs s y.text) (meaning_in s y.text known) h
+      where
+        go : (m : n.Meaning) → MeaningIn x ks m → ◌≡◌ {A = List Fault} (elim m [
+          | n.IsUnknown ↦ broken rule.Unknown y.place
+          | n.IsLocal l ↦ broken_if true rule.WrongSort y.place
+          | n.IsGlobal (n.Variable number kind is_array) ↦ broken_if (if is_array then not true else true) rule.WrongSort y.place
+          | _ ↦ broken rule.WrongSort y.place
+        ]) [] → IsExpr x.variables ks (elim m [
+          | n.IsGlobal (n.Variable number kind is_array) ↦ e.Element y.place number kind place index
+          | _ ↦ made.int 0
+        ])
+        go n.IsUnknown k q = tt
+        go (n.IsLocal l) k q = tt
+        go (n.IsGlobal (n.Mutex number)) k q = tt
+        go (n.IsGlobal (n.Variable number kind is_array)) k q = (
+          subst (IsDeclared x.variables number kind) (equal_bools is_array true
+              (unbroken (if is_array then not true else true) rule.WrongSort y.place q)) k,
+          i,
+        )
+        go (n.IsGlobal (n.Function number gives parameters)) k q = tt
+        go (n.IsGlobal n.Thread) k q = tt
+
+    target_named_formed : (y : t.Name) → rules.use_faults gs s y false ≡ [] → IsTarget x.variables ks (made.target_named gs s y)
+    target_named_formed y h = go (n.meaning gs s y.text) (meaning_in s y.text known) h
+      where
+        go : (m : n.Meaning) → MeaningIn x ks m → ◌≡◌ {A = List Fault} (elim m [
+          | n.IsUnknown ↦ broken rule.Unknown y.place
+          | n.IsLocal l ↦ broken_if false rule.WrongSort y.place
+          | n.IsGlobal (n.Variable number kind is_array) ↦ broken_if (if is_array then not false else false) rule.WrongSort y.place
+          | _ ↦ broken rule.WrongSort y.place
+        ]) [] → IsTarget x.variables ks (elim m [
+          | n.IsLocal l ↦ e.ToLocal l.number l.kind
+          | n.IsGlobal (n.Variable number kind is_array) ↦ e.ToVariable y.place number kind
+          | _ ↦ e.ToLocal 0 Int
+        ])
+        go n.IsUnknown k q = absurd (not_broken rule.Unknown y.place q)
+        go (n.IsLocal l) k q = k
+        go (n.IsGlobal (n.Mutex number)) k q = absurd (not_broken rule.WrongSort y.place q)
+        go (n.IsGlobal (n.Variable number kind is_array)) k q =
+            subst (IsDeclared x.variables number kind) (equal_bools is_array false
+            (unbroken (if is_array then not false else false) rule.WrongSort y.place q)) k
+        go (n.IsGlobal (n.Function number gives parameters)) k q = absurd (not_broken rule.WrongSort y.place q)
+        go (n.IsGlobal n.Thread) k q = absurd (not_broken rule.WrongSort y.place q)
+
+    target_element_formed : (y : t.Name) (index : e.Placed) → rules.use_faults gs s y true ≡ [] → IsExpr x.variables ks index.expr →
+        IsTarget x.variables ks (made.target_element gs s y index)
+    target_element_formed y index h i = go (n.meaning gs s y.text) (meaning_in s y.text known) h
+      where
+        go : (m : n.Meaning) → MeaningIn x ks m → ◌≡◌ {A = List Fault} (elim m [
+          | n.IsUnknown ↦ broken rule.Unknown y.place
+          | n.IsLocal l ↦ broken_if true rule.WrongSort y.place
+          | n.IsGlobal (n.Variable number kind is_array) ↦ broken_if (if is_array then not true else true) rule.WrongSort y.place
+          | _ ↦ broken rule.WrongSort y.place
+        ]) [] → IsTarget x.variables ks (elim m [
+          | n.IsGlobal (n.Variable number kind is_array) ↦ e.ToElement y.place number kind index
+          | _ ↦ e.ToLocal 0 Int
+        ])
+        go n.IsUnknown k q = absurd (not_broken rule.Unknown y.place q)
+        go (n.IsLocal l) k q = absurd (not_broken rule.WrongSort y.place q)
+        go (n.IsGlobal (n.Mutex number)) k q = absurd (not_broken rule.WrongSort y.place q)
+        go (n.IsGlobal (n.Variable number kind is_array)) k q = (
+          subst (IsDeclared x.variables number kind) (equal_bools is_array true
+              (unbroken (if is_array then not true else true) rule.WrongSort y.place q)) k,
+          i,
+        )
+        go (n.IsGlobal (n.Function number gives parameters)) k q = absurd (not_broken rule.WrongSort y.place q)
+        go (n.IsGlobal n.Thread) k q = absurd (not_broken rule.WrongSort y.place q)
+
+    pub expr_formed : (y : t.Expression) → rules.expression_faults gs s y ≡ [] → IsExpr x.variables ks (made.expr gs s y)
+    expr_formed (t.Number place value) h = tt
+    expr_formed (t.Named y) h = named_formed y h
+    expr_formed (t.Element array index) h =
+        element_formed array (made.first_place index) (made.expr gs s index)
+        (nil_left (rules.use_faults gs s array true) (rules.expression_faults gs s index) h)
+        (expr_formed index (nil_right (rules.use_faults gs s array true) (rules.expression_faults gs s index) h))
+    expr_formed (t.Parenthesised place inner) h = expr_formed inner h
+    expr_formed (t.Unary place operator operand) h = expr_formed operand h
+    expr_formed (t.Cast place kind operand) h = expr_formed operand h
+    expr_formed (t.Binary operator left right) h = (
+      expr_formed left (nil_left (rules.expression_faults gs s left) (rules.expression_faults gs s right) h),
+      expr_formed right (nil_right (rules.expression_faults gs s left) (rules.expression_faults gs s right) h),
+    )
+    expr_formed (t.Conditional condition chosen otherwise) h =
+        let both = rules.expression_faults gs s condition ++ rules.expression_faults gs s chosen in
+        let first = nil_left both (rules.expression_faults gs s otherwise) h in (
+          expr_formed condition (nil_left (rules.expression_faults gs s condition) (rules.expression_faults gs s chosen) first),
+          expr_formed chosen (nil_right (rules.expression_faults gs s condition) (rules.expression_faults gs s chosen) first),
+          expr_formed otherwise (nil_right both (rules.expression_faults gs s otherwise) h),
+        )
+
+    -- ---- Assignments and calls
+
+    target_formed : (y : t.Lvalue) → rules.target_faults gs s y ≡ [] → IsTarget x.variables ks (made.target gs s y)
+    target_formed y h = go y.index h
+      where
+        go : (o : Option t.Expression) → rules.use_faults gs s y.name (is_some o) ++ rules.maybe_faults gs s o ≡ [] → IsTarget x.variables ks (elim o [
+          | Some index ↦ made.target_element gs s y.name (made.placed gs s index)
+          | None ↦ made.target_named gs s y.name
+        ])
+        go None q = target_named_formed y.name (nil_left (rules.use_faults gs s y.name false) [] q)
+        go (Some index) q =
+            target_element_formed y.name (made.placed gs s index) (nil_left (rules.use_faults gs s y.name true) (rules.expression_faults gs s index) q)
+            (expr_formed index (nil_right (rules.use_faults gs s y.name true) (rules.expression_faults gs s index) q))
+
+    before_formed : (y : t.Lvalue) → rules.target_faults gs s y ≡ [] → IsExpr x.variables ks (made.before gs s y)
+    before_formed y h = go y.index h
+      where
+        go : (o : Option t.Expression) → rules.use_faults gs s y.name (is_some o) ++ rules.maybe_faults gs s o ≡ [] → IsExpr x.variables ks (elim o [
+          | Some index ↦ made.element gs s y.name (made.first_place index) (made.expr gs s index)
+          | None ↦ made.named gs s y.name
+        ])
+        go None q = named_formed y.name (nil_left (rules.use_faults gs s y.name false) [] q)
+        go (Some index) q =
+            element_formed y.name (made.first_place index) (made.expr gs s index)
+            (nil_left (rules.use_faults gs s y.name true) (rules.expression_faults gs s index) q)
+            (expr_formed index (nil_right (rules.use_faults gs s y.name true) (rules.expression_faults gs s index) q))
+
+    changed_formed : (y : t.Lvalue) (c : t.Change) → rules.target_faults gs s y ≡ [] → rules.change_faults gs s c ≡ [] →
+        IsPlaced x.variables ks (made.changed gs s y c)
+    changed_formed y (t.Set value) h k = expr_formed value k
+    changed_formed y (t.Update operator value) h k = (before_formed y h, expr_formed value k)
+    changed_formed y t.Increment h k = (before_formed y h, tt)
+    changed_formed y t.Decrement h k = (before_formed y h, tt)
+
+    assignment_formed : (place : Place) (y : t.Assignment) → rules.assignment_faults gs s y ≡ [] → IsStatement x ks (made.assignment_at gs place s y)
+    assignment_formed place y h =
+        let first = nil_left (rules.target_faults gs s y.target) (rules.change_faults gs s y.change) h in (
+          target_formed y.target first,
+          changed_formed y.target y.change first
+              (nil_right (rules.target_faults gs s y.target) (rules.change_faults gs s y.change) h),
+        )
+
+    arguments_formed : (ys : List t.Expression) → flat_map (rules.expression_faults gs s) ys ≡ [] →
+        AllByRecursion (IsPlaced x.variables ks) (map (made.placed gs s) ys)
+    arguments_formed [] h = tt
+    arguments_formed (y ∷ ys) h = (
+      expr_formed y (nil_left (rules.expression_faults gs s y) (flat_map (rules.expression_faults gs s) ys) h),
+      arguments_formed ys (nil_right (rules.expression_faults gs s y) (flat_map (rules.expression_faults gs s) ys) h),
+    )
+
+    call_formed : (place : Place) (c : t.Call) (result : Option e.Lvalue) → rules.call_faults gs s c (is_some result) ≡ [] → IsResult x ks result →
+        IsStatement x ks (made.call gs place s c result)
+    call_formed place c result h r =
+        go (n.meaning gs s c.function.text) (meaning_in s c.function.text known)
+        (nil_left (rules.function_faults gs s c.function (is_some result) (length c.arguments)) (flat_map (rules.expression_faults gs s) c.arguments) h)
+      where
+        passed : AllByRecursion (IsPlaced x.variables ks) (map (made.placed gs s) c.arguments)
+        passed = arguments_formed c.arguments (nil_right (rules.function_faults gs s c.function (is_some result) (length c.arguments))
+            (flat_map (rules.expression_faults gs s) c.arguments) h)
+
+        go : (m : n.Meaning) → MeaningIn x ks m → ◌≡◌ {A = List Fault} (elim m [
+          | n.IsUnknown ↦ broken rule.Unknown c.function.place
+          | n.IsGlobal (n.Function number gives parameters) ↦
+              broken_if (if is_some gives then not (is_some result) else is_some result) rule.WrongSort c.function.place ++ broken_if
+              (not (length c.arguments == length parameters)) rule.Count c.function.place
+          | _ ↦ broken rule.WrongSort c.function.place
+        ]) [] → IsStatement x ks (elim m [
+          | n.IsGlobal (n.Function number gives parameters) ↦ p.Call place c.function.place number (map (made.placed gs s) c.arguments) result
+          | _ ↦ p.Call place c.function.place 0 (map (made.placed gs s) c.arguments) result
+        ])
+        go n.IsUnknown k q = absurd (not_broken rule.Unknown c.function.place q)
+        go (n.IsLocal l) k q = absurd (not_broken rule.WrongSort c.function.place q)
+        go (n.IsGlobal (n.Mutex number)) k q = absurd (not_broken rule.WrongSort c.function.place q)
+        go (n.IsGlobal (n.Variable number kind is_array)) k q = absurd (not_broken rule.WrongSort c.function.place q)
+        go (n.IsGlobal (n.Function number gives parameters)) k q =
+            let wrong = broken_if (if is_some gives then not (is_some result) else is_some result) rule.WrongSort c.function.place in
+            let many = broken_if (not (length c.arguments == length parameters)) rule.Count c.function.place in
+            let same = equal_bools (is_some gives) (is_some result)
+            (unbroken (if is_some gives then not (is_some result) else is_some result) rule.WrongSort c.function.place (nil_left wrong many q)) in
+            let count = equal_counts (length c.arguments) (length parameters)
+            (unbroken (not (length c.arguments == length parameters)) rule.Count c.function.place (nil_right wrong many q)) in
+            (record { it = k.it; found = k.found; count = length-map c.arguments (made.placed gs s) ∙ count ∙ k.count; gives = k.gives ∙ same }, passed, r)
+        go (n.IsGlobal n.Thread) k q = absurd (not_broken rule.WrongSort c.function.place q)
+
+    declaration_formed : (place : Place) (y : t.Declaration) → rules.declaration_faults gs s y ≡ [] → slice_get ks (length s.kinds) ≡ Some y.kind →
+        IsStatement x ks (made.declaration_at gs place s y)
+    declaration_formed place y h new = go y.initial (nil_right (rules.twice s.own y.name) _ h)
+      where
+        go : (i : t.Initial) → ◌≡◌ {A = List Fault} (elim i [
+          | t.Absent ↦ []
+          | t.Value value ↦ rules.expression_faults gs s value
+          | t.Result c ↦ rules.call_faults gs s c true
+        ]) [] → IsStatement x ks (elim i [
+          | t.Absent ↦ p.Assign place (e.ToLocal (length s.kinds) y.kind) (record { place = y.place; expr = made.int 0 })
+          | t.Value value ↦ p.Assign place (e.ToLocal (length s.kinds) y.kind) (made.placed gs s value)
+          | t.Result c ↦ made.call gs place s c (Some (e.ToLocal (length s.kinds) y.kind))
+        ])
+        go t.Absent q = (new, tt)
+        go (t.Value value) q = (new, expr_formed value q)
+        go (t.Result c) q = call_formed place c (Some (e.ToLocal (length s.kinds) y.kind)) q new
+
+    pub lock_formed : (y : t.Name) → rules.mutex_faults gs s y ≡ [] → made.lock_number gs s y < length x.mutexes
+    lock_formed y h = go (n.meaning gs s y.text) (meaning_in s y.text known) h
+      where
+        go : (m : n.Meaning) → MeaningIn x ks m → ◌≡◌ {A = List Fault} (elim m [
+          | n.IsUnknown ↦ broken rule.Unknown y.place
+          | n.IsGlobal (n.Mutex number) ↦ []
+          | _ ↦ broken rule.WrongSort y.place
+        ]) [] → (elim m [
+          | n.IsGlobal (n.Mutex number) ↦ number
+          | _ ↦ 0
+        ]) < length x.mutexes
+        go n.IsUnknown k q = absurd (not_broken rule.Unknown y.place q)
+        go (n.IsLocal l) k q = absurd (not_broken rule.WrongSort y.place q)
+        go (n.IsGlobal (n.Mutex number)) k q = k
+        go (n.IsGlobal (n.Variable number kind is_array)) k q = absurd (not_broken rule.WrongSort y.place q)
+        go (n.IsGlobal (n.Function number gives parameters)) k q = absurd (not_broken rule.WrongSort y.place q)
+        go (n.IsGlobal n.Thread) k q = absurd (not_broken rule.WrongSort y.place q)
+
+  -- ---- Statements
+
+  both_formed : (ys zs : p.Statements) → AreStatements x ks ys → AreStatements x ks zs → AreStatements x ks (made.statements_and ys zs)
+  both_formed p.no_statement zs h k = k
+  both_formed (p.statement_and y ys) zs h k = (h.0, both_formed ys zs h.1 k)
+
+  -- ---- What is known after a statement
+
+  known_declared : (s : n.Scope) (name : List ℕ) (kind : Kind) → Known ks s.known → Into (n.declared s name kind).kinds ks →
+      Known ks (n.declared s name kind).known
+  known_declared s name kind known into = (into_declared ks s name kind into, known)
+
+  known_first : (place : Place) (s : n.Scope) (y : t.First) → Known ks s.known → Into (made.first_at gs place s y).scope.kinds ks →
+      Known ks (made.first_at gs place s y).scope.known
+  known_first place s t.NoFirst known into = known
+  known_first place s (t.Declared y) known into = known_declared s y.name.text y.kind known into
+  known_first place s (t.Assigned y) known into = known
+
+  known_inside : (s : n.Scope) (y : t.Block) → Known ks s.known → Known ks (made.inside gs s y).scope.known
+  known_inside s (t.Braced opening ys closing) known = known
+
+  known_arms : (s : n.Scope) (ys : t.Arms) → Known ks s.known → Known ks (made.arms_of gs s ys).scope.known
+  known_arms s t.no_arm known = known
+  known_arms s (t.arm_and y body rest) known = known_arms (made.inside gs s body).scope rest (known_inside s body known)
+
+  known_otherwise : (s : n.Scope) (y : t.Otherwise) → Known ks s.known → Known ks (made.otherwise_of gs s y).scope.known
+  known_otherwise s t.Nothing known = known
+  known_otherwise s (t.Else body) known = known_inside s body known
+
+  pub known_after : (s : n.Scope) (y : t.Statement) → Known ks s.known → Into (made.statement gs s y).scope.kinds ks →
+      Known ks (made.statement gs s y).scope.known
+  known_after s (t.BlockOf y) known into = known_inside s y known
+  known_after s (t.Empty place) known into = known
+  known_after s (t.Declare y) known into = known_declared s y.name.text y.kind known into
+  known_after s (t.Assign y) known into = known
+  known_after s (t.AssignResult y c) known into = known
+  known_after s (t.CallOnly c) known into = known
+  known_after s (t.If place arms otherwise) known into = known_otherwise (made.arms_of gs s arms).scope otherwise (known_arms s arms known)
+  known_after s (t.While place y body) known into = known_inside s body known
+  known_after s (t.Do place body y) known into = known_inside s body known
+  known_after s (t.For place start y last body) known into = known
+  known_after s (t.Lock place mutex) known into = known
+  known_after s (t.Unlock place mutex) known into = known
+
+  pub known_all : (s : n.Scope) (ys : t.Statements) → Known ks s.known → Into (made.statements gs s ys).scope.kinds ks →
+      Known ks (made.statements gs s ys).scope.known
+  known_all s t.no_statement known into = known
+  known_all s (t.statement_and y ys) known into =
+      let s' = (made.statement gs s y).scope in
+      known_all s' ys (known_after s y known (into_both s'.kinds (made.statements gs s' ys).scope.kinds ks (grow_statements gs s' ys) into)) into
+
+  -- ---- The parts of a `for`
+
+  first_formed : (place : Place) (s : n.Scope) (y : t.First) → Known ks s.known → Into (made.first_at gs place s y).scope.kinds ks →
+      rules.first_faults gs s y ≡ [] → AreStatements x ks (made.first_at gs place s y).made
+  first_formed place s t.NoFirst known into h = tt
+  first_formed place s (t.Declared y) known into h = (declaration_formed s known place y h (into_declared ks s y.name.text y.kind into), tt)
+  first_formed place s (t.Assigned y) known into h = (assignment_formed s known place y h, tt)
+
+  last_formed : (place : Place) (s : n.Scope) (y : Option t.Assignment) → Known ks s.known → rules.last_faults gs s y ≡ [] →
+      AreStatements x ks (made.last_at gs place s y)
+  last_formed place s None known h = tt
+  last_formed place s (Some y) known h = (assignment_formed s known place y h, tt)
+
+  condition_formed : (place : Place) (s : n.Scope) (y : Option t.Expression) → Known ks s.known → rules.maybe_faults gs s y ≡ [] →
+      IsPlaced x.variables ks (made.condition_at gs place s y)
+  condition_formed place s None known h = tt
+  condition_formed place s (Some y) known h = expr_formed s known y h
+
+  arms_there : (s : n.Scope) (ys : t.Arms) (ts : List Token) → g.arms_of ys ts → HasProgramArm (made.arms_of gs s ys).made
+  arms_there s t.no_arm ts d = d
+  arms_there s (t.arm_and y body rest) ts d = tt
+
+  mutual
+    statement_formed : (s : n.Scope) (y : t.Statement) (ts : List Token) → g.statement y ts → Known ks s.known → Into (made.statement gs s y).scope.kinds ks →
+        rules.statement_faults gs s y ≡ [] → AreStatements x ks (made.statement gs s y).made
+    statement_formed s (t.BlockOf y) ts d known into h = inside_formed s y ts d known into h
+    statement_formed s (t.Empty place) ts d known into h = tt
+    statement_formed s (t.Declare y) ts d known into h = (declaration_formed s known y.place y h (into_declared ks s y.name.text y.kind into), tt)
+    statement_formed s (t.Assign y) ts d known into h = (assignment_formed s known y.place y h, tt)
+    statement_formed s (t.AssignResult y c) ts d known into h =
+        let first = nil_left (rules.target_faults gs s y) (rules.call_faults gs s c true) h in (
+          call_formed s known y.name.place c (Some (made.target gs s y)) (nil_right (rules.target_faults gs s y) (rules.call_faults gs s c true) h)
+              (target_formed s known y first),
+          tt,
+        )
+    statement_formed s (t.CallOnly c) ts d known into h = (call_formed s known c.function.place c None h tt, tt)
+    statement_formed s (t.If place arms otherwise) ts d known into h =
+        let s' = (made.arms_of gs s arms).scope in
+        let first = nil_left (rules.arms_faults gs s arms) (rules.otherwise_faults gs s' otherwise) h in
+        let second = nil_right (rules.arms_faults gs s arms) (rules.otherwise_faults gs s' otherwise) h in
+        let within = into_both s'.kinds (made.otherwise_of gs s' otherwise).scope.kinds ks (grow_otherwise gs s' otherwise) into in (
+          (
+            arms_there s arms d.0 d.3.1,
+            arms_formed s arms (spelled_arms arms d.0 d.3.1) known within first,
+            otherwise_formed s' otherwise d.1 d.4
+                (known_arms s arms known) into second,
+          ),
+          tt,
+        )
+    statement_formed s (t.While place y body) ts d known into h =
+        let first = nil_left (rules.expression_faults gs s y) (rules.block_faults gs s body) h in
+        let second = nil_right (rules.expression_faults gs s y) (rules.block_faults gs s body) h in
+        ((expr_formed s known y first, inside_formed s body d.4.1 d.4.4 known into second), tt)
+    statement_formed s (t.Do place body y) ts d known into h =
+        let s' = (made.inside gs s body).scope in
+        let first = nil_left (rules.block_faults gs s body) (rules.expression_faults gs s' y) h in
+        let second = nil_right (rules.block_faults gs s body) (rules.expression_faults gs s' y) h in
+        ((inside_formed s body d.4.0 d.4.3 known into first, expr_formed s' (known_inside s body known) y second), tt)
+    statement_formed s (t.For place start y last body) ts d known into h =
+        let s0 = n.entered s in
+        let s1 = (made.first_at gs place s0 start).scope in
+        let s2 = (made.inside gs s1 body).scope in
+        let maybe = rules.maybe_faults gs s1 y in
+        let after = rules.last_faults gs s1 last in
+        let inner = rules.block_faults gs s1 body in
+        let h0 = nil_left (rules.first_faults gs s0 start) ((maybe ++ after) ++ inner) h in
+        let h1 = nil_right (rules.first_faults gs s0 start) ((maybe ++ after) ++ inner) h in
+        let h2 = nil_left (maybe ++ after) inner h1 in
+        let within = into_both s1.kinds s2.kinds ks (grow_inside gs s1 body) into in
+        let known1 = known_first place s0 start known within in
+        let condition = condition_formed place s1 y known1 (nil_left maybe after h2) in
+        let third = last_formed place s1 last known1 (nil_right maybe after h2) in
+        let block = d.4.4.4.4.4.4.4.4 in
+        let body_is = inside_formed s1 body d.4.4.4.4.4.4.4.1 block known1 into (nil_right (maybe ++ after) inner h1) in
+        let start_is = first_formed place s0 start known within h0 in
+        both_formed (made.first_at gs place s0 start).made _ start_is ((condition, both_formed (made.inside gs s1 body).made _ body_is third), tt)
+    statement_formed s (t.Lock place mutex) ts d known into h = (lock_formed s known mutex h, tt)
+    statement_formed s (t.Unlock place mutex) ts d known into h = (lock_formed s known mutex h, tt)
+
+    inside_formed : (s : n.Scope) (y : t.Block) (ts : List Token) → g.block y ts → Known ks s.known → Into (made.inside gs s y).scope.kinds ks →
+        rules.block_faults gs s y ≡ [] → AreStatements x ks (made.inside gs s y).made
+    inside_formed s (t.Braced opening ys closing) ts d known into h = statements_formed (n.entered s) ys d.4.0 d.4.3 known into h
+
+    pub statements_formed : (s : n.Scope) (ys : t.Statements) (ts : List Token) → g.statements ys ts → Known ks s.known →
+        Into (made.statements gs s ys).scope.kinds ks → rules.statements_faults gs s ys ≡ [] → AreStatements x ks (made.statements gs s ys).made
+    statements_formed s t.no_statement ts d known into h = tt
+    statements_formed s (t.statement_and y ys) ts d known into h =
+        let s' = (made.statement gs s y).scope in
+        let first = nil_left (rules.statement_faults gs s y) (rules.statements_faults gs s' ys) h in
+        let second = nil_right (rules.statement_faults gs s y) (rules.statements_faults gs s' ys) h in
+        let within = into_both s'.kinds (made.statements gs s' ys).scope.kinds ks (grow_statements gs s' ys) into in
+        both_formed (made.statement gs s y).made (made.statements gs s' ys).made (statement_formed s y d.0 d.3 known within first)
+        (statements_formed s' ys d.1 d.4 (known_after s y known within) into second)
+
+    arms_formed : (s : n.Scope) (ys : t.Arms) → Spelled ys → Known ks s.known → Into (made.arms_of gs s ys).scope.kinds ks → rules.arms_faults gs s ys ≡ [] →
+        AreArms x ks (made.arms_of gs s ys).made
+    arms_formed s t.no_arm d known into h = tt
+    arms_formed s (t.arm_and y body rest) d known into h =
+        let s' = (made.inside gs s body).scope in
+        let both = rules.expression_faults gs s y ++ rules.block_faults gs s body in
+        let first = nil_left both (rules.arms_faults gs s' rest) h in
+        let within = into_both s'.kinds (made.arms_of gs s' rest).scope.kinds ks (grow_arms gs s' rest) into in (
+          expr_formed s known y (nil_left (rules.expression_faults gs s y) (rules.block_faults gs s body) first),
+          inside_formed s body d.0.0 d.0.1 known within (nil_right (rules.expression_faults gs s y) (rules.block_faults gs s body) first),
+          arms_formed s' rest d.1 (known_inside s body known) into (nil_right both (rules.arms_faults gs s' rest) h),
+        )
+
+    otherwise_formed : (s : n.Scope) (y : t.Otherwise) (ts : List Token) → g.otherwise_of y ts → Known ks s.known →
+        Into (made.otherwise_of gs s y).scope.kinds ks → rules.otherwise_faults gs s y ≡ [] → AreStatements x ks (made.otherwise_of gs s y).made
+    otherwise_formed s t.Nothing ts d known into h = tt
+    otherwise_formed s (t.Else body) ts d known into h = inside_formed s body d.1 d.4 known into h

@@ -1,5 +1,0 @@
-use Rattle.compilation.proofs.Filed.{files_are_images}
-use Rattle.compilation.proofs.laws.files_are_images.Goals as goal
-
-pub returns : goal.returns
-returns c = files_are_images c.events_stand.ensures c.words_between_stay.ensures

@@ -1,5 +1,0 @@
-use Rattle.compilation.proofs.Filed.{files_are_resumed}
-use Rattle.compilation.proofs.laws.files_are_resumed.Goals as goal
-
-pub returns : goal.returns
-returns c = files_are_resumed c.files_are_images.ensures c.images_are_resumed.ensures

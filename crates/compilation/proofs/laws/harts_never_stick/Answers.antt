@@ -1,5 +1,0 @@
-use Rattle.compilation.proofs.Unstuck.{harts_never_stick}
-use Rattle.compilation.proofs.laws.harts_never_stick.Goals as goal
-
-pub returns : goal.returns
-returns c = harts_never_stick c.none_is_stuck.ensures c.marks_pass.ensures c.machines_resume.ensures

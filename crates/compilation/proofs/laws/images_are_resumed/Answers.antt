@@ -1,5 +1,0 @@
-use Rattle.compilation.proofs.Imaged.{images_are_resumed}
-use Rattle.compilation.proofs.laws.images_are_resumed.Goals as goal
-
-pub returns : goal.returns
-returns c = images_are_resumed c.kept_steps_grow.ensures c.settled_machines_are_kept.ensures

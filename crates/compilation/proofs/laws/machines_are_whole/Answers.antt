@@ -1,5 +1,0 @@
-use Rattle.compilation.proofs.Whole.{machines_are_whole}
-use Rattle.compilation.proofs.laws.machines_are_whole.Goals as goal
-
-pub returns : goal.returns
-returns c = machines_are_whole c.machines_resume.ensures

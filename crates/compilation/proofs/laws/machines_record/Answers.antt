@@ -1,5 +1,0 @@
-use Rattle.compilation.proofs.Records.{machines_record}
-use Rattle.compilation.proofs.laws.machines_record.Goals as goal
-
-pub returns : goal.returns
-returns c = machines_record c.marks_pass.ensures c.machines_resume.ensures

@@ -1,5 +1,0 @@
-use Rattle.compilation.proofs.Sections.{sections_are_kept}
-use Rattle.compilation.proofs.laws.sections_are_kept.Goals as goal
-
-pub returns : goal.returns
-returns c = sections_are_kept c.sections_are_kept.ensures

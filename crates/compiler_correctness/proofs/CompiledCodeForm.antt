@@ -1,0 +1,364 @@
+-- Compiled code has its form.
+use Rattle.std.proofs.Common.{◌≡◌, ◌≢◌, refl, ℕ, suc, ◌+◌, ◌-◌, ◌*◌, ◌<◌, ◌≤◌, List, [], ◌∷◌, length, sym, ◌∙◌, ap, subst, arith}
+use Rattle.std.proofs.Common.{true, false, Option, Some, None}
+use Rattle.std.specs.Prelude.{slice_get, slice_index, slice_index_or}
+use Rattle.std.specs.List.Sorted.{IsStrictlyIncreasing}
+use Rattle.std.proofs.lemmas.Option.{slice_get_within, get_or_from_slice_get}
+use Rattle.std.proofs.lemmas.List.Sums.{sum_by-cons}
+use Rattle.c_tree.specs.Flats as f
+use Rattle.c_tree.specs.LockDiscipline.{Held}
+use Rattle.c_tree.specs.Prices.{thread_price}
+use Rattle.lock_discipline.specs.Masks.{mask_of}
+use Rattle.lock_discipline.specs.HeldSetsByStep.{AreSetsOf}
+use Rattle.flow_graph.specs.declared.graph.Part.{Part}
+use Rattle.flow_graph.specs.Nodes.{Action, Eval, Store, Test, Lock, Unlock, End, Node, Graph}
+use Rattle.flow_graph.specs.Liveness.{NodeAt}
+use Rattle.flow_graph.specs.Lowering.{lowered, thread_count, thread_nodes, parts}
+use Rattle.flow_graph.specs.IdempotentCuts.{IsLock, locks, IsUnlock, unlocks, IsChosen, AreCuts, AreAtWrites}
+use Rattle.flow_graph.proofs.Public.{length-thread_nodes, found_in}
+use Rattle.region_cutter.specs.LocksAtBoundaries.{ChosenAreLocked}
+use Rattle.code_runs.specs.CodeTraces.{Program}
+use Rattle.rv64_link.specs.LinkedCode.{AreInstructions, IsInstructionAt}
+use Rattle.rv64_isa.specs.declared.instr.Instr.TheVariants.{Ecall}
+use Rattle.rv64_isa.specs.Programs.{code_of, code_start}
+use Rattle.hart_runs.specs.Laws.{program_at}
+use Rattle.thread_code.specs.Plans.{Plan, Thread, IsThread, IsNodeOf}
+use Rattle.thread_code.specs.Programs as c
+use Rattle.thread_code.specs.Programs.{IsOn, IsThreadCode, IsCallWithin, IsCalling, boundary_count, mark_of}
+use Rattle.rv64_codegen.proofs.Public.{price_of, prices, price_thread, IsStoring, threads_are, chosen_stores, end_is, node_in, node_exists, held_there}
+use Rattle.rv64_codegen.proofs.Public.{held_sets}
+use Rattle.crash_simulation.specs.Systems.{System, IsSystem, flat_of, thread_count as threads_of}
+use Rattle.compiler_correctness.specs.Translations.{marks_of}
+use Rattle.compiler_correctness.specs.Forms.{Sites, IsAmong, CallsAt, HasNodeForm, holds_some, IsResume, at_chosen, past_lock, past_unlock, HasThreadForm}
+use Rattle.compiler_correctness.specs.Laws.{translation_of, CompiledCodeHasForm}
+
+-- ---- Sets and their masks
+
+some_held : (held : Held) → mask_of held ≢ 0 → holds_some held ≡ true
+some_held [] some = absurd (some refl)
+some_held (true ∷ held) some = refl
+some_held (false ∷ held) some = some_held held (λ none. some (omega (arith, none)))
+
+has_mask : (held : Held) → holds_some held ≡ true → mask_of held ≢ 0
+has_mask [] some none = cc
+has_mask (true ∷ held) some none = omega (arith, none)
+has_mask (false ∷ held) some none = has_mask held some (omega (arith, none))
+
+-- ---- Whole words
+
+through : (a b d : ℕ) → IsOn a b → IsOn b d → IsOn a d
+through a b d x y = let p = x.is in let q = y.is in record { words = x.words + y.words; is = omega (arith, p, q) }
+
+none_between : (a : ℕ) → IsOn a a
+none_between a = record { words = 0; is = omega arith }
+
+-- the next word
+over : (a d : ℕ) → IsOn (a + 4) d → IsOn a d
+over a d x = let p = x.is in record { words = x.words + 1; is = omega (arith, p) }
+
+-- ---- Prices
+
+-- nodes from the one on that are each within their price are together
+paid : (ns : List Node) (first : ℕ) (entry words : ℕ → ℕ) →
+    ((i node : ℕ) (n : Node) → node ≡ first + i → slice_get ns i ≡ Some n → (entry (node + 1) ≡ entry node + 4 * words node) × (words node ≤ price_of n)) →
+    entry (first + length ns) ≤ entry first + 4 * prices ns
+paid [] first entry words each = let e : entry (first + 0) ≡ entry first = ap entry (omega arith) in omega (arith, e)
+paid (n ∷ ns) first entry words each =
+    let here = each 0 first n (omega arith) refl in
+    let rest = paid ns (first + 1) entry words (λ i node m at there. each (suc i) node m (omega (arith, at)) there) in
+    let e : entry (first + length (n ∷ ns)) ≡ entry (first + 1 + length ns) = ap entry (omega arith) in
+    let one = here.0 in
+    let price = here.1 in
+    omega (arith, e, rest, one, price, sum_by-cons price_of n ns)
+
+-- ---- The thread's own program
+
+abbrev program_in : System → (number : ℕ) → Program
+program_in y number = program_at y.program number (slice_index_or y.marks number []) (slice_index_or y.resumes number [])
+
+module _ (locked : ChosenAreLocked) (y : System) (s : IsSystem y) (t : Thread) (of : IsThread y.plan t)
+    (code : IsThreadCode y.plan t (program_in y t.number)) where
+  abbrev p : Plan
+  p = y.plan
+
+  graph_is : p.graph ≡ lowered p.flat
+  graph_is = s.plan.lowered
+
+  node_at : (node : ℕ) (x : Node) → NodeAt (lowered p.flat) node x → NodeAt p.graph node x
+  node_at node x at = subst (λ (g : Graph). NodeAt g node x) (sym graph_is) at
+
+  own_of : (node : ℕ) → IsAmong t.part node → IsNodeOf t node
+  own_of node among = record { from_first = among.from_first; below_end = among.below_end }
+
+  among_of : (node : ℕ) → IsNodeOf t node → IsAmong t.part node
+  among_of node own = record { from_first = own.from_first; below_end = own.below_end }
+
+  -- ---- Places of nodes
+
+  mark_by : Option Node → (node : ℕ) → ℕ
+  mark_by (Some x) node = mark_of code.places x.action node
+  mark_by None node = 0
+
+  abbrev sites : Sites
+  sites = record { start = code.places.entry; mark = λ node. mark_by (slice_get p.graph.nodes node) node; after = code.places.after }
+
+  mark_is : (node : ℕ) (x : Node) → NodeAt p.graph node x → sites.mark node ≡ mark_of code.places x.action node
+  unfolding mark_by
+  mark_is node x at = ap (λ (o : Option Node). mark_by o node) at
+
+  mark_on : (a : Action) (node : ℕ) → c.IsWithin code.places a node →
+      IsOn (code.places.entry node) (mark_of code.places a node) × IsOn (mark_of code.places a node + 4) (code.places.entry (node + 1))
+  mark_on (Eval target value next) node w = (w.core, w.after_core)
+  mark_on (Store variable kind next) node w = (w.core, w.after_core)
+  mark_on (Test condition holds fails) node w = (w.core, w.after_core)
+  mark_on (Lock mutex next) node w = (through _ _ _ w.core w.call.0, through _ _ _ w.call.1 w.call.2)
+  mark_on (Unlock mutex next) node w = (w.core, w.after_core)
+  mark_on End node w = (w.core, w.after_core)
+
+  -- ---- Marks
+
+  marked : (node : ℕ) (x : Node) → IsNodeOf t node → NodeAt p.graph node x →
+      slice_get (marks_of (translation_of y) t.number) (node - t.part.first) ≡ Some (sites.mark node)
+  marked node x own at =
+      let i : ℕ = node - t.part.first in
+      let from = own.from_first in
+      let same : t.part.first + i ≡ node = omega (arith, from) in
+      code.marks i x (subst (IsNodeOf t) (sym same) own) (subst (λ (k : ℕ). NodeAt p.graph k x) (sym same) at)
+      ∙ ap (λ (k : ℕ). Some (mark_of code.places x.action k)) same
+      ∙ ap (λ (k : ℕ). Some k) (sym (mark_is node x at))
+
+  -- ---- Calls
+
+  abbrev stands : (address : ℕ) → Type 0
+  stands address = IsInstructionAt (code_start y.program t.number) (code_of y.program t.number) address Ecall
+
+  stood : (address : ℕ) → IsInstructionAt code.places.program.start code.places.program.code address Ecall → stands address
+  stood address there = subst (λ (q : Program). IsInstructionAt q.start q.code address Ecall) code.of_program there
+
+  module _ (node : ℕ) (own : IsNodeOf t node) where
+    abbrev call : (address : ℕ) → Type 0
+    call address = CallsAt (translation_of y) t.number t.part sites node address
+
+    taken : (x : Node) (mutex next : ℕ) (at : NodeAt p.graph node x) → x.action ≡ Lock mutex next →
+        call (sites.mark node) × (IsOn (sites.mark node + 4) (code.places.after node) × IsOn (code.places.after node) (code.places.entry (node + 1)))
+    taken x mutex next at is =
+        let it = code.code node x own at in
+        let w = subst (λ (a : Action). IsCallWithin code.places a node) is it.within.call in
+        let calls = subst (λ (a : Action). IsCalling p t code.places a node) is it.calls in
+        let mark : sites.mark node ≡ code.places.call node = mark_is node x at ∙ ap (λ (a : Action). mark_of code.places a node) is in
+        subst (λ (m : ℕ). call m × (IsOn (m + 4) (code.places.after node) × IsOn (code.places.after node) (code.places.entry (node + 1)))) (sym mark) (
+          record {
+            stands = stood (code.places.call node) calls.0;
+            from_mark = subst (λ (m : ℕ). IsOn m (code.places.call node)) (sym mark) (none_between (code.places.call node));
+            to_end = through _ _ _ w.1 w.2;
+          },
+          (w.1, w.2),
+        )
+
+    given : (x : Node) (mutex next : ℕ) (at : NodeAt p.graph node x) → x.action ≡ Unlock mutex next →
+        (address : ℕ) × call address × (code.places.after node ≡ address + 4)
+    given x mutex next at is =
+        let it = code.code node x own at in
+        let w = subst (λ (a : Action). IsCallWithin code.places a node) is it.within.call in
+        let calls = subst (λ (a : Action). IsCalling p t code.places a node) is it.calls in
+        let mark : sites.mark node ≡ code.places.core node = mark_is node x at ∙ ap (λ (a : Action). mark_of code.places a node) is in (
+          code.places.call node,
+          record {
+            stands = stood (code.places.call node) calls.0;
+            from_mark = subst (λ (m : ℕ). IsOn m (code.places.call node)) (sym mark) w.0;
+            to_end = through _ _ _ w.1 w.2;
+          },
+          calls.2,
+        )
+
+    takes : IsLock (lowered p.flat) node →
+        call (sites.mark node) × (IsOn (sites.mark node + 4) (code.places.after node) × IsOn (code.places.after node) (code.places.entry (node + 1)))
+    takes (locks x mutex next at is) = taken x mutex next (node_at node x at) is
+
+    gives : IsUnlock (lowered p.flat) node → (address : ℕ) × call address × (code.places.after node ≡ address + 4)
+    gives (unlocks x mutex next at is) = given x mutex next (node_at node x at) is
+
+    has_form : HasNodeForm (translation_of y) t.number t.part sites node
+    has_form =
+        let there = node_exists p s.plan t of node own in
+        let it = code.code node there.0 own there.1 in
+        let on = mark_on there.0.action node it.within in
+        let mark = mark_is node there.0 there.1 in
+        record {
+          words = subst (λ (q : Program). AreInstructions q.start q.code (code.places.entry node) (code.places.entry (node + 1))
+              (2 * boundary_count p.boundaries node)) code.of_program it.words;
+          from_start = subst (λ (m : ℕ). IsOn (code.places.entry node) m) (sym mark) on.0;
+          to_end = subst (λ (m : ℕ). IsOn (m + 4) (code.places.entry (node + 1))) (sym mark) on.1;
+          marked = marked node there.0 own there.1;
+          takes = λ lock. (takes lock).0;
+          goes_on = λ lock. (takes lock).1;
+          gives = gives;
+        }
+
+  -- ---- Where the thread may be resumed
+
+  abbrev held : List Held
+  held = slice_index_or p.held t.number []
+
+  core_of : (a : Action) (node : ℕ) → IsStoring p s.plan a → mark_of code.places a node ≡ code.places.core node
+  core_of (Eval target value next) node is = absurd is
+  core_of (Store variable kind next) node is = refl
+  core_of (Test condition holds fails) node is = absurd is
+  core_of (Lock mutex next) node is = absurd is
+  core_of (Unlock mutex next) node is = absurd is
+  core_of End node is = absurd is
+
+  chosen_mark : (node : ℕ) → IsNodeOf t node → IsChosen p.graph p.boundaries node → sites.mark node ≡ code.places.core node
+  chosen_mark node own chosen =
+      let there = node_exists p s.plan t of node own in
+      mark_is node there.0 there.1 ∙ core_of there.0.action node (chosen_stores p s.plan node there.0 there.1 chosen)
+
+  abbrev Resume : (address : ℕ) → Type 0
+  Resume address = IsResume (translation_of y) t.part held sites address
+
+  in_form : (address : ℕ) → c.IsResumeAddress p t code.places address → Resume address
+  in_form address (c.at_chosen node own chosen) =
+      subst Resume (chosen_mark node own chosen)
+      (at_chosen node (among_of node own) (subst (λ (g : Graph). IsChosen g p.boundaries node) graph_is chosen))
+  in_form address (c.past_lock node mutex next x own at is) =
+      past_lock node (among_of node own) (locks x mutex next (subst (λ (g : Graph). NodeAt g node x) graph_is at) is)
+  in_form address (c.past_unlock node mutex next x own at is some) =
+      past_unlock node mutex next x (among_of node own) (subst (λ (g : Graph). NodeAt g node x) graph_is at) is
+      (some_held (slice_index_or held (next - t.part.first) []) some)
+
+  lock_in_code : (node : ℕ) → IsNodeOf t node → IsLock (lowered p.flat) node → c.IsResumeAddress p t code.places (code.places.after node)
+  lock_in_code node own (locks x mutex next at is) = c.past_lock node mutex next x own (node_at node x at) is
+
+  in_code : (address : ℕ) → Resume address → c.IsResumeAddress p t code.places address
+  in_code address (at_chosen node among chosen) =
+      let there = subst (λ (g : Graph). IsChosen g p.boundaries node) (sym graph_is) chosen in
+      subst (c.IsResumeAddress p t code.places) (sym (chosen_mark node (own_of node among) there)) (c.at_chosen node (own_of node among) there)
+  in_code address (past_lock node among lock) = lock_in_code node (own_of node among) lock
+  in_code address (past_unlock node mutex next x among at is some) =
+      c.past_unlock node mutex next x (own_of node among) (node_at node x at) is (has_mask (slice_index_or held (next - t.part.first) []) some)
+
+  -- ---- The thread
+
+  ended : t.part.end ≡ t.part.first + thread_count of.text
+  ended = end_is p s.plan t of
+
+  marks_ascend : IsStrictlyIncreasing (marks_of (translation_of y) t.number)
+  marks_ascend k within =
+      let count = code.marks_count in
+      let node : ℕ = t.part.first + k in
+      let own : IsNodeOf t node = record { from_first = omega arith; below_end = omega (arith, within, count) } in
+      let next : IsNodeOf t (node + 1) = record { from_first = omega arith; below_end = omega (arith, within, count) } in
+      let one = has_form node own in
+      let two = has_form (node + 1) next in
+      let here = at_number node k (omega arith) one.marked in
+      let there = at_number (node + 1) (k + 1) (omega arith) two.marked in
+      let after = one.to_end.is in
+      let before = two.from_start.is in
+      omega (arith, here, there, after, before)
+    where
+      at_number : (node i : ℕ) → node ≡ t.part.first + i →
+          slice_get (marks_of (translation_of y) t.number) (node - t.part.first) ≡ Some (sites.mark node) →
+          slice_index (marks_of (translation_of y) t.number) i ≡ sites.mark node
+      at_number node i is found =
+          let same : node - t.part.first ≡ i = omega (arith, is) in
+          get_or_from_slice_get (marks_of (translation_of y) t.number) i (sites.mark node) 0
+          (subst (λ (n : ℕ). slice_get (marks_of (translation_of y) t.number) n ≡ Some (sites.mark node)) same found)
+
+  price : length (code_of y.program t.number) ≤ thread_price of.text
+  price =
+      let ns = thread_nodes of.text t.part.first in
+      let total = paid ns t.part.first code.places.entry code.places.words (λ i node n is there.
+      let count = length-thread_nodes of.text t.part.first in
+      let within = slice_get_within ns i n there in
+      let own : IsNodeOf t node = record { from_first = omega (arith, is); below_end = omega (arith, is, within, count, ended) } in
+      let x = node_exists p s.plan t of node own in
+      let step : node - t.part.first ≡ i = omega (arith, is) in
+      let found : Some x.0 ≡ Some n =
+      sym (node_in p s.plan t of node x.0 own x.1) ∙ ap (slice_get ns) step ∙ there in
+      let same : x.0 ≡ n = cc in
+      (code.follows node own, subst (λ (z : Node). code.places.words node ≤ price_of z) same (code.code node x.0 own x.1).price)) in
+      let from : code.places.entry (t.part.first + length ns) ≡ code.places.entry t.part.end =
+      ap code.places.entry (let count = length-thread_nodes of.text t.part.first in omega (arith, count, ended)) in
+      let begin = code.begins in
+      let end = code.ends in
+      omega (arith, total, from, begin, end, price_thread of.text t.part.first)
+
+  sets_there : (sets : List Held) × (slice_get p.held t.number ≡ Some sets)
+  sets_there = found_in p.held t.number (held_there p s.plan t of)
+
+  held_is : held ≡ sets_there.0
+  held_is = get_or_from_slice_get p.held t.number sets_there.0 [] sets_there.1
+
+  holds_there : (node : ℕ) → IsNodeOf t node → IsChosen p.graph p.boundaries node → holds_some (slice_index_or held (node - t.part.first) []) ≡ true
+  holds_there node own chosen =
+      let step : ℕ = node - t.part.first in
+      let before = found_in held step (held_sets p s.plan t of node own) in
+      let from = own.from_first in
+      let here = locked p.flat p.held p.boundaries t.number step node before.0 s.plan.held
+      (subst (λ (g : Graph). AreAtWrites g p.boundaries) graph_is s.plan.at_writes)
+      (subst (λ (g : Graph). IsChosen g p.boundaries node) graph_is chosen) (
+      record {
+        part = t.part;
+        own = subst (λ (g : Graph). slice_get g.threads t.number ≡ Some t.part) graph_is of.nodes;
+        is = omega (arith, from);
+        sets = sets_there.0;
+        row = sets_there.1;
+        before = subst (λ (hs : List Held). slice_get hs step ≡ Some before.0) held_is before.1;
+      }) in
+      ap holds_some (get_or_from_slice_get held step before.0 [] before.1) ∙ some_held before.0 here.some
+
+  pub formed : HasThreadForm (translation_of y) t.number of.text
+  formed = record {
+    part = t.part;
+    nodes = subst (λ (g : Graph). slice_get g.threads t.number ≡ Some t.part) graph_is of.nodes;
+    held = held;
+    sets = subst (λ (hs : List Held). AreSetsOf p.flat of.text hs) (sym held_is)
+        (s.plan.held.sets t.number of.text sets_there.0 of.of_text sets_there.1);
+    price = price;
+    sites = sites;
+    begins = code.begins;
+    ends = code.ends;
+    each = λ node among. has_form node (own_of node among);
+    marks_count = code.marks_count;
+    marks_ascend = marks_ascend;
+    resumes = λ address. (λ has. in_form address ((code.resumes address).0 has), λ is. (code.resumes address).1 (in_code address is));
+    resumes_ascend = code.ascending;
+    locked = λ node among chosen. holds_there node (own_of node among) (subst (λ (g : Graph). IsChosen g p.boundaries node) (sym graph_is) chosen);
+  }
+
+-- ---- Programs
+
+length_parts : (ts : List f.Thread) (first : ℕ) → length (parts ts first) ≡ length ts
+length_parts [] first = refl
+length_parts (t ∷ ts) first = ap suc (length_parts ts (first + thread_count t))
+
+-- the thread of a code has the form of the text of its number
+form_of : ChosenAreLocked → (y : System) → (s : IsSystem y) → (n : ℕ) (below : n < threads_of y) (text : f.Thread) →
+    slice_get (flat_of y).threads n ≡ Some text → HasThreadForm (translation_of y) n text
+form_of locked y s n below text there =
+    let code = s.codes.each n below in
+    let own = s.own n below in
+    let number : code.thread.number ≡ n = s.codes.number n below in
+    let form = formed locked y s code.thread code.of (subst (λ (q : Program). IsThreadCode y.plan code.thread q) own.program code.is) in
+    let found : slice_get (flat_of y).threads n ≡ Some code.of.text =
+    subst (λ (k : ℕ). slice_get (flat_of y).threads k ≡ Some code.of.text) number code.of.of_text in
+    let both : Some code.of.text ≡ Some text = sym found ∙ there in
+    let same : code.of.text ≡ text = cc in
+    subst (λ (x : f.Thread). HasThreadForm (translation_of y) n x) same
+    (subst (λ (k : ℕ). HasThreadForm (translation_of y) k code.of.text) number form)
+
+pub compiled_code_has_form : ChosenAreLocked → CompiledCodeHasForm
+compiled_code_has_form locked y s minimal =
+    let many : threads_of y ≡ length (flat_of y).threads =
+    ap (λ (xs : List Part). length xs) (threads_are y.plan s.plan) ∙ length_parts (flat_of y).threads 0 in
+    record {
+      initial = s.initial;
+      mutexes = refl;
+      count = s.count ∙ many;
+      threads = λ n text there.
+          let within = slice_get_within (flat_of y).threads n text there in
+          form_of locked y s n (omega (arith, within, many)) text there;
+      cuts = subst (λ (g : Graph). AreCuts g y.plan.boundaries) s.plan.lowered s.plan.cuts;
+      at_writes = subst (λ (g : Graph). AreAtWrites g y.plan.boundaries) s.plan.lowered s.plan.at_writes;
+      minimal = minimal;
+    }

@@ -1,0 +1,97 @@
+-- The words of variables and logs are all of an image.
+use Rattle.std.proofs.Common.{◌≡◌, refl, ℕ, zero, suc, ◌+◌, ◌-◌, ◌*◌, ◌<◌, ◌≤◌, List, [], ◌∷◌, ◌++◌, length, take, drop, get_or, replicate}
+use Rattle.std.proofs.Common.{ap, ap₂, arith, sym, ◌∙◌, subst}
+use Rattle.std.proofs.Math.Seq.{take-append_seam, drop-append_seam}
+use Rattle.std.proofs.lemmas.List.{take-append-drop, drop-drop, get_or-drop, get_or-map, length-map, length-drop, length-take-le, length-append, append_assoc}
+use Rattle.ido_base.specs.declared.event.Event.{Event}
+use Rattle.ido_base.specs.Words.{Word, word_of, durable_value}
+use Rattle.ido_base.specs.Layout.{spread_words}
+use Rattle.crash_simulation.specs.Systems.{System, IsSystem, start_world}
+use Rattle.crash_simulation.specs.Laws.{EventsStand}
+use Rattle.crash_simulation.proofs.Public.{start_simulates}
+use Rattle.compiler_correctness.specs.Translations.{world}
+use Rattle.compiler_correctness.specs.Images.{Image, image_of, variable_words, IsInFile, IsResumedAsKept}
+use Rattle.compiler_correctness.specs.Laws.{translation_of, WordsBetweenStay, FilesAreImages, FilesAreResumed, ImagesAreResumed}
+use Rattle.compiler_correctness.proofs.OwnStores.{stands_along}
+use Rattle.compiler_correctness.proofs.PaddingUnwritten.{holds_no_more}
+
+-- ---- Zeros between others
+
+zeros_are : (count : ℕ) (xs : List ℕ) → count ≤ length xs → ((i : ℕ) → i < count → get_or xs i 0 ≡ 0) → take count xs ≡ replicate count 0
+zeros_are zero xs there each = refl
+zeros_are (suc count) [] there each = absurd (omega (arith, there))
+zeros_are (suc count) (x ∷ xs) there each =
+    ap₂ (λ (z : ℕ) (zs : List ℕ). z ∷ zs) (each 0 (omega arith)) (zeros_are count xs (omega (arith, there)) (λ i below. each (suc i) (omega (arith, below))))
+
+-- the first words and those from 8192 on make up all words, where those between are 0
+spread : (n : ℕ) (ws : List ℕ) → n ≤ 8192 → 8192 ≤ length ws → ((i : ℕ) → n ≤ i → i < 8192 → get_or ws i 0 ≡ 0) →
+    spread_words n (take n ws ++ drop 8192 ws) ≡ ws
+unfolding spread_words
+spread n ws few many between =
+    let prefix : length (take n ws) ≡ n = length-take-le n ws (omega (arith, few, many)) in
+    let rest = length-drop n ws in
+    let sum : n + (8192 - n) ≡ 8192 = omega (arith, few) in
+    let after : drop (8192 - n) (drop n ws) ≡ drop 8192 ws = drop-drop (8192 - n) n ws ∙ ap (λ (k : ℕ). drop k ws) sum in
+    let zeros : take (8192 - n) (drop n ws) ≡ replicate (8192 - n) 0 =
+    zeros_are (8192 - n) (drop n ws) (omega (arith, rest, many)) (λ i below.
+    get_or-drop n ws i 0 ∙ between (n + i) (omega arith) (omega (arith, below))) in
+    let own : take n (take n ws ++ drop 8192 ws) ≡ take n ws =
+    ap (λ (k : ℕ). take k (take n ws ++ drop 8192 ws)) (sym prefix) ∙ take-append_seam (take n ws) (drop 8192 ws) in
+    let logs : drop n (take n ws ++ drop 8192 ws) ≡ drop 8192 ws =
+    ap (λ (k : ℕ). drop k (take n ws ++ drop 8192 ws)) (sym prefix) ∙ drop-append_seam (take n ws) (drop 8192 ws) in
+    ap₂ (λ (us vs : List ℕ). us ++ replicate (8192 - n) 0 ++ vs) own logs
+    ∙ (ap₂ (λ (us vs : List ℕ). take n ws ++ us ++ vs) (sym zeros) (sym after)
+    ∙ (append_assoc (take n ws) (take (8192 - n) (drop n ws)) (drop (8192 - n) (drop n ws))
+    ∙ ap (λ (us : List ℕ). take n ws ++ us) (take-append-drop (8192 - n) (drop n ws)) ∙ take-append-drop n ws))
+
+-- ---- Images
+
+module _ (stand : EventsStand) (stay : WordsBetweenStay) (y : System) (s : IsSystem y) (events : List Event) where
+  abbrev words : List Word
+  words = (world (translation_of y) events).words
+
+  abbrev image : Image
+  image = image_of (translation_of y) events
+
+  abbrev n : ℕ
+  n = variable_words (translation_of y)
+
+  few : n ≤ 8192
+  few = let most = holds_no_more y s in omega (arith, most)
+
+  size : length image.words ≡ 8192 + 128 * length y.program
+  size =
+      let stands = stands_along stand y s events (start_world y) (start_simulates y s) in
+      let all = stands.before_commit.sound.size in
+      let count = stands.before_commit.count in
+      let programs = s.count in
+      let mapped = length-map words durable_value in
+      omega (arith, all, count, programs, mapped)
+
+  between : (i : ℕ) → n ≤ i → i < 8192 → get_or image.words i 0 ≡ 0
+  between i from below =
+      let all = size in
+      let mapped = length-map words durable_value in
+      get_or-map durable_value words i (word_of 0) 0 (omega (arith, all, mapped, below)) ∙ ap durable_value (stay y s events i from below)
+
+  in_file : IsInFile (translation_of y) image
+  in_file =
+      let all = size in
+      let inside = few in
+      let prefix = length-take-le n image.words (omega (arith, all, inside)) in
+      let logs = length-drop 8192 image.words in
+      let both = length-append (take n image.words) (drop 8192 image.words) in
+      record {
+        size = omega (arith, prefix, logs, both, all);
+        is_all =
+            ap (λ (ws : List ℕ). record { words = ws; kept = image.kept })
+            (spread n image.words few (omega (arith, all)) between);
+      }
+
+pub files_are_images : EventsStand → WordsBetweenStay → FilesAreImages
+files_are_images stand stay y s events = in_file stand stay y s events
+
+pub files_are_resumed : FilesAreImages → ImagesAreResumed → FilesAreResumed
+files_are_resumed files images y s before events =
+    let c = translation_of y in
+    subst (λ (image : Image). IsResumedAsKept c image events) (sym (files y s before).is_all) (images y s before events)

@@ -1,0 +1,180 @@
+-- A hart that nears its next mark passes it, or stops.
+use Rattle.std.proofs.Common.{◌≡◌, ◌≢◌, ◌⊎◌, inl, inr, refl, ℕ, zero, suc, ◌+◌, ◌<◌, ◌≤◌, List, [], ◌∷◌, length, sym, ◌∙◌, ap, arith, subst, Bool}
+use Rattle.std.proofs.Common.{true, false, Option}
+use Rattle.std.specs.Prelude.{◌==◌, filter, if◌then◌else◌}
+use Rattle.std.proofs.lemmas.Bool.{cases_eq, true≢false}
+use Rattle.std.proofs.lemmas.List.Elements.{filter-append}
+use Rattle.std.proofs.Math.ListN.{length-append}
+use Rattle.ido_base.specs.declared.event.Event.{Event}
+use Rattle.ido_base.specs.declared.event.Event.TheVariants.{Step, Evict, Crash}
+use Rattle.ido_base.specs.Words.{Word, last_position, word_at}
+use Rattle.ido_base.specs.Layout.{word_number, point_at}
+use Rattle.rv64_isa.specs.declared.object.Slot.{Slot}
+use Rattle.rv64_isa.specs.declared.phase.Phase.{Phase}
+use Rattle.rv64_isa.specs.declared.phase.Phase.TheVariants.{Take, Wait, Resume, Run, Done, Ended}
+use Rattle.rv64_isa.specs.Machine.{Hart, World, after_event, after_events, happens, phase_step, stepped}
+use Rattle.rv64_isa.specs.Frames.{IsWellFormedWorld}
+use Rattle.rv64_isa.specs.Schedule.{Steps, with_begun, with_bound, with_step, with_all_kept, steps_after, steps_along, passes_mark, stores_point}
+use Rattle.rv64_isa.proofs.Public.{queues_stand, steps_touch}
+use Rattle.compiler_correctness.specs.Translations.{HaveNoCrash}
+use Rattle.compiler_correctness.specs.Compilation.{has_stopped}
+use Rattle.compiler_correctness.specs.Delays.{is_active_step, active_steps, IsStopped, begun_by}
+
+-- the account of begun steps grows by the events, or the hart has stopped in the end
+abbrev pub GetsOn : (marks : List (List ℕ)) (program : List (List Slot)) (h : ℕ) → World → Steps → List Event → Type 0
+GetsOn marks program h w s more = (begun_by s h < begun_by (steps_along marks program w more s) h) ⊎ IsStopped (after_events program w more) h
+
+-- ---- Begun steps are never fewer
+
+kept_begun : (words : List Word) (count : ℕ) (s : Steps) → (with_all_kept words count s).begun ≡ s.begun
+kept_begun words zero s = refl
+kept_begun words (suc h) s = kept_begun words h s
+
+abbrev counted_by : (begun points : Bool) → (g position : ℕ) → Steps → Steps
+counted_by begun points g position s =
+    let started = if begun then with_begun g s else s in if points then with_bound g position started else started
+
+begun_more : (h g : ℕ) (s : Steps) → begun_by (with_begun g s) h ≡ begun_by s h + length (filter (λ x. x == h) (g ∷ []))
+begun_more h g s =
+    ap (λ (xs : List ℕ). length xs) (filter-append (λ x. x == h) s.begun (g ∷ []))
+    ∙ length-append (filter (λ x. x == h) s.begun) (filter (λ x. x == h) (g ∷ []))
+
+one_own : (h : ℕ) → length (filter (λ x. x == h) (h ∷ [])) ≡ 1
+one_own h = grind arith
+
+step_more : (begun points : Bool) (h g position : ℕ) (s : Steps) → begun_by s h ≤ begun_by (counted_by begun points g position s) h
+step_more false false h g position s = omega arith
+step_more false true h g position s = omega arith
+step_more true false h g position s = let more = begun_more h g s in omega (arith, more)
+step_more true true h g position s = let more = begun_more h g s in omega (arith, more)
+
+own_more : (points : Bool) (h position : ℕ) (s : Steps) → begun_by s h < begun_by (counted_by true points h position s) h
+own_more false h position s = let more = begun_more h h s in let one = one_own h in omega (arith, more, one)
+own_more true h position s = let more = begun_more h h s in let one = one_own h in omega (arith, more, one)
+
+module _ (marks : List (List ℕ)) (program : List (List Slot)) (h : ℕ) where
+  abbrev position_of : World → (g : ℕ) → ℕ
+  position_of w g = last_position (word_at (after_event program w (Step g)).words (word_number (point_at g)))
+
+  count_kept : (words : List Word) (count : ℕ) (s : Steps) → begun_by (with_all_kept words count s) h ≡ begun_by s h
+  count_kept words count s = ap (λ (xs : List ℕ). length (filter (λ x. x == h) xs)) (kept_begun words count s)
+
+  after_more : (w : World) (event : Event) (s : Steps) → begun_by s h ≤ begun_by (steps_after marks program w event s) h
+  unfolding steps_after
+  after_more w (Step g) s =
+      let more = step_more (passes_mark marks program w g) (stores_point program w (Step g) g) h g (position_of w g) s in
+      let kept = count_kept (after_event program w (Step g)).words (length s.harts) (with_step marks program w g s) in
+      omega (arith, more, kept)
+  after_more w (Evict line mask) s =
+      let kept = count_kept (after_event program w (Evict line mask)).words (length s.harts) s in
+      omega (arith, kept)
+  after_more w Crash s = omega arith
+
+  after_own : (w : World) (s : Steps) → passes_mark marks program w h ≡ true → begun_by s h < begun_by (steps_after marks program w (Step h) s) h
+  unfolding steps_after
+  after_own w s passes =
+      let kept = count_kept (after_event program w (Step h)).words (length s.harts) (with_step marks program w h s) in
+      let more = own_more (stores_point program w (Step h) h) h (position_of w h) s in
+      let same : begun_by (counted_by (passes_mark marks program w h) (stores_point program w (Step h) h) h (position_of w h) s) h ≡
+      begun_by (counted_by true (stores_point program w (Step h) h) h (position_of w h) s) h =
+      ap (λ (b : Bool). begun_by (counted_by b (stores_point program w (Step h) h) h (position_of w h) s) h) passes in
+      omega (arith, more, kept, same)
+
+  along_more : (events : List Event) (w : World) (s : Steps) → begun_by s h ≤ begun_by (steps_along marks program w events s) h
+  along_more [] w s = omega arith
+  along_more (event ∷ events) w s =
+      let one = after_more w event s in
+      let more = along_more events (after_event program w event) (steps_after marks program w event s) in
+      omega (arith, one, more)
+
+  -- ---- A hart that has stopped stays so
+
+  still_by : (w : World) (hart : Hart) (phase : Phase) → has_stopped phase ≡ true → (phase_step program w h hart phase).0 ≡ w
+  still_by w hart Done e = refl
+  still_by w hart Ended e = refl
+  still_by w hart Run e = absurd (true≢false (sym e))
+  still_by w hart Take e = absurd (true≢false (sym e))
+  still_by w hart Wait e = absurd (true≢false (sym e))
+  still_by w hart Resume e = absurd (true≢false (sym e))
+
+  still : (w : World) (s : IsStopped w h) → after_event program w (Step h) ≡ w
+  unfolding happens
+  still w s = ap (λ (o : Option Hart). (stepped program w h o).0) s.here ∙ still_by w s.hart s.hart.phase s.stopped
+
+  stays : (w : World) (event : Event) → IsWellFormedWorld w → event ≢ Crash → IsStopped w h → IsStopped (after_event program w event) h
+  unfolding happens
+  stays w (Step g) sound other_event s = elim (cases_eq g h) [
+    | inl is ↦ subst (λ (x : ℕ). IsStopped (after_event program w (Step x)) h) (sym is) (subst (λ (v : World). IsStopped v h) (sym (still w s)) s)
+    | inr other ↦ record {
+      hart = s.hart;
+      here = (steps_touch program w g sound).others h (λ e. other (sym e)) ∙ s.here;
+      stopped = s.stopped;
+    }
+  ]
+  stays w (Evict line mask) sound other_event s = record { hart = s.hart; here = s.here; stopped = s.stopped }
+  stays w Crash sound other_event s = absurd (other_event refl)
+
+  no_crash : (event : Event) (events : List Event) → HaveNoCrash (event ∷ events) → (event ≢ Crash) × HaveNoCrash events
+  no_crash (Step g) events none = ((λ e. cc), none)
+  no_crash (Evict line mask) events none = ((λ e. cc), none)
+  no_crash Crash events none = absurd none
+
+  stays_along : (events : List Event) (w : World) → length program ≡ length w.harts → IsWellFormedWorld w → HaveNoCrash events → IsStopped w h →
+      IsStopped (after_events program w events) h
+  stays_along [] w count sound none s = s
+  stays_along (event ∷ events) w count sound none s =
+      let both = no_crash event events none in
+      let next = queues_stand program w event count sound in
+      stays_along events (after_event program w event) (count ∙ sym next.1) next.0 both.1 (stays w event sound both.0 s)
+
+  -- ---- A measure that falls
+
+  -- by the event the hart passes a mark, or stops, or nears one of these
+  pub data GetsNearer (Near : World → ℕ → Type 0) (w : World) (event : Event) (left : ℕ) : Type 0 where
+    idles : is_active_step program w event h ≡ false → Near (after_event program w event) left → GetsNearer Near w event left
+    nears : (less : ℕ) → left ≡ suc less → Near (after_event program w event) less → GetsNearer Near w event left
+    begins : event ≡ Step h → passes_mark marks program w h ≡ true → GetsNearer Near w event left
+    stops : IsStopped (after_event program w event) h → GetsNearer Near w event left
+
+  later : (w : World) (event : Event) (events : List Event) (s : Steps) →
+      GetsOn marks program h (after_event program w event) (steps_after marks program w event s) events → GetsOn marks program h w s (event ∷ events)
+  later w event events s (inl more) = let first = after_more w event s in inl (omega (arith, more, first))
+  later w event events s (inr stopped) = inr stopped
+
+  abbrev one_if : Bool → ℕ
+  one_if b = if b then 1 else 0
+
+  none_if : (b : Bool) → b ≡ false → one_if b ≡ 0
+  none_if b e = ap one_if e
+
+  at_most_one : (b : Bool) → one_if b ≤ 1
+  at_most_one true = omega arith
+  at_most_one false = omega arith
+
+  module _ (Near : World → ℕ → Type 0)
+      (falls : (w : World) (event : Event) (left : ℕ) → event ≢ Crash → Near w left → GetsNearer Near w event left) where
+    pub gets_on : (more : List Event) (w : World) (s : Steps) (left : ℕ) → length program ≡ length w.harts → IsWellFormedWorld w →
+        HaveNoCrash more → Near w left →
+        left < active_steps program w more h → GetsOn marks program h w s more
+    gets_on [] w s left count sound none near many = absurd (let z : ⊥ = omega (arith, many) in z)
+    gets_on (event ∷ events) w s left count sound none near many =
+        let both = no_crash event events none in
+        let next = queues_stand program w event count sound in
+        let then_count = count ∙ sym next.1 in
+        elim (falls w event left both.0 near) [
+          | idles idle then_near ↦
+              let zero_here = none_if (is_active_step program w event h) idle in
+              later w event events s (gets_on events (after_event program w event) (steps_after marks program w event s) left then_count next.0 both.1 then_near
+              (omega (arith, many, zero_here)))
+          | nears less is then_near ↦
+              let one = at_most_one (is_active_step program w event h) in
+              later w event events s (gets_on events (after_event program w event) (steps_after marks program w event s) less then_count next.0 both.1 then_near
+              (omega (arith, many, one, is)))
+          | begins is passes ↦
+              let own = after_own w s passes in
+              let same : begun_by (steps_after marks program w (Step h) s) h ≡ begun_by (steps_after marks program w event s) h =
+              ap (λ (x : Event). begun_by (steps_after marks program w x s) h) (sym is) in
+              let more = along_more events (after_event program w event) (steps_after marks program w event s) in
+              inl (omega (arith, own, same, more))
+          | stops stopped ↦ inr (stays_along events (after_event program w event) then_count next.0 both.1 stopped)
+        ]

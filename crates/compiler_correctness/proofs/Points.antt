@@ -1,0 +1,120 @@
+-- The live and the durable point of a thread are those of records that describe it.
+use Rattle.std.proofs.Common.{◌≡◌, ◌≢◌, ◌⊎◌, inl, inr, ℕ, ◌<◌, List, [], ap, sym, ◌∙◌, subst, Bool, false}
+use Rattle.std.specs.Prelude.{slice_index_or, if◌then◌else◌}
+use Rattle.std.specs.List.{Contains}
+use Rattle.std.proofs.lemmas.Bool.{cases_Bool, cond-true}
+use Rattle.ido_base.specs.Layout.{point_at}
+use Rattle.ido_base.specs.Words.{live_value}
+use Rattle.code_runs.specs.CodeTraces.{Program}
+use Rattle.rv64_isa.specs.Machine.{World, durable_point, live_at, resume_of}
+use Rattle.flow_graph.specs.Actions.{FlowState}
+use Rattle.log_states.specs.Logs.{Record, point_in, IsRecorded}
+use Rattle.log_states.specs.Stages.{LogConfig, LogIs, Stage, Writing, Written, Pointed, PointQueued, Over, is_committed}
+use Rattle.log_states.specs.Machines.{config_of}
+use Rattle.log_states.proofs.Public.{durable_is, point_is}
+use Rattle.recovered_threads.specs.RecordDescriptions.{Code, Describes}
+use Rattle.crash_simulation.specs.Systems.{System, IsSystem, thread_count}
+use Rattle.crash_simulation.specs.AbstractRuns.{kept_of, now_of}
+use Rattle.crash_simulation.specs.ThreadGhosts.{ThreadGhost}
+use Rattle.crash_simulation.specs.SimulationRelation.{Simulates}
+use Rattle.crash_simulation.proofs.Public.{left, left_describes, left_point, log_of}
+use Rattle.compiler_correctness.proofs.AbstractRunAccount.{points_name}
+
+-- ---- A log on its way from the one record to the other
+
+-- the live point is the new record's, or the old one's where that isn't committed
+abbrev pub LiveIs : (thread : ℕ) (old new : Record) (m : LogConfig) → Type 0
+LiveIs thread old new m =
+    (live_value (point_in m.words thread) ≡ new.point) ⊎ ((live_value (point_in m.words thread) ≡ old.point) × (is_committed thread m ≡ false))
+
+module _ (thread : ℕ) (old new : Record) (m : LogConfig) (l : LogIs thread old new m) where
+  from_old : IsRecorded thread old m.words → LiveIs thread old new m
+  from_old h = elim (cases_Bool (is_committed thread m)) [
+    | inl committed ↦
+        let durable : durable_point m.words thread ≡ old.point = durable_is (point_in m.words thread) old.point h.point in
+        let new_is : durable_point m.words thread ≡ new.point =
+        point_is thread old new m l ∙ ap (λ (r : Record). r.point) (cond-true (is_committed thread m) new old committed) in
+        inl (h.point.live ∙ (sym durable ∙ new_is))
+    | inr not_yet ↦ inr (h.point.live, not_yet)
+  ]
+
+  by_stage : Stage thread old new m → LiveIs thread old new m
+  by_stage (Writing slots lines writing h) = from_old h
+  by_stage (Written rest h bank) = from_old h
+  by_stage (Pointed rest h) = inl h.last
+  by_stage (PointQueued rest h r) = inl h.last
+  by_stage (Over rest h) = inl h.point.live
+
+  pub live_is : LiveIs thread old new m
+  live_is = by_stage l.stage
+
+-- ---- In a machine that simulates an abstract run
+
+module _ (y : System) (s : IsSystem y) (w : World) (stands : Simulates y s w) (n : ℕ) (below : n < thread_count y) where
+  abbrev code : Code y.plan
+  code = s.codes.each n below
+
+  abbrev ghost : ThreadGhost
+  ghost = stands.before_commit.ghosts n
+
+  abbrev kept : FlowState
+  kept = kept_of y stands.before_commit.abstract
+
+  abbrev present : FlowState
+  present = now_of y stands.before_commit.abstract
+
+  -- what is committed is taken so
+  caught_up : is_committed n (config_of w (log_of y s w stands n below).hart ghost.rest) ≡ ghost.committed
+  caught_up =
+      subst (λ (k : ℕ). is_committed k (record { words = w.words; queue = []; rest = ghost.rest }) ≡ ghost.committed) (s.codes.number n below)
+      (stands.caught_up n below)
+
+  -- the new record describes the kept state where it is the one that is kept, and else the state now
+  new_describes : Describes y.plan code kept ghost.new ⊎ Describes y.plan code present ghost.new
+  new_describes = elim (cases_Bool ghost.committed) [
+    | inl done ↦
+        inl (subst (λ (b : Bool). Describes y.plan code kept (if b then ghost.new else ghost.old)) done (stands.before_commit.each n below).describes)
+    | inr not_yet ↦ inr ((stands.before_commit.each n below).will_describe not_yet)
+  ]
+
+  old_describes : ghost.committed ≡ false → Describes y.plan code kept ghost.old
+  old_describes not_yet =
+      subst (λ (b : Bool). Describes y.plan code kept (if b then ghost.new else ghost.old)) not_yet (stands.before_commit.each n below).describes
+
+  -- what is so of all such records is so of the live point, and of the durable one
+  module _ (P : ℕ → Type 0) (of_kept : (r : Record) → Describes y.plan code kept r → P r.point)
+      (of_now : (r : Record) → Describes y.plan code present r → P r.point) where
+    new_is : Describes y.plan code kept ghost.new ⊎ Describes y.plan code present ghost.new → P ghost.new.point
+    new_is (inl describes) = of_kept ghost.new describes
+    new_is (inr describes) = of_now ghost.new describes
+
+    pub of_live : P (live_at w.words (point_at n))
+    of_live = elim (live_is n ghost.old ghost.new (config_of w (log_of y s w stands n below).hart ghost.rest) (log_of y s w stands n below).log) [
+      | inl new ↦ subst P (sym new) (new_is new_describes)
+      | inr old ↦ subst P (sym old.0) (of_kept ghost.old (old_describes (sym caught_up ∙ old.1)))
+    ]
+
+    pub of_durable : P (durable_point w.words n)
+    of_durable = subst P (sym (left_point y s w stands n below)) (of_kept (left y s w stands n) (left_describes y s w stands n below))
+
+  -- ---- Points name addresses at which recovery may resume
+
+  resumes_are : code.program.resumes ≡ slice_index_or y.resumes n []
+  resumes_are =
+      ap (λ (program : Program). program.resumes) (s.own n below).program ∙ ap (λ (k : ℕ). slice_index_or y.resumes k []) (s.codes.number n below)
+
+  Names : ℕ → Type 0
+  Names point = point ≢ 0 → Contains (slice_index_or y.resumes n []) (resume_of point)
+
+  names : (state : FlowState) (r : Record) → Describes y.plan code state r → Names r.point
+  unfolding Names
+  names state r describes some =
+      subst (λ (addresses : List ℕ). Contains addresses (resume_of r.point)) resumes_are (points_name y.plan code state r describes some)
+
+  pub live_names : live_at w.words (point_at n) ≢ 0 → Contains (slice_index_or y.resumes n []) (resume_of (live_at w.words (point_at n)))
+  unfolding Names
+  live_names = of_live Names (names kept) (names present)
+
+  pub durable_names : durable_point w.words n ≢ 0 → Contains (slice_index_or y.resumes n []) (resume_of (durable_point w.words n))
+  unfolding Names
+  durable_names = of_durable Names (names kept) (names present)

@@ -1,0 +1,145 @@
+-- What a compiled program is held to, after whatever events: steps of all harts, evictions and crashes in any order.
+use Rattle.std.specs.Prelude.{◌≡◌, ◌≢◌, ◌⊎◌, ◌↔◌, ℕ, ◌+◌, ◌<◌, ◌≤◌, List, ◌++◌, length, Contains, slice_get, Some, None, Bool, true, false}
+use Rattle.ido_base.specs.declared.event.Event.{Event}
+use Rattle.ido_base.specs.declared.event.Event.TheVariants.{Step}
+use Rattle.ido_base.specs.declared.event.Reply.TheVariants.{Moved, Stuck}
+use Rattle.ido_base.specs.declared.event.Cause.{Cause}
+use Rattle.ido_base.specs.Layout.{point_at}
+use Rattle.ido_base.specs.Locks.{has_lock, holds_none}
+use Rattle.c_tree.specs.Source as m
+use Rattle.c_tree.specs.Source.{is_between}
+use Rattle.source_machine.specs.Mutexes.{locks}
+use Rattle.rv64_isa.specs.declared.phase.Phase.{Phase}
+use Rattle.rv64_isa.specs.declared.phase.Phase.TheVariants.{Take, Wait, Resume, Run, Done, Ended}
+use Rattle.rv64_isa.specs.Machine.{World, Hart, reply_to, live_at, durable_point, resume_of, record_of}
+use Rattle.rv64_isa.specs.Schedule.{is_settled, released_count}
+use Rattle.hart_runs.specs.Calls.{IsAtCall, lock_asked}
+use Rattle.variable_words.specs.Variables.{live_variables, durable_variables}
+use Rattle.compiler_correctness.specs.Translations.{Translation, first_world, world, steps, now, source, IsRunnable, resumes_of}
+
+-- ---- Settled machines
+
+-- the source can be stepped by all kept steps; and where all harts stand between sections, so do all threads after these, and the durable variables are theirs
+pub record IsSettledAsKept (c : Translation) (events : List Event) : Type 0 where
+  pub runs : IsRunnable c (steps c events).kept
+  pub between : is_settled (world c events) ≡ true → (thread : ℕ) → is_between (source c (steps c events).kept) thread ≡ true
+  pub variables : is_settled (world c events) ≡ true →
+      durable_variables (world c events).words c.flat.variables ≡ (source c (steps c events).kept).variables
+
+-- ---- Kept steps
+
+-- the one schedule, and more after it
+pub record BeginsWith (whole prefix : List ℕ) : Type 0 where
+  pub rest : List ℕ
+  pub is : whole ≡ prefix ++ rest
+
+-- no kept step is lost, whatever happens next
+abbrev pub KeptScheduleGrows : Translation → List Event → Type 0
+KeptScheduleGrows c events = (more : List Event) → BeginsWith (steps c (events ++ more)).kept (steps c events).kept
+
+-- ---- Kept sections
+
+-- sections of the thread that have ended by the kept schedule, and releases that have left its hart holding nothing
+abbrev pub sections_kept : Translation → List Event → (thread : ℕ) → ℕ
+sections_kept c events thread = m.ended_from (m.start c.flat) (steps c events).kept thread
+
+abbrev pub sections_released : Translation → List Event → (hart : ℕ) → ℕ
+sections_released c events hart = released_count c.program (first_world c) events hart
+
+-- each section that a hart has left is kept, and at most one more of its thread
+pub record AreSectionsKept (c : Translation) (events : List Event) : Type 0 where
+  pub no_less : (h : ℕ) → sections_released c events h ≤ sections_kept c events h
+  pub no_more : (h : ℕ) → sections_kept c events h ≤ sections_released c events h + 1
+
+-- ---- Locks of a hart and of its thread
+
+-- the thread holds the mutex in the state, and the hart holds the lock in the world
+abbrev pub ThreadHolds : m.State → (thread mutex : ℕ) → Type 0
+ThreadHolds s thread mutex = slice_get s.holders mutex ≡ Some (Some thread)
+
+abbrev pub HartHolds : World → (hart lock : ℕ) → Type 0
+HartHolds w hart lock = slice_get w.holders lock ≡ Some (Some hart)
+
+-- hart h holds what its thread holds after the schedule, and beside that no more than mutexes that are free then, as one is whose release is under way
+pub record HoldsAsThread (c : Translation) (w : World) (schedule : List ℕ) (h : ℕ) : Type 0 where
+  pub held : (lock : ℕ) → ThreadHolds (source c schedule) h lock → HartHolds w h lock
+  pub holds : (lock : ℕ) → HartHolds w h lock → ThreadHolds (source c schedule) h lock ⊎ (slice_get (source c schedule).holders lock ≡ Some None)
+  -- at a call that takes a lock or waits for it, its thread stands at that lock, and it holds nothing else than its thread does
+  pub taking : (a : IsAtCall c.program w h 1) → locks (source c schedule) h ≡ Some (lock_asked a.hart)
+  pub holds_only : IsAtCall c.program w h 1 → (lock : ℕ) → HartHolds w h lock → ThreadHolds (source c schedule) h lock
+
+-- the hart executes instructions, or has ended
+abbrev pub IsOn : Hart → Type 0
+IsOn hart = (hart.phase ≡ Run) ⊎ (hart.phase ≡ Ended)
+
+-- ---- Lockstep, where power stays on
+
+-- the source can be stepped by all steps that have begun: memory has the variables that it has then, and harts hold what their threads do
+pub record IsInStep (c : Translation) (events : List Event) : Type 0 where
+  pub runs : IsRunnable c (steps c events).begun
+  pub variables : live_variables (world c events).words c.flat.variables ≡ (source c (steps c events).begun).variables
+  pub locks_agree : (h : ℕ) (hart : Hart) → slice_get (world c events).harts h ≡ Some hart → IsOn hart →
+      HoldsAsThread c (world c events) (steps c events).begun h
+
+-- ---- Records, and where recovery resumes
+
+-- the point names a resume address of the thread, unless it is 0
+abbrev pub NamesResume : Translation → (h point : ℕ) → Type 0
+NamesResume c h point = point ≢ 0 → Contains (resumes_of c h) (resume_of point)
+
+-- a hart of a machine at a moment
+pub record IsRecorded (c : Translation) (events : List Event) (h : ℕ) (hart : Hart) : Type 0 where
+  -- what it holds that executes instructions, in recovery too, or has ended
+  pub locks_agree : IsOn hart → HoldsAsThread c (world c events) (now c events) h
+  -- the hart's record is the set that its thread holds by the kept schedule
+  pub record_is : (lock : ℕ) → (has_lock (record_of (world c events).words h) lock ≡ true) ↔ ThreadHolds (source c (steps c events).kept) h lock
+  -- the hart's record shares no lock with another's
+  pub apart : (g lock : ℕ) → g < length c.program → g ≢ h → has_lock (record_of (world c events).words h) lock ≡ true →
+      has_lock (record_of (world c events).words g) lock ≡ false
+  -- in recovery a hart takes its locks and never waits for one
+  pub takes : hart.phase ≡ Take → reply_to c.program (world c events) (Step h) ≡ Moved
+  -- the hart's points, the live and the durable one, name resume addresses
+  pub live_point : NamesResume c h (live_at (world c events).words (point_at h))
+  pub durable_point_names : NamesResume c h (durable_point (world c events).words h)
+
+pub record AreRecords (c : Translation) (events : List Event) : Type 0 where
+  -- the source can be stepped by all kept steps, and after them by those begun since
+  pub kept : IsRunnable c (steps c events).kept
+  pub now_runs : IsRunnable c (now c events)
+  pub each : (h : ℕ) (hart : Hart) → slice_get (world c events).harts h ≡ Some hart → IsRecorded c events h hart
+
+-- ---- No hart is ever stuck
+
+abbrev pub NeverStuck : Translation → List Event → Type 0
+NeverStuck c events = (h : ℕ) (cause : Cause) → reply_to c.program (world c events) (Step h) ≢ Stuck cause
+
+-- ---- Whole sections
+
+abbrev pub has_stopped : Phase → Bool
+has_stopped Ended = true
+has_stopped Done = true
+has_stopped Run = false
+has_stopped Take = false
+has_stopped Wait = false
+has_stopped Resume = false
+
+-- the hart has ended or is done, or it executes instructions and holds nothing
+abbrev pub IsOutside : World → (h : ℕ) → Hart → Type 0
+IsOutside w h hart = (has_stopped hart.phase ≡ true) ⊎ ((hart.phase ≡ Run) × (holds_none w.holders h ≡ true))
+
+-- the thread's last step is done
+pub record HasEnded (s : m.State) (thread : ℕ) : Type 0 where
+  pub it : m.Thread
+  pub there : slice_get s.threads thread ≡ Some it
+  pub ended : it.ended ≡ true
+
+-- between sections a thread has no point
+pub record IsWhole (c : Translation) (events : List Event) (h : ℕ) (hart : Hart) : Type 0 where
+  pub ended : hart.phase ≡ Ended → HasEnded (source c (now c events)) h
+  pub no_live_point : IsOutside (world c events) h hart → live_at (world c events).words (point_at h) ≡ 0
+  pub no_durable_point : IsOutside (world c events) h hart → durable_point (world c events).words h ≡ 0
+  -- a hart whose record has no lock has no durable point
+  pub recorded : record_of (world c events).words h ≡ 0 → durable_point (world c events).words h ≡ 0
+
+abbrev pub AreWhole : Translation → List Event → Type 0
+AreWhole c events = (h : ℕ) (hart : Hart) → slice_get (world c events).harts h ≡ Some hart → IsWhole c events h hart

@@ -1,0 +1,60 @@
+-- How soon a hart that executes instructions begins the next step of its thread.
+use Rattle.std.specs.Prelude.{◌≡◌, ◌⊎◌, ℕ, ◌+◌, ◌*◌, ◌<◌, ◌≤◌, List, [], ◌∷◌, ◌++◌, length, slice_get, Some, None, Bool, true, false, not, ◌==◌, ◌&&◌}
+use Rattle.std.specs.Prelude.{if◌then◌else◌, filter}
+use Rattle.ido_base.specs.declared.event.Event.{Event}
+use Rattle.ido_base.specs.declared.event.Event.TheVariants.{Step, Evict, Crash}
+use Rattle.ido_base.specs.declared.event.Reply.{Reply}
+use Rattle.ido_base.specs.declared.event.Reply.TheVariants.{Moved, Drained, Waits, Barrier, Still, Stuck, Device}
+use Rattle.rv64_isa.specs.declared.object.Slot.{Slot}
+use Rattle.rv64_isa.specs.Programs.{code_of}
+use Rattle.rv64_isa.specs.Machine.{Hart, World, after_event, reply_to}
+use Rattle.rv64_isa.specs.Schedule.{Steps, is_running}
+use Rattle.compiler_correctness.specs.Translations.{Translation, HaveNoCrash, world, steps}
+use Rattle.compiler_correctness.specs.Compilation.{has_stopped}
+
+abbrev pub has_waited : Reply → Bool
+has_waited (Waits lock holder) = true
+has_waited Moved = false
+has_waited Drained = false
+has_waited (Barrier hart) = false
+has_waited Still = false
+has_waited (Stuck cause) = false
+has_waited Device = false
+
+-- the event is a step of hart h, which executes instructions and waits for no lock; one that only writes back what was cleaned is such, too
+abbrev pub is_active_step : List (List Slot) → World → Event → (h : ℕ) → Bool
+is_active_step program w (Step g) h = (g == h) && elim (slice_get w.harts h) [
+  | None ↦ false
+  | Some hart ↦ is_running hart.phase && not (has_waited (reply_to program w (Step h)))
+]
+is_active_step program w (Evict line mask) h = false
+is_active_step program w Crash h = false
+
+-- how many of the events are such
+abbrev pub active_steps : List (List Slot) → World → List Event → (h : ℕ) → ℕ
+active_steps program w [] h = 0
+active_steps program w (event ∷ events) h =
+    (if is_active_step program w event h then 1 else 0) + active_steps program (after_event program w event) events h
+
+-- the hart has ended, or is done
+pub record IsStopped (w : World) (h : ℕ) : Type 0 where
+  pub hart : Hart
+  pub here : slice_get w.harts h ≡ Some hart
+  pub stopped : has_stopped hart.phase ≡ true
+
+-- how many steps of its thread hart h has begun
+abbrev pub begun_by : Steps → (h : ℕ) → ℕ
+begun_by s h = length (filter (λ g. g == h) s.begun)
+
+-- by the later events the hart begins one step more, or has stopped
+abbrev pub GetsOn : Translation → (events more : List Event) → (h : ℕ) → Type 0
+GetsOn c events more h = (begun_by (steps c events) h < begun_by (steps c (events ++ more)) h) ⊎ IsStopped (world c (events ++ more)) h
+
+-- the steps within which a hart begins a step more: twice the words of its code, and 18
+abbrev pub delay : Translation → (h : ℕ) → ℕ
+delay c h = 2 * length (code_of c.program h) + 18
+
+-- delays are bounded whatever other harts do, and whatever is evicted, as long as power stays on
+abbrev pub AreDelaysBounded : Translation → List Event → Type 0
+AreDelaysBounded c events = (more : List Event) (h : ℕ) → HaveNoCrash more → delay c h ≤ active_steps c.program (world c events) more h →
+    GetsOn c events more h

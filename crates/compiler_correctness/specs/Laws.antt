@@ -1,0 +1,78 @@
+-- Laws of compiled programs, in the words of their readers.
+use Rattle.std.specs.Prelude.{List, length}
+use Rattle.ido_base.specs.declared.event.Event.{Event}
+use Rattle.flow_graph.specs.Lowering.{lowered}
+use Rattle.flow_graph.specs.IdempotentCuts.{IsMinimal}
+use Rattle.crash_simulation.specs.Systems.{System, IsSystem, flat_of}
+use Rattle.compiler_correctness.specs.Translations.{Translation, HaveNoCrash}
+use Rattle.compiler_correctness.specs.Delays.{AreDelaysBounded}
+use Rattle.compiler_correctness.specs.Compilation.{IsSettledAsKept, KeptScheduleGrows, AreSectionsKept, AreRecords, AreWhole, IsInStep, NeverStuck}
+use Rattle.compiler_correctness.specs.Forms.{HasForm}
+use Rattle.compiler_correctness.specs.Images.{image_of, file_of, image_in, IsCrashed, IsResumedAsKept, StayBetween, IsInFile}
+use Rattle.compiler_correctness.specs.Compilations.{IsCompilation}
+
+-- what a system is to its readers
+abbrev pub translation_of : System → Translation
+translation_of y = record {
+  flat = flat_of y;
+  program = y.program;
+  mutexes = length (flat_of y).mutexes;
+  initial = y.initial;
+  marks = y.marks;
+  resumes = y.resumes;
+  boundaries = y.plan.boundaries;
+}
+
+-- whatever has happened, where all harts stand between sections, durable variables are what the source leaves by the kept steps
+abbrev pub SettledMachinesAreKept : Type 0
+SettledMachinesAreKept = (y : System) → IsSystem y → (events : List Event) → IsSettledAsKept (translation_of y) events
+
+abbrev pub KeptStepsGrow : Type 0
+KeptStepsGrow = (c : Translation) (events : List Event) → KeptScheduleGrows c events
+
+abbrev pub SectionsAreKept : Type 0
+SectionsAreKept = (y : System) → IsSystem y → (events : List Event) → AreSectionsKept (translation_of y) events
+
+abbrev pub MachinesRecord : Type 0
+MachinesRecord = (y : System) → IsSystem y → (events : List Event) → AreRecords (translation_of y) events
+
+abbrev pub MachinesAreWhole : Type 0
+MachinesAreWhole = (y : System) → IsSystem y → (events : List Event) → AreWhole (translation_of y) events
+
+abbrev pub HartsNeverStick : Type 0
+HartsNeverStick = (y : System) → IsSystem y → (events : List Event) → NeverStuck (translation_of y) events
+
+abbrev pub DelaysAreBounded : Type 0
+DelaysAreBounded = (y : System) → IsSystem y → (events : List Event) → AreDelaysBounded (translation_of y) events
+
+-- where power stays on, machines keep step with the source
+abbrev pub MachinesKeepStep : Type 0
+MachinesKeepStep = (y : System) → IsSystem y → (events : List Event) → HaveNoCrash events → IsInStep (translation_of y) events
+
+-- compiled code has its form, where no boundary that stands by choice can be taken away
+abbrev pub CompiledCodeHasForm : Type 0
+CompiledCodeHasForm = (y : System) → IsSystem y → IsMinimal (lowered (flat_of y)) y.plan.boundaries → HasForm (translation_of y)
+
+-- a run is begun from an image as after the crash that left it
+abbrev pub ImagesAreCrashes : Type 0
+ImagesAreCrashes = (c : Translation) (before events : List Event) → IsCrashed c before events
+
+abbrev pub ImagesAreResumed : Type 0
+ImagesAreResumed = (y : System) → IsSystem y → (before events : List Event) →
+    IsResumedAsKept (translation_of y) (image_of (translation_of y) before) events
+
+-- no hart stores between the variables and the logs
+abbrev pub WordsBetweenStay : Type 0
+WordsBetweenStay = (y : System) → IsSystem y → (events : List Event) → StayBetween (translation_of y) events
+
+-- the words of the variables and of the logs are all of an image
+abbrev pub FilesAreImages : Type 0
+FilesAreImages = (y : System) → IsSystem y → (events : List Event) → IsInFile (translation_of y) (image_of (translation_of y) events)
+
+abbrev pub FilesAreResumed : Type 0
+FilesAreResumed = (y : System) → IsSystem y → (before events : List Event) →
+    IsResumedAsKept (translation_of y) (image_in (translation_of y) (file_of (translation_of y) (image_of (translation_of y) before))) events
+
+-- a system of which no boundary that stands by choice can be taken away is a compilation
+abbrev pub SystemsAreCompilations : Type 0
+SystemsAreCompilations = (y : System) → IsSystem y → IsMinimal (lowered (flat_of y)) y.plan.boundaries → IsCompilation (translation_of y)

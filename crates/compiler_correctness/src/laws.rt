@@ -1,0 +1,151 @@
+//! Laws of compiled programs in the words of their readers: nothing is computed here.
+ghost use Rattle.compiler_correctness.specs.Laws.{CompiledCodeHasForm, DelaysAreBounded, FilesAreImages, FilesAreResumed, HartsNeverStick};
+ghost use Rattle.compiler_correctness.specs.Laws.{ImagesAreCrashes, ImagesAreResumed, KeptStepsGrow, MachinesAreWhole, MachinesKeepStep};
+ghost use Rattle.compiler_correctness.specs.Laws.{MachinesRecord, SectionsAreKept, SettledMachinesAreKept, SystemsAreCompilations, WordsBetweenStay};
+
+use crash_simulation::laws::{
+    cores_step, events_stand, fragments_step, machines_resume,
+    sections_are_kept as ended_sections_are_kept,
+};
+use hart_runs::laws::{none_is_stuck, steps_are_counted};
+use region_cutter::laws::chosen_boundaries_are_locked;
+use thread_runs::laws::{fragments_go_on, marks_pass};
+
+/// Whatever has happened, the source can be stepped by all steps that are kept, and where all harts stand between sections, durable variables are those
+/// that it has then.
+pub fn settled_machines_are_kept()
+    ensures { SettledMachinesAreKept }
+{
+    machines_resume();
+}
+
+/// No kept step is lost, whatever happens.
+pub fn kept_steps_grow()
+    ensures { KeptStepsGrow }
+{}
+
+/// The kept steps hold each section that a hart has left, and at most one more of its thread.
+pub fn sections_are_kept()
+    ensures { SectionsAreKept }
+{
+    ended_sections_are_kept();
+}
+
+/// The source can be stepped by all kept steps, and after them by those begun since. A hart's record is the set of locks that its thread holds after the
+/// kept steps, which it takes in recovery without waiting; one that executes instructions holds what its thread holds now, and maybe the one that it gives
+/// back; and all points name addresses at which recovery may resume.
+pub fn machines_record()
+    ensures { MachinesRecord }
+{
+    machines_resume();
+    marks_pass();
+}
+
+/// Between sections there is no point, and a hart that has ended has made its thread's last step.
+pub fn machines_are_whole()
+    ensures { MachinesAreWhole }
+{
+    machines_resume();
+}
+
+/// No hart is ever stuck.
+pub fn harts_never_stick()
+    ensures { HartsNeverStick }
+{
+    machines_resume();
+    marks_pass();
+    none_is_stuck();
+}
+
+/// A hart that executes instructions soon begins the next step of its thread: by as many of its steps that wait for no lock as twice the words of its code, and
+/// 18, it has begun one or has stopped, whatever other harts do and whatever is evicted in between.
+pub fn delays_are_bounded()
+    ensures { DelaysAreBounded }
+{
+    cores_step();
+    events_stand();
+    marks_pass();
+    steps_are_counted();
+    fragments_go_on();
+    fragments_step();
+}
+
+/// As long as power stays on, the source can be stepped by all steps that have begun, memory has the variables that it has then, and a hart holds what its
+/// thread does.
+pub fn machines_keep_step()
+    ensures { MachinesKeepStep }
+{
+    cores_step();
+    marks_pass();
+    fragments_go_on();
+    fragments_step();
+}
+
+/// The code of each thread is that of its nodes, one after another: within its price, with a mark for each node, two FENCEs for each boundary and no other
+/// FENCE, and resumed nowhere but after boundaries. Boundaries stand where the graph is cut, by choice only where a mutex is held, and none of those can be
+/// taken away, which is asked here since systems don't say it.
+pub fn compiled_code_has_form()
+    ensures { CompiledCodeHasForm }
+{
+    chosen_boundaries_are_locked();
+}
+
+/// A run that is begun from what a crash left in memory, and from the kept schedule, is the one that goes on after that crash.
+pub fn images_are_crashes()
+    ensures { ImagesAreCrashes }
+{}
+
+/// In a run from an image that the same program left, the source can be stepped by all steps that are kept, those of the image first, and where all harts
+/// stand between sections, durable variables are those that it has then.
+/// An image has all words of memory; nothing is said of words that no run of the same program left.
+pub fn images_are_resumed()
+    ensures { ImagesAreResumed }
+{
+    kept_steps_grow();
+    settled_machines_are_kept();
+}
+
+/// Whatever happens, no hart stores between the variables and the logs: those words are 0, durably.
+pub fn words_between_stay()
+    ensures { WordsBetweenStay }
+{
+    cores_step();
+    events_stand();
+    fragments_step();
+}
+
+/// A file of an image has all of it in the words of the variables and of the logs, and a machine that begins with these, and with zeros between them, begins
+/// with the image.
+pub fn files_are_images()
+    ensures { FilesAreImages }
+{
+    events_stand();
+    words_between_stay();
+}
+
+/// In a run from a file of an image, too, the source can be stepped by all steps that are kept, those of the file first.
+pub fn files_are_resumed()
+    ensures { FilesAreResumed }
+{
+    files_are_images();
+    images_are_resumed();
+}
+
+/// What a compiler makes of a flat form, if it is a system and has no boundary that can be taken away, is a compilation: all of the above holds of it.
+/// It is a clause of `ido_compile::compile`.
+pub fn systems_are_compilations()
+    ensures { SystemsAreCompilations }
+{
+    compiled_code_has_form();
+    machines_keep_step();
+    harts_never_stick();
+    delays_are_bounded();
+    machines_are_whole();
+    machines_record();
+    kept_steps_grow();
+    sections_are_kept();
+    settled_machines_are_kept();
+    images_are_resumed();
+    files_are_images();
+    files_are_resumed();
+}

@@ -1,8 +1,0 @@
-use Rattle.crash_images.proofs.OneFault.{one_fault, none_if_sound}
-use Rattle.crash_images.proofs.laws.images_have_one_fault.Goals as goal
-
-pub returns-clause-one : goal.returns-clause-one
-returns-clause-one c = one_fault
-
-pub returns-clause-none : goal.returns-clause-none
-returns-clause-none c = none_if_sound

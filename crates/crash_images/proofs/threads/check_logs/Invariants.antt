@@ -1,7 +1,0 @@
-use Rattle.std.proofs.Common.{map}
-use Rattle.c_tree.specs.Programs.{variable_of}
-use Rattle.crash_images.specs.Checks.{AreSoundBelow}
-use Rattle.crash_images.proofs.threads.check_logs.Given as goal
-
-abbrev pub invariant-loop-thread : goal.invariant-loop-thread
-invariant-loop-thread l = AreSoundBelow (map variable_of l.variables) l.table l.logs l.thread

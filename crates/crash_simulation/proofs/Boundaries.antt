@@ -1,0 +1,351 @@
+-- Boundaries that a thread's code begins: they can be recovered from, and their records describe the state.
+use Rattle.std.proofs.Common.{◌≡◌, ◌≢◌, refl, ℕ, zero, suc, ◌+◌, ◌-◌, ◌*◌, ◌%◌, ◌^◌, ◌<◌, ◌≤◌, List, [], ◌∷◌, length, map, sym, ◌∙◌}
+use Rattle.std.proofs.Common.{ap, subst, arith, Option, Some, true}
+use Rattle.std.specs.Prelude.{slice_get, slice_index, sum_by, take, Bool, false, None, nat_le, ◌/◌, ◌==◌, ◌&&◌, if◌then◌else◌}
+use Rattle.std.proofs.lemmas.Bool.{and_parts, leb-true, eqb-true}
+use Rattle.std.proofs.lemmas.Bool.Decides.{nat_tests}
+use Rattle.std.proofs.lemmas.Option.{none-some, slice_get_within}
+use Rattle.std.proofs.lemmas.List.{length-map}
+use Rattle.ido_base.specs.Layout.{in_range, variable_at}
+use Rattle.ido_ints.specs.declared.kinds.Kind.{Kind}
+use Rattle.ido_ints.specs.Kinds.{bytes_of}
+use Rattle.ido_ints.specs.TypedNumbers.{Typed}
+use Rattle.ido_ints.proofs.Public.{register_below}
+use Rattle.c_tree.specs.Flats as f
+use Rattle.c_tree.specs.Source as m
+use Rattle.c_tree.specs.Source.{Pending}
+use Rattle.c_tree.specs.WellFormed.{shape_of}
+use Rattle.c_ranges.specs.RunInvariants.{IsThreadOf, IsStoreInRange}
+use Rattle.c_ranges.proofs.Public.{zip_found}
+use Rattle.rv64_isa.specs.declared.instr.Instr.{Instr}
+use Rattle.rv64_isa.specs.Rows.{read}
+use Rattle.rv64_isa.specs.declared.object.Slot.{Slot}
+use Rattle.rv64_isa.specs.Machine.{World}
+use Rattle.rv64_isa.specs.Programs.{code_start, code_of}
+use Rattle.rv64_link.specs.LinkedCode.{IsInstructionAt}
+use Rattle.operator_code.specs.ComputingCode.{Carries}
+use Rattle.boundary_code.specs.Boundaries.{Boundary}
+use Rattle.code_runs.specs.ComputingRuns.{LocalConfig, config}
+use Rattle.code_runs.specs.CodeTraces.{Program, MarkedEnvironment, Meets, Trace}
+use Rattle.hart_runs.specs.HartsOnRuns.{Agrees, instr_of, instr_at}
+use Rattle.flow_graph.specs.Nodes.{Action, Eval, Store, Test, Lock, Unlock, End, Node, Graph}
+use Rattle.flow_graph.specs.Lowering.{lowered}
+use Rattle.flow_graph.specs.IdempotentCuts.{stores}
+use Rattle.flow_graph.specs.Liveness.{NodeAt}
+use Rattle.flow_graph.specs.Actions.{Seen, GraphThread, FlowState, seen_by}
+use Rattle.flow_graph.proofs.Public.{Good, found_in}
+use Rattle.region_attempts.proofs.Public.{is_there, owes_at}
+use Rattle.variable_words.proofs.Public.{well_formed_placed, addresses_reach}
+use Rattle.log_states.specs.Laws.{recorded_by, IsRecoverable}
+use Rattle.thread_code.specs.Plans.{Plan, IsNodeOf, IsKept, of_local, of_address, of_value, IsPlan, mask_before}
+use Rattle.thread_code.specs.RegistersAtNodes.{IsPendingIn, HasPending, Enters}
+use Rattle.thread_code.specs.NodeCodeEffects.{Places, keeping}
+use Rattle.thread_code.specs.Programs.{IsCalling}
+use Rattle.thread_runs.specs.CodeFragments.{IsLockOf, IsUnlockOf}
+use Rattle.recovered_threads.specs.RecordDescriptions.{Code, IsOrderly, ResumesAt, Describes, between, inside}
+use Rattle.recovered_threads.specs.Laws.{AtBoundary}
+use Rattle.recovered_threads.proofs.Public.{boundaries_recover, same_there, commits_describe}
+use Rattle.crash_simulation.specs.Systems.{System, IsSystem, thread_count}
+
+-- ---- Addresses in a thread's code
+
+-- one from which a run may begin
+pub record IsAddress (address : ℕ) : Type 0 where
+  pub aligned : address % 4 ≡ 0
+  pub somewhere : 0 < address
+  pub below : address < 2 ^ 64
+
+module _ (y : System) (s : IsSystem y) (n : ℕ) (below : n < thread_count y) where
+  abbrev code : Code y.plan
+  code = s.codes.each n below
+
+  abbrev c : Places
+  c = code.is.places
+
+  -- a word of it, or its end
+  pub in_code : (i : ℕ) → i ≤ length c.program.code → IsAddress (c.program.start + 4 * i)
+  in_code i within =
+      let words : ℕ = sum_by length (take code.thread.number y.program) in
+      let begins : c.program.start ≡ 65536 + 4 * words = ap (λ (p : Program). p.start) (code.is.of_program ∙ (s.own n below).program) in
+      let room : c.program.start + 4 * length c.program.code < 2 ^ 64 =
+      subst (λ (p : Program). p.start + 4 * length p.code < 2 ^ 64) (sym code.is.of_program) (s.own n below).room in
+      record { aligned = omega (arith, begins); somewhere = omega (arith, begins); below = omega (arith, within, room) }
+
+  pub stands_in : (address : ℕ) (instr : Instr) → IsInstructionAt c.program.start c.program.code address instr → IsAddress address
+  stands_in address instr st =
+      let within = slice_get_within c.program.code st.0 _ st.2 in
+      subst (λ (a : ℕ). IsAddress a) (sym st.1) (in_code st.0 (omega (arith, within)))
+
+  -- where a thread is resumed after an unlock
+  pub after_unlock_in : (from mutex next : ℕ) → IsUnlockOf y.plan code.thread from mutex next → IsAddress (c.after from)
+  after_unlock_in from mutex next u =
+      let calls = subst (λ (a : Action). IsCalling y.plan code.thread c a from) u.unlocks (code.is.code from u.is u.own u.at).calls in
+      let st = calls.0 in
+      let within = slice_get_within c.program.code st.0 _ st.2 in
+      let place = st.1 in
+      let after = calls.2 in
+      subst (λ (a : ℕ). IsAddress a) (let e : c.program.start + 4 * suc st.0 ≡ c.after from = omega (arith, place, after) in e)
+      (in_code (suc st.0) (omega (arith, within)))
+
+  -- ---- Entries of nodes
+
+  entries : (j : ℕ) → code.thread.part.first + j ≤ code.thread.part.end → (k : ℕ) × (c.entry (code.thread.part.first + j) ≡ c.program.start + 4 * k)
+  entries zero within =
+      let first : code.thread.part.first + 0 ≡ code.thread.part.first = omega arith in
+      let begins = ap (λ (p : Program). p.start) code.is.of_program in
+      let at : c.entry (code.thread.part.first + 0) ≡ code.program.start = ap c.entry first ∙ code.is.begins in
+      (0, omega (arith, at, begins))
+  entries (suc j) within =
+      let before = entries j (omega (arith, within)) in
+      let own : IsNodeOf code.thread (code.thread.part.first + j) = record { from_first = omega arith; below_end = omega (arith, within) } in
+      let next : code.thread.part.first + j + 1 ≡ code.thread.part.first + suc j = omega arith in
+      let at : c.entry (code.thread.part.first + suc j) ≡ c.entry (code.thread.part.first + j) + 4 * c.words (code.thread.part.first + j) =
+      ap c.entry (sym next) ∙ code.is.follows (code.thread.part.first + j) own in
+      let k = before.0 in
+      let is = before.1 in
+      (k + c.words (code.thread.part.first + j), omega (arith, at, is))
+
+  -- no node's entry is after the code's end
+  persists : (d node : ℕ) → code.thread.part.first ≤ node → node + d ≡ code.thread.part.end → c.entry node ≤ c.entry code.thread.part.end
+  persists zero node from is = let e : node ≡ code.thread.part.end = omega (arith, is) in let at = ap c.entry e in omega (arith, at)
+  persists (suc d) node from is =
+      let own : IsNodeOf code.thread node = record { from_first = from; below_end = omega (arith, is) } in
+      let at = code.is.follows node own in
+      let more = persists d (node + 1) (omega (arith, from)) (omega (arith, is)) in
+      omega (arith, at, more)
+
+  pub entry_in : (node : ℕ) → IsNodeOf code.thread node → IsAddress (c.entry node)
+  entry_in node own =
+      let from = own.from_first in
+      let within = own.below_end in
+      let there : code.thread.part.first + (node - code.thread.part.first) ≡ node = omega (arith, from) in
+      let at = entries (node - code.thread.part.first) (omega (arith, from, within)) in
+      let k = at.0 in
+      let is : c.entry node ≡ c.program.start + 4 * k = ap c.entry (sym there) ∙ at.1 in
+      let most = persists (code.thread.part.end - node) node from (omega (arith, within)) in
+      let ends = code.is.ends in
+      let starts = ap (λ (p : Program). p.start) code.is.of_program in
+      let sizes = ap (λ (p : Program). length p.code) code.is.of_program in
+      subst (λ (a : ℕ). IsAddress a) (sym is) (in_code k (omega (arith, is, most, ends, starts, sizes)))
+
+  -- ---- Where an instruction is fetched
+
+  fetched_in : (address : ℕ) (instr : Instr) → instr_at y.program code.thread.number address ≡ Some instr → IsAddress address
+  fetched_in address instr h =
+      by (nat_le (code_start y.program code.thread.number) address && (address % 4 == 0)) refl h
+    where
+      slot_of : (o : Option Slot) → instr_of o ≡ Some instr → (slot : Slot) × (o ≡ Some slot)
+      slot_of None e = absurd (none-some instr e)
+      slot_of (Some slot) e = (slot, refl)
+
+      by : (test : Bool) → (nat_le (code_start y.program code.thread.number) address && (address % 4 == 0)) ≡ test →
+          instr_of (if test then slice_get (code_of y.program code.thread.number) ((address - code_start y.program code.thread.number) / 4) else None)
+          ≡ Some instr →
+          IsAddress address
+      by false e there = absurd (none-some instr there)
+      by true e there =
+          let slot = slot_of _ there in
+          let within = slice_get_within (code_of y.program code.thread.number) ((address - code_start y.program code.thread.number) / 4) slot.0 slot.1 in
+          let parts = and_parts (nat_le (code_start y.program code.thread.number) address) (address % 4 == 0) e in
+          let from = leb-true (code_start y.program code.thread.number) address parts.0 in
+          let four = eqb-true (address % 4) 0 parts.1 in
+          let words : ℕ = sum_by length (take code.thread.number y.program) in
+          let begins : c.program.start ≡ 65536 + 4 * words = ap (λ (p : Program). p.start) (code.is.of_program ∙ (s.own n below).program) in
+          let same : c.program.start ≡ code_start y.program code.thread.number = begins in
+          let size : length c.program.code ≡ length (code_of y.program code.thread.number) =
+          ap (λ (p : Program). length p.code) (code.is.of_program ∙ (s.own n below).program) in
+          let i : ℕ = (address - c.program.start) / 4 in
+          let at : c.program.start + 4 * i ≡ address = omega (arith, from, four, begins, same) in
+          subst (λ (a : ℕ). IsAddress a) at (in_code i (omega (arith, within, size, same)))
+
+  -- where a thread is resumed after a lock: the code leads from there to the entry of the next node
+  pub after_lock_in : (w : World) (environment : MarkedEnvironment) (bank : ℕ) (seen : Seen) (x : List ℕ) (from mutex next : ℕ) → Meets c.program environment →
+      Agrees y.program w code.thread.number environment → IsLockOf y.plan code.thread from mutex next → IsNodeOf code.thread next →
+      Enters y.plan code.thread next seen bank x → IsAddress (c.after from)
+  after_lock_in w environment bank seen x from mutex next meets agrees l own enters =
+      let calls = subst (λ (a : Action). IsCalling y.plan code.thread c a from) l.locks (code.is.code from l.is l.own l.at).calls in
+      let goes = calls.1.on (record { environment = environment; node = from; seen = seen; bank = bank; registers = x }) meets refl enters in
+      by goes.steps goes.registers goes.walks
+    where
+      by : (steps : ℕ) (z : List ℕ) → Trace environment steps (config x (c.after from)) [] (config z (c.entry next)) → IsAddress (c.after from)
+      by zero z walks = subst (λ (a : ℕ). IsAddress a) (sym (ap (λ (m : LocalConfig). m.pc) walks.0)) (entry_in next own)
+      by (suc steps) z walks =
+          let passes = walks.3 in
+          fetched_in (c.after from) passes.instr (agrees.fetches (c.after from) passes.instr passes.stands)
+
+-- ---- What registers hold
+
+module _ (p : Plan) (code : Code p) (plan : IsPlan p) (s : FlowState) (good : Good p.flat s) (graph_thread : GraphThread)
+    (there : slice_get s.graph_threads code.thread.number ≡ Some graph_thread) where
+  -- a store that is pending is of an element that is there
+  pub store_is : (store : Pending) → graph_thread.pending ≡ Some store → IsStoreInRange p.flat.variables store
+  store_is store owes =
+      let inside = slice_get_within s.graph_threads code.thread.number graph_thread there in
+      let count = good.matches.count in
+      let thread = found_in good.source.threads code.thread.number (omega (arith, inside, count)) in
+      let match = good.matches.each code.thread.number graph_thread thread.0 there thread.1 in
+      let own = zip_found (λ (t : f.Thread) (k : m.Thread). IsThreadOf p.flat t.locals k) p.flat.threads good.source.threads code.thread.number thread.0
+      good.formed.threads thread.1 in
+      own.related.pending store (sym match.pending ∙ owes)
+
+  pub address_small : (store : Pending) → graph_thread.pending ≡ Some store → variable_at (map shape_of p.flat.variables) store.variable store.element < 2 ^ 64
+  address_small store owes =
+      let is = store_is store owes in
+      let reach = addresses_reach p.flat.variables 0 store.variable store.element is.it (well_formed_placed p.flat plan.formed).room is.found is.element in
+      small (variable_at (map shape_of p.flat.variables) store.variable store.element) (bytes_of is.it.kind) reach.inside
+    where
+      small : (address bytes : ℕ) → in_range 0 address bytes ≡ true → address < 2 ^ 64
+      small address bytes is_in = grind (arith, nat_tests)
+
+  -- before a store one is pending
+  pub store_ahead : (is : Node) (variable : ℕ) (kind : Kind) (next : ℕ) → NodeAt p.graph graph_thread.at is → is.action ≡ Store variable kind next →
+      (store : Pending) × (graph_thread.pending ≡ Some store)
+  store_ahead is variable kind next at stores_there =
+      let found : NodeAt (lowered p.flat) graph_thread.at is = subst (λ (g : Graph). NodeAt g graph_thread.at is) plan.lowered at in
+      let th = is_there p.flat plan.formed code.thread.number s good.source good.matches graph_thread is there found in
+      let owed = owes_at _ is.action th.thread.left th.thread.pending (record { variable = variable; kind = kind; next = next; is = stores_there }) th.does in
+      (owed.0, th.match.pending ∙ owed.1)
+
+  module _ (bank : ℕ) (x : List ℕ) (enters : Enters p code.thread graph_thread.at (seen_by s graph_thread) bank x) where
+    pending_there : (is : Node) (variable : ℕ) (kind : Kind) (next : ℕ) → NodeAt p.graph graph_thread.at is → is.action ≡ Store variable kind next →
+        (store : Pending) → graph_thread.pending ≡ Some store → HasPending p store variable kind x
+    pending_there is variable kind next at stores_there store owes =
+        subst (λ (a : Action). IsPendingIn p a (seen_by s graph_thread) x) stores_there (enters.pending is at) store owes
+
+    carried_small : (register : ℕ) (v : Typed) → Carries x register v → read x register < 2 ^ 64
+    carried_small register v carries = subst (λ (k : ℕ). k < 2 ^ 64) (sym carries.form) (register_below v.kind v.number)
+
+    -- what a boundary keeps has 64 bits
+    pub kept_small : (register : ℕ) → IsKept p code.thread graph_thread.at register → read x register < 2 ^ 64
+    kept_small register (of_local local k found live) = carried_small (slice_index code.thread.registers local) _ (enters.locals local k found live)
+    kept_small register (of_address (stores is variable kind next at stores_there)) =
+        let store = store_ahead is variable kind next at stores_there in
+        subst (λ (k : ℕ). k < 2 ^ 64) (sym (pending_there is variable kind next at stores_there store.0 store.1).address) (address_small store.0 store.1)
+    kept_small register (of_value (stores is variable kind next at stores_there)) =
+        let store = store_ahead is variable kind next at stores_there in
+        carried_small register _ (pending_there is variable kind next at stores_there store.0 store.1).value
+
+    -- ---- All registers cut to 64 bits
+
+    abbrev cut : List ℕ
+    cut = map (λ (k : ℕ). k % 2 ^ 64) x
+
+    cut_read : (register : ℕ) → read cut register ≡ read x register % 2 ^ 64
+    cut_read register = by x register
+      where
+        by : (xs : List ℕ) (i : ℕ) → slice_index (map (λ (k : ℕ). k % 2 ^ 64) xs) i ≡ slice_index xs i % 2 ^ 64
+        by [] i = refl
+        by (k ∷ xs) zero = refl
+        by (k ∷ xs) (suc i) = by xs i
+
+    cut_same : (register : ℕ) → read x register < 2 ^ 64 → read cut register ≡ read x register
+    cut_same register small = let r = cut_read register in omega (arith, r, small)
+
+    cut_carries : (register : ℕ) (v : Typed) → Carries x register v → Carries cut register v
+    cut_carries register v carries =
+        record { held = carries.held; form = cut_same register (carried_small register v carries) ∙ carries.form }
+
+    cut_pending : (is : Node) → NodeAt p.graph graph_thread.at is → (a : Action) → is.action ≡ a → IsPendingIn p a (seen_by s graph_thread) cut
+    cut_pending is at (Eval target value next) e = tt
+    cut_pending is at (Store variable kind next) e = λ store owes.
+        let has = pending_there is variable kind next at e store owes in
+        record {
+          variable_is = has.variable_is;
+          address = cut_same _ (kept_small _ (of_address (stores is variable kind next at e))) ∙ has.address;
+          value = cut_carries _ _ has.value;
+          below = has.below;
+        }
+    cut_pending is at (Test condition holds fails) e = tt
+    cut_pending is at (Lock mutex next) e = tt
+    cut_pending is at (Unlock mutex next) e = tt
+    cut_pending is at End e = tt
+
+    pub cut_enters : Enters p code.thread graph_thread.at (seen_by s graph_thread) bank cut
+    cut_enters =
+        let bank_there = enters.at_bank.exists in
+        let offset = enters.at_bank.offset in
+        record {
+          at_bank = record {
+            count = length-map x (λ (k : ℕ). k % 2 ^ 64) ∙ enters.at_bank.count;
+            zero_is = cut_same 0 (let e = enters.at_bank.zero_is in omega (arith, e)) ∙ enters.at_bank.zero_is;
+            offset = cut_same _ (omega (arith, offset, bank_there)) ∙ offset;
+            exists = bank_there;
+          };
+          locals = λ local k found live. cut_carries _ _ (enters.locals local k found live);
+          pending = λ is at. cut_pending is at is.action refl;
+          count = enters.count;
+        }
+
+    pub cut_small : (register : ℕ) → read cut register < 2 ^ 64
+    cut_small register = let r = cut_read register in omega (arith, r)
+
+-- ---- A boundary begins
+
+-- a thread stands at a node in a state, and x are registers with which it enters that; it may be resumed at the address
+pub record IsBeginning (p : Plan) (code : Code p) (s : FlowState) (bank resume : ℕ) (x : List ℕ) : Type 0 where
+  pub graph_thread : GraphThread
+  pub there : slice_get s.graph_threads code.thread.number ≡ Some graph_thread
+  pub goes_on : graph_thread.ended ≡ false
+  pub own : IsNodeOf code.thread graph_thread.at
+  pub resumes : mask_before p code.thread graph_thread.at ≢ 0 → ResumesAt p code graph_thread.at resume
+  pub enters : Enters p code.thread graph_thread.at (seen_by s graph_thread) bank x
+  pub address : IsAddress resume
+
+-- the boundary at a node can be recovered from, and the record describes that state
+pub record BoundaryIsRecoverable (p : Plan) (code : Code p) (s : FlowState) (node bank resume : ℕ) (x : List ℕ) : Type 0 where
+  pub recoverable : IsRecoverable (keeping p code.thread code.is.places node) resume x
+  pub describes : Describes p code s (recorded_by (keeping p code.thread code.is.places node) (1 - bank) resume x)
+
+module _ (p : Plan) (code : Code p) (s : FlowState) (bank resume : ℕ) (x : List ℕ) (plan : IsPlan p) (orderly : IsOrderly p s) (good : Good p.flat s)
+    (k : IsBeginning p code s bank resume x) where
+  abbrev boundary : Boundary
+  boundary = keeping p code.thread code.is.places k.graph_thread.at
+
+  abbrev cut_x : List ℕ
+  cut_x = cut p code plan s good k.graph_thread k.there bank x k.enters
+
+  abbrev at_boundary : AtBoundary p code s bank resume cut_x
+  at_boundary = record {
+    graph_thread = k.graph_thread;
+    there = k.there;
+    goes_on = k.goes_on;
+    own = k.own;
+    resumes = k.resumes;
+    enters = cut_enters p code plan s good k.graph_thread k.there bank x k.enters;
+    aligned = k.address.aligned;
+    somewhere = k.address.somewhere;
+    below = k.address.below;
+    registers = cut_small p code plan s good k.graph_thread k.there bank x k.enters;
+  }
+
+  retold : Describes p code s (recorded_by boundary (1 - bank) resume cut_x) → Describes p code s (recorded_by boundary (1 - bank) resume x)
+  retold (between none point) = between none point
+  retold (inside some i) = inside some (record {
+    graph_thread = i.graph_thread;
+    there = i.there;
+    goes_on = i.goes_on;
+    own = i.own;
+    point = i.point;
+    resumes = i.resumes;
+    mask = i.mask;
+    live = i.live;
+    bank = bank;
+    enters = subst (λ (v : GraphThread). Enters p code.thread v.at (seen_by s v) bank x)
+        (same_there (slice_get s.graph_threads code.thread.number) k.graph_thread i.graph_thread k.there i.there) k.enters;
+  })
+
+  pub boundaries_begin : BoundaryIsRecoverable p code s k.graph_thread.at bank resume x
+  boundaries_begin =
+      let r = boundaries_recover p code s bank resume cut_x plan orderly at_boundary in
+      record {
+        recoverable = record {
+          mask = r.mask;
+          live = r.live;
+          registers = λ register has. kept_small p code plan s good k.graph_thread k.there bank x k.enters register
+              ((code.is.kept k.graph_thread.at k.own register).0 has);
+          aligned = r.aligned;
+          somewhere = r.somewhere;
+          below = r.below;
+        };
+        describes = retold (commits_describe p code s bank resume cut_x plan orderly at_boundary);
+      }

@@ -1,0 +1,72 @@
+-- A step of a thread is begun: the config after it.
+use Rattle.std.proofs.Common.{◌≡◌, ◌≢◌, ◌⊎◌, inl, inr, refl, ℕ, zero, suc, List, [], ◌∷◌, ap, sym, ◌∙◌, subst, arith, Option, Some, None}
+use Rattle.std.specs.Prelude.{slice_get}
+use Rattle.c_tree.specs.Flats as f
+use Rattle.c_tree.specs.Source as m
+use Rattle.c_tree.specs.Source.{Pending}
+use Rattle.source_machine.specs.Mutexes.{unlocks, unlock_ahead}
+use Rattle.recovery_semantics.specs.Attempts.{Attempt, IsAttempted, attempt_at, no_attempt, store_ahead, solo, WritesAt, Writes}
+use Rattle.recovery_semantics.specs.Configs.{Config, Invariant, now, attempt_of}
+use Rattle.recovery_semantics.specs.Events.{IsGoing, begun, stepped}
+use Rattle.recovery_semantics.specs.ElementHistories.{Memory}
+use Rattle.recovery_semantics.proofs.Public.{counted_own, goes_alone}
+use Rattle.flow_graph.proofs.Public.{below_or_past}
+
+-- ---- Attempts
+
+-- the attempts with that one of the thread
+abbrev pub with_attempt : List Attempt → (thread : ℕ) → Attempt → List Attempt
+with_attempt [] zero a = a ∷ []
+with_attempt [] (suc n) a = no_attempt ∷ with_attempt [] n a
+with_attempt (x ∷ xs) zero a = a ∷ xs
+with_attempt (x ∷ xs) (suc n) a = x ∷ with_attempt xs n a
+
+own_attempt : (attempts : List Attempt) (n : ℕ) (a : Attempt) → attempt_at (with_attempt attempts n a) n ≡ a
+own_attempt [] zero a = refl
+own_attempt [] (suc n) a = own_attempt [] n a
+own_attempt (x ∷ xs) zero a = refl
+own_attempt (x ∷ xs) (suc n) a = own_attempt xs n a
+
+other_attempt : (attempts : List Attempt) (n u : ℕ) (a : Attempt) → u ≢ n → attempt_at (with_attempt attempts n a) u ≡ attempt_at attempts u
+other_attempt [] zero zero a other = absurd (other refl)
+other_attempt [] zero (suc u) a other = refl
+other_attempt [] (suc n) zero a other = refl
+other_attempt [] (suc n) (suc u) a other = other_attempt [] n u a (λ e. other (ap suc e))
+other_attempt (x ∷ xs) zero zero a other = absurd (other refl)
+other_attempt (x ∷ xs) zero (suc u) a other = refl
+other_attempt (x ∷ xs) (suc n) zero a other = refl
+other_attempt (x ∷ xs) (suc n) (suc u) a other = other_attempt xs n u a (λ e. other (ap suc e))
+
+pub attempted : (attempts : List Attempt) (n : ℕ) (a : Attempt) → IsAttempted attempts (with_attempt attempts n a) n a
+attempted attempts n a = record { own = own_attempt attempts n a; others = λ u other. other_attempt attempts n u a other }
+
+-- the thread's attempt is one step longer
+abbrev pub one_longer : Config → (thread : ℕ) → List Attempt
+one_longer old t = with_attempt old.attempts t (stepped (attempt_of old t))
+
+pub done_longer : (old : Config) (t : ℕ) → (attempt_at (one_longer old t) t).done ≡ suc (attempt_of old t).done
+done_longer old t = ap (λ (a : Attempt). a.done) (own_attempt old.attempts t (stepped (attempt_of old t)))
+
+-- ---- The config after the step
+
+pub goes_still : (old : Config) (t : ℕ) (memory : Memory) → IsGoing old t → IsGoing (begun old t memory (one_longer old t)) t
+goes_still old t memory going = counted_own t old.uncommitted ∙ ap suc going ∙ sym (done_longer old t)
+
+-- what it has written is what it had, or what this step writes
+pub wrote : (s : m.State) (t done v e : ℕ) → Writes s t (suc done) v e → Writes s t done v e ⊎ WritesAt s t done v e
+wrote s t done v e writes = elim (below_or_past writes.before done) [
+  | inl less ↦ inl (record { before = writes.before; within = less; at = writes.at })
+  | inr past ↦ inr (let same : writes.before ≡ done = (let l = writes.within in omega (arith, l, past)) in
+      subst (λ (n : ℕ). WritesAt s t n v e) same writes.at)
+]
+
+-- the thread alone is what it is now
+module _ (x : f.Flat) (old : Config) (invariant : Invariant x old) (t : ℕ) (going : IsGoing old t) where
+  alone_threads : slice_get (now old).threads t ≡ slice_get (solo old.kept t (attempt_of old t).done).threads t
+  alone_threads = (goes_alone x old t invariant going).own
+
+  pub alone_ahead : store_ahead (solo old.kept t (attempt_of old t).done) t ≡ store_ahead (now old) t
+  alone_ahead = ap (λ (o : Option m.Thread). elim o as (λ _. Option Pending) [ Some z ↦ z.pending | None ↦ None ]) (sym alone_threads)
+
+  pub alone_unlocks : unlocks (solo old.kept t (attempt_of old t).done) t ≡ unlocks (now old) t
+  alone_unlocks = ap (λ (o : Option m.Thread). elim o as (λ _. Option ℕ) [ Some z ↦ unlock_ahead z | None ↦ None ]) (sym alone_threads)

@@ -1,0 +1,170 @@
+-- What a hart may store is in no other thread's log, and beside all that other threads read.
+use Rattle.std.proofs.Common.{◌≡◌, ◌≢◌, inl, inr, refl, ℕ, ◌+◌, ◌/◌, ◌<◌, ◌≤◌, List, ◌∷◌, length, ap, arith, sym, ◌∙◌, subst, Option, Some, None, true, ⊎_elim}
+use Rattle.std.proofs.Common.{map}
+use Rattle.std.specs.Prelude.{slice_get}
+use Rattle.std.proofs.lemmas.Bool.{true≢false, and_from}
+use Rattle.std.proofs.lemmas.Option.{same_Some}
+use Rattle.ido_base.specs.declared.event.Event.TheVariants.{Step}
+use Rattle.ido_base.specs.Words.{Word, Entry}
+use Rattle.ido_base.specs.Layout.{variable_at, byte_number}
+use Rattle.ido_base.specs.Growth.{ArePersisted, AreEntries}
+use Rattle.ido_base.proofs.Public.{are_persisted_refl, write_backs_raise}
+use Rattle.ido_ints.specs.Kinds.{bytes_of}
+use Rattle.source_machine.specs.Discipline.{Guards}
+use Rattle.c_tree.specs.WellFormed.{shape_of}
+use Rattle.memory_layout.specs.Variables.{HaveRoom}
+use Rattle.variable_words.proofs.Public.{by_size, well_formed_placed, steps_work}
+use Rattle.variable_words.specs.MemoryEffects.{MayMakeStore, IsWork, Rests, Queues, WritesBack, Makes}
+use Rattle.rv64_isa.specs.declared.object.Slot.{Slot}
+use Rattle.rv64_isa.specs.declared.object.Slot.TheVariants.{Row}
+use Rattle.rv64_isa.specs.Rows.{Effect, Continues, Loads, Stores, Cleans, Fences, Calls, row}
+use Rattle.rv64_isa.specs.Machine.{Hart, World, after_event}
+use Rattle.rv64_isa.specs.Frames.{IsWellFormedWorld}
+use Rattle.rv64_isa.specs.Schedule.{is_running}
+use Rattle.recovery_semantics.specs.Configs.{now}
+use Rattle.log_states.specs.Logs.{log_word}
+use Rattle.log_states.specs.Stages.{is_store}
+use Rattle.log_states.specs.Machines.{IsNext, IsElsewhere}
+use Rattle.log_states.proofs.Public.{address_of, variables_are_apart, logs_are_apart}
+use Rattle.code_runs.specs.CodeTraces.{MarkedEnvironment}
+use Rattle.hart_runs.specs.HartsOnRuns.{is_width, Agrees}
+use Rattle.hart_runs.specs.Laws.{IsApart}
+use Rattle.hart_runs.proofs.Public.{persisted_agrees, beside_agrees, others_leave}
+use Rattle.recovered_threads.specs.RecordDescriptions.{Code}
+use Rattle.crash_simulation.specs.Systems.{System, IsSystem, flat_of, shapes_of}
+use Rattle.crash_simulation.specs.AbstractRuns.{AbstractRun}
+use Rattle.crash_simulation.specs.ThreadGhosts.{ThreadGhost, IsGuarded, AnswersGuarded}
+use Rattle.crash_simulation.specs.InstructionSteps.{MayStore, nothing, in_log, element}
+use Rattle.crash_simulation.proofs.DisjointElements.{variables_end, element_ends, element_below, elements_apart, log_after}
+
+-- how many bytes an effect stores
+abbrev width_of : Effect → ℕ
+width_of (Continues registers pc) = 0
+width_of (Loads address bytes signed register) = 0
+width_of (Stores address bytes value) = bytes
+width_of (Cleans address) = 0
+width_of Fences = 0
+width_of Calls = 0
+
+-- the effect of a slot's instruction
+abbrev effect_in : Hart → Option Slot → Option Effect
+effect_in hart o = elim o [
+  | Some (Row instr) ↦ Some (row instr hart.registers hart.pc)
+  | _ ↦ None
+]
+
+-- the next instruction of a hart that makes a store
+pub next_store : (program : List (List Slot)) (w : World) (h address bytes value : ℕ) (st : MayMakeStore program w h address bytes value) →
+    IsNext program w h st.executes.hart (Stores address bytes value)
+next_store program w h address bytes value st =
+    let e = st.executes in
+    record {
+      here = e.there;
+      runs = ap is_running e.runs;
+      is = ap (effect_in e.hart) e.fetches ∙ ap (λ (x : Effect). Some x) e.effect_is;
+    }
+
+module _ (y : System) (s : IsSystem y) (w : World) (h : ℕ) (b : AbstractRun y)
+    (stores_own : (hart : Hart) (effect : Effect) → IsNext y.program w h hart effect → MayStore y b h effect) where
+  abbrev after : World
+  after = after_event y.program w (Step h)
+
+  room : HaveRoom (map shape_of (flat_of y).variables)
+  room = (well_formed_placed (flat_of y) s.plan.formed).room
+
+  -- ---- Logs
+
+  module _ (n : ℕ) (other : h ≢ n) (address bytes value i : ℕ) (below : i < 128) where
+    not_in_log : (effect : Effect) → effect ≡ Stores address bytes value → MayStore y b h effect → byte_number address / 8 ≢ log_word n i
+    not_in_log _ same (nothing effect none) = absurd (true≢false (sym (ap is_store same) ∙ none))
+    not_in_log _ same (in_log a v k inside word) =
+        subst (λ (x : ℕ). byte_number x / 8 ≢ log_word n i) (ap address_of same)
+        (λ meets. logs_are_apart n h i k other below inside (sym word ∙ meets))
+    not_in_log _ same (element variable number v is there within guards) =
+        subst (λ (x : ℕ). byte_number x / 8 ≢ log_word n i) (ap address_of same)
+        (variables_are_apart n (variable_at (shapes_of y) variable number) i (element_below (flat_of y).variables room variable number is there within))
+
+  -- the step stores nothing to another thread's log
+  pub elsewhere : (n : ℕ) → h ≢ n → IsElsewhere y.program w h n
+  elsewhere n other hart address bytes value next i below =
+      not_in_log n other address bytes value i below (Stores address bytes value) refl (stores_own hart (Stores address bytes value) next)
+
+  -- ---- What others read
+
+  -- a store of a width that there is, beside all that the environment answers
+  record IsAbstractAll (z : MarkedEnvironment) (address bytes : ℕ) : Type 0 where
+    width : is_width bytes ≡ true
+    apart : IsApart z address bytes
+
+  module _ (code : Code y.plan) (c : ThreadGhost) (other : h ≢ code.thread.number) (z : MarkedEnvironment) (answers : AnswersGuarded y b code c z) where
+    abbrev n : ℕ
+    n = code.thread.number
+
+    -- two threads guard no variable both
+    guards_apart : (variable v : ℕ) → Guards (flat_of y) (now b.config) h variable → Guards (flat_of y) (now b.config) n v → variable ≢ v
+    guards_apart variable v own its same =
+        let mine : Guards (flat_of y) (now b.config) h v = subst (λ (x : ℕ). Guards (flat_of y) (now b.config) h x) same own in
+        other (same_Some h n (same_Some (Some h) (Some n) (sym mine ∙ its)))
+
+    answer_ends : (at count : ℕ) → IsGuarded y b code c at count → at + count ≤ variables_end
+    answer_ends at count g =
+        let ends = element_ends (flat_of y).variables room g.variable g.element g.is g.there g.within in
+        let place = g.address_is in
+        let size = g.bytes_are in
+        omega (arith, ends, place, size)
+
+    module _ (address bytes value : ℕ) where
+      abstract_all : (effect : Effect) → effect ≡ Stores address bytes value → MayStore y b h effect → IsAbstractAll z address bytes
+      abstract_all _ same (nothing effect none) = absurd (true≢false (sym (ap is_store same) ∙ none))
+      abstract_all _ same (in_log a v k inside word) =
+          let place : a ≡ address = ap address_of same in
+          let size : 8 ≡ bytes = ap width_of same in
+          record {
+            width = subst (λ (x : ℕ). is_width x ≡ true) size refl;
+            apart = λ at count found e.
+                let ends = answer_ends at count (answers at count found e) in
+                let is_after = log_after a h k word in
+                inl (omega (arith, ends, is_after, place));
+          }
+      abstract_all _ same (element variable number v is there within guards) =
+          let place : variable_at (shapes_of y) variable number ≡ address = ap address_of same in
+          let size : bytes_of is.kind ≡ bytes = ap width_of same in
+          record {
+            width = subst (λ (x : ℕ). is_width x ≡ true) size (by_size (λ x. is_width x ≡ true) refl refl refl refl is.kind);
+            apart = λ at count found e.
+                let g = answers at count found e in
+                let at_is = g.address_is in
+                let count_is = g.bytes_are in
+                ⊎_elim
+                (λ l. inl (omega (arith, l, place, at_is, count_is)))
+                (λ l. inr (omega (arith, l, place, size, at_is)))
+                (elements_apart (flat_of y).variables room g.variable g.element variable number g.is is g.there g.within there within
+                (guards_apart variable g.variable guards g.guards));
+          }
+
+    module _ (sound : IsWellFormedWorld w) (agrees : Agrees y.program w n z) where
+      count : length after.harts ≡ length w.harts
+      count = (others_leave y.program w n (Step h) sound other).1
+
+      persisted_on : ArePersisted w.words after.words → Agrees y.program after n z
+      persisted_on persisted = persisted_agrees y.program w after n z count persisted agrees
+
+      same_on : after.words ≡ w.words → Agrees y.program after n z
+      same_on same = persisted_on (subst (λ (ws : List Word). ArePersisted w.words ws) (sym same) (are_persisted_refl w.words))
+
+      worked_on : (hart : Hart) (queue : List Entry) → slice_get w.harts h ≡ Some hart → IsWork y.program w h after.words hart.queue queue →
+          Agrees y.program after n z
+      worked_on hart queue here (Rests same q) = same_on same
+      worked_on hart queue here (Queues line same q) = same_on same
+      worked_on hart queue here (WritesBack e is q) =
+          let entries : AreEntries w.words (e ∷ queue) = subst (λ (es : List Entry). AreEntries w.words es) q (sound.queues h hart here) in
+          persisted_on (subst (λ (ws : List Word). ArePersisted w.words ws) (sym is) (write_backs_raise w.words e entries.0))
+      worked_on hart queue here (Makes address bytes value st is q) =
+          let may = stores_own st.executes.hart (Stores address bytes value) (next_store y.program w h address bytes value st) in
+          let all = abstract_all address bytes value (Stores address bytes value) refl may in
+          beside_agrees y.program w after n z address bytes value count is
+          (and_from (is_width bytes) _ all.width (and_from _ _ st.inside st.is_aligned)) all.apart agrees
+
+      -- memory goes on to agree with what the thread reads
+      pub agrees_after : (hart : Hart) → slice_get w.harts h ≡ Some hart → Agrees y.program after n z
+      agrees_after hart here = let does = steps_work y.program w h hart here in worked_on hart does.after.queue here does.work

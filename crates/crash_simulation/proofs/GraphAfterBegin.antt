@@ -1,0 +1,121 @@
+-- A step of a thread that is begun, in the graph.
+use Rattle.std.proofs.Common.{◌≡◌, refl, ℕ, List, [], ◌++◌, length, ap, sym, ◌∙◌, subst, arith, Option, Some, None, Bool, true, false}
+use Rattle.std.specs.Prelude.{slice_get, slice_set, if◌then◌else◌}
+use Rattle.std.specs.Option.{option_map}
+use Rattle.std.proofs.lemmas.List.{append-nil, length-set}
+use Rattle.std.proofs.lemmas.Option.{same_Some}
+use Rattle.flow_graph.specs.Nodes.{Node, Action, Graph}
+use Rattle.flow_graph.specs.Lowering.{lowered}
+use Rattle.flow_graph.specs.Liveness.{NodeAt}
+use Rattle.flow_graph.specs.IdempotentCuts.{IsChosen, IsUnlock, unlocks}
+use Rattle.flow_graph.specs.Actions as a
+use Rattle.flow_graph.specs.Actions.{GraphThread, FlowState, Effect, Seen, seen_by, effect_of, graph_step}
+use Rattle.flow_graph.proofs.Public.{moved, set_same}
+use Rattle.recovery_semantics.specs.Configs.{Config, attempt_of}
+use Rattle.recovery_semantics.specs.Events.{ConfigStep, IsGoing, steps_begun}
+use Rattle.recovery_semantics.specs.Executions.{kept_steps}
+use Rattle.region_attempts.specs.GraphStates.{FollowsEvent, flow_kept, flow_now, flow_solo, node_after}
+use Rattle.region_attempts.specs.AttemptsInRegion.{HasCome}
+use Rattle.region_attempts.proofs.Public.{graph_stands, graph_follows, one_node}
+use Rattle.crash_simulation.specs.Systems.{System, IsSystem, flat_of}
+use Rattle.crash_simulation.specs.AbstractRuns.{AbstractRun, kept_of, now_of}
+use Rattle.crash_simulation.proofs.StatesMatchSource.{resumed}
+
+-- ---- Effects
+
+-- one that takes no mutex
+abbrev pub takes_none : Effect → Bool
+takes_none (a.Sets local number next) = true
+takes_none (a.Owes store next) = true
+takes_none (a.Makes store next) = true
+takes_none (a.Goes next) = true
+takes_none (a.Takes mutex next) = false
+takes_none (a.Gives mutex next) = true
+takes_none a.Ends = true
+
+-- what it leaves
+abbrev pub after_effect : FlowState → (t : ℕ) → GraphThread → Effect → FlowState
+after_effect s t graph_thread (a.Sets local number next) = a.with_graph_thread s t (moved graph_thread (a.Sets local number next))
+after_effect s t graph_thread (a.Owes store next) = a.with_graph_thread s t (moved graph_thread (a.Owes store next))
+after_effect s t graph_thread (a.Makes store next) = a.with_graph_thread (a.stored s store) t (moved graph_thread (a.Makes store next))
+after_effect s t graph_thread (a.Goes next) = a.with_graph_thread s t (moved graph_thread (a.Goes next))
+after_effect s t graph_thread (a.Takes mutex next) = a.with_graph_thread (a.with_holder s mutex (Some t)) t (moved graph_thread (a.Takes mutex next))
+after_effect s t graph_thread (a.Gives mutex next) = a.with_graph_thread (a.with_holder s mutex None) t (moved graph_thread (a.Gives mutex next))
+after_effect s t graph_thread a.Ends = a.with_graph_thread s t (moved graph_thread a.Ends)
+
+module _ (s : FlowState) (t : ℕ) (graph_thread : GraphThread) where
+  pub done_is : (effect : Effect) → takes_none effect ≡ true → graph_thread.ended ≡ false →
+      a.done s t graph_thread effect ≡ Some (after_effect s t graph_thread effect)
+  done_is (a.Sets local number next) free execution = refl
+  done_is (a.Owes store next) free execution = refl
+  done_is (a.Makes store next) free execution = refl
+  done_is (a.Goes next) free execution = refl
+  done_is (a.Takes mutex next) free execution = cc
+  done_is (a.Gives mutex next) free execution = refl
+  done_is a.Ends free execution = ap (λ (b : Bool). let o : Option FlowState = if b then None else Some (after_effect s t graph_thread a.Ends) in o) execution
+
+  pub graph_threads_are : (effect : Effect) → (after_effect s t graph_thread effect).graph_threads ≡ slice_set s.graph_threads t (moved graph_thread effect)
+  graph_threads_are (a.Sets local number next) = refl
+  graph_threads_are (a.Owes store next) = refl
+  graph_threads_are (a.Makes store next) = refl
+  graph_threads_are (a.Goes next) = refl
+  graph_threads_are (a.Takes mutex next) = refl
+  graph_threads_are (a.Gives mutex next) = refl
+  graph_threads_are a.Ends = refl
+
+  pub graph_thread_is : (effect : Effect) → slice_get s.graph_threads t ≡ Some graph_thread →
+      slice_get (after_effect s t graph_thread effect).graph_threads t ≡ Some (moved graph_thread effect)
+  graph_thread_is effect found =
+      ap (λ (ws : List GraphThread). slice_get ws t) (graph_threads_are effect) ∙ set_same s.graph_threads t (moved graph_thread effect) graph_thread found
+
+  pub graph_threads_count : (effect : Effect) → length (after_effect s t graph_thread effect).graph_threads ≡ length s.graph_threads
+  graph_threads_count effect = ap (λ (ws : List GraphThread). length ws) (graph_threads_are effect) ∙ length-set s.graph_threads t (moved graph_thread effect)
+
+-- ---- The state after the step
+
+module _ (y : System) (s : IsSystem y) (b : AbstractRun y) where
+  pub follows_on : (next : Config) (h : ConfigStep b.config next) → kept_steps h ≡ [] →
+      FollowsEvent (flat_of y) (kept_of y b) (now_of y b) (flow_now (flat_of y) (kept_of y b) next) h
+  follows_on next h none =
+      let r = (resumed y s b).resumed in
+      subst (λ (schedule : List ℕ). FollowsEvent (flat_of y) (kept_of y b) (now_of y b) (flow_now (flat_of y) (flow_kept (flat_of y) schedule) next) h)
+      (ap (λ (k : List ℕ). b.schedule ++ k) none ∙ append-nil b.schedule)
+      (graph_follows (flat_of y) b.config next b.schedule s.plan.formed r.invariant r.kept h)
+
+  -- a thread's own steps alone leave its graph thread as it is now
+  pub alone : (t : ℕ) → slice_get (now_of y b).graph_threads t ≡ slice_get (flow_solo (flat_of y) (kept_of y b) t (steps_begun b.config t)).graph_threads t
+  alone t =
+      let r = (resumed y s b).resumed in
+      (graph_stands (flat_of y) b.config b.schedule s.plan.formed r.invariant r.kept).alone t
+
+  -- where the attempt goes on, it is at the node of its graph thread
+  pub boundary_after_is : (t : ℕ) (graph_thread : GraphThread) → IsGoing b.config t → slice_get (now_of y b).graph_threads t ≡ Some graph_thread →
+      node_after (flat_of y) (kept_of y b) t (attempt_of b.config t).done ≡ Some graph_thread.at
+  boundary_after_is t graph_thread going found =
+      let there : slice_get (flow_solo (flat_of y) (kept_of y b) t (attempt_of b.config t).done).graph_threads t ≡ Some graph_thread =
+      ap (λ (n : ℕ). slice_get (flow_solo (flat_of y) (kept_of y b) t n).graph_threads t) (sym going) ∙ sym (alone t) ∙ found in
+      ap (option_map (λ (w : GraphThread). w.at)) there
+
+  -- an attempt that goes on has come to no boundary, unless at an unlock
+  pub not_come : (t : ℕ) (graph_thread : GraphThread) (node : Node) (effect : Effect) → IsGoing b.config t →
+      slice_get (now_of y b).graph_threads t ≡ Some graph_thread →
+      NodeAt (lowered (flat_of y)) graph_thread.at node → effect_of node.action (seen_by (now_of y b) graph_thread) ≡ Some effect →
+      ((mutex next : ℕ) → effect ≡ a.Gives mutex next → ⊥) →
+      (IsChosen y.plan.graph y.plan.boundaries graph_thread.at → (attempt_of b.config t).done ≡ 0) →
+      HasCome (flat_of y) y.plan.boundaries (kept_of y b) b.config t → ⊥
+  not_come t graph_thread node effect going found at does apart fresh come =
+      let same : come.node ≡ graph_thread.at = same_Some _ _ (sym come.at ∙ boundary_after_is t graph_thread going found) in
+      let none : (attempt_of b.config t).done ≡ 0 =
+      fresh (record {
+        stands = subst (λ (n : ℕ). slice_get y.plan.boundaries.before n ≡ Some true) same come.stands;
+        free = λ u. by (subst (λ (g : Graph). IsUnlock g graph_thread.at) s.plan.lowered u);
+      }) in
+      let some = come.steps in
+      omega (arith, none, some)
+    where
+      by : IsUnlock (lowered (flat_of y)) graph_thread.at → ⊥
+      by (unlocks x mutex next here action) =
+          let is : x.action ≡ node.action = ap (λ (n : Node). n.action) (one_node (lowered (flat_of y)) graph_thread.at x node here at) in
+          let gives : Some (a.Gives mutex next) ≡ Some effect =
+          ap (λ (z : Action). effect_of z (seen_by (now_of y b) graph_thread)) (sym action ∙ is) ∙ does in
+          apart mutex next (sym (same_Some _ _ gives))

@@ -1,0 +1,69 @@
+-- An environment that answers no loads: a thread's code is met in it in any world, and a fragment that has come to its end is one in it.
+use Rattle.std.proofs.Common.{◌≡◌, refl, ℕ, ◌+◌, ◌*◌, ◌^◌, ◌<◌, List, [], ◌∷◌, length, sym, ◌∙◌, subst, arith, false}
+use Rattle.std.specs.Prelude.{slice_index_or}
+use Rattle.std.proofs.lemmas.Option.{none-some}
+use Rattle.rv64_isa.specs.Rows.{Effect}
+use Rattle.rv64_isa.specs.Machine.{World}
+use Rattle.code_runs.specs.CodeTraces.{Program, MarkedEnvironment, Meets, seen_effects}
+use Rattle.hart_runs.specs.HartsOnRuns.{Agrees, environment_of}
+use Rattle.hart_runs.specs.Laws.{program_at}
+use Rattle.thread_runs.specs.CodeFragments.{Stage, ReadsVariables, IsOnFragment, IsPlaced, on_machine}
+use Rattle.thread_runs.proofs.Public.{plans_are_placed}
+use Rattle.recovered_threads.specs.RecordDescriptions.{Code}
+use Rattle.crash_simulation.specs.Systems.{System, IsSystem, thread_count}
+use Rattle.crash_simulation.specs.AbstractRuns.{AbstractRun}
+use Rattle.crash_simulation.specs.ThreadGhosts.{ThreadGhost, AnswersGuarded}
+use Rattle.crash_simulation.proofs.SimulationAtStart.{environments_meet}
+
+-- nothing is seen of no effects alone
+pub none_seen : (effects : List Effect) → seen_effects effects ≡ [] → effects ≡ []
+none_seen [] h = refl
+none_seen (effect ∷ effects) h = cc
+
+module _ (y : System) (s : IsSystem y) (w : World) (n : ℕ) (below : n < thread_count y) where
+  abbrev code : Code y.plan
+  code = s.codes.each n below
+
+  abbrev pub bare : MarkedEnvironment
+  bare = environment_of y.program (slice_index_or y.marks code.thread.number []) (λ address bytes. false) w code.thread.number
+
+  pub bare_agrees : Agrees y.program w code.thread.number bare
+  bare_agrees = record { fetches = λ address instr e. e; loads = λ address bytes value e. absurd (none-some value e) }
+
+  pub bare_meets : Meets code.is.places.program bare
+  bare_meets =
+      let is : program_at y.program code.thread.number (slice_index_or y.marks code.thread.number []) (slice_index_or y.resumes code.thread.number []) ≡
+      code.is.places.program = sym (code.is.of_program ∙ (s.own n below).program) in
+      subst (λ (p : Program). Meets p bare) is
+      (environments_meet y.program (slice_index_or y.marks code.thread.number []) (slice_index_or y.resumes code.thread.number []) (λ address bytes. false) w
+      code.thread.number)
+
+  pub bare_answers : (b : AbstractRun y) (c : ThreadGhost) → AnswersGuarded y b code c bare
+  bare_answers b c address bytes value e = absurd (none-some value e)
+
+  pub bare_reads : ReadsVariables bare
+  bare_reads address bytes value e = absurd (none-some value e)
+
+  pub placed : length w.harts ≡ thread_count y → IsPlaced y.plan code.thread code.is.places (length w.harts)
+  placed count =
+      let same = s.codes.number n below in
+      plans_are_placed y.plan code.thread code.is.places (length w.harts) s.plan code.of code.is.kept (omega (arith, below, count, same))
+      (subst (λ (p : Program). p.start + 4 * length p.code < 2 ^ 64) (sym code.is.of_program) (s.own n below).room)
+
+  module _ (environment : MarkedEnvironment) (stage : Stage) (effects : List Effect)
+      (fragment : IsOnFragment y.plan code.thread code.is.places (on_machine y.program w code.thread.number environment) stage 0 effects) where
+    -- no effects are ahead
+    pub none_ahead : effects ≡ []
+    none_ahead = none_seen effects fragment.on.walks.1
+
+    pub resettled : IsOnFragment y.plan code.thread code.is.places (on_machine y.program w code.thread.number bare) stage 0 []
+    resettled = record {
+      meets = bare_meets;
+      agrees = bare_agrees;
+      apart = tt;
+      own = fragment.own;
+      of_graph = fragment.of_graph;
+      registers = fragment.registers;
+      on = record { hart = fragment.on.hart; here = fragment.on.here; runs = fragment.on.runs; walks = (fragment.on.walks.0, refl); may = tt };
+      has = fragment.has;
+    }

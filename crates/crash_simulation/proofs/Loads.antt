@@ -1,0 +1,243 @@
+-- Loads of the elements that a node reads are answered.
+use Rattle.std.proofs.Common.{◌≡◌, ⊎_elim, refl, ℕ, zero, suc, ◌<◌, List, [], ◌∷◌, ◌++◌, map, ap, sym, subst, arith, Option, Some, None, Bool, true, false}
+use Rattle.std.specs.Prelude.{slice_get, is_some, ℤ, Contains, nat_lt, ◌==◌, ◌&&◌, ◌||◌}
+use Rattle.std.specs.List.{AllByRecursion, AllZip}
+use Rattle.std.proofs.lemmas.Bool.{and_parts, or_cases}
+use Rattle.std.proofs.lemmas.Bool.Decides.{nat_tests}
+use Rattle.std.proofs.lemmas.Option.{same_Some}
+use Rattle.std.proofs.lemmas.List.Elements.{Contains-append_left, Contains-append_right}
+use Rattle.ido_base.specs.Layout.{variable_at}
+use Rattle.ido_ints.specs.declared.kinds.Kind.{Kind}
+use Rattle.ido_ints.specs.Kinds.{bytes_of, Holds}
+use Rattle.c_tree.specs.Exprs as e
+use Rattle.c_tree.specs.Flats as f
+use Rattle.c_tree.specs.Source as m
+use Rattle.c_tree.specs.Programs.{Variable}
+use Rattle.c_tree.specs.Values.{value, element_at}
+use Rattle.c_tree.specs.WellFormed.{elements_in, shape_of, IsDeclared, IsExpr, Fits, IsTarget, TargetFits, IsWellFormed, IsFlatStatement, IsFlatPlaced}
+use Rattle.c_ranges.specs.RunInvariants.{AreNumbersOf, IsStatementLeft, IsThreadOf}
+use Rattle.c_ranges.proofs.Public.{fits_element, Pair, all_held, elements_is, zip_found}
+use Rattle.expr_code.specs.EvaluationCode.{Source, IsLoaded, AreLoaded}
+use Rattle.flow_graph.specs.Nodes.{Action, Eval, Store, Test, Lock, Unlock, End, Node}
+use Rattle.flow_graph.specs.Lowering.{lowered}
+use Rattle.flow_graph.specs.Liveness.{NodeAt}
+use Rattle.flow_graph.specs.Lockstep.{Standing, free, threads_standings}
+use Rattle.flow_graph.specs.Actions.{Seen, GraphThread, FlowState, seen_by}
+use Rattle.flow_graph.specs.Paths.{Element, element, expr_elements, target_elements, reads_of}
+use Rattle.flow_graph.proofs.Public.{ActionLeads, chooses, repeats, Good}
+use Rattle.thread_code.specs.RegistersAtNodes.{IsAnsweredIn, IsAnswered}
+use Rattle.region_attempts.proofs.Public.{IsThere, is_there}
+
+-- ---- Accesses to elements
+
+-- the access is one to the element, with all of its bytes
+abbrev pub reads_one : List Variable → Element → (address bytes : ℕ) → Option Variable → Bool
+reads_one vs one address bytes None = false
+reads_one vs one address bytes (Some it) =
+    nat_lt one.element (elements_in it.length) && ((variable_at (map shape_of vs) one.variable one.element == address) && (bytes_of it.kind == bytes))
+
+-- the access is one to an element of the list, with all of its bytes
+abbrev pub reads_all : List Variable → List Element → (address bytes : ℕ) → Bool
+reads_all vs [] address bytes = false
+reads_all vs (one ∷ more) address bytes = reads_one vs one address bytes (slice_get vs one.variable) || reads_all vs more address bytes
+
+pub record IsRead (vs : List Variable) (ones : List Element) (address bytes : ℕ) : Type 0 where
+  pub one : Element
+  pub of : Contains ones one
+  pub it : Variable
+  pub found : slice_get vs one.variable ≡ Some it
+  pub within : one.element < elements_in it.length
+  pub address_is : address ≡ variable_at (map shape_of vs) one.variable one.element
+  pub bytes_are : bytes ≡ bytes_of it.kind
+
+read_first : (vs : List Variable) (one : Element) (more : List Element) (address bytes : ℕ) (o : Option Variable) → slice_get vs one.variable ≡ o →
+    reads_one vs one address bytes o ≡ true → IsRead vs (one ∷ more) address bytes
+read_first vs one more address bytes None found h = cc
+read_first vs one more address bytes (Some it) found h =
+    let a = and_parts (nat_lt one.element (elements_in it.length)) _ h in
+    let b = and_parts (variable_at (map shape_of vs) one.variable one.element == address) (bytes_of it.kind == bytes) a.1 in
+    let below = a.0 in
+    let same = b.0 in
+    let wide = b.1 in
+    record {
+      one = one;
+      of = (0, omega arith, refl);
+      it = it;
+      found = found;
+      within = grind (arith, nat_tests);
+      address_is = grind (arith, nat_tests);
+      bytes_are = grind (arith, nat_tests);
+    }
+
+pub is_read : (vs : List Variable) (ones : List Element) (address bytes : ℕ) → reads_all vs ones address bytes ≡ true → IsRead vs ones address bytes
+is_read vs [] address bytes h = cc
+is_read vs (one ∷ more) address bytes h = ⊎_elim
+    (λ a. read_first vs one more address bytes (slice_get vs one.variable) refl a)
+    (λ b.
+    let r = is_read vs more address bytes b in
+    record {
+      one = r.one;
+      of = (suc r.of.0, let l = r.of.1 in omega (arith, l), r.of.2);
+      it = r.it;
+      found = r.found;
+      within = r.within;
+      address_is = r.address_is;
+      bytes_are = r.bytes_are;
+    })
+    (or_cases (reads_one vs one address bytes (slice_get vs one.variable)) (reads_all vs more address bytes) h)
+
+reads_itself : (n count at bytes : ℕ) → n < count → (nat_lt n count && ((at == at) && (bytes == bytes))) ≡ true
+reads_itself n count at bytes below = grind (arith, nat_tests)
+
+reads_head : (vs : List Variable) (one : Element) (more : List Element) (it : Variable) (o : Option Variable) → o ≡ Some it →
+    one.element < elements_in it.length →
+    (reads_one vs one (variable_at (map shape_of vs) one.variable one.element) (bytes_of it.kind) o ||
+    reads_all vs more (variable_at (map shape_of vs) one.variable one.element) (bytes_of it.kind)) ≡ true
+reads_head vs one more it None found below = cc
+reads_head vs one more it (Some other) found below =
+    let same : it ≡ other = same_Some it other (sym found) in
+    let address : ℕ = variable_at (map shape_of vs) one.variable one.element in
+    let first : reads_one vs one address (bytes_of it.kind) (Some other) ≡ true =
+    subst (λ (z : Variable). reads_one vs one address (bytes_of it.kind) (Some z) ≡ true) same
+    (reads_itself one.element (elements_in it.length) address (bytes_of it.kind) below) in
+    ap (λ (b : Bool). b || reads_all vs more address (bytes_of it.kind)) first
+
+or_second : (a b : Bool) → b ≡ true → (a || b) ≡ true
+or_second true b h = refl
+or_second false b h = h
+
+pub reads_there : (vs : List Variable) (ones : List Element) (one : Element) (it : Variable) → Contains ones one → slice_get vs one.variable ≡ Some it →
+    one.element < elements_in it.length → reads_all vs ones (variable_at (map shape_of vs) one.variable one.element) (bytes_of it.kind) ≡ true
+reads_there vs [] one it (k, l, is) found below = absurd (omega (arith, l))
+reads_there vs (first ∷ more) one it (zero, l, is) found below =
+    let P : Element → Type 0 = λ z. reads_all vs (z ∷ more) (variable_at (map shape_of vs) one.variable one.element) (bytes_of it.kind) ≡ true in
+    subst P (sym is) (reads_head vs one more it (slice_get vs one.variable) found below)
+reads_there vs (first ∷ more) one it (suc k, l, is) found below =
+    or_second (reads_one vs first (variable_at (map shape_of vs) one.variable one.element) (bytes_of it.kind) (slice_get vs first.variable)) _
+    (reads_there vs more one it (k, omega (arith, l), is) found below)
+
+-- ---- What expressions read
+
+scalar_one : (o : Option ℕ) → is_some o ≡ false → 0 < elements_in o
+scalar_one None h = omega arith
+scalar_one (Some n) h = cc
+
+-- a load of the element, which is there, is answered
+abbrev pub Loaded : Source → (loads : (address bytes : ℕ) → Option ℕ) → Element → Type 0
+Loaded s loads one = (it : Variable) → slice_get s.variables one.variable ≡ Some it → one.element < elements_in it.length →
+    IsLoaded s loads it.kind one.variable one.element
+
+module _ (vs : List Variable) (ks kinds : List Kind) (ls : List ℤ) (p : Option m.Pending) (ns : List (List ℤ)) (locals : AllZip Holds ks ls)
+    (variables : AllZip AreNumbersOf vs ns) (loads : (address bytes : ℕ) → Option ℕ) where
+  abbrev seen : Seen
+  seen = record { locals = ls; pending = p; variables = ns }
+
+  abbrev source : Source
+  source = record { variables = vs; kinds = kinds; locals = ls; numbers = ns }
+
+  loaded_declared : (variable number : ℕ) (kind : Kind) (array : Bool) (d : IsDeclared vs variable kind array) → number < elements_in d.it.length →
+      Loaded source loads (element variable number) → IsLoaded source loads kind variable number
+  loaded_declared variable number kind array d below all =
+      subst (λ (k : Kind). IsLoaded source loads k variable number) d.kind (all d.it d.found below)
+
+  pub loaded_expr : (x : e.Expr) → IsExpr vs ks x → Fits vs x → ((one : Element) → Contains (expr_elements x seen) one → Loaded source loads one) →
+      AreLoaded source loads x
+  loaded_expr (e.Constant v) w fit all = tt
+  loaded_expr (e.Local local kind) w fit all = tt
+  loaded_expr (e.Variable place variable kind) w fit all =
+      loaded_declared variable 0 kind false w (scalar_one w.it.length w.array) (all (element variable 0) (0, omega arith, refl))
+  loaded_expr (e.Element place variable kind index_place index) w fit all =
+      let named = fits_element vs (record { variable = variable; place = index_place; expr = index }) fit.0 ls ns
+      (all_held vs ks ls ns locals variables index w.1) in
+      let count = elements_is vs variable w.0.it w.0.found w.0.array in
+      let below = named.below in (
+        loaded_declared variable (element_at (value ls ns index)) kind true w.0 (omega (arith, below, count))
+            (all (element variable (element_at (value ls ns index))) (0, omega arith, refl)),
+        loaded_expr index w.1 fit.1 (λ one c. all one (suc c.0, let l = c.1 in omega (arith, l), c.2)),
+      )
+  loaded_expr (e.Unary operator operand) w fit all = loaded_expr operand w fit all
+  loaded_expr (e.Cast kind operand) w fit all = loaded_expr operand w fit all
+  loaded_expr (e.Converted kind operand) w fit all = loaded_expr operand w fit all
+  loaded_expr (e.Binary operator left right) w fit all = (
+    loaded_expr left w.0 fit.0 (λ one c. all one (Contains-append_left (expr_elements left seen) (expr_elements right seen) one c)),
+    loaded_expr right w.1 fit.1 (λ one c. all one (Contains-append_right (expr_elements left seen) (expr_elements right seen) one c)),
+  )
+  loaded_expr (e.Conditional kind condition chosen otherwise) w fit all =
+      let prefix : List Element = expr_elements condition seen ++ expr_elements chosen seen in (
+        loaded_expr condition w.0 fit.0 (λ one c. all one (Contains-append_left prefix (expr_elements otherwise seen) one
+            (Contains-append_left (expr_elements condition seen) (expr_elements chosen seen) one c))),
+        loaded_expr chosen w.1 fit.1 (λ one c. all one (Contains-append_left prefix (expr_elements otherwise seen) one
+            (Contains-append_right (expr_elements condition seen) (expr_elements chosen seen) one c))),
+        loaded_expr otherwise w.2 fit.2 (λ one c. all one (Contains-append_right prefix (expr_elements otherwise seen) one c)),
+      )
+
+-- ---- What nodes read
+
+module _ (x : f.Flat) (w : IsWellFormed x) (s : FlowState) (good : Good x s) (t : ℕ) (graph_thread : GraphThread) (node : Node)
+    (found : slice_get s.graph_threads t ≡ Some graph_thread) (at : NodeAt (lowered x) graph_thread.at node) (kinds : List Kind)
+    (loads : (address bytes : ℕ) → Option ℕ) where
+  there : IsThere x good.source t graph_thread node
+  there = is_there x w t s good.source good.matches graph_thread node found at
+
+  own : Pair (λ (u : f.Thread) (own : m.Thread). IsThreadOf x u.locals own) x.threads t there.thread
+  own = zip_found (λ (u : f.Thread) (own : m.Thread). IsThreadOf x u.locals own) x.threads good.source.threads t there.thread good.formed.threads there.there
+
+  abbrev ks : List Kind
+  ks = own.it.locals
+
+  abbrev all : List Standing
+  all = threads_standings x.threads
+
+  abbrev standing : Standing
+  standing = record { left = there.thread.left; owes = is_some there.thread.pending }
+
+  left_formed : (y : f.Statement) (rest : List f.Statement) → standing ≡ free (y ∷ rest) → IsFlatStatement x ks y
+  left_formed y rest is =
+      let left : there.thread.left ≡ y ∷ rest = ap (λ (z : Standing). z.left) is in
+      let kept = subst (AllByRecursion (IsStatementLeft x ks)) left own.related.left in
+      kept.0.1
+
+  test_formed : (condition : e.Placed) (holds fails : ℕ) → ActionLeads all (Test condition holds fails) standing → IsFlatPlaced x ks condition
+  test_formed condition holds fails d = elim d [
+    | chooses place body arms otherwise rest is a b ↦ (left_formed (f.If place (f.arm_and condition body arms) otherwise) rest is).1.0
+    | repeats place body rest is a b ↦ (left_formed (f.While place condition body) rest is).0
+  ]
+
+  locals_held : AllZip Holds ks graph_thread.locals
+  locals_held = let P : List ℤ → Type 0 = λ ls. AllZip Holds ks ls in subst P (sym there.match.locals) own.related.locals
+
+  variables_held : AllZip AreNumbersOf x.variables s.variables
+  variables_held = let P : List (List ℤ) → Type 0 = λ ns. AllZip AreNumbersOf x.variables ns in subst P (sym good.matches.variables) good.formed.variables
+
+  abbrev pub here : Source
+  here = record { variables = x.variables; kinds = kinds; locals = graph_thread.locals; numbers = s.variables }
+
+  expr_here : (y : e.Placed) → IsFlatPlaced x ks y → ((one : Element) → Contains (expr_elements y.expr (seen_by s graph_thread)) one → Loaded here loads one) →
+      AreLoaded here loads y.expr
+  expr_here y formed each =
+      loaded_expr x.variables ks kinds graph_thread.locals graph_thread.pending s.variables locals_held variables_held loads y.expr formed.0 formed.1 each
+
+  target_here : (target : e.Lvalue) → IsTarget x.variables ks target → TargetFits x.variables target →
+      ((one : Element) → Contains (target_elements target (seen_by s graph_thread)) one → Loaded here loads one) → IsAnsweredIn here loads target
+  target_here (e.ToLocal local kind) formed fits each = tt
+  target_here (e.ToVariable place variable kind) formed fits each = tt
+  target_here (e.ToElement place variable kind index) formed fits each = expr_here index (formed.1, fits.1) each
+
+  answered_by : (a : Action) → ActionLeads all a standing → ((one : Element) → Contains (reads_of a (seen_by s graph_thread)) one → Loaded here loads one) →
+      IsAnswered here loads a
+  answered_by (Eval target value next) d each =
+      let formed = left_formed (f.Assign d.place target value) d.rest d.is in
+      let first : List Element = target_elements target (seen_by s graph_thread) in
+      let second : List Element = expr_elements value.expr (seen_by s graph_thread) in (
+        target_here target formed.0.0 formed.0.1 (λ one c. each one (Contains-append_left first second one c)),
+        expr_here value formed.1 (λ one c. each one (Contains-append_right first second one c)),
+      )
+  answered_by (Store variable kind next) d each = tt
+  answered_by (Test condition holds fails) d each = expr_here condition (test_formed condition holds fails d) each
+  answered_by (Lock mutex next) d each = tt
+  answered_by (Unlock mutex next) d each = tt
+  answered_by End d each = tt
+
+  -- loads of what the node reads are
+  pub answered : ((one : Element) → Contains (reads_of node.action (seen_by s graph_thread)) one → Loaded here loads one) → IsAnswered here loads node.action
+  answered each = answered_by node.action there.does each

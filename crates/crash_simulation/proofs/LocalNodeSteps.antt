@@ -1,0 +1,227 @@
+-- A hart at its node's code, where the node neither stores nor passes a mutex.
+use Rattle.std.proofs.Common.{◌≡◌, ◌⊎◌, inl, inr, refl, ℕ, ◌<◌, List, [], ◌∷◌, ◌++◌, ap, sym, ◌∙◌, subst, arith, Option, Some, None, Bool, true, false}
+use Rattle.std.specs.Prelude.{slice_get, length, Contains}
+use Rattle.std.proofs.lemmas.Bool.{true≢false}
+use Rattle.std.proofs.lemmas.Option.{none-some, same_Some}
+use Rattle.ido_base.specs.Growth.{PersistsThrough}
+use Rattle.c_tree.specs.LockDiscipline.{guard_of}
+use Rattle.source_machine.specs.Discipline.{Guards}
+use Rattle.rv64_isa.specs.Machine.{Hart, World}
+use Rattle.rv64_isa.specs.Schedule.{is_running}
+use Rattle.code_runs.specs.CodeTraces.{MarkedEnvironment}
+use Rattle.flow_graph.specs.Nodes.{Node}
+use Rattle.flow_graph.specs.Lowering.{lowered}
+use Rattle.flow_graph.specs.Liveness.{NodeAt}
+use Rattle.flow_graph.specs.Lockstep.{Matches}
+use Rattle.flow_graph.specs.Actions as a
+use Rattle.flow_graph.specs.Actions.{GraphThread, FlowState, Seen, effect_of, seen_by, graph_step}
+use Rattle.flow_graph.specs.Paths.{Element, reads_of}
+use Rattle.hart_runs.proofs.Public.{forward_reaches}
+use Rattle.recovery_semantics.specs.Attempts.{IsInnerStep, WritesAt, Writes, store_ahead}
+use Rattle.recovery_semantics.specs.Configs.{now, attempt_of}
+use Rattle.recovery_semantics.specs.Events.{ConfigStep, steps_locally, begun}
+use Rattle.recovery_semantics.specs.VariableSpots.{memory_in}
+use Rattle.region_attempts.specs.AttemptsInRegion.{HasCome}
+use Rattle.region_attempts.proofs.Public.{graph_stands}
+use Rattle.log_states.specs.Machines.{IsNext, IsElsewhere}
+use Rattle.log_states.proofs.Public.{stores_nothing}
+use Rattle.recovered_threads.proofs.Public.{same_there}
+use Rattle.thread_runs.specs.CodeFragments.{stage_after, on_machine}
+use Rattle.thread_runs.specs.Laws as laws
+use Rattle.thread_runs.specs.Laws.{IsAtSomeMark, MarksPass, run_at}
+use Rattle.crash_simulation.specs.Systems.{System, IsSystem, flat_of, places_of, thread_count}
+use Rattle.crash_simulation.specs.AbstractRuns.{AbstractRun, kept_of, now_of}
+use Rattle.crash_simulation.specs.ThreadGhosts.{IsFlushed}
+use Rattle.crash_simulation.specs.SimulationRelation.{Simulates}
+use Rattle.crash_simulation.specs.InstructionSteps.{nothing, AtCoreNow, thread_of}
+use Rattle.crash_simulation.proofs.StatesMatchSource.{resumed}
+use Rattle.crash_simulation.proofs.Loads.{reads_all}
+use Rattle.crash_simulation.proofs.NodeEffects.{is_quiet, step_is, source_steps, locks_none, unlocks_none, ahead_none}
+use Rattle.crash_simulation.proofs.ConfigAfterBegin.{one_longer, attempted, done_longer, wrote, alone_ahead}
+use Rattle.crash_simulation.proofs.GraphAfterBegin.{after_effect, done_is, follows_on, not_come}
+use Rattle.crash_simulation.proofs.UncommittedSteps.{leads_on}
+use Rattle.crash_simulation.proofs.NodeEnvironments.{reads_variables, answers_guarded, guards_here, answered_here}
+use Rattle.crash_simulation.proofs.OwnHartSteps.{going, code, number, abstract, ghost, after, StepOf}
+use Rattle.crash_simulation.proofs.PendingFlushes.{flushed_still}
+use Rattle.crash_simulation.proofs.WriteBackSteps.{stays_step, none_clean}
+use Rattle.crash_simulation.proofs.MarksAtNodes.{IsUnseen, unseen, quiet_may, quiet_seen, quiet_free, inside, environment, at_some_mark}
+use Rattle.crash_simulation.proofs.MarkSteps as passing
+use Rattle.crash_simulation.proofs.MarkSteps.{is_plain, plain_holders, passed_step}
+
+quiet_plain : (e : a.Effect) → is_quiet e ≡ true → is_plain e ≡ true
+quiet_plain (a.Sets local value next) quiet = refl
+quiet_plain (a.Owes store next) quiet = refl
+quiet_plain (a.Makes store next) quiet = refl
+quiet_plain (a.Goes next) quiet = refl
+quiet_plain (a.Takes mutex next) quiet = cc
+quiet_plain (a.Gives mutex next) quiet = cc
+quiet_plain a.Ends quiet = refl
+
+-- the states of the source and of the graph have the same holders, in any history
+pub matches_now : (y : System) (s : IsSystem y) (b : AbstractRun y) → Matches (flat_of y) (now_of y b) (now b.config)
+matches_now y s b =
+    let r = (resumed y s b).resumed in
+    (graph_stands (flat_of y) b.config b.schedule s.plan.formed r.invariant r.kept).now_matches
+
+module _ (y : System) (s : IsSystem y) (w : World) (h : ℕ) (stands : Simulates y s w) (below : h < thread_count y) (core : AtCoreNow y s w h stands below)
+    (marks : MarksPass) (node : Node) (at : NodeAt (lowered (flat_of y)) (thread_of y s w h stands below).graph_thread.at node) (e : a.Effect)
+    (does : effect_of node.action (seen_by (now_of y (abstract y s w h stands below)) (thread_of y s w h stands below).graph_thread) ≡ Some e)
+    (quiet : is_quiet e ≡ true) where
+  abbrev graph_thread : GraphThread
+  graph_thread = (thread_of y s w h stands below).graph_thread
+
+  abbrev n : ℕ
+  n = number y s w h stands below
+
+  abbrev b : AbstractRun y
+  b = abstract y s w h stands below
+
+  abbrev v : World
+  v = after y s w h stands below
+
+  abbrev seen : Seen
+  seen = seen_by (now_of y b) graph_thread
+
+  abbrev reads : ℕ → ℕ → Bool
+  reads = reads_all (flat_of y).variables (reads_of node.action seen)
+
+  abbrev here : MarkedEnvironment
+  here = environment y s w h stands below core node at reads
+
+  walks : slice_get (now_of y b).graph_threads n ≡ Some graph_thread
+  walks = (thread_of y s w h stands below).walks
+
+  pub mark : IsAtSomeMark y.plan (code y s w h stands below).thread (code y s w h stands below).is.places (on_machine y.program w n here)
+      graph_thread.at seen core.bank
+      core.registers e
+  mark =
+      at_some_mark y s w h stands below core node at reads e (quiet_free e quiet) does
+      (reads_variables y s w b (code y s w h stands below) (s.own h below) stands.before_commit.count (inside y s w h stands below core node at reads)
+      (reads_of node.action seen))
+      (answered_here y s w b (code y s w h stands below) (s.own h below) stands.before_commit.count (inside y s w h stands below core node at reads)
+      stands.before_commit.memory
+      core.goes.goes.going graph_thread walks node at)
+      (quiet_may y.plan (code y s w h stands below).thread (code y s w h stands below).is.places (length w.harts) here e quiet)
+
+  -- ---- The source
+
+  graph_step_is : graph_step (lowered (flat_of y)) (now_of y b) n ≡ Some (after_effect (now_of y b) n graph_thread e)
+  graph_step_is =
+      step_is (flat_of y) s.plan.formed (now_of y b) (now b.config) n (matches_now y s b) graph_thread walks node at e does
+      ∙ done_is (now_of y b) n graph_thread e (quiet_free e quiet) core.goes.execution
+
+  inner : IsInnerStep (now b.config) n
+  inner =
+      let stepped = source_steps (flat_of y) s.plan.formed (now_of y b) (now b.config) n (matches_now y s b) graph_thread walks node at _ graph_step_is in
+      record {
+        next = stepped.0;
+        is = stepped.1;
+        locks_none = locks_none (flat_of y) s.plan.formed (now_of y b) (now b.config) n (matches_now y s b) graph_thread walks node at e does quiet;
+        unlocks_none = unlocks_none (flat_of y) s.plan.formed (now_of y b) (now b.config) n (matches_now y s b) graph_thread walks node at e does quiet;
+      }
+
+  no_ahead : store_ahead (now b.config) n ≡ None
+  no_ahead = ahead_none (flat_of y) s.plan.formed (now_of y b) (now b.config) n (matches_now y s b) graph_thread walks node at e does quiet
+
+  abbrev happened : ConfigStep b.config (begun b.config n b.config.memory (one_longer b.config n))
+  happened = steps_locally n (one_longer b.config n) (record {
+    going = core.goes.goes.going;
+    step = inner;
+    no_store = no_ahead;
+    attempt = attempted b.config.attempts n _;
+  })
+
+  minded : HasCome (flat_of y) y.plan.boundaries (kept_of y b) b.config n → ⊥
+  minded = not_come y s b n graph_thread node e core.goes.goes.going walks at does
+      (λ mutex next gives. let loud : is_quiet e ≡ false = ap is_quiet gives in true≢false (sym quiet ∙ loud)) core.fresh
+
+  -- the step writes nothing
+  none_written : (u i : ℕ) → WritesAt b.config.kept n (attempt_of b.config n).done u i → ⊥
+  none_written u i writes =
+      let r = (resumed y s b).resumed in
+      none-some writes.store (sym no_ahead ∙ (sym (alone_ahead (flat_of y) b.config r.invariant n core.goes.goes.going) ∙ writes.is))
+
+  -- ---- The mark is passed
+
+  module _ (p : laws.PassesMark y.plan (code y s w h stands below).thread (code y s w h stands below).is.places (on_machine y.program w n here) e
+      (stage_after y.plan (code y s w h stands below).thread (code y s w h stands below).is.places graph_thread.at seen core.bank e) mark.steps mark.effects
+      mark.at) where
+    nothing_seen : IsUnseen n p.forward.effect p.later
+    nothing_seen = unseen n p.forward.effect p.later mark.effects
+        (quiet_seen y.plan (code y s w h stands below).thread (code y s w h stands below).is.places graph_thread.at core.bank core.registers e
+        mark.effects quiet
+        mark.seen_are) p.effects_are
+
+    is_next : IsNext y.program w n mark.at.on.hart p.forward.effect
+    is_next = record { here = mark.at.on.here; runs = ap is_running mark.at.on.runs; is = p.forward.effect_is }
+
+    elsewhere : IsElsewhere y.program w n n
+    elsewhere = stores_nothing y.program w n n mark.at.on.hart p.forward.effect is_next nothing_seen.no_store
+
+    words_stay : v.words ≡ w.words
+    words_stay = ap (λ (z : World). z.words) p.forward.world ∙ nothing_seen.same _ p.forward.contents p.forward.changes
+
+    memory_is : memory_in (places_of y) v.words ≡ b.config.memory
+    memory_is = ap (memory_in (places_of y)) words_stay ∙ stands.before_commit.memory
+
+    abbrev next : AbstractRun y
+    next = passing.next y s w h stands below core e (quiet_plain e quiet) here refl mark.steps mark.effects mark.at p [] nothing_seen.later_is none_clean
+        (λ ends. refl) elsewhere (nothing p.forward.effect nothing_seen.no_store) nothing_seen.no_point b.config.memory memory_is happened refl refl minded refl
+
+    state : now_of y next ≡ after_effect (now_of y b) n graph_thread e
+    state = same_Some _ _ (sym (follows_on y s b _ happened refl) ∙ graph_step_is)
+
+    guards : (one : Element) → Contains (reads_of node.action seen) one → Guards (flat_of y) (now next.config) n one.variable
+    guards one of =
+        let old = guards_here y s w b (code y s w h stands below) (s.own h below) stands.before_commit.count (inside y s w h stands below core node at reads)
+        stands.before_commit.memory core.goes.goes.going graph_thread walks node at one of in
+        let holders : (now next.config).holders ≡ (now b.config).holders =
+        sym (matches_now y s next).holders ∙ ap (λ (z : FlowState). z.holders) state ∙ plain_holders (now_of y b) n graph_thread e (quiet_plain e quiet)
+        ∙ (matches_now y s b).holders in
+        ap (λ (hs : List (Option ℕ)). slice_get hs (guard_of (flat_of y).variables one.variable)) holders ∙ old
+
+    flushed : (other : Hart) → p.on.on.hart ≡ other → (u i : ℕ) → Writes next.config.kept n (attempt_of next.config n).done u i →
+        IsFlushed y v next (code y s w h stands below) (going (ghost y s w h stands below) []) other u i
+    flushed other is u i writes = by (wrote b.config.kept n (attempt_of b.config n).done u i
+        (subst (λ (k : ℕ). Writes b.config.kept n k u i) (done_longer b.config n) writes))
+      where
+        by : Writes b.config.kept n (attempt_of b.config n).done u i ⊎ WritesAt b.config.kept n (attempt_of b.config n).done u i →
+            IsFlushed y v next (code y s w h stands below) (going (ghost y s w h stands below) []) other u i
+        by (inr at_once) = absurd (none_written u i at_once)
+        by (inl old) =
+            let t = thread_of y s w h stands below in
+            let old_is : mark.at.on.hart ≡ t.log.hart = same_there (slice_get w.harts n) mark.at.on.hart t.log.hart mark.at.on.here t.log.here in
+            let longer = done_longer b.config n in
+            flushed_still y w v b (code y s w h stands below) (ghost y s w h stands below) core.goes.cleans t.log.hart (b.config.uncommitted ++ n ∷ [])
+            b.config.memory (one_longer b.config n) (leads_on y b _ happened refl minded).0 (leads_on y b _ happened refl minded).1
+            (going (ghost y s w h stands below) []) other
+            (λ j position r. subst (λ (x : Hart). PersistsThrough v.words x.queue j position) (sym p.same ∙ is)
+            (forward_reaches y.program w n (run_at y.plan (code y s w h stands below).thread (code y s w h stands below).is.places mark.at) p.forward j position
+            (subst (λ (x : Hart). PersistsThrough w.words x.queue j position) (sym old_is) r)))
+            (omega (arith, longer)) (omega (arith, longer)) (λ now line cleaned. absurd (none_written _ _ cleaned.stores)) u i
+            (λ position since. since) (t.flushed u i old) (λ un. absurd (true≢false un))
+
+    quiet_passes : StepOf y s w h stands below n
+    quiet_passes =
+        passed_step y s w h stands below core e (quiet_plain e quiet) here refl mark.steps mark.effects mark.at p [] nothing_seen.later_is none_clean
+        (λ ends. refl) elsewhere (nothing p.forward.effect nothing_seen.no_store) nothing_seen.no_point b.config.memory memory_is happened refl refl minded refl
+        state
+        (answers_guarded y s w b (code y s w h stands below) (s.own h below) stands.before_commit.count (inside y s w h stands below core node at reads)
+        (reads_of node.action seen) next (going (ghost y s w h stands below) []) guards)
+        flushed
+
+  pub quiet_step : StepOf y s w h stands below n
+  quiet_step = by (marks y.plan (code y s w h stands below).thread (code y s w h stands below).is.places y.program w n here e
+      (stage_after y.plan (code y s w h stands below).thread (code y s w h stands below).is.places graph_thread.at seen core.bank e) mark.steps mark.effects
+      stands.before_commit.sound mark.at)
+    where
+      by : laws.PassesMark y.plan (code y s w h stands below).thread (code y s w h stands below).is.places (on_machine y.program w n here) e
+          (stage_after y.plan (code y s w h stands below).thread (code y s w h stands below).is.places graph_thread.at seen core.bank e) mark.steps mark.effects
+          mark.at
+          ⊎ laws.Stays y.plan (code y s w h stands below).thread (code y s w h stands below).is.places (on_machine y.program w n here) e
+          (stage_after y.plan (code y s w h stands below).thread (code y s w h stands below).is.places graph_thread.at seen core.bank e) mark.steps mark.effects
+          mark.at → StepOf y s w h stands below n
+      by (inl p) = quiet_passes p
+      by (inr stays) = stays_step y s w h stands below core here e
+          (stage_after y.plan (code y s w h stands below).thread (code y s w h stands below).is.places graph_thread.at seen core.bank e) mark.steps mark.effects
+          mark.at stays

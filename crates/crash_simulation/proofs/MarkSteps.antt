@@ -1,0 +1,217 @@
+-- A hart passes the mark of a node that begins no boundary: what is the same of all of them.
+use Rattle.std.proofs.Common.{◌≡◌, refl, ℕ, ◌<◌, List, [], ◌++◌, length, ap, sym, ◌∙◌, subst, Option, Some, Bool, true, false}
+use Rattle.std.specs.Prelude.{slice_get, Contains, not, ℤ}
+use Rattle.std.proofs.lemmas.List.{append-nil}
+use Rattle.rv64_isa.specs.declared.phase.Phase.{Phase}
+use Rattle.rv64_isa.specs.Rows.{Effect}
+use Rattle.rv64_isa.specs.Machine.{Hart, World}
+use Rattle.rv64_isa.specs.Schedule.{is_running, is_point_store}
+use Rattle.code_runs.specs.CodeTraces.{MarkedEnvironment}
+use Rattle.flow_graph.specs.Actions as a
+use Rattle.flow_graph.specs.Actions.{GraphThread, FlowState, Seen, effect_of, seen_by}
+use Rattle.flow_graph.proofs.Public.{moved}
+use Rattle.hart_runs.specs.RunSteps.{is_clean}
+use Rattle.recovery_semantics.specs.ElementHistories.{Memory}
+use Rattle.recovery_semantics.specs.Attempts.{Writes}
+use Rattle.recovery_semantics.specs.Configs.{attempt_of}
+use Rattle.recovery_semantics.specs.Events.{ConfigStep, begun}
+use Rattle.recovery_semantics.specs.Executions.{kept_steps}
+use Rattle.recovery_semantics.specs.VariableSpots.{memory_in}
+use Rattle.region_attempts.specs.AttemptsInRegion.{RespectsBoundaries}
+use Rattle.log_states.specs.Machines.{IsNext, IsElsewhere}
+use Rattle.log_states.proofs.Public.{one_effect}
+use Rattle.recovered_threads.proofs.Public.{same_there}
+use Rattle.thread_runs.specs.CodeFragments.{ExitPoint, Arrives, Ends, Stage, stage_after, IsAtMark, IsOnFragment, on_machine}
+use Rattle.thread_runs.specs.Laws as laws
+use Rattle.thread_runs.specs.Laws.{run_at, stage_sees, AreMarksOf}
+use Rattle.thread_runs.proofs.Public.{fragments_see_all}
+use Rattle.crash_simulation.specs.Systems.{System, IsSystem, flat_of, places_of, thread_count}
+use Rattle.crash_simulation.specs.AbstractRuns.{AbstractRun, kept_of, now_of}
+use Rattle.crash_simulation.specs.ThreadGhosts.{ThreadGhost, AnswersGuarded, IsInAttempt, on_fragment, InPhase, IsFlushed, ExitInv}
+use Rattle.crash_simulation.specs.SimulationRelation.{Simulates}
+use Rattle.crash_simulation.specs.InstructionSteps.{goes, IsDoneBy, is_begun, MayStore, abstract_next, is_bound, nothing_released, AtCoreNow, thread_of}
+use Rattle.crash_simulation.proofs.LastReleases.{holders_stay_none, none_leaving}
+use Rattle.crash_simulation.proofs.ConfigAfterBegin.{one_longer, goes_still}
+use Rattle.crash_simulation.proofs.GraphAfterBegin.{after_effect, graph_thread_is, graph_threads_count}
+use Rattle.crash_simulation.proofs.UncommittedSteps.{leads_on}
+use Rattle.crash_simulation.proofs.WriteBackSteps.{and_false, not_bound}
+use Rattle.crash_simulation.proofs.OwnHartSteps.{going, code, number, abstract, ghost, after, StepOf, locks_after, held_still, thread_going}
+
+-- ---- Effects that leave the mutexes
+
+abbrev pub is_plain : a.Effect → Bool
+is_plain (a.Sets local value next) = true
+is_plain (a.Owes store next) = true
+is_plain (a.Makes store next) = true
+is_plain (a.Goes next) = true
+is_plain (a.Takes mutex next) = false
+is_plain (a.Gives mutex next) = false
+is_plain a.Ends = true
+
+abbrev pub exit_after : a.Effect → ExitPoint
+exit_after (a.Sets local value next) = Arrives
+exit_after (a.Owes store next) = Arrives
+exit_after (a.Makes store next) = Arrives
+exit_after (a.Goes next) = Arrives
+exit_after (a.Takes mutex next) = Arrives
+exit_after (a.Gives mutex next) = Arrives
+exit_after a.Ends = Ends
+
+pub plain_holders : (s : FlowState) (t : ℕ) (graph_thread : GraphThread) (e : a.Effect) → is_plain e ≡ true →
+    (after_effect s t graph_thread e).holders ≡ s.holders
+plain_holders s t graph_thread (a.Sets local value next) plain = refl
+plain_holders s t graph_thread (a.Owes store next) plain = refl
+plain_holders s t graph_thread (a.Makes store next) plain = refl
+plain_holders s t graph_thread (a.Goes next) plain = refl
+plain_holders s t graph_thread (a.Takes mutex next) plain = cc
+plain_holders s t graph_thread (a.Gives mutex next) plain = cc
+plain_holders s t graph_thread a.Ends plain = refl
+
+module _ (y : System) (s : IsSystem y) (w : World) (h : ℕ) (stands : Simulates y s w) (below : h < thread_count y) (core : AtCoreNow y s w h stands below) where
+  abbrev graph_thread : GraphThread
+  graph_thread = (thread_of y s w h stands below).graph_thread
+
+  abbrev n : ℕ
+  n = number y s w h stands below
+
+  abbrev b : AbstractRun y
+  b = abstract y s w h stands below
+
+  abbrev c : ThreadGhost
+  c = ghost y s w h stands below
+
+  abbrev v : World
+  v = after y s w h stands below
+
+  abbrev seen : Seen
+  seen = seen_by (now_of y b) graph_thread
+
+  -- the stage after the mark, once the variables are seen as they are then
+  stage_is : (variables : List (List ℤ)) (e : a.Effect) → is_plain e ≡ true →
+      stage_sees variables (stage_after y.plan (code y s w h stands below).thread (code y s w h stands below).is.places graph_thread.at seen core.bank e) ≡
+      record {
+        exit = exit_after e;
+        node = (moved graph_thread e).at;
+        seen = record { locals = (moved graph_thread e).locals; pending = (moved graph_thread e).pending; variables = variables };
+        bank = core.bank;
+      }
+  stage_is variables (a.Sets local value next) plain = refl
+  stage_is variables (a.Owes store next) plain = refl
+  stage_is variables (a.Makes store next) plain = refl
+  stage_is variables (a.Goes next) plain = refl
+  stage_is variables (a.Takes mutex next) plain = cc
+  stage_is variables (a.Gives mutex next) plain = cc
+  stage_is variables a.Ends plain = refl
+
+  module _ (e : a.Effect) (plain : is_plain e ≡ true) (environment : MarkedEnvironment) (marks_are : AreMarksOf y.marks n environment) (steps : ℕ)
+      (effects : List Effect)
+      (at : IsAtMark y.plan (code y s w h stands below).thread (code y s w h stands below).is.places (on_machine y.program w n environment) e
+      (stage_after y.plan (code y s w h stands below).thread (code y s w h stands below).is.places graph_thread.at seen core.bank e) steps effects)
+      (p : laws.PassesMark y.plan (code y s w h stands below).thread (code y s w h stands below).is.places (on_machine y.program w n environment) e
+      (stage_after y.plan (code y s w h stands below).thread (code y s w h stands below).is.places graph_thread.at seen core.bank e) steps effects at)
+      (cleans : List Effect) (later_is : p.later ≡ cleans) (clean : (effect : Effect) → Contains cleans effect → is_clean effect ≡ true)
+      (ends_clean : e ≡ a.Ends → cleans ≡ [])
+      (elsewhere : IsElsewhere y.program w n n) (may : MayStore y b n p.forward.effect) (no_point : is_point_store n p.forward.effect ≡ false)
+      (memory : Memory) (memory_is : memory_in (places_of y) v.words ≡ memory)
+      (happened : ConfigStep b.config (begun b.config n memory (one_longer b.config n))) (by_it : IsDoneBy n happened) (none_kept : kept_steps happened ≡ [])
+      (minded : RespectsBoundaries (flat_of y) y.plan.boundaries (kept_of y b) happened) (is_step : is_begun happened ≡ true) where
+    abbrev pub next : AbstractRun y
+    next = abstract_next y b (begun b.config n memory (one_longer b.config n)) (leads_on y b _ happened none_kept minded).0
+        (leads_on y b _ happened none_kept minded).1
+
+    abbrev pub hart : Hart
+    hart = at.on.hart
+
+    abbrev pub later_hart : Hart
+    later_hart = p.on.on.hart
+
+    is_next : IsNext y.program w n hart p.forward.effect
+    is_next = record { here = at.on.here; runs = ap is_running at.on.runs; is = p.forward.effect_is }
+
+    holders_stay : v.holders ≡ w.holders
+    holders_stay = ap (λ (z : World). z.holders) p.forward.world
+
+    goes_here : IsInAttempt y b (code y s w h stands below) c
+    goes_here = core.goes.goes
+
+    goes_next : IsInAttempt y next (code y s w h stands below) (going c cleans)
+    goes_next = record { going = goes_still b.config n memory goes_here.going; rest = refl; giving = refl; committed = refl }
+
+    fits_by : (f : a.Effect) → is_plain f ≡ true → (f ≡ a.Ends → cleans ≡ []) →
+        ExitInv y next (code y s w h stands below) (going c cleans) (moved graph_thread f) (exit_after f)
+    fits_by (a.Sets local value next) plain ends = (goes_next, core.goes.execution)
+    fits_by (a.Owes store next) plain ends = (goes_next, core.goes.execution)
+    fits_by (a.Makes store next) plain ends = (goes_next, core.goes.execution)
+    fits_by (a.Goes next) plain ends = (goes_next, core.goes.execution)
+    fits_by (a.Takes mutex next) plain ends = cc
+    fits_by (a.Gives mutex next) plain ends = cc
+    fits_by a.Ends plain ends = record { goes = goes_next; cleans = ends refl; execution = refl }
+
+    -- the state of the graph after it
+    module _ (state : now_of y next ≡ after_effect (now_of y b) n graph_thread e)
+        (answers : AnswersGuarded y next (code y s w h stands below) (going c cleans) environment)
+        (flushed : (other : Hart) → later_hart ≡ other → (u i : ℕ) → Writes next.config.kept n (attempt_of next.config n).done u i →
+        IsFlushed y v next (code y s w h stands below) (going c cleans) other u i) where
+      walks : slice_get (now_of y next).graph_threads n ≡ Some (moved graph_thread e)
+      walks = ap (λ (z : FlowState). slice_get z.graph_threads n) state ∙ graph_thread_is (now_of y b) n graph_thread e (thread_of y s w h stands below).walks
+
+      fragment : IsOnFragment y.plan (code y s w h stands below).thread (code y s w h stands below).is.places (on_machine y.program v n environment)
+          (record { exit = exit_after e; node = (moved graph_thread e).at; seen = seen_by (now_of y next) (moved graph_thread e); bank = core.bank })
+          steps (cleans ++ [])
+      fragment =
+          let seen_all =
+          fragments_see_all y.plan (code y s w h stands below).thread (code y s w h stands below).is.places y.program v n environment
+          (stage_after y.plan (code y s w h stands below).thread (code y s w h stands below).is.places graph_thread.at seen core.bank e) steps p.later
+          (now_of y next).variables p.on in
+          subst (λ (es : List Effect). IsOnFragment y.plan (code y s w h stands below).thread (code y s w h stands below).is.places
+          (on_machine y.program v n environment)
+          (record { exit = exit_after e; node = (moved graph_thread e).at; seen = seen_by (now_of y next) (moved graph_thread e); bank = core.bank }) steps es)
+          (later_is ∙ sym (append-nil cleans))
+          (subst (λ (stage : Stage). IsOnFragment y.plan (code y s w h stands below).thread (code y s w h stands below).is.places
+          (on_machine y.program v n environment) stage
+          steps p.later) (stage_is (now_of y next).variables e plain) seen_all)
+
+      same_here : (other : Hart) → slice_get v.harts n ≡ Some other → later_hart ≡ other
+      same_here other there = same_there (slice_get v.harts n) later_hart other p.on.on.here there
+
+      phase : (other : Hart) → slice_get v.harts n ≡ Some other →
+          InPhase y v next (code y s w h stands below) (going c cleans) other (moved graph_thread e) other.phase
+      phase other there =
+          subst (λ (x : Hart). InPhase y v next (code y s w h stands below) (going c cleans) x (moved graph_thread e) x.phase) (same_here other there)
+          (subst (λ (q : Phase). InPhase y v next (code y s w h stands below) (going c cleans) later_hart (moved graph_thread e) q) (sym p.on.on.runs)
+          (on_fragment (record {
+            environment = environment;
+            answers = answers;
+            exit = exit_after e;
+            bank = core.bank;
+            at_bank = core.at_bank;
+            steps = steps;
+            fragment = fragment;
+            fits = fits_by e plain ends_clean;
+          })))
+
+      may_each : (other : Hart) (effect : Effect) → IsNext y.program w n other effect → MayStore y b n effect
+      may_each other effect is =
+          subst (λ (f : Effect). MayStore y b n f) (one_effect y.program w n hart other p.forward.effect effect is_next is) may
+
+      pub passed_step : StepOf y s w h stands below n
+      passed_step = record {
+        next = next;
+        led = goes _ happened by_it (leads_on y b _ happened none_kept minded).0 (leads_on y b _ happened none_kept minded).1;
+        memory = memory_is;
+        stores_own = may_each;
+        new = going c cleans;
+        own = thread_going y s w h stands below next refl goes_here cleans clean elsewhere (moved graph_thread e) walks phase
+            (λ other there. flushed other (same_here other there));
+        locks = locks_after y s w h stands below next (going c cleans) hart later_hart at.on.here at.on.runs p.on.on.here p.on.on.runs may_each
+            (held_still y s w h stands below next (going c cleans) holders_stay
+            (ap (λ (z : FlowState). z.holders) state ∙ plain_holders (now_of y b) n graph_thread e plain)
+            (ap (λ (z : FlowState). length z.graph_threads) state ∙ graph_threads_count (now_of y b) n graph_thread e) (sym goes_here.giving));
+        mutexes = ap (λ (hs : List (Option ℕ)). length hs) holders_stay;
+        counted = record {
+          marks = p.mark y.marks marks_are ∙ sym is_step;
+          points = p.point ∙ no_point ∙ and_false (not (is_bound c));
+          bound = λ bound. absurd (not_bound c goes_here.committed bound);
+        };
+        released = nothing_released (holders_stay_none y.program w n holders_stay) (sym (none_leaving c goes_here.giving));
+      }

@@ -1,0 +1,197 @@
+-- No hart is stuck, and none waits for a lock of its record.
+use Rattle.std.proofs.Common.{◌≡◌, ◌≢◌, inl, inr, refl, ℕ, suc, ◌<◌, [], ◌++◌, ap, sym, ◌∙◌, subst, arith, Option, Some, None, true}
+use Rattle.std.specs.Prelude.{slice_get}
+use Rattle.ido_base.specs.declared.event.Event.TheVariants.{Step}
+use Rattle.ido_base.specs.declared.event.Reply.TheVariants.{Moved, Still, Stuck}
+use Rattle.ido_base.specs.declared.event.Cause.{Cause}
+use Rattle.c_tree.specs.Exprs as e
+use Rattle.rv64_isa.specs.declared.phase.Phase.{Phase}
+use Rattle.rv64_isa.specs.declared.phase.Phase.TheVariants.{Take, Wait, Resume, Run, Done, Ended}
+use Rattle.rv64_isa.specs.Machine.{Hart, World, stepped, happens, reply_to}
+use Rattle.code_runs.specs.CodeTraces.{MarkedEnvironment}
+use Rattle.flow_graph.specs.Nodes.{Action, Eval, Store, Test, Lock, Unlock, End, Node, Graph}
+use Rattle.flow_graph.specs.Lowering.{lowered}
+use Rattle.flow_graph.specs.Liveness.{NodeAt}
+use Rattle.flow_graph.specs.Actions as a
+use Rattle.flow_graph.specs.Actions.{Seen, effect_of, seen_by}
+use Rattle.flow_graph.proofs.Public.{get_cases, no_more}
+use Rattle.hart_runs.specs.Calls.{IsInPhase}
+use Rattle.hart_runs.specs.Calls as harts
+use Rattle.hart_runs.proofs.Public as harts_well
+use Rattle.recovery_semantics.specs.Configs.{now}
+use Rattle.thread_code.specs.NodeCodeEffects.{Places}
+use Rattle.thread_runs.specs.CodeFragments.{ExitPoint, Asks, Gives, Ends, IsOnFragment, stage_after, on_machine}
+use Rattle.thread_runs.specs.Laws.{IsAtSomeMark, MarksPass}
+use Rattle.thread_runs.proofs.Public.{fragments_are_well, marks_are_well, locks_are_well, unlocks_are_well, ends_are_well}
+use Rattle.recovered_threads.specs.RecordDescriptions.{Code}
+use Rattle.recovered_threads.specs.RecoveryStates.{HasGathered}
+use Rattle.recovered_threads.proofs.Public.{takes_never_wait}
+use Rattle.crash_simulation.specs.Systems.{System, IsSystem, flat_of, thread_count}
+use Rattle.crash_simulation.specs.AbstractRuns.{AbstractRun, now_of}
+use Rattle.crash_simulation.specs.ThreadGhosts.{ThreadGhost, ThreadInv}
+use Rattle.crash_simulation.specs.SimulationRelation.{AreHeld, AreLocked, gathering, gathered, records_of, Simulates}
+use Rattle.crash_simulation.specs.InstructionSteps as moving
+use Rattle.crash_simulation.specs.InstructionSteps.{OnFragmentNow, AtCoreNow, IsReadyToStep}
+use Rattle.crash_simulation.specs.Laws.{NoneIsStuck, TakesMove}
+use Rattle.crash_simulation.proofs.LoadFreeEnvironment.{bare}
+use Rattle.crash_simulation.proofs.LocksAfterStep.{runs_held}
+use Rattle.crash_simulation.proofs.LocksAtCalls.{mutex_there}
+use Rattle.crash_simulation.proofs.LockCallSteps as at_calls
+use Rattle.crash_simulation.proofs.CallSteps as calls
+use Rattle.crash_simulation.proofs.NodeEffects.{is_quiet, owes_here}
+use Rattle.crash_simulation.proofs.LocalNodeSteps as quietly
+use Rattle.crash_simulation.proofs.LocalNodeSteps.{matches_now}
+use Rattle.crash_simulation.proofs.StoreNodeSteps as making
+use Rattle.crash_simulation.proofs.UnlockNodeSteps as unlocking
+use Rattle.crash_simulation.proofs.NodeCodeSteps.{found}
+use Rattle.crash_simulation.proofs.ReadyHarts.{runs_ready}
+use Rattle.crash_simulation.proofs.SimulationInRecovery as recovering
+
+-- hart h is not stuck
+abbrev IsFree : System → World → (h : ℕ) → Type 0
+IsFree y w h = (cause : Cause) → reply_to y.program w (Step h) ≢ Stuck cause
+
+-- ---- A hart in Run that is ready
+
+module _ (y : System) (s : IsSystem y) (w : World) (h : ℕ) (stands : Simulates y s w) (below : h < thread_count y) where
+  abbrev b : AbstractRun y
+  b = stands.before_commit.abstract
+
+  abbrev code : Code y.plan
+  code = s.codes.each h below
+
+  abbrev c : ThreadGhost
+  c = stands.before_commit.ghosts h
+
+  abbrev t : ThreadInv y w b code c
+  t = stands.before_commit.each h below
+
+  abbrev thread : ℕ
+  thread = code.thread.number
+
+  abbrev places : Places
+  places = code.is.places
+
+  abbrev seen : Seen
+  seen = seen_by (now_of y b) t.graph_thread
+
+  -- before a fragment's end
+  on_fragment : (o : OnFragmentNow y s w h stands below) (steps : ℕ) → o.steps ≡ suc steps → IsFree y w thread
+  on_fragment o steps is =
+      fragments_are_well harts_well.none_is_stuck y.plan code.thread places y.program w thread o.environment
+      (record { exit = o.exit; node = t.graph_thread.at; seen = seen; bank = o.bank }) steps (c.cleans ++ c.rest)
+      (subst (λ (n : ℕ). IsOnFragment y.plan code.thread places (on_machine y.program w thread o.environment)
+      (record { exit = o.exit; node = t.graph_thread.at; seen = seen; bank = o.bank }) n (c.cleans ++ c.rest)) is o.fragment)
+
+  -- at its end, where the thread makes a call
+  module _ (held : AreHeld w stands.before_commit.ghosts (now_of y b)) (o : OnFragmentNow y s w h stands below) (over : o.steps ≡ 0) where
+    asks : (mutex next : ℕ) → o.exit ≡ Asks mutex next → IsFree y w thread
+    asks mutex next is =
+        let fragment = at_calls.asks y s w h stands below held mutex next o over is in
+        let within = mutex_there y s b code t.graph_thread t.walks mutex next fragment.of_graph in
+        let count = stands.before_commit.mutexes in
+        elim (get_cases w.holders mutex) [
+          | inl none ↦ let long = no_more w.holders mutex none in absurd (omega (arith, long, count, within))
+          | inr there ↦
+              locks_are_well harts_well.none_is_stuck y.plan code.thread y.program code.program code.is w thread (bare y s w h below)
+              t.graph_thread.at mutex next
+              seen o.bank [] there.0 fragment there.1
+        ]
+
+    gives : (from mutex : ℕ) → o.exit ≡ Gives from mutex → IsFree y w thread
+    gives from mutex is =
+        unlocks_are_well harts_well.none_is_stuck y.plan code.thread y.program code.program code.is w thread (bare y s w h below) from mutex
+        t.graph_thread.at seen
+        o.bank [] (calls.giving y s w h stands below held from mutex o over is) (calls.owns y s w h stands below held from mutex o over is)
+
+    ends : o.exit ≡ Ends → IsFree y w thread
+    ends is =
+        ends_are_well harts_well.none_is_stuck y.plan code.thread y.program code.program code.is w thread (bare y s w h below) t.graph_thread.at seen o.bank []
+        (calls.ending y s w h stands below held o over is)
+        (at_calls.none_from thread 0 w.holders (calls.none_here y s w h stands below held o over is))
+
+    at_call : (exit : ExitPoint) → moving.IsCalling y s w h stands below exit → o.exit ≡ exit → IsFree y w thread
+    at_call _ (moving.asks mutex next) is = asks mutex next is
+    at_call _ (moving.gives from mutex) is = gives from mutex is
+    at_call _ moving.ends is = ends is
+
+  -- at the code of a node that takes no mutex
+  module _ (marks : MarksPass) (core : AtCoreNow y s w h stands below)
+      (none : (is : Node) (mutex next : ℕ) → NodeAt y.plan.graph t.graph_thread.at is → is.action ≢ Lock mutex next) where
+    node : (is : Node) × NodeAt (lowered (flat_of y)) t.graph_thread.at is
+    node = found y s w h stands below core marks none
+
+    at_mark : (environment : MarkedEnvironment) (effect : a.Effect) →
+        IsAtSomeMark y.plan code.thread places (on_machine y.program w thread environment) t.graph_thread.at seen core.bank core.registers effect →
+        IsFree y w thread
+    at_mark environment effect m =
+        marks_are_well harts_well.none_is_stuck y.plan code.thread places y.program w thread environment effect
+        (stage_after y.plan code.thread places t.graph_thread.at seen core.bank effect) m.steps m.effects m.at
+
+    at_quiet : (z : Action) → node.0.action ≡ z → (effect : a.Effect) → effect_of z seen ≡ Some effect → is_quiet effect ≡ true → IsFree y w thread
+    at_quiet z is effect does quiet =
+        at_mark _ effect (quietly.mark y s w h stands below core marks node.0 node.1 effect (ap (λ (x : Action). effect_of x seen) is ∙ does) quiet)
+
+    by_action : (z : Action) → node.0.action ≡ z → IsFree y w thread
+    by_action (Eval (e.ToLocal local kind) value next) is = at_quiet _ is _ refl refl
+    by_action (Eval (e.ToVariable place variable kind) value next) is = at_quiet _ is _ refl refl
+    by_action (Eval (e.ToElement place variable kind index) value next) is = at_quiet _ is _ refl refl
+    by_action (Store variable kind next) is =
+        let owed = owes_here (flat_of y) s.plan.formed (now_of y b) (now b.config) thread (matches_now y s b) t.graph_thread t.walks node.0 node.1
+        (record { variable = variable; kind = kind; next = next; is = is }) in
+        at_mark _ _ (making.mark y s w h stands below core marks node.0 node.1 variable kind next is owed.0 owed.1)
+    by_action (Test condition holds fails) is = at_quiet _ is _ refl refl
+    by_action (Lock mutex next) is =
+        absurd (none node.0 mutex next (subst (λ (g : Graph). NodeAt g t.graph_thread.at node.0) (sym s.plan.lowered) node.1) is)
+    by_action (Unlock mutex next) is = at_mark _ _ (unlocking.mark y s w h stands below core marks node.0 node.1 mutex next is)
+    by_action End is = at_quiet _ is _ refl refl
+
+    at_core : IsFree y w thread
+    at_core = by_action node.0.action refl
+
+  when_ready : MarksPass → AreHeld w stands.before_commit.ghosts (now_of y b) → IsReadyToStep y s w h stands below → IsFree y w thread
+  when_ready marks held (moving.on_fragment o steps is) = on_fragment o steps is
+  when_ready marks held (moving.calls o over calling) = at_call held o over o.exit calling refl
+  when_ready marks held (moving.at_core core none) = at_core marks core none
+
+-- ---- Whichever hart
+
+module _ (marks : MarksPass) (y : System) (s : IsSystem y) (w : World) (stands : Simulates y s w) (h : ℕ) where
+  runs : IsInPhase w h Run → IsFree y w h
+  runs i =
+      let r = runs_ready y s w h stands i in
+      let before_commit = r.stands.before_commit in
+      let held = (runs_held y s w before_commit.abstract before_commit.ghosts h before_commit.sound i before_commit.locks).1 in
+      subst (λ (n : ℕ). IsFree y w n) (s.codes.number h r.below) (when_ready y s w h r.stands r.below marks held r.ready)
+
+  by_phase : (phase : Phase) → IsInPhase w h phase → IsFree y w h
+  by_phase Take i = harts_well.none_is_stuck y.program w h (harts.apart Take refl i)
+  by_phase Wait i = harts_well.none_is_stuck y.program w h (harts.apart Wait refl i)
+  by_phase Resume i = harts_well.none_is_stuck y.program w h (harts.apart Resume refl i)
+  by_phase Run i = runs i
+  by_phase Done i = harts_well.none_is_stuck y.program w h (harts.apart Done refl i)
+  by_phase Ended i = harts_well.none_is_stuck y.program w h (harts.apart Ended refl i)
+
+  -- nothing happens where there is no hart
+  still : slice_get w.harts h ≡ None → reply_to y.program w (Step h) ≡ Still
+  unfolding happens
+  still none = ap (λ (o : Option Hart). (stepped y.program w h o).1) none
+
+  free_by : (o : Option Hart) → slice_get w.harts h ≡ o → IsFree y w h
+  free_by None none cause = λ stuck. let no : Still ≡ Stuck cause = sym (still none) ∙ stuck in cc
+  free_by (Some hart) here cause = by_phase hart.phase (record { hart = hart; here = here; phase_is = refl }) cause
+
+pub none_is_stuck : MarksPass → NoneIsStuck
+none_is_stuck marks y s w stands h = free_by marks y s w stands h (slice_get w.harts h) refl
+
+-- ---- A hart that takes its locks
+
+moves_by : (y : System) (s : IsSystem y) (w : World) (h : ℕ) (stands : Simulates y s w) → IsInPhase w h Take →
+    AreLocked y w stands.before_commit.abstract stands.before_commit.ghosts → reply_to y.program w (Step h) ≡ Moved
+moves_by y s w h stands i (gathering none gathers) =
+    (takes_never_wait y.program w (records_of stands.before_commit.ghosts) h gathers (recovering.apart y s w h stands none gathers) i).0
+moves_by y s w h stands i (gathered ag held) =
+    absurd (subst (λ (p : Phase). HasGathered w h (records_of stands.before_commit.ghosts h) p) i.phase_is (ag.each h i.hart i.here))
+
+pub takes_move : TakesMove
+takes_move y s w h stands i = moves_by y s w h stands i stands.before_commit.locks

@@ -1,0 +1,228 @@
+-- The environment in which a thread's hart makes a step at its node: loads of what the node reads are answered, and no others.
+use Rattle.std.proofs.Common.{◌≡◌, refl, ℕ, ◌+◌, ◌*◌, ◌^◌, ◌<◌, List, [], length, map, ap, sym, ◌∙◌, subst, arith, mod-lt, pow_pos, Some, None, Bool, true}
+use Rattle.std.proofs.Common.{false}
+use Rattle.std.specs.Prelude.{slice_get, slice_index_or, ℤ, pos, Contains, ◌&&◌, if◌then◌else◌}
+use Rattle.std.proofs.lemmas.Bool.{cond-true, and_parts}
+use Rattle.std.proofs.lemmas.Option.{none-some, same_Some}
+use Rattle.ido_base.specs.Words as words
+use Rattle.ido_base.specs.Words.{loaded}
+use Rattle.ido_base.specs.Layout.{variable_at, in_range, aligned, byte_number}
+use Rattle.ido_ints.specs.declared.kinds.Kind.{Kind}
+use Rattle.ido_ints.specs.declared.kinds.Kind.TheVariants.{Char, UnsignedChar, SignedChar, Short, UnsignedShort, Int, UnsignedInt, Long, UnsignedLong}
+use Rattle.ido_ints.specs.Kinds.{bytes_of, bits_of, modulus_of, Holds}
+use Rattle.ido_ints.specs.Reduction.{reduced, residue}
+use Rattle.ido_ints.proofs.Public.{Same_sym, Holds-reduced, Same-reduced, residue-is}
+use Rattle.c_tree.specs.Programs.{Variable}
+use Rattle.c_tree.specs.Values.{element_number}
+use Rattle.c_tree.specs.WellFormed.{elements_in, shape_of}
+use Rattle.source_machine.specs.Discipline.{Guards}
+use Rattle.rv64_isa.specs.Machine.{World}
+use Rattle.code_runs.specs.CodeTraces.{Program, MarkedEnvironment, Meets}
+use Rattle.memory_layout.specs.Variables.{HaveRoom}
+use Rattle.variable_words.specs.VariablesInWords.{spots_of}
+use Rattle.variable_words.proofs.Public.{addresses_reach}
+use Rattle.flow_graph.specs.Nodes.{Node}
+use Rattle.flow_graph.specs.Lowering.{lowered}
+use Rattle.flow_graph.specs.Liveness.{NodeAt}
+use Rattle.flow_graph.specs.Lockstep.{Matches}
+use Rattle.flow_graph.specs.Actions.{Seen, GraphThread, seen_by}
+use Rattle.flow_graph.specs.Paths.{Element, reads_of}
+use Rattle.flow_graph.proofs.Public.{Good, good_after}
+use Rattle.hart_runs.specs.HartsOnRuns.{is_width, is_access, environment_of, Agrees}
+use Rattle.hart_runs.specs.Laws.{program_at}
+use Rattle.recovery_semantics.specs.ElementHistories.{history_at, live_number, number_at, Memory}
+use Rattle.recovery_semantics.specs.VariableSpots.{IsAtSpot, memory_in}
+use Rattle.recovery_semantics.specs.Configs.{now}
+use Rattle.recovery_semantics.specs.Events.{IsGoing}
+use Rattle.recovery_semantics.proofs.Public.{memory_loaded}
+use Rattle.region_attempts.specs.Laws.{ReadsHere}
+use Rattle.region_attempts.proofs.Public.{reads_are_right, readers_guard, kept_good, graph_stands}
+use Rattle.thread_code.specs.RegistersAtNodes.{IsAnswered, source_of}
+use Rattle.thread_runs.specs.CodeFragments.{ReadsVariables, IsPlaced}
+use Rattle.thread_runs.proofs.Public.{plans_are_placed}
+use Rattle.recovered_threads.specs.RecordDescriptions.{Code}
+use Rattle.crash_simulation.specs.Systems.{System, IsSystem, IsOwnCode, flat_of, places_of, thread_count}
+use Rattle.crash_simulation.specs.AbstractRuns.{AbstractRun, kept_of, now_of}
+use Rattle.crash_simulation.specs.ThreadGhosts.{ThreadGhost, AnswersGuarded}
+use Rattle.crash_simulation.proofs.StatesMatchSource.{cuts, resumed}
+use Rattle.crash_simulation.proofs.SimulationAtStart.{environments_meet}
+use Rattle.crash_simulation.proofs.Elements.{room}
+use Rattle.crash_simulation.proofs.DisjointElements.{element_ends}
+use Rattle.crash_simulation.proofs.Loads.{reads_all, IsRead, is_read, reads_there, Loaded, answered}
+
+-- ---- Accesses
+
+answered_some : (b : Bool) (x value : ℕ) → (if b then Some x else None) ≡ Some value → (b ≡ true) × (x ≡ value)
+answered_some true x value h = (refl, same_Some x value h)
+answered_some false x value h = absurd (none-some value h)
+
+kind_width : (k : Kind) → is_width (bytes_of k) ≡ true
+kind_width Char = refl
+kind_width UnsignedChar = refl
+kind_width SignedChar = refl
+kind_width Short = refl
+kind_width UnsignedShort = refl
+kind_width Int = refl
+kind_width UnsignedInt = refl
+kind_width Long = refl
+kind_width UnsignedLong = refl
+
+and_both : (a b : Bool) → a ≡ true → b ≡ true → (a && b) ≡ true
+and_both true b h k = k
+and_both false b h k = cc
+
+-- an element may be accessed, and stands before the end of the variables
+pub element_access : (vs : List Variable) (threads v e : ℕ) (is : Variable) → HaveRoom (map shape_of vs) → slice_get vs v ≡ Some is →
+    e < elements_in is.length →
+    is_access threads (variable_at (map shape_of vs) v e) (bytes_of is.kind) ≡ true
+element_access vs threads v e is room there within =
+    let a = addresses_reach vs threads v e is room there within in
+    and_both (is_width (bytes_of is.kind)) _ (kind_width is.kind)
+    (and_both (in_range threads (variable_at (map shape_of vs) v e) (bytes_of is.kind)) (aligned (variable_at (map shape_of vs) v e) (bytes_of is.kind))
+    a.inside a.is_aligned)
+
+-- ---- Numbers
+
+-- a load has the residue of the number
+number_loaded : (k : Kind) (n : ℕ) (z : ℤ) → n < 2 ^ bits_of k → reduced k (pos n) ≡ z → (n ≡ residue (bits_of k) z) × Holds k z
+number_loaded k n z below is =
+    let P : ℤ → Type 0 = λ z. (n ≡ residue (bits_of k) z) × Holds k z in
+    subst P is (
+      sym (residue-is (bits_of k) (reduced k (pos n)) n below (Same_sym (modulus_of k) (reduced k (pos n)) (pos n) (Same-reduced k (pos n)))),
+      Holds-reduced k (pos n),
+    )
+
+loaded_below : (ws : List words.Word) (number count : ℕ) → loaded ws number count < 2 ^ (8 * count)
+loaded_below ws number count = mod-lt _ (pow_pos (8 * count))
+
+-- ---- The environment
+
+module _ (y : System) (s : IsSystem y) (w : World) (b : AbstractRun y) (code : Code y.plan) (own : IsOwnCode y code) (count : length w.harts ≡ thread_count y)
+    (inside : code.thread.number < thread_count y) where
+  abbrev pub environment_with : (reads : ℕ → ℕ → Bool) → MarkedEnvironment
+  environment_with reads = environment_of y.program (slice_index_or y.marks code.thread.number []) reads w code.thread.number
+
+  pub meets_here : (reads : ℕ → ℕ → Bool) → Meets code.is.places.program (environment_with reads)
+  meets_here reads =
+      let is : program_at y.program code.thread.number (slice_index_or y.marks code.thread.number []) (slice_index_or y.resumes code.thread.number []) ≡
+      code.is.places.program = sym (code.is.of_program ∙ own.program) in
+      subst (λ (p : Program). Meets p (environment_with reads)) is
+      (environments_meet y.program (slice_index_or y.marks code.thread.number []) (slice_index_or y.resumes code.thread.number []) reads w code.thread.number)
+
+  pub agrees_here : (reads : ℕ → ℕ → Bool) → Agrees y.program w code.thread.number (environment_with reads)
+  agrees_here reads = record {
+    fetches = λ address instr e. e;
+    loads = λ address bytes value e.
+        let a = answered_some (reads address bytes && is_access (length w.harts) address bytes) (loaded w.words (byte_number address) bytes) value e in
+        record { may = (and_parts (reads address bytes) (is_access (length w.harts) address bytes) a.0).1; is = a.1 };
+  }
+
+  pub placed_here : IsPlaced y.plan code.thread code.is.places (length w.harts)
+  placed_here =
+      plans_are_placed y.plan code.thread code.is.places (length w.harts) s.plan code.of code.is.kept
+      (subst (λ (n : ℕ). code.thread.number < n) (sym count) inside)
+      (subst (λ (p : Program). p.start + 4 * length p.code < 2 ^ 64) (sym code.is.of_program) own.room)
+
+  -- ---- Of elements
+
+  abbrev vs : List Variable
+  vs = (flat_of y).variables
+
+  module _ (ones : List Element) where
+    abbrev pub reading : MarkedEnvironment
+    reading = environment_with (reads_all vs ones)
+
+    read_of : (address bytes value : ℕ) → reading.around.loads address bytes ≡ Some value → IsRead vs ones address bytes
+    read_of address bytes value e =
+        let a = answered_some (reads_all vs ones address bytes && is_access (length w.harts) address bytes)
+        (loaded w.words (byte_number address) bytes) value e in
+        is_read vs ones address bytes (and_parts (reads_all vs ones address bytes) (is_access (length w.harts) address bytes) a.0).0
+
+    pub reads_variables : ReadsVariables reading
+    reads_variables address bytes value e =
+        let r = read_of address bytes value e in
+        let ends = element_ends vs (room y s) r.one.variable r.one.element r.it r.found r.within in
+        let address_is = r.address_is in
+        let bytes_are = r.bytes_are in
+        omega (arith, ends, address_is, bytes_are)
+
+    -- what it answers the thread guards, in any state where it guards what it reads
+    pub answers_guarded : (next : AbstractRun y) (c : ThreadGhost) →
+        ((one : Element) → Contains ones one → Guards (flat_of y) (now next.config) code.thread.number one.variable) → AnswersGuarded y next code c reading
+    answers_guarded next c guards address bytes value e =
+        let r = read_of address bytes value e in
+        record {
+          variable = r.one.variable;
+          element = r.one.element;
+          is = r.it;
+          there = r.found;
+          within = r.within;
+          address_is = r.address_is;
+          bytes_are = r.bytes_are;
+          guards = guards r.one r.of;
+        }
+
+  -- no load at all
+  pub answers_none : (next : AbstractRun y) (c : ThreadGhost) → AnswersGuarded y next code c (environment_with (λ address bytes. false))
+  answers_none next c address bytes value e = absurd (none-some value e)
+
+  pub reads_none : ReadsVariables (environment_with (λ address bytes. false))
+  reads_none address bytes value e = absurd (none-some value e)
+
+  -- ---- At a node
+
+  module _ (memory : memory_in (places_of y) w.words ≡ b.config.memory) (going : IsGoing b.config code.thread.number) (graph_thread : GraphThread)
+      (found : slice_get (now_of y b).graph_threads code.thread.number ≡ Some graph_thread) (node : Node)
+      (at : NodeAt (lowered (flat_of y)) graph_thread.at node) where
+    abbrev pub seen : Seen
+    seen = seen_by (now_of y b) graph_thread
+
+    abbrev pub ones : List Element
+    ones = reads_of node.action seen
+
+    reads_here : (one : Element) → Contains ones one → ReadsHere (flat_of y) (kept_of y b) b.config code.thread.number one
+    reads_here one of = record { going = going; graph_thread = graph_thread; found = found; node = node; at = at; reads = of }
+
+    pub guards_here : (one : Element) → Contains ones one → Guards (flat_of y) (now b.config) code.thread.number one.variable
+    guards_here one of =
+        let r = (resumed y s b).resumed in
+        readers_guard (flat_of y) b.config b.schedule code.thread.number one s.plan.formed r.invariant r.kept (reads_here one of)
+
+    matches : Matches (flat_of y) (now_of y b) (now b.config)
+    matches =
+        let r = (resumed y s b).resumed in
+        (graph_stands (flat_of y) b.config b.schedule s.plan.formed r.invariant r.kept).now_matches
+
+    good_now : Good (flat_of y) (now_of y b)
+    good_now = good_after (flat_of y) b.config.uncommitted s.plan.formed (kept_of y b) (kept_good (flat_of y) s.plan.formed b.schedule)
+
+    loaded_here : (one : Element) → Contains ones one → Loaded (source_of y.plan code.thread seen) (reading ones).around.loads one
+    loaded_here one of it there within =
+        let r = resumed y s b in
+        let address : ℕ = variable_at (map shape_of vs) one.variable one.element in
+        let bytes : ℕ = bytes_of it.kind in
+        let access = element_access vs (length w.harts) one.variable one.element it (room y s) there within in
+        let may : (reads_all vs ones address bytes && is_access (length w.harts) address bytes) ≡ true =
+        and_both (reads_all vs ones address bytes) (is_access (length w.harts) address bytes) (reads_there vs ones one it of there within) access in
+        let right =
+        reads_are_right (flat_of y) y.plan.boundaries b.config b.schedule code.thread.number one s.plan.formed (cuts y s b) r.resumed.invariant
+        r.resumed.kept (r.inside code.thread.number) (reads_here one of) in
+        let is_at : IsAtSpot (spots_of vs) one.variable one.element it.kind (byte_number address) =
+        (addresses_reach vs (length w.harts) one.variable one.element it (room y s) there within).at in
+        let same : number_at (now b.config) one.variable one.element ≡ element_number seen.variables one.variable one.element =
+        ap (λ (ns : List (List ℤ)). element_number ns one.variable one.element) (sym matches.variables) in
+        let value : reduced it.kind (pos (loaded w.words (byte_number address) bytes)) ≡ element_number seen.variables one.variable one.element =
+        memory_loaded (spots_of vs) w.words one.variable one.element it.kind (byte_number address) is_at
+        ∙ ap (λ (m : Memory). live_number (history_at m one.variable one.element)) memory
+        ∙ right ∙ same in
+        let number = number_loaded it.kind (loaded w.words (byte_number address) bytes) _ (loaded_below w.words (byte_number address) bytes) value in
+        record {
+          answer = cond-true _ (Some (loaded w.words (byte_number address) bytes)) None may ∙ ap Some number.0;
+          held = number.1;
+        }
+
+    -- loads of all that it reads are answered
+    pub answered_here : IsAnswered (source_of y.plan code.thread seen) (reading ones).around.loads node.action
+    answered_here =
+        answered (flat_of y) s.plan.formed (now_of y b) good_now code.thread.number graph_thread node found at code.thread.kinds (reading ones).around.loads
+        loaded_here

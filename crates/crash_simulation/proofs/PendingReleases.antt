@@ -1,0 +1,89 @@
+-- A thread that has unlocked a mutex by a step that isn't kept is giving it back.
+use Rattle.std.proofs.Common.{◌≡◌, ⊎_elim, ℕ, List, [], ◌∷◌, sym, ◌∙◌, arith, Option, Some, None}
+use Rattle.std.specs.Prelude.{slice_get}
+use Rattle.std.proofs.lemmas.Bool.{cases_Bool}
+use Rattle.c_tree.specs.Flats as f
+use Rattle.c_tree.specs.Source as m
+use Rattle.c_tree.specs.Source.{Pending}
+use Rattle.source_machine.specs.Mutexes.{locks, unlocks, lock_of, unlock_of, first_lock, first_unlock, lock_ahead, unlock_ahead}
+use Rattle.rv64_isa.specs.declared.phase.Phase.{Phase}
+use Rattle.rv64_isa.specs.declared.phase.Phase.TheVariants.{Take, Wait, Resume, Run, Done, Ended}
+use Rattle.rv64_isa.specs.Machine.{Hart, World}
+use Rattle.flow_graph.specs.Actions.{GraphThread}
+use Rattle.thread_runs.specs.CodeFragments.{ExitPoint, Arrives, Keeps, Asks, Took, Gives, Ends}
+use Rattle.recovery_semantics.specs.Configs.{attempt_of}
+use Rattle.recovery_semantics.specs.Attempts.{solo}
+use Rattle.recovery_semantics.specs.Events.{IsGoing}
+use Rattle.recovery_semantics.specs.Laws.{HasUnlocked}
+use Rattle.recovered_threads.specs.RecordDescriptions.{Code}
+use Rattle.crash_simulation.specs.Systems.{System}
+use Rattle.crash_simulation.specs.AbstractRuns.{AbstractRun}
+use Rattle.crash_simulation.specs.ThreadGhosts.{ThreadGhost, ExitInv, InPhase, IsRunningThread, on_fragment, at_core, ThreadInv}
+
+-- ---- No step both locks and unlocks
+
+statement_both : (x : f.Statement) (k j : ℕ) → lock_of x ≡ Some k → unlock_of x ≡ Some j → ⊥
+statement_both (f.Assign place target value) k j h g = cc
+statement_both (f.If place arms otherwise) k j h g = cc
+statement_both (f.While place condition body) k j h g = cc
+statement_both (f.Do place body condition) k j h g = cc
+statement_both (f.Lock place mutex) k j h g = cc
+statement_both (f.Unlock place mutex) k j h g = cc
+
+first_both : (left : List f.Statement) (k j : ℕ) → first_lock left ≡ Some k → first_unlock left ≡ Some j → ⊥
+first_both [] k j h g = cc
+first_both (x ∷ rest) k j h g = statement_both x k j h g
+
+thread_both : (o : Option Pending) (left : List f.Statement) (k j : ℕ) →
+    (let r : Option ℕ = elim o [ Some p ↦ None | None ↦ first_lock left ] in r ≡ Some k) →
+    (let r : Option ℕ = elim o [ Some p ↦ None | None ↦ first_unlock left ] in r ≡ Some j) → ⊥
+thread_both (Some p) left k j h g = cc
+thread_both None left k j h g = first_both left k j h g
+
+found_both : (o : Option m.Thread) (k j : ℕ) →
+    (let r : Option ℕ = elim o [ Some found ↦ lock_ahead found | None ↦ None ] in r ≡ Some k) →
+    (let r : Option ℕ = elim o [ Some found ↦ unlock_ahead found | None ↦ None ] in r ≡ Some j) → ⊥
+found_both None k j h g = cc
+found_both (Some thread) k j h g = thread_both thread.pending thread.left k j h g
+
+not_both : (s : m.State) (t k j : ℕ) → locks s t ≡ Some k → unlocks s t ≡ Some j → ⊥
+not_both s t k j h g = found_both (slice_get s.threads t) k j h g
+
+-- ---- Where a thread is that has unlocked
+
+module _ (y : System) (w : World) (b : AbstractRun y) (code : Code y.plan) (c : ThreadGhost) (mutex : ℕ)
+    (u : HasUnlocked b.config code.thread.number mutex) where
+  never_going : IsGoing b.config code.thread.number → ⊥
+  never_going going = let begun = u.begun in omega (arith, going, begun)
+
+  by_exit : (graph_thread : GraphThread) (exit : ExitPoint) → ExitInv y b code c graph_thread exit → c.giving ≡ Some mutex
+  by_exit graph_thread Arrives f = absurd (never_going f.0.going)
+  by_exit graph_thread Keeps f = absurd (never_going f.1)
+  by_exit graph_thread (Asks other next) f = absurd (never_going f.goes.going)
+  by_exit graph_thread (Took from) f = ⊎_elim
+      (λ yes. let none = f.after yes in let begun = u.begun in absurd (omega (arith, none, begun)))
+      (λ no.
+      let l = f.before no in
+      absurd (not_both (solo b.config.kept code.thread.number (attempt_of b.config code.thread.number).done) code.thread.number l.0 mutex l.1.locks_it
+      u.unlocks_it))
+      (cases_Bool c.committed)
+  by_exit graph_thread (Gives from other) f = ⊎_elim
+      (λ yes. let none = f.after yes in let begun = u.begun in absurd (omega (arith, none, begun)))
+      (λ no. f.gives ∙ (sym (f.before no).unlocks_it ∙ u.unlocks_it))
+      (cases_Bool c.committed)
+  by_exit graph_thread Ends f = absurd (never_going f.goes.going)
+
+  by_run : (hart : Hart) (graph_thread : GraphThread) → IsRunningThread y w b code c hart graph_thread → c.giving ≡ Some mutex
+  by_run hart graph_thread (on_fragment o) = by_exit graph_thread o.exit o.fits
+  by_run hart graph_thread (at_core o) = absurd (never_going o.goes.goes.going)
+
+  by_phase : (hart : Hart) (graph_thread : GraphThread) (phase : Phase) → InPhase y w b code c hart graph_thread phase → c.giving ≡ Some mutex
+  by_phase hart graph_thread Take p = let none = p.begun in let begun = u.begun in absurd (omega (arith, none, begun))
+  by_phase hart graph_thread Wait p = let none = p.begun in let begun = u.begun in absurd (omega (arith, none, begun))
+  by_phase hart graph_thread Resume p = let none = p.begun in let begun = u.begun in absurd (omega (arith, none, begun))
+  by_phase hart graph_thread Run p = by_run hart graph_thread p
+  by_phase hart graph_thread Done p = let none = p.0.begun in let begun = u.begun in absurd (omega (arith, none, begun))
+  by_phase hart graph_thread Ended p = absurd (never_going p.0.goes.going)
+
+  pub giving_of : ThreadInv y w b code c → c.giving ≡ Some mutex
+  giving_of t = by_phase t.log.hart t.graph_thread t.log.hart.phase t.phase

@@ -1,0 +1,73 @@
+-- The kept state and the state now match ones of the source, in which mutexes are held by threads.
+use Rattle.std.proofs.Common.{◌≡◌, refl, ℕ, zero, suc, ◌+◌, List, [], ◌∷◌, replicate, sym, subst}
+use Rattle.std.proofs.Common.{Option, Some, None, true}
+use Rattle.std.specs.Prelude.{slice_get, is_none}
+use Rattle.std.proofs.lemmas.Option.{none-some}
+use Rattle.ido_base.specs.Locks.{held_from}
+use Rattle.flow_graph.specs.Nodes.{Graph}
+use Rattle.flow_graph.specs.Lowering.{lowered}
+use Rattle.flow_graph.specs.IdempotentCuts.{AreCuts}
+use Rattle.flow_graph.specs.Lockstep.{Matches}
+use Rattle.flow_graph.specs.Actions.{FlowState, graph_start, graph_step, graph_after}
+use Rattle.flow_graph.proofs.Public.{Good, good_start, good_after}
+use Rattle.region_attempts.specs.Laws.{StaysResumed}
+use Rattle.region_attempts.proofs.Public.{executions_stay, graph_stands}
+use Rattle.thread_code.specs.Plans.{Plan, IsPlan}
+use Rattle.recovered_threads.specs.RecordDescriptions.{IsOrderly}
+use Rattle.recovered_threads.proofs.Public.{starts_orderly, steps_orderly}
+use Rattle.crash_simulation.specs.Systems.{System, IsSystem, flat_of}
+use Rattle.crash_simulation.specs.AbstractRuns.{AbstractRun, kept_of, now_of}
+
+-- ---- Schedules lead from an orderly state to one
+
+orderly_by : (p : Plan) (s : FlowState) (t : ℕ) (ts : List ℕ) (o : Option FlowState) → IsPlan p → IsOrderly p s → graph_step p.graph s t ≡ o →
+    ((next : FlowState) → IsOrderly p next → IsOrderly p (graph_after p.graph next ts)) →
+    IsOrderly p (elim o [ None ↦ s | Some next ↦ graph_after p.graph next ts ])
+orderly_by p s t ts None plan is h more = is
+orderly_by p s t ts (Some next) plan is h more = more next (steps_orderly p s next t plan is h)
+
+pub after_orderly : (p : Plan) → IsPlan p → (schedule : List ℕ) (s : FlowState) → IsOrderly p s → IsOrderly p (graph_after p.graph s schedule)
+after_orderly p plan [] s is = is
+after_orderly p plan (t ∷ ts) s is = orderly_by p s t ts (graph_step p.graph s t) plan is refl (after_orderly p plan ts)
+
+-- ---- Of locks that are all free none is held
+
+pub free_holds_none : (n at : ℕ) (holders : List (Option ℕ)) → ((lock : ℕ) (holder : Option ℕ) → slice_get holders lock ≡ Some holder → holder ≡ None) →
+    is_none (held_from at holders n) ≡ true
+free_holds_none n at [] free = refl
+free_holds_none n at (None ∷ holders) free = free_holds_none n (at + 1) holders (λ lock holder there. free (suc lock) holder there)
+free_holds_none n at (Some holder ∷ holders) free = absurd (none-some holder (sym (free 0 (Some holder) refl)))
+
+pub none_holds : (locks lock n : ℕ) → slice_get (replicate locks (let none : Option ℕ = None in none)) lock ≡ Some (Some n) → ⊥
+none_holds zero lock n h = cc
+none_holds (suc locks) zero n h = cc
+none_holds (suc locks) (suc lock) n h = none_holds locks lock n h
+
+module _ (y : System) (s : IsSystem y) (b : AbstractRun y) where
+  pub cuts : AreCuts (lowered (flat_of y)) y.plan.boundaries
+  cuts = subst (λ (graph : Graph). AreCuts graph y.plan.boundaries) s.plan.lowered s.plan.cuts
+
+  pub resumed : StaysResumed (flat_of y) y.plan.boundaries b.config b.schedule
+  resumed = executions_stay (flat_of y) y.plan.boundaries b.config b.schedule s.plan.formed cuts s.disciplined b.execution b.respects
+
+  pub kept_matches : Matches (flat_of y) (kept_of y b) b.config.kept
+  kept_matches = (graph_stands (flat_of y) b.config b.schedule s.plan.formed resumed.resumed.invariant resumed.resumed.kept).kept_matches
+
+  -- ---- The kept state and the state now
+
+  pub orderly : IsOrderly y.plan (kept_of y b)
+  orderly =
+      subst (λ (graph : Graph). IsOrderly y.plan (graph_after graph (graph_start graph (flat_of y)) b.schedule)) s.plan.lowered
+      (after_orderly y.plan s.plan b.schedule (graph_start y.plan.graph (flat_of y)) (starts_orderly y.plan s.plan))
+
+  pub now_orderly : IsOrderly y.plan (now_of y b)
+  now_orderly =
+      subst (λ (graph : Graph). IsOrderly y.plan (graph_after graph (kept_of y b) b.config.uncommitted)) s.plan.lowered
+      (after_orderly y.plan s.plan b.config.uncommitted (kept_of y b) orderly)
+
+  -- what is pending in the kept state lies where it should
+  pub kept_good : Good (flat_of y) (kept_of y b)
+  kept_good = good_after (flat_of y) b.schedule s.plan.formed (graph_start (lowered (flat_of y)) (flat_of y)) (good_start (flat_of y) s.plan.formed)
+
+  pub now_good : Good (flat_of y) (now_of y b)
+  now_good = good_after (flat_of y) b.config.uncommitted s.plan.formed (kept_of y b) kept_good

@@ -1,0 +1,5 @@
+use Rattle.crash_simulation.proofs.SettledMemory.{settled_is_kept}
+use Rattle.crash_simulation.proofs.laws.settled_is_kept.Goals as goal
+
+pub returns : goal.returns
+returns c = settled_is_kept

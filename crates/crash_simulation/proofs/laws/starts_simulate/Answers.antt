@@ -1,0 +1,5 @@
+use Rattle.crash_simulation.proofs.SimulationAtStart.{start_simulates}
+use Rattle.crash_simulation.proofs.laws.starts_simulate.Goals as goal
+
+pub returns : goal.returns
+returns c = start_simulates

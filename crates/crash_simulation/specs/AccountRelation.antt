@@ -1,0 +1,36 @@
+-- The machine's account of begun and kept steps is that of the abstract run's config.
+use Rattle.std.specs.Prelude.{◌≡◌, ℕ, ◌<◌, List, [], ◌∷◌, length, true, false}
+use Rattle.ido_base.specs.declared.event.Event.{Event}
+use Rattle.ido_base.specs.Words.{last_position}
+use Rattle.rv64_isa.specs.Machine.{World, after_events}
+use Rattle.rv64_isa.specs.Schedule.{HartSteps, Steps, hart_steps, first_steps, steps_along}
+use Rattle.recovery_semantics.specs.Events.{steps_begun}
+use Rattle.log_states.specs.Logs.{point_in}
+use Rattle.crash_simulation.specs.Systems.{System, IsSystem, thread_count, start_world}
+use Rattle.crash_simulation.specs.AbstractRuns.{AbstractRun}
+use Rattle.crash_simulation.specs.ThreadGhosts.{ThreadGhost}
+use Rattle.crash_simulation.specs.SimulationRelation.{SimulatesBeforeCommit, Simulates}
+use Rattle.crash_simulation.specs.InstructionSteps.{is_bound}
+
+-- of a thread: the steps that it has begun, bound to the store of its point where the boundary under way has made that
+pub record IsCountedOf (y : System) (w : World) (b : AbstractRun y) (thread : ℕ) (c : ThreadGhost) (steps : HartSteps) : Type 0 where
+  pub free : is_bound c ≡ false → (steps.free ≡ steps_begun b.config thread) × (steps.bound ≡ [])
+  pub bound : is_bound c ≡ true → (steps.free ≡ 0)
+      × (steps.bound ≡ record { position = last_position (point_in w.words thread); steps = steps_begun b.config thread } ∷ [])
+
+pub record AreCounted (y : System) (s : IsSystem y) (w : World) (t : SimulatesBeforeCommit y s w) (steps : Steps) : Type 0 where
+  pub kept : steps.kept ≡ t.abstract.schedule
+  pub pending : steps.pending ≡ t.abstract.config.uncommitted
+  pub count : length steps.harts ≡ thread_count y
+  pub each : (n : ℕ) → n < thread_count y → IsCountedOf y w t.abstract n (t.ghosts n) (hart_steps steps n)
+
+-- the machine simulates an abstract run, and its steps are counted
+pub record SimulatesCounted (y : System) (s : IsSystem y) (w : World) (steps : Steps) : Type 0 where
+  pub stands : Simulates y s w
+  pub counted : AreCounted y s w stands.before_commit steps
+
+-- the machine simulates an abstract run and its steps are counted after all events that may happen, in whatever order
+abbrev pub MachinesResume : Type 0
+MachinesResume = (y : System) (s : IsSystem y) (events : List Event) →
+    SimulatesCounted y s (after_events y.program (start_world y) events)
+    (steps_along y.marks y.program (start_world y) events (first_steps (length y.program) []))

@@ -1,0 +1,169 @@
+-- A step of a hart that executes instructions: what it is to its own thread, and all that the others need to know of it.
+use Rattle.std.specs.Prelude.{◌≡◌, ◌≢◌, ℕ, suc, ◌*◌, ◌/◌, ◌<◌, length, slice_get, Some, is_some, Bool, true, false, not, ◌&&◌, ◌==◌, if◌then◌else◌}
+use Rattle.std.specs.List.{list_any}
+use Rattle.ido_base.specs.declared.event.Event.TheVariants.{Step}
+use Rattle.ido_base.specs.Layout.{log_lines, variable_at, byte_number}
+use Rattle.ido_ints.specs.Kinds.{bytes_of}
+use Rattle.c_tree.specs.Programs.{Variable}
+use Rattle.c_tree.specs.WellFormed.{elements_in}
+use Rattle.source_machine.specs.Discipline.{Guards}
+use Rattle.rv64_isa.specs.declared.phase.Phase.TheVariants.{Run}
+use Rattle.rv64_isa.specs.Rows.{Effect, Stores}
+use Rattle.rv64_isa.specs.Machine.{Hart, World, after_event}
+use Rattle.rv64_isa.specs.Schedule.{passes_mark, stores_point, releases_last}
+use Rattle.flow_graph.specs.Nodes.{Lock, Node}
+use Rattle.flow_graph.specs.Liveness.{NodeAt}
+use Rattle.hart_runs.specs.Calls.{IsInPhase}
+use Rattle.thread_runs.specs.CodeFragments.{ExitPoint, Asks, Gives, Ends}
+use Rattle.recovery_semantics.specs.Configs.{Config, now}
+use Rattle.recovery_semantics.specs.Events.{ConfigStep, steps_locally, stores, synchronises, persists, commits, crashes}
+use Rattle.recovery_semantics.specs.Executions.{Execution}
+use Rattle.recovery_semantics.specs.VariableSpots.{memory_in}
+use Rattle.region_attempts.specs.AttemptsInRegion.{RespectsAll}
+use Rattle.log_states.specs.Logs.{log_word}
+use Rattle.log_states.specs.Stages.{is_store}
+use Rattle.log_states.specs.Machines.{IsNext}
+use Rattle.crash_simulation.specs.Systems.{System, IsSystem, flat_of, shapes_of, places_of, thread_count}
+use Rattle.crash_simulation.specs.AbstractRuns.{AbstractRun}
+use Rattle.crash_simulation.specs.ThreadGhosts.{ThreadGhost, InFragment, AtCore, ThreadInv}
+use Rattle.crash_simulation.specs.SimulationRelation.{AreLocked, SimulatesBeforeCommit, Simulates}
+
+-- what happens is a step of the thread, or more is durable
+abbrev pub IsDoneBy : (thread : ℕ) → {m next : Config} → ConfigStep m next → Type 0
+IsDoneBy thread (steps_locally u attempts h) = u ≡ thread
+IsDoneBy thread (stores u memory attempts h) = u ≡ thread
+IsDoneBy thread (synchronises u h) = u ≡ thread
+IsDoneBy thread (persists memory h) = Unit {0}
+IsDoneBy thread (commits u attempts h) = ⊥
+IsDoneBy thread (crashes attempts h) = ⊥
+
+-- the abstract run with the next config, and with the same kept state
+abbrev pub abstract_next : (y : System) → (b : AbstractRun y) → (next : Config) → (execution : Execution (flat_of y) next b.schedule) →
+    RespectsAll (flat_of y) y.plan.boundaries execution → AbstractRun y
+abstract_next y b next execution respects = record { config = next; schedule = b.schedule; execution = execution; respects = respects }
+
+-- nothing happens to the source, or one thing does that keeps no step
+pub data StepsOrStutters (y : System) (b : AbstractRun y) (thread : ℕ) : AbstractRun y → Type 0 where
+  stays : StepsOrStutters y b thread b
+  goes : (next : Config) (h : ConfigStep b.config next) → IsDoneBy thread h → (execution : Execution (flat_of y) next b.schedule)
+      (respects : RespectsAll (flat_of y) y.plan.boundaries execution) → StepsOrStutters y b thread (abstract_next y b next execution respects)
+
+-- the thread may make the effect: it stores to its own log, or to an element of a variable that it guards, or nothing
+pub data MayStore (y : System) (b : AbstractRun y) (thread : ℕ) : Effect → Type 0 where
+  nothing : (effect : Effect) → is_store effect ≡ false → MayStore y b thread effect
+  in_log : (address value i : ℕ) → i < 8 * log_lines → byte_number address / 8 ≡ log_word thread i → MayStore y b thread (Stores address 8 value)
+  element : (variable number value : ℕ) (is : Variable) → slice_get (flat_of y).variables variable ≡ Some is → number < elements_in is.length →
+      Guards (flat_of y) (now b.config) thread variable →
+      MayStore y b thread (Stores (variable_at (shapes_of y) variable number) (bytes_of is.kind) value)
+
+-- the thread's ghost state is that one
+abbrev pub with_ghost : (ℕ → ThreadGhost) → (thread : ℕ) → ThreadGhost → ℕ → ThreadGhost
+with_ghost ghosts thread ghost n = if n == thread then ghost else ghosts n
+
+-- ---- What is counted of it
+
+-- a step of the source is begun
+abbrev pub is_begun : {m next : Config} → ConfigStep m next → Bool
+is_begun (steps_locally u attempts h) = true
+is_begun (stores u memory attempts h) = true
+is_begun (synchronises u h) = true
+is_begun (persists memory h) = false
+is_begun (commits u attempts h) = false
+is_begun (crashes attempts h) = false
+
+abbrev pub begins : {y : System} {b : AbstractRun y} {thread : ℕ} {next : AbstractRun y} → StepsOrStutters y b thread next → Bool
+begins stays = false
+begins (goes next h by execution respects) = is_begun h
+
+-- the boundary under way has stored its point and isn't taken as committed: the steps before it are bound to that store
+abbrev pub is_bound : ThreadGhost → Bool
+is_bound c = not c.committed && not (list_any is_store c.rest)
+
+-- the step passes a mark exactly where a step of the source is begun, and stores the thread's point exactly where the steps become bound to that
+pub record IsCounted (y : System) (w : World) (h : ℕ) (begun : Bool) (old new : ThreadGhost) : Type 0 where
+  pub marks : passes_mark y.marks y.program w h ≡ begun
+  pub points : stores_point y.program w (Step h) h ≡ (not (is_bound old) && is_bound new)
+  pub bound : is_bound old ≡ true → is_bound new ≡ true
+
+-- ---- What it releases
+
+-- the mutex that ends a section is unlocked in what is kept, and still to be given back
+abbrev pub is_leaving : ThreadGhost → Bool
+is_leaving c = c.committed && (is_some c.giving && (c.new.point == 0))
+
+-- the step gives that back, or it releases no hart's last one
+pub data Releases (y : System) (w : World) (h : ℕ) (old new : ThreadGhost) : Type 0 where
+  nothing_released : releases_last y.program w (Step h) h ≡ false → is_leaving new ≡ is_leaving old → Releases y w h old new
+  last_released : releases_last y.program w (Step h) h ≡ true → is_leaving old ≡ true → is_leaving new ≡ false → Releases y w h old new
+
+pub record OwnStep (y : System) (s : IsSystem y) (w : World) (h : ℕ) (stands : Simulates y s w) : Type 0 where
+  pub below : h < thread_count y
+  pub next : AbstractRun y
+  pub led : StepsOrStutters y stands.before_commit.abstract h next
+  pub memory : memory_in (places_of y) (after_event y.program w (Step h)).words ≡ next.config.memory
+  pub stores_own : (hart : Hart) (effect : Effect) → IsNext y.program w h hart effect → MayStore y stands.before_commit.abstract h effect
+  pub ghost : ThreadGhost
+  pub own : ThreadInv y (after_event y.program w (Step h)) next (s.codes.each h below) ghost
+  pub locks : AreLocked y (after_event y.program w (Step h)) next (with_ghost stands.before_commit.ghosts h ghost)
+  pub mutexes : length (after_event y.program w (Step h)).holders ≡ length w.holders
+  pub counted : IsCounted y w h (begins led) (stands.before_commit.ghosts h) ghost
+  pub released : Releases y w h (stands.before_commit.ghosts h) ghost
+
+-- ---- By where the hart is
+
+-- the graph thread of a thread, and its ghost state, in a machine that simulates an abstract run
+module _ (y : System) (s : IsSystem y) (w : World) (h : ℕ) (stands : Simulates y s w) (below : h < thread_count y) where
+  abbrev pub thread_of : ThreadInv y w stands.before_commit.abstract (s.codes.each h below) (stands.before_commit.ghosts h)
+  thread_of = stands.before_commit.each h below
+
+  abbrev pub OnFragmentNow : Type 0
+  OnFragmentNow = InFragment y w stands.before_commit.abstract (s.codes.each h below) (stands.before_commit.ghosts h) thread_of.log.hart thread_of.graph_thread
+
+  abbrev pub AtCoreNow : Type 0
+  AtCoreNow = AtCore y w stands.before_commit.abstract (s.codes.each h below) (stands.before_commit.ghosts h) thread_of.graph_thread
+
+  -- a fragment whose end is where the hart makes a call
+  pub data IsCalling : ExitPoint → Type 0 where
+    asks : (mutex next : ℕ) → IsCalling (Asks mutex next)
+    gives : (from mutex : ℕ) → IsCalling (Gives from mutex)
+    ends : IsCalling Ends
+
+  -- where a hart in Run makes its step: in a fragment, at its end where it calls, or at the code of a node that takes no mutex
+  pub data IsReadyToStep : Type 0 where
+    on_fragment : (o : OnFragmentNow) (steps : ℕ) → o.steps ≡ suc steps → IsReadyToStep
+    calls : (o : OnFragmentNow) → o.steps ≡ 0 → IsCalling o.exit → IsReadyToStep
+    at_core : AtCoreNow → ((is : Node) (mutex next : ℕ) → NodeAt y.plan.graph thread_of.graph_thread.at is → is.action ≢ Lock mutex next) → IsReadyToStep
+
+-- the machine simulates the same abstract run, where the same steps are bound, and the hart is ready
+pub record SimulatesReady (y : System) (s : IsSystem y) (w : World) (h : ℕ) (old : Simulates y s w) : Type 0 where
+  pub stands : Simulates y s w
+  pub abstract : stands.before_commit.abstract ≡ old.before_commit.abstract
+  pub bound : (n : ℕ) → is_bound (stands.before_commit.ghosts n) ≡ is_bound (old.before_commit.ghosts n)
+  pub leaving : (n : ℕ) → is_leaving (stands.before_commit.ghosts n) ≡ is_leaving (old.before_commit.ghosts n)
+  pub below : h < thread_count y
+  pub ready : IsReadyToStep y s w h stands below
+
+-- ---- What is proved of each
+
+-- a hart in Run may be taken to be ready
+abbrev pub RunsReady : Type 0
+RunsReady = (y : System) (s : IsSystem y) (w : World) (h : ℕ) (stands : Simulates y s w) → IsInPhase w h Run → SimulatesReady y s w h stands
+
+abbrev pub FragmentsStep : Type 0
+FragmentsStep = (y : System) (s : IsSystem y) (w : World) (h : ℕ) (stands : Simulates y s w) (below : h < thread_count y) → IsInPhase w h Run →
+    (o : OnFragmentNow y s w h stands below) (steps : ℕ) → o.steps ≡ suc steps → OwnStep y s w h stands
+
+abbrev pub CoresStep : Type 0
+CoresStep = (y : System) (s : IsSystem y) (w : World) (h : ℕ) (stands : Simulates y s w) (below : h < thread_count y) → IsInPhase w h Run →
+    AtCoreNow y s w h stands below →
+    ((is : Node) (mutex next : ℕ) → NodeAt y.plan.graph (thread_of y s w h stands below).graph_thread.at is → is.action ≢ Lock mutex next) →
+    OwnStep y s w h stands
+
+abbrev pub CallsStep : Type 0
+CallsStep = (y : System) (s : IsSystem y) (w : World) (h : ℕ) (stands : Simulates y s w) (below : h < thread_count y) → IsInPhase w h Run →
+    (o : OnFragmentNow y s w h stands below) → o.steps ≡ 0 → IsCalling y s w h stands below o.exit → OwnStep y s w h stands
+
+-- where a step of a hart that executes instructions is one of its thread's own, the machine simulates an abstract run before commit after it
+abbrev pub OwnStepsSimulate : Type 0
+OwnStepsSimulate = (y : System) (s : IsSystem y) (w : World) (h : ℕ) (stands : Simulates y s w) → IsInPhase w h Run → OwnStep y s w h stands →
+    SimulatesBeforeCommit y s (after_event y.program w (Step h))

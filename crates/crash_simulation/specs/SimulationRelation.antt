@@ -1,0 +1,57 @@
+-- What is true of a machine that runs a compiled program, at each moment: it simulates an abstract run of the source.
+use Rattle.std.specs.Prelude.{◌≡◌, ◌⊎◌, ℕ, ◌<◌, [], length, slice_get, Some, None}
+use Rattle.rv64_isa.specs.Machine.{World}
+use Rattle.rv64_isa.specs.Frames.{IsWellFormedWorld}
+use Rattle.flow_graph.specs.Actions.{FlowState}
+use Rattle.recovery_semantics.specs.VariableSpots.{memory_in}
+use Rattle.log_states.specs.Logs.{Record}
+use Rattle.hart_runs.specs.Laws.{AreShort}
+use Rattle.recovered_threads.specs.RecoveryStates.{AreGathering, AreGathered}
+use Rattle.crash_simulation.specs.Systems.{System, IsSystem, flat_of, places_of, thread_count}
+use Rattle.crash_simulation.specs.AbstractRuns.{AbstractRun, now_of}
+use Rattle.crash_simulation.specs.ThreadGhosts.{ThreadGhost, ThreadInv, HasCommittedLog}
+
+-- ---- Locks
+
+-- the thread has unlocked the mutex, which nobody has since, and has still to give it back
+pub record IsGiving (ghosts : ℕ → ThreadGhost) (now : FlowState) (lock thread : ℕ) : Type 0 where
+  pub exists : thread < length now.graph_threads
+  pub free : slice_get now.holders lock ≡ Some None
+  pub gives : (ghosts thread).giving ≡ Some lock
+
+-- harts hold the mutexes that their threads have, and those that are being given back
+pub record AreHeld (w : World) (ghosts : ℕ → ThreadGhost) (now : FlowState) : Type 0 where
+  pub held : (lock thread : ℕ) → slice_get w.holders lock ≡ Some (Some thread) →
+      (slice_get now.holders lock ≡ Some (Some thread)) ⊎ IsGiving ghosts now lock thread
+  pub holds : (lock thread : ℕ) → slice_get now.holders lock ≡ Some (Some thread) → slice_get w.holders lock ≡ Some (Some thread)
+  -- a mutex that is being given back is the thread's until then
+  pub giving : (lock thread : ℕ) → thread < length now.graph_threads → (ghosts thread).giving ≡ Some lock → slice_get w.holders lock ≡ Some (Some thread)
+
+-- the records of all threads
+abbrev pub records_of : (ℕ → ThreadGhost) → ℕ → Record
+records_of ghosts thread = (ghosts thread).new
+
+-- after a crash harts gather what their records have, before any goes on
+pub data AreLocked (y : System) (w : World) (b : AbstractRun y) (ghosts : ℕ → ThreadGhost) : Type 0 where
+  gathering : b.config.uncommitted ≡ [] → AreGathering w (records_of ghosts) → AreLocked y w b ghosts
+  gathered : AreGathered w (records_of ghosts) → AreHeld w ghosts (now_of y b) → AreLocked y w b ghosts
+
+-- ---- The machine
+
+-- memory is that of the abstract run's config, and each thread is where its graph thread is; boundaries that are committed may not be taken so yet
+pub record SimulatesBeforeCommit (y : System) (s : IsSystem y) (w : World) : Type 0 where
+  pub abstract : AbstractRun y
+  pub memory : memory_in (places_of y) w.words ≡ abstract.config.memory
+  pub count : length w.harts ≡ thread_count y
+  pub mutexes : length w.holders ≡ length (flat_of y).mutexes
+  pub sound : IsWellFormedWorld w
+  pub short : AreShort w
+  pub ghosts : ℕ → ThreadGhost
+  pub each : (n : ℕ) (below : n < thread_count y) → ThreadInv y w abstract (s.codes.each n below) (ghosts n)
+  pub locks : AreLocked y w abstract ghosts
+
+-- the machine simulates an abstract run in which all boundaries that are committed are taken so
+pub record Simulates (y : System) (s : IsSystem y) (w : World) : Type 0 where
+  pub before_commit : SimulatesBeforeCommit y s w
+  pub caught_up : (n : ℕ) (below : n < thread_count y) →
+      HasCommittedLog y w before_commit.abstract (s.codes.each n below) (before_commit.ghosts n) (before_commit.each n below)

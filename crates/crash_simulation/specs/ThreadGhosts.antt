@@ -1,0 +1,190 @@
+-- Where a thread of a compiled program is, by its graph thread and its ghost state.
+use Rattle.std.specs.Prelude.{◌≡◌, ◌≢◌, ℕ, ◌/◌, ◌<◌, ◌≤◌, List, [], ◌++◌, slice_get, Contains, Option, Some, None, Bool, true, false, if◌then◌else◌}
+use Rattle.ido_base.specs.Layout.{variable_at, byte_number}
+use Rattle.ido_base.specs.Growth.{PersistsThrough}
+use Rattle.ido_ints.specs.Kinds.{bytes_of}
+use Rattle.c_tree.specs.Programs.{Variable}
+use Rattle.c_tree.specs.WellFormed.{elements_in}
+use Rattle.source_machine.specs.Discipline.{Guards}
+use Rattle.rv64_isa.specs.declared.phase.Phase.{Phase}
+use Rattle.rv64_isa.specs.declared.phase.Phase.TheVariants.{Take, Wait, Resume, Run, Done, Ended}
+use Rattle.rv64_isa.specs.Rows.{Effect, Cleans}
+use Rattle.rv64_isa.specs.Machine.{Hart, World, bank_of}
+use Rattle.code_runs.specs.CodeTraces.{MarkedEnvironment}
+use Rattle.flow_graph.specs.Actions.{GraphThread, seen_by}
+use Rattle.flow_graph.specs.IdempotentCuts.{IsChosen}
+use Rattle.recovery_semantics.specs.ElementHistories.{IsSince, history_at}
+use Rattle.recovery_semantics.specs.Attempts.{Writes, WritesAt}
+use Rattle.recovery_semantics.specs.Configs.{now, attempt_of}
+use Rattle.recovery_semantics.specs.Events.{IsGoing, steps_begun}
+use Rattle.recovery_semantics.specs.Laws.{HasLocked, HasUnlocked}
+use Rattle.region_attempts.specs.PendingCleans.{line_of, CleansSince}
+use Rattle.log_states.specs.Logs.{Record}
+use Rattle.log_states.specs.Stages.{fences_ahead, is_committed}
+use Rattle.log_states.specs.Machines.{config_of}
+use Rattle.log_states.specs.LogInvariant.{LogInv}
+use Rattle.hart_runs.specs.RunSteps.{is_clean}
+use Rattle.thread_runs.specs.CodeFragments.{ExitPoint, Arrives, Keeps, Asks, Took, Gives, Ends, IsOnFragment, IsAtCore, on_machine}
+use Rattle.recovered_threads.specs.RecordDescriptions.{Code, Describes}
+use Rattle.crash_simulation.specs.Systems.{System, flat_of, shapes_of}
+use Rattle.crash_simulation.specs.AbstractRuns.{AbstractRun, kept_of, now_of, attempts_of}
+
+-- the ghost state of a thread: what is said of it besides its graph thread
+pub record ThreadGhost : Type 0 where
+  -- the thread's log is on its way from the one record to the other, and the boundary that writes it has these effects still to make
+  pub old : Record
+  pub new : Record
+  pub rest : List Effect
+  -- the boundary under way, or the last one where none is, is taken as committed: the thread's steps before it are kept
+  pub committed : Bool
+  -- the cleans that the code of a store has still to make
+  pub cleans : List Effect
+  -- the mutex that it has unlocked by a step that is begun, but not yet given back
+  pub giving : Option ℕ
+
+-- what the kept state has of the thread's log
+abbrev pub record_kept : ThreadGhost → Record
+record_kept c = if c.committed then c.new else c.old
+
+module _ (y : System) (b : AbstractRun y) (code : Code y.plan) (c : ThreadGhost) where
+  -- the thread
+  abbrev pub number : ℕ
+  number = code.thread.number
+
+  -- an access to an element of a variable that the thread guards
+  pub record IsGuarded (address bytes : ℕ) : Type 0 where
+    pub variable : ℕ
+    pub element : ℕ
+    pub is : Variable
+    pub there : slice_get (flat_of y).variables variable ≡ Some is
+    pub within : element < elements_in is.length
+    pub address_is : address ≡ variable_at (shapes_of y) variable element
+    pub bytes_are : bytes ≡ bytes_of is.kind
+    pub guards : Guards (flat_of y) (now b.config) number variable
+
+  -- the environment answers no others
+  abbrev pub AnswersGuarded : MarkedEnvironment → Type 0
+  AnswersGuarded s = (address bytes value : ℕ) → s.around.loads address bytes ≡ Some value → IsGuarded address bytes
+
+  -- the record's bank, if it has one, is that one
+  abbrev pub IsAtBankOf : (bank : ℕ) → Type 0
+  IsAtBankOf bank = c.new.point ≢ 0 → bank_of c.new.point ≡ bank
+
+  -- the attempt goes on, and no boundary is under way
+  pub record IsInAttempt : Type 0 where
+    pub going : IsGoing b.config number
+    pub rest : c.rest ≡ []
+    pub giving : c.giving ≡ None
+    -- the last boundary is taken as committed
+    pub committed : c.committed ≡ true
+
+  -- the attempt goes on, and no clean is ahead
+  pub record GoesClean (ended : Bool) (graph_thread : GraphThread) : Type 0 where
+    pub goes : IsInAttempt
+    pub cleans : c.cleans ≡ []
+    pub execution : graph_thread.ended ≡ ended
+
+  -- the attempt stands before the boundary under way, until that is committed: then none of its steps is left that isn't kept
+  pub record IsBounded (graph_thread : GraphThread) (giving : Option ℕ) (Before : Type 0) : Type 0 where
+    pub execution : graph_thread.ended ≡ false
+    pub cleans : c.cleans ≡ []
+    pub gives : c.giving ≡ giving
+    pub before : c.committed ≡ false → Before
+    pub after : c.committed ≡ true → steps_begun b.config number ≡ 0
+
+  -- what is true of a thread in a fragment, by the fragment's exit point
+  abbrev pub ExitInv : GraphThread → ExitPoint → Type 0
+  ExitInv graph_thread Arrives = IsInAttempt × (graph_thread.ended ≡ false)
+  ExitInv graph_thread Keeps = IsChosen y.plan.graph y.plan.boundaries graph_thread.at × IsGoing b.config number × IsBounded graph_thread None (Unit {0})
+  ExitInv graph_thread (Asks mutex next) = GoesClean false graph_thread
+  ExitInv graph_thread (Took from) = IsBounded graph_thread None ((mutex : ℕ) × HasLocked b.config number mutex)
+  ExitInv graph_thread (Gives from mutex) = IsBounded graph_thread (Some mutex) (HasUnlocked b.config number mutex)
+  ExitInv graph_thread Ends = GoesClean true graph_thread
+
+  -- no step is begun that isn't kept, and no boundary is under way
+  pub record Rests : Type 0 where
+    pub begun : steps_begun b.config number ≡ 0
+    pub done : (attempt_of b.config number).done ≡ 0
+    pub rest : c.rest ≡ []
+    pub cleans : c.cleans ≡ []
+    pub giving : c.giving ≡ None
+    pub committed : c.committed ≡ true
+
+module _ (y : System) (w : World) (b : AbstractRun y) (code : Code y.plan) (c : ThreadGhost) where
+  -- a boundary is committed once its point is durable
+  abbrev pub committed : Hart → Bool
+  committed hart = is_committed code.thread.number (config_of w hart c.rest)
+
+  -- ---- By its phase
+
+  -- in a fragment to or from the node of its graph thread, or at that node's code
+  pub record InFragment (hart : Hart) (graph_thread : GraphThread) : Type 0 where
+    pub environment : MarkedEnvironment
+    pub answers : AnswersGuarded y b code c environment
+    pub exit : ExitPoint
+    pub bank : ℕ
+    pub at_bank : IsAtBankOf y b code c bank
+    pub steps : ℕ
+    pub fragment : IsOnFragment y.plan code.thread code.is.places (on_machine y.program w code.thread.number environment)
+        (record { exit = exit; node = graph_thread.at; seen = seen_by (now_of y b) graph_thread; bank = bank }) steps (c.cleans ++ c.rest)
+    pub fits : ExitInv y b code c graph_thread exit
+
+  pub record AtCore (graph_thread : GraphThread) : Type 0 where
+    pub bank : ℕ
+    pub at_bank : IsAtBankOf y b code c bank
+    pub registers : List ℕ
+    pub core : IsAtCore y.plan code.thread code.is.places w code.thread.number graph_thread.at (seen_by (now_of y b) graph_thread) bank registers
+    pub goes : GoesClean y b code c false graph_thread
+    -- at the code of a node with a chosen boundary before it the attempt begins
+    pub fresh : IsChosen y.plan.graph y.plan.boundaries graph_thread.at → (attempt_of b.config code.thread.number).done ≡ 0
+
+  pub data IsRunningThread (hart : Hart) (graph_thread : GraphThread) : Type 0 where
+    on_fragment : InFragment hart graph_thread → IsRunningThread hart graph_thread
+    at_core : AtCore graph_thread → IsRunningThread hart graph_thread
+
+  abbrev pub InPhase : Hart → GraphThread → Phase → Type 0
+  InPhase hart graph_thread Take = Rests y b code c
+  InPhase hart graph_thread Wait = Rests y b code c
+  InPhase hart graph_thread Resume = Rests y b code c
+  InPhase hart graph_thread Run = IsRunningThread hart graph_thread
+  InPhase hart graph_thread Done = Rests y b code c × (c.new.point ≡ 0)
+  InPhase hart graph_thread Ended = GoesClean y b code c true graph_thread × (c.new.point ≡ 0)
+
+  -- ---- What it has stored
+
+  -- the queue reaches the position of the element, or a clean of its line is ahead
+  pub data IsComing (hart : Hart) (v e position : ℕ) : Type 0 where
+    is_reached : PersistsThrough w.words hart.queue (byte_number (variable_at (shapes_of y) v e) / 8) position → IsComing hart v e position
+    is_ahead : (variable element : ℕ) → Contains c.cleans (Cleans (variable_at (shapes_of y) variable element)) →
+        line_of (shapes_of y) variable element ≡ line_of (shapes_of y) v e → IsComing hart v e position
+
+  -- an element that the attempt has stored has its number since a position, which is on its way to be durable once the line has been cleaned, and is
+  -- durable after the first fence of the next boundary
+  pub record IsFlushed (hart : Hart) (v e : ℕ) : Type 0 where
+    pub before : ℕ
+    pub within : before < (attempt_of b.config code.thread.number).done
+    pub writes : WritesAt b.config.kept code.thread.number before v e
+    pub position : ℕ
+    pub since : IsSince (history_at b.config.memory v e) position
+    pub comes : CleansSince (attempts_of y b) code.thread.number before (attempt_of b.config code.thread.number).done (line_of (shapes_of y) v e) →
+        IsComing hart v e position
+    pub fenced : c.committed ≡ false → fences_ahead c.rest < 2 → position ≤ (history_at b.config.memory v e).durable
+
+  -- ---- All of it
+
+  pub record ThreadInv : Type 0 where
+    pub log : LogInv code.thread.number c.old c.new w c.rest
+    -- what is taken as committed is so; more may be
+    pub no_sooner : c.committed ≡ true → committed log.hart ≡ true
+    -- the record that is kept describes the kept state, and that of the boundary under way, until it is committed, the state now
+    pub describes : Describes y.plan code (kept_of y b) (record_kept c)
+    pub will_describe : c.committed ≡ false → Describes y.plan code (now_of y b) c.new
+    pub cleans : (effect : Effect) → Contains c.cleans effect → is_clean effect ≡ true
+    pub graph_thread : GraphThread
+    pub walks : slice_get (now_of y b).graph_threads code.thread.number ≡ Some graph_thread
+    pub phase : InPhase log.hart graph_thread log.hart.phase
+    pub flushed : (v e : ℕ) → Writes b.config.kept code.thread.number (attempt_of b.config code.thread.number).done v e → IsFlushed log.hart v e
+
+  -- all that is committed is taken so
+  abbrev pub HasCommittedLog : ThreadInv → Type 0
+  HasCommittedLog t = committed t.log.hart ≡ c.committed

@@ -1,0 +1,115 @@
+//! Laws of compiled programs in a machine: nothing is computed here.
+ghost use Rattle.crash_simulation.specs.AccountRelation.{MachinesResume};
+ghost use Rattle.crash_simulation.specs.Laws.{CommitStutters, CrashSimulates, EventsStand, EvictionsSimulate, NoneIsStuck, ResumesStand};
+ghost use Rattle.crash_simulation.specs.Laws.{RunsSimulate, SettledIsKept, StartSimulates, StoppedStand, TakesMove, TakesStand, WaitsStand};
+ghost use Rattle.crash_simulation.specs.ReleasedSections.{SectionsAreKept};
+ghost use Rattle.crash_simulation.specs.InstructionSteps.{CallsStep, CoresStep, OwnStepsSimulate, RunsReady, FragmentsStep};
+
+use thread_runs::laws::{fragments_go_on, marks_pass};
+
+/// At its start the machine simulates the abstract run that begins at the source's start.
+pub fn starts_simulate()
+    ensures { StartSimulates }
+{}
+
+/// After a crash, at whatever moment, the machine simulates an abstract run at what is kept.
+pub fn crashes_simulate()
+    ensures { CrashSimulates }
+{}
+
+/// The machine simulates an abstract run while harts gather the locks of their records, where one is resumed, and after a step of one that has stopped.
+pub fn recovery_simulates()
+    ensures takes { TakesStand }
+    ensures waits { WaitsStand }
+    ensures resumes { ResumesStand }
+    ensures stopped { StoppedStand }
+{}
+
+/// Where boundaries have been committed, the steps before them are kept.
+pub fn commit_stutters()
+    ensures { CommitStutters }
+{}
+
+/// Where all durable points are 0, durable memory has exactly the variables that the source leaves by the kept schedule.
+pub fn settled_is_kept()
+    ensures { SettledIsKept }
+{}
+
+/// A hart that executes instructions may be taken to be in a fragment, at the call that ends one, or at the code of a node that takes no mutex.
+pub fn runs_ready()
+    ensures { RunsReady }
+{}
+
+/// What a step of a hart in a fragment is to its thread.
+pub fn fragments_step()
+    ensures { FragmentsStep }
+{
+    fragments_go_on();
+}
+
+/// What a step of a hart at the code of a node that takes no mutex is to its thread.
+pub fn cores_step()
+    ensures { CoresStep }
+{
+    marks_pass();
+}
+
+/// What a step of a hart at its call is to its thread.
+pub fn calls_step()
+    ensures { CallsStep }
+{}
+
+/// After an eviction the machine simulates an abstract run before commit: all threads are where they were, and what is committed may not be taken so yet.
+pub fn evictions_simulate()
+    ensures { EvictionsSimulate }
+{}
+
+/// After a step of a hart that executes instructions the machine simulates an abstract run before commit, if after it the hart's own thread is where
+/// its graph thread is: all others are where they were.
+pub fn own_steps_simulate()
+    ensures { OwnStepsSimulate }
+{}
+
+/// After each step of a hart that executes instructions the machine simulates an abstract run before commit.
+pub fn runs_simulate()
+    ensures { RunsSimulate }
+{
+    fragments_step();
+    cores_step();
+}
+
+/// Whatever happens, the machine still simulates an abstract run.
+pub fn events_stand()
+    ensures { EventsStand }
+{
+    fragments_step();
+    cores_step();
+}
+
+/// After every list of events it simulates an abstract run, and its account of begun and kept steps is that of the run's config.
+/// Kept steps are the kept schedule, pending ones those begun and not kept, in their order, and each thread's begun steps are free,
+/// or bound to the store of its point.
+pub fn machines_resume()
+    ensures { MachinesResume }
+{
+    fragments_go_on();
+    fragments_step();
+    cores_step();
+}
+
+/// The kept schedule holds each section that has ended, and at most one more of each thread.
+pub fn sections_are_kept()
+    ensures { SectionsAreKept }
+{
+    fragments_go_on();
+    fragments_step();
+    cores_step();
+}
+
+/// No hart is ever stuck, and one that takes its locks in recovery waits for no other.
+pub fn none_is_stuck()
+    ensures stuck { NoneIsStuck }
+    ensures takes { TakesMove }
+{
+    marks_pass();
+}

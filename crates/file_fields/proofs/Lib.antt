@@ -1,0 +1,3 @@
+pub mod Public
+mod FieldLaws
+mod RepeatedReads

@@ -1,0 +1,7 @@
+use Rattle.std.proofs.Common.{◌≡◌, ◌++◌, take}
+use Rattle.std.specs.List.{flat_map}
+use Rattle.file_fields.specs.Numbers.{number}
+use Rattle.file_fields.proofs.writing.put_numbers.Given as goal
+
+abbrev pub invariant-loop-n : goal.invariant-loop-n
+invariant-loop-n l = l.out.items ≡ l.fn.out.items ++ flat_map number (take l.n-index l.numbers)

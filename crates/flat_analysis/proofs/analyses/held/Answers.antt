@@ -1,0 +1,11 @@
+use Rattle.c_tree.specs.Flats.{flat_of}
+use Rattle.c_tree.specs.declared.refusal.SourceError.{SourceError}
+use Rattle.std.proofs.Common.{sym, subst}
+use Rattle.flat_analysis.specs.CompilableForms.{IsFormRefusal}
+use Rattle.flat_analysis.proofs.Refused.{by_locks}
+use Rattle.flat_analysis.proofs.analyses.held.Goals as goal
+
+pub returns-in-Err-clause-refused : goal.returns-in-Err-clause-refused
+returns-in-Err-clause-refused c =
+    let flat = flat_of c.args.flat.now in
+    subst (λ (e : SourceError). IsFormRefusal flat e) (sym c.of_lock.ensures) (by_locks flat c.in-Err.error c.in-Err.ensures.refuses)

@@ -1,0 +1,3 @@
+pub mod CompilableForms
+pub mod Analyses
+pub mod links

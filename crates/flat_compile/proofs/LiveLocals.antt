@@ -1,0 +1,207 @@
+-- Live locals of a node, in the order of their registers.
+use Rattle.std.proofs.Common.{◌≡◌, ◌↔◌, inl, ⊎_elim, refl, ℕ, zero, suc, ◌+◌, ◌<◌, ◌≤◌, List, [], ◌∷◌, ◌++◌, length, map, ◌∙◌, ap, sym, subst, arith, Some}
+use Rattle.std.specs.Prelude.{slice_get, slice_index, Contains}
+use Rattle.std.specs.List.Sorted.{IsStrictlyIncreasing}
+use Rattle.std.proofs.lemmas.Bool.{cases_lt}
+use Rattle.std.proofs.lemmas.Option.{same_Some, slice_get_within}
+use Rattle.std.proofs.lemmas.List.Elements.{Contains-append_left, Contains-append_right, Contains-push_cases}
+use Rattle.ido_ints.specs.declared.kinds.Kind.{Kind}
+use Rattle.memory_layout.specs.declared.roles.TheConstants.{LOCALS}
+use Rattle.flow_graph.specs.Liveness.{IsLive, Spans, Touches}
+use Rattle.thread_code.specs.Plans.{Plan, IsPlan, Thread, IsThread, IsNodeOf}
+use Rattle.flat_compile.specs.declared.resumes.LiveLocal.{LiveLocal}
+use Rattle.flat_compile.specs.ResumePlaces.{IsLiveLocal}
+use Rattle.flat_compile.specs.links.ResumePlacesByNode.{Ascends, IsLiveIn, AreLiveBelow}
+use Rattle.flow_graph.proofs.Public.{found_in}
+use Rattle.rv64_codegen.proofs.Public.{colours_long}
+use Rattle.flat_compile.proofs.ResumeAddresses.{head, tail}
+
+-- ---- Numbers that ascend
+
+from_low : (low : ℕ) (xs : List ℕ) (b : ℕ) → Ascends low xs → b < length xs → low ≤ slice_index xs b
+from_low low [] b h l = absurd (omega (arith, l))
+from_low low (x ∷ xs) zero h l = h.0
+from_low low (x ∷ xs) (suc b) h l = let r = from_low (suc x) xs b h.1 (omega (arith, l)) in omega (arith, r, h.0)
+
+pub rise : (low : ℕ) (xs : List ℕ) → Ascends low xs → (a b : ℕ) → a < b → b < length xs → slice_index xs a < slice_index xs b
+rise low [] h a b up l = absurd (omega (arith, l))
+rise low (x ∷ xs) h a zero up l = absurd (omega (arith, up))
+rise low (x ∷ xs) h zero (suc b) up l = let r = from_low (suc x) xs b h.1 (omega (arith, l)) in omega (arith, r)
+rise low (x ∷ xs) h (suc a) (suc b) up l = rise (suc x) xs h.1 a b (omega (arith, up)) (omega (arith, l))
+
+pub strictly : (low : ℕ) (xs : List ℕ) → Ascends low xs → IsStrictlyIncreasing xs
+strictly low xs h k l = rise low xs h k (k + 1) (omega arith) l
+
+pub climbs : {X : Type 0} (f : X → ℕ) (low : ℕ) (xs : List X) (x : X) → Ascends low (map f xs) → ((z : X) → Contains xs z → f z < f x) → low ≤ f x →
+    Ascends low (map f (xs ++ x ∷ []))
+climbs f low [] x h below l = (l, tt)
+climbs f low (z ∷ xs) x h below l =
+    let up = below z (head z xs) in
+    (h.0, climbs f (suc (f z)) xs x h.1 (λ w k. below w (tail z xs w k)) (omega (arith, up)))
+
+locals_ascend : Ascends 8 LOCALS
+locals_ascend = (
+  omega arith,
+  (
+    omega arith,
+    (
+      omega arith,
+      (
+        omega arith,
+        (
+          omega arith,
+          (
+            omega arith,
+            (
+              omega arith,
+              (
+                omega arith,
+                (
+                  omega arith,
+                  (omega arith, (omega arith, (omega arith, (omega arith, (omega arith, (omega arith, (omega arith, (omega arith, (omega arith, tt))))))))),
+                ),
+              ),
+            ),
+          ),
+        ),
+      ),
+    ),
+  ),
+)
+
+registers_rise : (a b : ℕ) → a < b → b < 18 → slice_index LOCALS a < slice_index LOCALS b
+registers_rise a b up l = rise 8 LOCALS locals_ascend a b up l
+
+-- ---- One colour more
+
+abbrev made : (register local : ℕ) → Kind → LiveLocal
+made register local kind = record { register = register; local = local; kind = kind }
+
+same_local : (a b : LiveLocal) → a.register ≡ b.register → a.local ≡ b.local → a.kind ≡ b.kind → a ≡ b
+same_local a b r l k =
+    ap (λ (x : ℕ). made x a.local a.kind) r ∙ ap (λ (x : ℕ). made b.register x a.kind) l ∙ ap (λ (x : Kind). made b.register b.local x) k
+
+module _ (colours : List ℕ) (kinds : List Kind) (sets : List (List ℕ)) (node : ℕ) where
+  abbrev Is : (count : ℕ) → List LiveLocal → Type 0
+  Is count found = AreLiveBelow colours kinds sets node count found
+
+  abbrev One : (count : ℕ) → LiveLocal → Type 0
+  One count l = (number : ℕ) × (number < count) × IsLiveIn colours sets node number l.local × (slice_get kinds l.local ≡ Some l.kind)
+      × (l.register ≡ slice_index LOCALS number)
+
+  pub live_none : Is 0 []
+  live_none = record { each = λ l. (λ k. absurd (omega (arith, k.1)), λ w. absurd (omega (arith, w.1))); ascend = tt }
+
+  wider : (count : ℕ) (l : LiveLocal) → One count l → One (count + 1) l
+  wider count l w = (w.0, omega (arith, w.1), w.2, w.3, w.4)
+
+  pub live_same : (count : ℕ) (found : List LiveLocal) → ((local : ℕ) → IsLiveIn colours sets node count local → ⊥) → Is count found → Is (count + 1) found
+  live_same count found none h = record {
+    each = λ l. (
+      λ k. wider count l ((h.each l).0 k),
+      λ w. ⊎_elim (λ less. (h.each l).1 (w.0, less, w.2, w.3, w.4))
+          (λ g. let same : w.0 ≡ count = omega (arith, g, w.1) in absurd (none l.local (subst (λ (n : ℕ). IsLiveIn colours sets node n l.local) same w.2)))
+          (cases_lt w.0 count),
+    );
+    ascend = h.ascend;
+  }
+
+  pub live_more : (count : ℕ) (found : List LiveLocal) (l : LiveLocal) → count < 18 → IsLiveIn colours sets node count l.local →
+      slice_get kinds l.local ≡ Some l.kind → l.register ≡ slice_index LOCALS count →
+      ((a b : ℕ) → IsLiveIn colours sets node count a → IsLiveIn colours sets node count b → a ≡ b) → Is count found → Is (count + 1) (found ++ l ∷ [])
+  live_more count found l few live kind register apart h = record {
+    each = λ z. (
+      λ k. ⊎_elim (λ old. wider count z ((h.each z).0 old))
+          (λ e. subst (λ (y : LiveLocal). One (count + 1) y) e (count, omega arith, live, kind, register))
+          (Contains-push_cases found l z k),
+      λ w. ⊎_elim (λ less. Contains-append_left found (l ∷ []) z ((h.each z).1 (w.0, less, w.2, w.3, w.4)))
+          (λ g. Contains-append_right found (l ∷ []) z (subst (λ (y : LiveLocal). Contains (l ∷ []) y) (only z w (omega (arith, g, w.1))) (head l [])))
+          (cases_lt w.0 count),
+    );
+    ascend = climbs (λ (y : LiveLocal). y.register) 0 found l h.ascend (λ z k. let w = (h.each z).0 k in
+        let up = registers_rise w.0 count w.1 few in omega (arith, up, w.4, register)) (omega arith);
+  }
+    where
+      only : (z : LiveLocal) (w : One (count + 1) z) → w.0 ≡ count → l ≡ z
+      only z w same =
+          let there : l.local ≡ z.local = apart l.local z.local live (subst (λ (n : ℕ). IsLiveIn colours sets node n z.local) same w.2) in
+          same_local l z (register ∙ ap (slice_index LOCALS) (sym same) ∙ sym w.4) there
+          (same_Some l.kind z.kind (sym kind ∙ ap (slice_get kinds) there ∙ w.3))
+
+-- ---- The locals of the registers are those that are live
+
+index_of : (xs : List ℕ) (k x : ℕ) → slice_get xs k ≡ Some x → slice_index xs k ≡ x
+index_of [] k x g = cc
+index_of (y ∷ xs) zero x g = cc
+index_of (y ∷ xs) (suc k) x g = index_of xs k x g
+
+map_index : (g : ℕ → ℕ) (xs : List ℕ) (k : ℕ) → k < length xs → slice_index (map g xs) k ≡ g (slice_index xs k)
+map_index g [] k h = absurd (omega (arith, h))
+map_index g (y ∷ xs) zero h = refl
+map_index g (y ∷ xs) (suc k) h = map_index g xs k (omega (arith, h))
+
+module _ (p : Plan) (plan : IsPlan p) (t : Thread) (th : IsThread p t) (node : ℕ) (own : IsNodeOf t node) where
+  abbrev register_of : ℕ → ℕ
+  register_of colour = slice_index LOCALS colour
+
+  register_is : (local number : ℕ) → slice_get th.colours local ≡ Some number → slice_index t.registers local ≡ register_of number
+  register_is local number g =
+      ap (λ (xs : List ℕ). slice_index xs local) th.registers
+      ∙ map_index register_of th.colours local (slice_get_within th.colours local number g)
+      ∙ ap register_of (index_of th.colours local number g)
+
+  coloured : (local : ℕ) (kind : Kind) → slice_get t.kinds local ≡ Some kind → (number : ℕ) × (slice_get th.colours local ≡ Some number)
+  coloured local kind g =
+      let short = slice_get_within t.kinds local kind g in
+      found_in th.colours local (omega (arith, short, ap (λ (ks : List Kind). length ks) th.kinds, colours_long p plan t th))
+
+  spans : (local : ℕ) → IsLive p.graph local node → Spans p.graph t.part local node
+  spans local live =
+      let touches : Touches p.graph t.part local node = record { from_first = own.from_first; below_end = own.below_end; is = inl live } in
+      record { low = node; high = node; from_low = omega arith; to_high = omega arith; at_low = touches; at_high = touches }
+
+  clash : (number a b : ℕ) → a < b → IsLiveIn th.colours p.live node number a → IsLiveIn th.colours p.live node number b → ⊥
+  clash number a b less x y = plan.apart node a b (record {
+    thread = t.number;
+    part = t.part;
+    own = th.nodes;
+    registers = th.colours;
+    register = number;
+    of_thread = th.of_colours;
+    of_first = x.coloured;
+    of_second = y.coloured;
+    different = less;
+    first = spans a ((plan.live.each node a).0 x.live);
+    second = spans b ((plan.live.each node b).0 y.live);
+  })
+
+  pub one_each : (number a b : ℕ) → IsLiveIn th.colours p.live node number a → IsLiveIn th.colours p.live node number b → a ≡ b
+  one_each number a b x y = ⊎_elim (λ l. absurd (clash number a b l x y))
+      (λ g. ⊎_elim (λ l. absurd (clash number b a l y x)) (λ h. let e : a ≡ b = omega (arith, g, h) in e) (cases_lt b a))
+      (cases_lt a b)
+
+  pub all_live : (found : List LiveLocal) → AreLiveBelow th.colours t.kinds p.live node 18 found → (l : LiveLocal) →
+      Contains found l ↔ IsLiveLocal p t node l
+  all_live found h l = (
+    λ k.
+        let w = (h.each l).0 k in
+        record {
+          kind_is = w.3;
+          live = (plan.live.each node l.local).0 w.2.live;
+          register_is = w.4 ∙ sym (register_is l.local w.0 w.2.coloured);
+        },
+    λ is.
+        let number = coloured l.local l.kind is.kind_is in
+        (h.each l).1 (
+          number.0,
+          plan.registers.exist t.number number.0 th.colours th.of_colours (contained th.colours l.local number.0 number.1),
+          record { coloured = number.1; live = (plan.live.each node l.local).1 is.live },
+          is.kind_is,
+          is.register_is ∙ register_is l.local number.0 number.1,
+        ),
+  )
+    where
+      contained : (xs : List ℕ) (k x : ℕ) → slice_get xs k ≡ Some x → Contains xs x
+      contained [] k x g = cc
+      contained (y ∷ xs) zero x g = let same : y ≡ x = cc in subst (λ (z : ℕ). Contains (y ∷ xs) z) same (head y xs)
+      contained (y ∷ xs) (suc k) x g = tail y xs x (contained xs k x g)

@@ -1,0 +1,52 @@
+use Rattle.std.proofs.Common.{ap, sym, ◌∙◌, arith}
+use Rattle.flow_graph.specs.Nodes.{action_of, node_of}
+use Rattle.rv64_codegen.specs.Plans.{plan_of}
+use Rattle.flat_compile.specs.links.ResumePlacesByNode.{thread_in}
+use Rattle.flat_compile.proofs.ResumedNodes.{exists, at_node, passing}
+use Rattle.flat_compile.proofs.ResumeAddresses.{locks, unlocks, frees, passes, unlock_own}
+use Rattle.flat_compile.proofs.resumes.after.Goals as goal
+
+pub index-requires : goal.index-requires
+index-requires c = omega (arith, exists c.args.plan.now c.args.number c.args.part c.args.node c.requires, c.args.plan.now.graph.now.nodes.ok.0)
+
+pub mask-requires : goal.mask-requires
+mask-requires c =
+    let q = c.args.plan.now in
+    let p = plan_of q in
+    let is = node_of c.index.result.now in
+    record {
+      is = c.requires.is;
+      own = unlock_own p (thread_in p c.args.number c.args.part) c.requires.is.plan c.requires.is.thread c.args.node c.in-Unlock.mutex c.in-Unlock.next is
+          c.requires.own (at_node q c.args.number c.args.part c.args.node c.requires c.index.result.now c.index.ensures) (ap action_of c.in-Unlock.is);
+    }
+
+pub returns-in-Lock : goal.returns-in-Lock
+returns-in-Lock c =
+    let q = c.args.plan.now in
+    let p = plan_of q in
+    locks p (thread_in p c.args.number c.args.part) c.args.node (node_of c.index.result.now) c.requires.own
+    (at_node q c.args.number c.args.part c.args.node c.requires c.index.result.now c.index.ensures) c.in-Lock.mutex c.in-Lock.next (ap action_of c.in-Lock.is)
+
+pub returns-then-mask-eq0 : goal.returns-then-mask-eq0
+returns-then-mask-eq0 c =
+    let q = c.args.plan.now in
+    let p = plan_of q in
+    frees p (thread_in p c.args.number c.args.part) c.args.node (node_of c.index.result.now) c.requires.own
+    (at_node q c.args.number c.args.part c.args.node c.requires c.index.result.now c.index.ensures) c.in-Unlock.mutex c.in-Unlock.next
+    (ap action_of c.in-Unlock.is) (sym c.mask.ensures ∙ c.if-mask-eq0.true)
+
+pub returns-else-mask-eq0 : goal.returns-else-mask-eq0
+returns-else-mask-eq0 c =
+    let q = c.args.plan.now in
+    let p = plan_of q in
+    unlocks p (thread_in p c.args.number c.args.part) c.args.node (node_of c.index.result.now) c.requires.own
+    (at_node q c.args.number c.args.part c.args.node c.requires c.index.result.now c.index.ensures) c.in-Unlock.mutex c.in-Unlock.next
+    (ap action_of c.in-Unlock.is) (λ e. c.if-mask-eq0.false (c.mask.ensures ∙ e))
+
+pub returns-in_default : goal.returns-in_default
+returns-in_default c =
+    let q = c.args.plan.now in
+    let p = plan_of q in
+    passes p (thread_in p c.args.number c.args.part) c.args.node (node_of c.index.result.now) c.requires.own
+    (at_node q c.args.number c.args.part c.args.node c.requires c.index.result.now c.index.ensures)
+    (passing c.index.result.now.action c.in_default.not-Lock c.in_default.not-Unlock)

@@ -1,0 +1,455 @@
+-- What every run of a graph keeps: its edges, what steps leave, and that the source keeps step.
+use Rattle.std.proofs.Common.{◌≡◌, ◌≢◌, ◌⊎◌, inl, inr, ⊎_elim, ◌<◌, ◌≤◌, refl, ℕ, zero, suc, List, [], ◌∷◌, length, map}
+use Rattle.std.proofs.Common.{replicate, ◌∙◌, ap, sym, subst, arith, Option, Some, None, Bool, true, false, slice_set}
+use Rattle.std.specs.Prelude.{slice_get, is_some, Contains, if◌then◌else◌, ℤ}
+use Rattle.std.specs.List.{AllByRecursion, AllZip}
+use Rattle.std.specs.Option.{option_map}
+use Rattle.std.proofs.lemmas.Bool.{cases_eq}
+use Rattle.std.proofs.lemmas.Bool.Decides.{nat_tests}
+use Rattle.std.proofs.lemmas.Option.{slice_get_within}
+use Rattle.ido_base.specs.declared.location.Location.{Location}
+use Rattle.ido_base.specs.Locations.{overlap, same}
+use Rattle.ido_base.specs.declared.limits.TheConstants.{MOST_ELEMENTS}
+use Rattle.ido_ints.specs.Kinds.{Holds}
+use Rattle.ido_ints.specs.Operators.{is_zero}
+use Rattle.c_tree.specs.Exprs as e
+use Rattle.c_tree.specs.Programs.{Variable}
+use Rattle.c_tree.specs.Flats as f
+use Rattle.c_tree.specs.Source as m
+use Rattle.c_tree.specs.Source.{Pending}
+use Rattle.c_tree.specs.Ranges.{range_of}
+use Rattle.c_tree.specs.WellFormed.{elements_in, IsVariable, IsWellFormed, IsFlatStatement, IsFlatPlaced}
+use Rattle.c_ranges.specs.RunInvariants.{AreNumbersOf, IsStatementLeft, IsThreadOf, IsStateOf}
+use Rattle.c_ranges.proofs.Public.{Pair, zip_found, begins_so, stays_so}
+use Rattle.flow_graph.specs.declared.graph.Part.{Part}
+use Rattle.flow_graph.specs.Nodes.{Action, Eval, Store, Test, Lock, Unlock, End, Node, Graph, successors}
+use Rattle.flow_graph.specs.Lowering.{lowered, threads_nodes, scalar, elements, expr_reads, target_reads}
+use Rattle.flow_graph.specs.Liveness.{NodeAt}
+use Rattle.flow_graph.specs.Actions as g
+use Rattle.flow_graph.specs.Actions.{Seen, GraphThread, FlowState, Effect, Sets, Owes, Makes, Goes, Takes, Gives, Ends, effect_of}
+use Rattle.flow_graph.specs.Actions.{effect_step, node_step, graph_thread_step, seen_by, graph_start, graph_step, graph_after, graph_runs}
+use Rattle.flow_graph.specs.Lockstep.{Standing, free, threads_standings, GraphThreadMatches, Matches, StepsMatch}
+use Rattle.flow_graph.specs.IdempotentCuts.{Boundaries, IsEdge, IsBoundary, BeginsRegion, IsInside, stays, goes_on, ReadsAt, WritesAt, IsWrittenBefore, AreCuts}
+use Rattle.flow_graph.specs.Paths.{Element, expr_elements, target_elements, reads_of, stored_element, write_of, Visit, solo_path}
+use Rattle.flow_graph.specs.Paths.{ReadsElement, WritesElement, IsWithinRegion, IsReachedFlow, Lies, LiesInOne, LiesInWritten, IsAtNode}
+use Rattle.flow_graph.proofs.NodeContinuations.{ActionLeads, chooses, repeats, node_at}
+use Rattle.flow_graph.proofs.Lockstep.{set_same, set_other, found_in, graph_is, lowered_nodes, begins_lockstep, steps_lockstep}
+use Rattle.flow_graph.proofs.Shapes.{ShapedAs, node_shaped}
+use Rattle.flow_graph.proofs.ElementsInLocations.{contains_none, one_of_both, lies_scalar, lies_element, lies_expr, lies_target}
+
+-- ---- What a step is
+
+pub record Stepped (graph : Graph) (s next : FlowState) (t : ℕ) : Type 0 where
+  pub graph_thread : GraphThread
+  pub found : slice_get s.graph_threads t ≡ Some graph_thread
+  pub node : Node
+  pub at : slice_get graph.nodes graph_thread.at ≡ Some node
+  pub effect : Effect
+  pub does : effect_of node.action (seen_by s graph_thread) ≡ Some effect
+  pub is : g.done s t graph_thread effect ≡ Some next
+
+pub by_effect : (graph : Graph) (s next : FlowState) (t : ℕ) (graph_thread : GraphThread) (node : Node) (o : Option Effect) →
+    slice_get s.graph_threads t ≡ Some graph_thread →
+    slice_get graph.nodes graph_thread.at ≡ Some node → effect_of node.action (seen_by s graph_thread) ≡ o → effect_step s t graph_thread o ≡ Some next →
+    Stepped graph s next t
+by_effect graph s next t graph_thread node None found at does is = cc
+by_effect graph s next t graph_thread node (Some effect) found at does is =
+    record { graph_thread = graph_thread; found = found; node = node; at = at; effect = effect; does = does; is = is }
+
+pub by_node : (graph : Graph) (s next : FlowState) (t : ℕ) (graph_thread : GraphThread) (o : Option Node) → slice_get s.graph_threads t ≡ Some graph_thread →
+    slice_get graph.nodes graph_thread.at ≡ o → node_step s t graph_thread o ≡ Some next → Stepped graph s next t
+by_node graph s next t graph_thread None found at is = cc
+by_node graph s next t graph_thread (Some node) found at is =
+    by_effect graph s next t graph_thread node (effect_of node.action (seen_by s graph_thread)) found at refl is
+
+pub by_graph_thread : (graph : Graph) (s next : FlowState) (t : ℕ) (o : Option GraphThread) → slice_get s.graph_threads t ≡ o →
+    graph_thread_step graph s t o ≡ Some next →
+    Stepped graph s next t
+by_graph_thread graph s next t None found is = cc
+by_graph_thread graph s next t (Some graph_thread) found is = by_node graph s next t graph_thread (slice_get graph.nodes graph_thread.at) found refl is
+
+pub stepped : (graph : Graph) (s next : FlowState) (t : ℕ) → graph_step graph s t ≡ Some next → Stepped graph s next t
+stepped graph s next t h = by_graph_thread graph s next t (slice_get s.graph_threads t) refl (sym (graph_is graph s t (slice_get s.graph_threads t) refl) ∙ h)
+
+-- the thread after an effect
+abbrev pub moved : GraphThread → Effect → GraphThread
+moved graph_thread (Sets local number next) = record graph_thread { at = next; locals = slice_set graph_thread.locals local number }
+moved graph_thread (Owes store next) = record graph_thread { at = next; pending = Some store }
+moved graph_thread (Makes store next) = record graph_thread { at = next; pending = None }
+moved graph_thread (Goes next) = record graph_thread { at = next }
+moved graph_thread (Takes mutex next) = record graph_thread { at = next }
+moved graph_thread (Gives mutex next) = record graph_thread { at = next }
+moved graph_thread Ends = record graph_thread { ended = true }
+
+pub graph_threads_of : (a b : FlowState) → Some a ≡ Some b → b.graph_threads ≡ a.graph_threads
+graph_threads_of a b h = let is : a ≡ b = cc in ap (λ (s : FlowState). s.graph_threads) (sym is)
+
+pub after_taking : (s next : FlowState) (t mutex at : ℕ) (graph_thread : GraphThread) (o : Option (Option ℕ)) →
+    (let step : Option FlowState = elim o [
+      | Some None ↦ Some (g.with_graph_thread (g.with_holder s mutex (Some t)) t
+          (record graph_thread { at = at }))
+      | _ ↦ None
+    ] in step ≡ Some next) →
+    next.graph_threads ≡ slice_set s.graph_threads t (record graph_thread { at = at })
+after_taking s next t mutex at graph_thread None h = cc
+after_taking s next t mutex at graph_thread (Some (Some other)) h = cc
+after_taking s next t mutex at graph_thread (Some None) h = graph_threads_of _ next h
+
+pub after_ending : (s next : FlowState) (t : ℕ) (graph_thread : GraphThread) (b : Bool) →
+    (let step : Option FlowState = if b then None else Some (g.with_graph_thread s t (record graph_thread { ended = true })) in step ≡ Some next) →
+    next.graph_threads ≡ slice_set s.graph_threads t (record graph_thread { ended = true })
+after_ending s next t graph_thread true h = cc
+after_ending s next t graph_thread false h = graph_threads_of _ next h
+
+pub graph_threads_after : (s next : FlowState) (t : ℕ) (graph_thread : GraphThread) (effect : Effect) → g.done s t graph_thread effect ≡ Some next →
+    next.graph_threads ≡ slice_set s.graph_threads t (moved graph_thread effect)
+graph_threads_after s next t graph_thread (Sets local number at) h = graph_threads_of _ next h
+graph_threads_after s next t graph_thread (Owes store at) h = graph_threads_of _ next h
+graph_threads_after s next t graph_thread (Makes store at) h = graph_threads_of _ next h
+graph_threads_after s next t graph_thread (Goes at) h = graph_threads_of _ next h
+graph_threads_after s next t graph_thread (Takes mutex at) h = after_taking s next t mutex at graph_thread (slice_get s.holders mutex) h
+graph_threads_after s next t graph_thread (Gives mutex at) h = graph_threads_of _ next h
+graph_threads_after s next t graph_thread Ends h = after_ending s next t graph_thread graph_thread.ended h
+
+-- ---- Edges
+
+pub pending_same : (p q : Pending) → Some p ≡ Some q → p ≡ q
+pending_same p q h = cc
+
+pub effects_same : (a b : Effect) → Some a ≡ Some b → b ≡ a
+effects_same a b h = cc
+
+pub goes_store : (next : ℕ) (graph_thread : GraphThread) (effect : Effect) (p : Option Pending) →
+    (let o : Option Effect = elim p [ Some store ↦ Some (Makes store next) | None ↦ None ] in o ≡ Some effect) →
+    Contains (next ∷ []) (moved graph_thread effect).at ⊎ (effect ≡ Ends)
+goes_store next graph_thread effect None h = cc
+goes_store next graph_thread effect (Some store) h =
+    let P : Effect → Type 0 = λ z. Contains (next ∷ []) (moved graph_thread z).at ⊎ (z ≡ Ends) in
+    subst P (sym (effects_same (Makes store next) effect h)) (inl (0, omega arith, refl))
+
+pub goes_test : (holds fails : ℕ) (graph_thread : GraphThread) (effect : Effect) (b : Bool) → Some (Goes (if b then fails else holds)) ≡ Some effect →
+    Contains (holds ∷ fails ∷ []) (moved graph_thread effect).at ⊎ (effect ≡ Ends)
+goes_test holds fails graph_thread effect true h =
+    let P : Effect → Type 0 = λ z. Contains (holds ∷ fails ∷ []) (moved graph_thread z).at ⊎ (z ≡ Ends) in
+    subst P (sym (effects_same (Goes fails) effect h)) (inl (1, omega arith, refl))
+goes_test holds fails graph_thread effect false h =
+    let P : Effect → Type 0 = λ z. Contains (holds ∷ fails ∷ []) (moved graph_thread z).at ⊎ (z ≡ Ends) in
+    subst P (sym (effects_same (Goes holds) effect h)) (inl (0, omega arith, refl))
+
+abbrev pub OnlyNext : ℕ → GraphThread → Effect → Type 0
+OnlyNext next graph_thread effect = Contains (next ∷ []) (moved graph_thread effect).at ⊎ (effect ≡ Ends)
+
+-- an effect goes on at one of the node's successors, or it ends
+pub goes_by : (a : Action) (seen : Seen) (graph_thread : GraphThread) (effect : Effect) → effect_of a seen ≡ Some effect →
+    Contains (successors a) (moved graph_thread effect).at ⊎ (effect ≡ Ends)
+goes_by (Eval (e.ToLocal local kind) value next) seen graph_thread effect h = subst (OnlyNext next graph_thread) (sym (effects_same _ effect h)) (inl
+    (0, omega arith, refl))
+goes_by (Eval (e.ToVariable place variable kind) value next) seen graph_thread effect h =
+    subst (OnlyNext next graph_thread) (sym (effects_same _ effect h)) (inl (0, omega arith, refl))
+goes_by (Eval (e.ToElement place variable kind index) value next) seen graph_thread effect h =
+    subst (OnlyNext next graph_thread) (sym (effects_same _ effect h)) (inl (0, omega arith, refl))
+goes_by (Store variable kind next) seen graph_thread effect h = goes_store next graph_thread effect seen.pending h
+goes_by (Test condition holds fails) seen graph_thread effect h = goes_test holds fails graph_thread effect (is_zero (g.number_in seen condition.expr)) h
+goes_by (Lock mutex next) seen graph_thread effect h = subst (OnlyNext next graph_thread) (sym (effects_same _ effect h)) (inl (0, omega arith, refl))
+goes_by (Unlock mutex next) seen graph_thread effect h = subst (OnlyNext next graph_thread) (sym (effects_same _ effect h)) (inl (0, omega arith, refl))
+goes_by End seen graph_thread effect h = inr (effects_same Ends effect h)
+
+pub after_is : (graph : Graph) (s next : FlowState) (t : ℕ) (st : Stepped graph s next t) (after : GraphThread) → slice_get next.graph_threads t ≡ Some after →
+    after ≡ moved st.graph_thread st.effect
+after_is graph s next t st after h =
+    let there : slice_get next.graph_threads t ≡ Some (moved st.graph_thread st.effect) =
+    ap (λ (ws : List GraphThread). slice_get ws t) (graph_threads_after s next t st.graph_thread st.effect st.is)
+    ∙ set_same s.graph_threads t (moved st.graph_thread st.effect) st.graph_thread st.found in cc
+
+pub not_again : (s next : FlowState) (t : ℕ) (graph_thread : GraphThread) (b : Bool) → b ≡ true →
+    (let step : Option FlowState = if b then None else Some (g.with_graph_thread s t (record graph_thread { ended = true })) in step ≡ Some next) → ⊥
+not_again s next t graph_thread true e h = cc
+not_again s next t graph_thread false e h = cc
+
+abbrev pub Done : FlowState → FlowState → ℕ → GraphThread → Effect → Type 0
+Done s next t graph_thread effect = g.done s t graph_thread effect ≡ Some next
+
+pub steps_go_along_edges : (graph : Graph) (s next : FlowState) (t : ℕ) (graph_thread after : GraphThread) → graph_step graph s t ≡ Some next →
+    slice_get s.graph_threads t ≡ Some graph_thread → slice_get next.graph_threads t ≡ Some after → after.ended ≡ graph_thread.ended →
+    IsEdge graph graph_thread.at after.at
+steps_go_along_edges graph s next t graph_thread after h found there live =
+    let st = stepped graph s next t h in
+    let same_graph_thread : st.graph_thread ≡ graph_thread = let f = st.found in cc in
+    let is = after_is graph s next t st after there in
+    elim (goes_by st.node.action (seen_by s st.graph_thread) st.graph_thread st.effect st.does) [
+      | inl c ↦
+          let P : GraphThread → Type 0 = λ z. IsEdge graph z.at after.at in
+          let Q : GraphThread → Type 0 = λ z. Contains (successors st.node.action) z.at in
+          subst P same_graph_thread (record { is = st.node; at = st.at; goes = subst Q (sym is) c })
+      | inr over ↦
+          let ended : after.ended ≡ true = ap (λ (z : GraphThread). z.ended) is ∙ ap (λ (z : Effect). (moved st.graph_thread z).ended) over in
+          let was : st.graph_thread.ended ≡ true = ap (λ (z : GraphThread). z.ended) same_graph_thread ∙ (sym live ∙ ended) in
+          absurd (not_again s next t st.graph_thread st.graph_thread.ended was (subst (Done s next t st.graph_thread) over st.is))
+    ]
+
+-- ---- What every run keeps
+
+-- the store that is pending at a node lies in what the node writes
+pub record OwesThere (x : f.Flat) (at : ℕ) (p : Pending) : Type 0 where
+  pub node : Node
+  pub here : slice_get (threads_nodes x.threads 0) at ≡ Some node
+  pub lies : LiesInWritten node.writes (stored_element p)
+
+pub record Good (x : f.Flat) (s : FlowState) : Type 0 where
+  pub source : m.State
+  pub matches : Matches x s source
+  pub formed : IsStateOf x source
+  pub owes : (t : ℕ) (graph_thread : GraphThread) (p : Pending) → slice_get s.graph_threads t ≡ Some graph_thread → graph_thread.pending ≡ Some p →
+      OwesThere x graph_thread.at p
+
+pub all_at : {X : Type 0} (P : X → Type 0) (xs : List X) (k : ℕ) (y : X) → AllByRecursion P xs → slice_get xs k ≡ Some y → P y
+all_at P [] k y h e = cc
+all_at P (x ∷ xs) zero y h e = let is : x ≡ y = cc in subst P is h.0
+all_at P (x ∷ xs) (suc k) y h e = all_at P xs k y h.1 e
+
+pub bounded : (x : f.Flat) → IsWellFormed x → (variable : ℕ) (it : Variable) → slice_get x.variables variable ≡ Some it → elements_in it.length ≤ MOST_ELEMENTS
+bounded x w variable it h = (all_at (IsVariable (length x.mutexes)) x.variables variable it w.shared.variables h).not_too_long
+
+module _ (x : f.Flat) (w : IsWellFormed x) (s : FlowState) (good : Good x s) (t : ℕ) (graph_thread : GraphThread)
+    (found : slice_get s.graph_threads t ≡ Some graph_thread) where
+  abbrev all : List Standing
+  all = threads_standings x.threads
+
+  abbrev nodes : List Node
+  nodes = threads_nodes x.threads 0
+
+  abbrev Own : m.Thread → Type 0
+  Own thread = Pair (λ (u : f.Thread) (own : m.Thread). IsThreadOf x u.locals own) x.threads t thread
+
+  pub record Here : Type 0 where
+    pub thread : m.Thread
+    pub match : GraphThreadMatches x graph_thread thread
+    pub own : Own thread
+
+  here : Here
+  here =
+      let there = found_in good.source.threads t (omega (arith, good.matches.count, slice_get_within s.graph_threads t graph_thread found)) in
+      record {
+        thread = there.0;
+        match = good.matches.each t graph_thread there.0 found there.1;
+        own = zip_found (λ (u : f.Thread) (own : m.Thread). IsThreadOf x u.locals own) x.threads good.source.threads t there.0 good.formed.threads there.1;
+      }
+
+  abbrev standing : Here → Standing
+  standing h = record { left = h.thread.left; owes = is_some h.thread.pending }
+
+  does_at : (h : Here) (node : Node) → slice_get nodes graph_thread.at ≡ Some node → ActionLeads all node.action (standing h)
+  does_at h node at =
+      let n = node_at x graph_thread.at (standing h) w.threads h.match.stands in
+      let same_node : n.0 ≡ node = let e = n.1 in cc in
+      let P : Node → Type 0 = λ z. ActionLeads all z.action (standing h) in
+      subst P same_node n.2
+
+  free_idle : (h : Here) (rest : List f.Statement) (q : Pending) → standing h ≡ free rest → graph_thread.pending ≡ Some q → ⊥
+  free_idle h rest q is p =
+      let a : is_some h.thread.pending ≡ false = ap (λ (z : Standing). z.owes) is in
+      let b : true ≡ is_some h.thread.pending = ap is_some (sym p ∙ h.match.pending) in cc
+
+  left_formed : (h : Here) (y : f.Statement) (rest : List f.Statement) → standing h ≡ free (y ∷ rest) → IsFlatStatement x h.own.it.locals y
+  left_formed h y rest is =
+      let left : h.thread.left ≡ y ∷ rest = ap (λ (z : Standing). z.left) is in
+      let kept = subst (AllByRecursion (IsStatementLeft x h.own.it.locals)) left h.own.related.left in
+      kept.0.1
+
+  test_formed : (h : Here) (condition : e.Placed) (holds fails : ℕ) → ActionLeads all (Test condition holds fails) (standing h) →
+      IsFlatPlaced x h.own.it.locals condition
+  test_formed h condition holds fails d = elim d [
+    | chooses place body arms otherwise rest is a b ↦ (left_formed h (f.If place (f.arm_and condition body arms) otherwise) rest is).1.0
+    | repeats place body rest is a b ↦ (left_formed h (f.While place condition body) rest is).0
+  ]
+
+  locals_held : (h : Here) → AllZip Holds h.own.it.locals graph_thread.locals
+  locals_held h = let P : List ℤ → Type 0 = λ ls. AllZip Holds h.own.it.locals ls in subst P (sym h.match.locals) h.own.related.locals
+
+  variables_held : AllZip AreNumbersOf x.variables s.variables
+  variables_held = let P : List (List ℤ) → Type 0 = λ ns. AllZip AreNumbersOf x.variables ns in subst P (sym good.matches.variables) good.formed.variables
+
+  -- ---- Locations
+
+  reads_lie_by : (h : Here) (node : Node) (a : Action) (one : Element) → ActionLeads all a (standing h) → ShapedAs nodes node a →
+      Contains (reads_of a (seen_by s graph_thread)) one → LiesInOne node.reads one
+  reads_lie_by h node (Eval target value next) one d shape c =
+      let formed = left_formed h (f.Assign d.place target value) d.rest d.is in
+      let ks = h.own.it.locals in
+      let P : List Location → Type 0 = λ ls. LiesInOne ls one in
+      subst P (sym shape.reads) (one_of_both (target_elements target (seen_by s graph_thread)) (expr_elements value.expr (seen_by s graph_thread))
+      (target_reads target)
+      (expr_reads value.expr) one
+      (lies_target x.variables ks graph_thread.locals s.variables (locals_held h) variables_held (bounded x w) target graph_thread.pending one
+      formed.0.0 formed.0.1)
+      (lies_expr x.variables ks graph_thread.locals s.variables (locals_held h) variables_held (bounded x w) value.expr graph_thread.pending one
+      formed.1.0 formed.1.1) c)
+  reads_lie_by h node (Store variable kind next) one d shape c = absurd (contains_none one c)
+  reads_lie_by h node (Test condition holds fails) one d shape c =
+      let formed = test_formed h condition holds fails d in
+      let P : List Location → Type 0 = λ ls. LiesInOne ls one in
+      subst P (sym shape.reads)
+      (lies_expr x.variables h.own.it.locals graph_thread.locals s.variables (locals_held h) variables_held
+      (bounded x w) condition.expr graph_thread.pending one formed.0 formed.1 c)
+  reads_lie_by h node (Lock mutex next) one d shape c = absurd (contains_none one c)
+  reads_lie_by h node (Unlock mutex next) one d shape c = absurd (contains_none one c)
+  reads_lie_by h node End one d shape c = absurd (contains_none one c)
+
+  pub reads_lie_here : (node : Node) (one : Element) → slice_get nodes graph_thread.at ≡ Some node →
+      Contains (reads_of node.action (seen_by s graph_thread)) one →
+      LiesInOne node.reads one
+  reads_lie_here node one at c = reads_lie_by here node node.action one (does_at here node at) (node_shaped x graph_thread.at node at) c
+
+  stored_lies : (node : Node) (o : Option Pending) (one : Element) → slice_get nodes graph_thread.at ≡ Some node → graph_thread.pending ≡ o →
+      option_map stored_element o ≡ Some one → LiesInWritten node.writes one
+  stored_lies node None one at is h = cc
+  stored_lies node (Some p) one at is h =
+      let owes = good.owes t graph_thread p found is in
+      let same_node : owes.node ≡ node = let e = owes.here in cc in
+      let same_one : stored_element p ≡ one = cc in
+      let P : Node → Type 0 = λ z. LiesInWritten z.writes one in
+      let Q : Element → Type 0 = λ z. LiesInWritten owes.node.writes z in
+      subst P same_node (subst Q same_one owes.lies)
+
+  writes_lie_by : (node : Node) (a : Action) (one : Element) → slice_get nodes graph_thread.at ≡ Some node → write_of a (seen_by s graph_thread) ≡ Some one →
+      LiesInWritten node.writes one
+  writes_lie_by node (Eval target value next) one at h = cc
+  writes_lie_by node (Store variable kind next) one at h = stored_lies node graph_thread.pending one at refl h
+  writes_lie_by node (Test condition holds fails) one at h = cc
+  writes_lie_by node (Lock mutex next) one at h = cc
+  writes_lie_by node (Unlock mutex next) one at h = cc
+  writes_lie_by node End one at h = cc
+
+  pub writes_lie_here : (node : Node) (one : Element) → slice_get nodes graph_thread.at ≡ Some node → write_of node.action (seen_by s graph_thread) ≡ Some one →
+      LiesInWritten node.writes one
+  writes_lie_here node one at h = writes_lie_by node node.action one at h
+
+  -- ---- The store that is pending after a step
+
+  abbrev Owing : Effect → Type 0
+  Owing effect = (q : Pending) → (moved graph_thread effect).pending ≡ Some q → OwesThere x (moved graph_thread effect).at q
+
+  owes_stored : (next : ℕ) (effect : Effect) (o : Option Pending) →
+      (let step : Option Effect = elim o [ Some store ↦ Some (Makes store next) | None ↦ None ] in step ≡ Some effect) → Owing effect
+  owes_stored next effect None h = cc
+  owes_stored next effect (Some store) h = subst Owing (sym (effects_same (Makes store next) effect h)) (λ q i. cc)
+
+  owes_by : (h : Here) (node : Node) (a : Action) (effect : Effect) → ActionLeads all a (standing h) → ShapedAs nodes node a →
+      effect_of a (seen_by s graph_thread) ≡ Some effect →
+      Owing effect
+  owes_by h node (Eval (e.ToLocal local kind) value next) effect d shape is = subst Owing (sym (effects_same _ effect is)) (λ q i. absurd
+      (free_idle h _ q d.is i))
+  owes_by h node (Eval (e.ToVariable place variable kind) value next) effect d shape is = subst Owing (sym (effects_same _ effect is))
+      (λ q i.
+      let P : Pending → Type 0 = λ z. OwesThere x next z in
+      subst P (pending_same _ q i) (record {
+        node = shape.owed.node;
+        here = shape.owed.at;
+        lies = record { location = scalar variable; of = shape.owed.writes; lies = lies_scalar variable };
+      }))
+  owes_by h node (Eval (e.ToElement place variable kind index) value next) effect d shape is = subst Owing (sym (effects_same _ effect is))
+      (λ q i.
+      let formed = left_formed h (f.Assign d.place (e.ToElement place variable kind index) value) d.rest d.is in
+      let P : Pending → Type 0 = λ z. OwesThere x next z in
+      subst P (pending_same _ q i) (record {
+        node = shape.owed.node;
+        here = shape.owed.at;
+        lies = record {
+          location = elements variable (range_of index.expr);
+          of = shape.owed.writes;
+          lies = lies_element x.variables h.own.it.locals graph_thread.locals s.variables (locals_held h) variables_held
+              (bounded x w) variable kind index.place index.expr
+              formed.0.0.0 formed.0.0.1 formed.0.1.0;
+        };
+      }))
+  owes_by h node (Store variable kind next) effect d shape is = owes_stored next effect graph_thread.pending is
+  owes_by h node (Test condition holds fails) effect d shape is = subst Owing (sym (effects_same _ effect is))
+      (λ q i. elim d [
+        | chooses place body arms otherwise rest free a b ↦ absurd (free_idle h _ q free i)
+        | repeats place body rest free a b ↦ absurd (free_idle h _ q free i)
+      ])
+  owes_by h node (Lock mutex next) effect d shape is = subst Owing (sym (effects_same _ effect is)) (λ q i. absurd (free_idle h _ q d.is i))
+  owes_by h node (Unlock mutex next) effect d shape is = subst Owing (sym (effects_same _ effect is)) (λ q i. absurd (free_idle h _ q d.is i))
+  owes_by h node End effect d shape is = subst Owing (sym (effects_same _ effect is)) (λ q i. absurd (free_idle h _ q d i))
+
+  pub owes_here : (node : Node) (effect : Effect) → slice_get nodes graph_thread.at ≡ Some node → effect_of node.action (seen_by s graph_thread) ≡ Some effect →
+      Owing effect
+  owes_here node effect at is = owes_by here node node.action effect (does_at here node at) (node_shaped x graph_thread.at node at) is
+
+-- ---- Runs
+
+pub nodes_at : (x : f.Flat) (k : ℕ) (node : Node) → NodeAt (lowered x) k node → slice_get (threads_nodes x.threads 0) k ≡ Some node
+nodes_at x k node h = ap (λ (ns : List Node). slice_get ns k) (sym (lowered_nodes x)) ∙ h
+
+pub at_nodes : (x : f.Flat) (k : ℕ) (node : Node) → slice_get (threads_nodes x.threads 0) k ≡ Some node → NodeAt (lowered x) k node
+at_nodes x k node h = ap (λ (ns : List Node). slice_get ns k) (lowered_nodes x) ∙ h
+
+pub matched : (x : f.Flat) (next : FlowState) (o : Option m.State) → StepsMatch x (Some next) o → (after : m.State) × (o ≡ Some after) × Matches x next after
+matched x next None h = absurd h
+matched x next (Some after) h = (after, refl, h)
+
+pub good_step : (x : f.Flat) (s next : FlowState) (t : ℕ) → IsWellFormed x → Good x s → graph_step (lowered x) s t ≡ Some next → Good x next
+good_step x s next t w good h =
+    let st = stepped (lowered x) s next t h in
+    let P : Option FlowState → Type 0 = λ o. StepsMatch x o (m.source_step good.source t) in
+    let after = matched x next (m.source_step good.source t) (subst P h (steps_lockstep x s good.source t w good.matches)) in
+    let set = graph_threads_after s next t st.graph_thread st.effect st.is in
+    record {
+      source = after.0;
+      matches = after.2;
+      formed = stays_so x good.source after.0 t good.formed after.1;
+      owes = λ k graph_thread p there is. ⊎_elim
+          (λ same_thread.
+          let there' : slice_get next.graph_threads t ≡ Some graph_thread = ap (slice_get next.graph_threads) (sym same_thread) ∙ there in
+          let is_moved = after_is (lowered x) s next t st graph_thread there' in
+          let Q : GraphThread → Type 0 = λ z. OwesThere x z.at p in
+          subst Q (sym is_moved) (owes_here x w s good t st.graph_thread st.found st.node st.effect (nodes_at x st.graph_thread.at st.node st.at) st.does p
+          (ap (λ (z : GraphThread). z.pending) (sym is_moved) ∙ is)))
+          (λ differs.
+          good.owes k graph_thread p (sym (set_other s.graph_threads t k (moved st.graph_thread st.effect) differs)
+          ∙ (ap (λ (ws : List GraphThread). slice_get ws k) (sym set) ∙ there)) is)
+          (cases_eq k t);
+    }
+
+pub start_idle : (ps : List Part) (k : ℕ) (graph_thread : GraphThread) → slice_get (map g.graph_thread_start ps) k ≡ Some graph_thread →
+    graph_thread.pending ≡ None
+start_idle [] k graph_thread h = cc
+start_idle (p ∷ ps) zero graph_thread h = let is : g.graph_thread_start p ≡ graph_thread = cc in ap (λ (z : GraphThread). z.pending) (sym is)
+start_idle (p ∷ ps) (suc k) graph_thread h = start_idle ps k graph_thread h
+
+pub good_start : (x : f.Flat) → IsWellFormed x → Good x (graph_start (lowered x) x)
+good_start x w = record {
+  source = m.start x;
+  matches = begins_lockstep x w;
+  formed = begins_so x w;
+  owes = λ t graph_thread p there is. let none = start_idle (lowered x).threads t graph_thread there in cc;
+}
+
+abbrev pub after_by : Graph → FlowState → List ℕ → Option FlowState → FlowState
+after_by graph s ts o = elim o [
+  | None ↦ s
+  | Some next ↦ graph_after graph next ts
+]
+
+pub good_by : (x : f.Flat) (s : FlowState) (t : ℕ) (ts : List ℕ) (o : Option FlowState) → IsWellFormed x → Good x s → graph_step (lowered x) s t ≡ o →
+    ((next : FlowState) → Good x next → Good x (graph_after (lowered x) next ts)) → Good x (after_by (lowered x) s ts o)
+good_by x s t ts None w good h more = good
+good_by x s t ts (Some next) w good h more = more next (good_step x s next t w good h)
+
+pub good_after : (x : f.Flat) (schedule : List ℕ) → IsWellFormed x → (s : FlowState) → Good x s → Good x (graph_after (lowered x) s schedule)
+good_after x [] w s good = good
+good_after x (t ∷ ts) w s good = good_by x s t ts (graph_step (lowered x) s t) w good refl (good_after x ts w)
+
+pub good_reached : (x : f.Flat) (s : FlowState) → IsWellFormed x → IsReachedFlow x s → Good x s
+good_reached x s w r = subst (Good x) (sym r.is) (good_after x r.schedule w (graph_start (lowered x) x) (good_start x w))
+
+pub reads_lie : (x : f.Flat) (s : FlowState) (thread : ℕ) (graph_thread : GraphThread) (node : Node) (read : Element) → IsWellFormed x →
+    IsAtNode x s thread graph_thread node →
+    Contains (reads_of node.action (seen_by s graph_thread)) read → LiesInOne node.reads read
+reads_lie x s thread graph_thread node read w st c =
+    reads_lie_here x w s (good_reached x s w st.reached) thread graph_thread st.found node read (nodes_at x graph_thread.at node st.at) c
+
+pub writes_lie : (x : f.Flat) (s : FlowState) (thread : ℕ) (graph_thread : GraphThread) (node : Node) (written : Element) → IsWellFormed x →
+    IsAtNode x s thread graph_thread node → write_of node.action (seen_by s graph_thread) ≡ Some written → LiesInWritten node.writes written
+writes_lie x s thread graph_thread node written w st h =
+    writes_lie_here x w s (good_reached x s w st.reached) thread graph_thread st.found node written (nodes_at x graph_thread.at node st.at) h

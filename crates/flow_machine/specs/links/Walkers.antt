@@ -1,8 +1,0 @@
--- What a thread in the code stands for.
-use Rattle.std.specs.Option.{option_map}
-use Rattle.source_machine.specs.Assignments.{pending_of}
-use Rattle.flow_graph.specs.Actions as g
-use Rattle.flow_machine.specs.declared.walker.Walker.{Walker}
-
-abbrev pub walker_of : Walker → g.Walker
-walker_of w = record { at = w.at; locals = w.locals.items; pending = option_map pending_of w.pending; ended = w.ended }

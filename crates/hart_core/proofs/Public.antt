@@ -1,0 +1,2 @@
+-- What crates above may use of this crate's proofs, passed on from one place. Declares nothing.
+pub use Rattle.hart_core.proofs.StepOutcomes.{changed_end, found_set, same_end}

@@ -1,0 +1,207 @@
+-- What the steps of recovery do.
+use Rattle.std.proofs.Common.{◌≡◌, ◌≢◌, ◌⊎◌, inl, inr, ℕ, zero, suc, ◌+◌, ◌<◌, List, [], ◌∷◌, length, map, refl}
+use Rattle.std.proofs.Common.{ap, arith, sym, ◌∙◌, subst, get_or, Bool, true, false, Option, Some, None, add-zero}
+use Rattle.std.specs.Prelude.{slice_get, not, ◌==◌, ◌&&◌}
+use Rattle.std.proofs.lemmas.Bool.{cond_both, eqb-true, and_parts}
+use Rattle.ido_base.specs.declared.event.Event.TheVariants.{Step}
+use Rattle.ido_base.specs.declared.event.Reply.TheVariants.{Still}
+use Rattle.ido_base.specs.Locks.{is_held_by, has_lock, missing_from}
+use Rattle.rv64_isa.specs.declared.object.Slot.{Slot}
+use Rattle.rv64_isa.specs.declared.phase.Phase.{Phase}
+use Rattle.rv64_isa.specs.declared.phase.Phase.TheVariants.{Take, Wait, Resume, Run, Done, Ended}
+use Rattle.rv64_isa.specs.Machine.{Hart, World, moved, taken, waited, taking_from, is_taking, record_of}
+use Rattle.rv64_isa.specs.Machine.{durable_point, resume_of, resumed_register, numbers_from, happens}
+use Rattle.hart_runs.specs.Calls.{IsInPhase, IsRecorded, TakesLocks, AwaitsOthers, ResumesHart}
+use Rattle.hart_runs.proofs.OtherEventsKeepRuns.{moved_harts_begin}
+use Rattle.hart_runs.proofs.Worlds.{none_some, some_same, took, by_phase}
+
+-- ---- The least lock that is missing
+
+held_by_is : (h : ℕ) (holder : Option ℕ) → is_held_by h holder ≡ true → holder ≡ Some h
+held_by_is h None e = absurd (let no : false ≡ true = e in cc)
+held_by_is h (Some g) e = ap (λ (n : ℕ). Some n) (sym (eqb-true h g e))
+
+not_held : (h g : ℕ) → is_held_by h (Some g) ≡ false → g ≢ h
+not_held h g e is = let same : (h == g) ≡ true = grind (arith, is) in let no : true ≡ false = sym same ∙ e in cc
+
+not_true : (b : Bool) → not b ≡ true → b ≡ false
+not_true true e = sym e
+not_true false e = refl
+
+-- none is missing: the hart holds each lock of the mask
+HoldsAll : (at : ℕ) → List (Option ℕ) → (mask h : ℕ) → Type 0
+HoldsAll at holders mask h = (lock : ℕ) (holder : Option ℕ) → slice_get holders lock ≡ Some holder → has_lock mask (at + lock) ≡ true → holder ≡ Some h
+
+-- one is: it is in the mask, and the hart doesn't hold it
+record IsMissing (at : ℕ) (holders : List (Option ℕ)) (mask h lock : ℕ) : Type 0 where
+  place : ℕ
+  lock_is : lock ≡ at + place
+  holder : Option ℕ
+  there : slice_get holders place ≡ Some holder
+  mask_has : has_lock mask lock ≡ true
+  other : is_held_by h holder ≡ false
+
+Missing : (at : ℕ) → List (Option ℕ) → (mask h : ℕ) → Option ℕ → Type 0
+Missing at holders mask h None = HoldsAll at holders mask h
+Missing at holders mask h (Some lock) = IsMissing at holders mask h lock
+
+later_missing : (at : ℕ) (o : Option ℕ) (holders : List (Option ℕ)) (mask h : ℕ) (found : Option ℕ) → (has_lock mask at && not (is_held_by h o)) ≡ false →
+    Missing (at + 1) holders mask h found →
+    Missing at (o ∷ holders) mask h found
+unfolding Missing HoldsAll
+later_missing at o holders mask h None e m = first
+  where
+    held : (b c : Bool) → (b && not c) ≡ false → b ≡ true → c ≡ true
+    held true true e h = refl
+    held true false e h = sym e
+    held false c e h = absurd (let no : false ≡ true = h in cc)
+
+    first : (lock : ℕ) (holder : Option ℕ) → slice_get (o ∷ holders) lock ≡ Some holder → has_lock mask (at + lock) ≡ true → holder ≡ Some h
+    first zero holder there has =
+        sym (some_same o holder there) ∙ held_by_is h o
+        (held (has_lock mask at) (is_held_by h o) e (subst (λ (n : ℕ). has_lock mask n ≡ true) (add-zero at) has))
+    first (suc lock) holder there has =
+        let same : at + suc lock ≡ at + 1 + lock = omega arith in
+        m lock holder there (subst (λ (n : ℕ). has_lock mask n ≡ true) same has)
+later_missing at o holders mask h (Some lock) e m = record {
+  place = suc m.place;
+  lock_is = (let k : lock ≡ at + 1 + m.place = m.lock_is in omega (arith, k));
+  holder = m.holder;
+  there = m.there;
+  mask_has = m.mask_has;
+  other = m.other;
+}
+
+missing : (at : ℕ) (holders : List (Option ℕ)) (mask h : ℕ) → Missing at holders mask h (missing_from at holders mask h)
+unfolding Missing HoldsAll
+missing at [] mask h = λ lock holder there has. absurd (none_some holder there)
+missing at (o ∷ holders) mask h =
+    cond_both (has_lock mask at && not (is_held_by h o)) (Some at) (missing_from (at + 1) holders mask h) (λ (x : Option ℕ). Missing at (o ∷ holders) mask h x)
+    (λ e. let p = and_parts (has_lock mask at) (not (is_held_by h o)) e in
+    record { place = 0; lock_is = sym (add-zero at); holder = o; there = refl; mask_has = p.0; other = not_true (is_held_by h o) p.1 })
+    (λ e. later_missing at o holders mask h (missing_from (at + 1) holders mask h) e (missing (at + 1) holders mask h))
+
+-- ---- Take
+
+module _ (program : List (List Slot)) (w : World) (h : ℕ) (i : IsInPhase w h Take) where
+  abbrev mask : ℕ
+  mask = record_of w.words h
+
+  takes_by : happens program w (Step h) ≡ taken w h i.hart (missing_from 0 w.holders (record_of w.words h) h)
+  takes_by = by_phase program w h i.hart i.here Take i.phase_is
+
+  by_holder : (lock : ℕ) (holder : Option ℕ) → IsRecorded w h lock holder → is_held_by h holder ≡ false →
+      happens program w (Step h) ≡ taken w h i.hart (Some lock) → TakesLocks program w h i.hart
+  by_holder lock None r other e = TakesLocks.takes_one lock r (e ∙ ap (λ (x : Option (Option ℕ)). took w h i.hart lock x) r.there)
+  by_holder lock (Some g) r other e = TakesLocks.is_kept_from lock g r (not_held h g other) (e ∙ ap (λ (x : Option (Option ℕ)). took w h i.hart lock x) r.there)
+
+  by_missing : (found : Option ℕ) → Missing 0 w.holders (record_of w.words h) h found → happens program w (Step h) ≡ taken w h i.hart found →
+      TakesLocks program w h i.hart
+  unfolding Missing HoldsAll
+  by_missing None m e = TakesLocks.has_all (λ lock holder r.
+      m lock holder r.there (subst (λ (n : ℕ). has_lock (record_of w.words h) n ≡ true) (let z : lock ≡ 0 + lock = omega arith in z) r.mask)) e
+  by_missing (Some lock) m e =
+      let same : m.place ≡ lock = (let z : lock ≡ 0 + m.place = m.lock_is in omega (arith, z)) in
+      by_holder lock m.holder (record { mask = m.mask_has; there = subst (λ (n : ℕ). slice_get w.holders n ≡ Some m.holder) same m.there }) m.other e
+
+  pub takes_step : TakesLocks program w h i.hart
+  takes_step = by_missing (missing_from 0 w.holders (record_of w.words h) h) (missing 0 w.holders (record_of w.words h) h) takes_by
+
+-- ---- Wait
+
+taking_is : (p : Phase) → is_taking p ≡ true → p ≡ Take
+taking_is Take e = refl
+taking_is Wait e = absurd (let no : false ≡ true = e in cc)
+taking_is Resume e = absurd (let no : false ≡ true = e in cc)
+taking_is Run e = absurd (let no : false ≡ true = e in cc)
+taking_is Done e = absurd (let no : false ≡ true = e in cc)
+taking_is Ended e = absurd (let no : false ≡ true = e in cc)
+
+record TakesAt (at : ℕ) (harts : List Hart) (g : ℕ) : Type 0 where
+  place : ℕ
+  hart_is : g ≡ at + place
+  hart : Hart
+  there : slice_get harts place ≡ Some hart
+  phase_is : hart.phase ≡ Take
+
+Taking : (at : ℕ) → List Hart → Option ℕ → Type 0
+Taking at harts None = (g : ℕ) (hart : Hart) → slice_get harts g ≡ Some hart → hart.phase ≢ Take
+Taking at harts (Some g) = TakesAt at harts g
+
+later_taking : (at : ℕ) (x : Hart) (harts : List Hart) (found : Option ℕ) → is_taking x.phase ≡ false → Taking (at + 1) harts found →
+    Taking at (x ∷ harts) found
+unfolding Taking
+later_taking at x harts None e t = first
+  where
+    first : (g : ℕ) (hart : Hart) → slice_get (x ∷ harts) g ≡ Some hart → hart.phase ≢ Take
+    first zero hart there takes =
+        let same : x ≡ hart = some_same x hart there in
+        let no : true ≡ false = sym (ap (λ (p : Phase). is_taking p) (ap (λ (y : Hart). y.phase) same ∙ takes)) ∙ e in
+        cc
+    first (suc g) hart there takes = t g hart there takes
+later_taking at x harts (Some g) e t = record {
+  place = suc t.place;
+  hart_is = (let k : g ≡ at + 1 + t.place = t.hart_is in omega (arith, k));
+  hart = t.hart;
+  there = t.there;
+  phase_is = t.phase_is;
+}
+
+taking : (at : ℕ) (harts : List Hart) → Taking at harts (taking_from at harts)
+unfolding Taking
+taking at [] = λ g hart there. absurd (none_some hart there)
+taking at (x ∷ harts) =
+    cond_both (is_taking x.phase) (Some at) (taking_from (at + 1) harts) (λ (o : Option ℕ). Taking at (x ∷ harts) o)
+    (λ e. record { place = 0; hart_is = sym (add-zero at); hart = x; there = refl; phase_is = taking_is x.phase e })
+    (λ e. later_taking at x harts (taking_from (at + 1) harts) e (taking (at + 1) harts))
+
+module _ (program : List (List Slot)) (w : World) (h : ℕ) (i : IsInPhase w h Wait) where
+  by_taking : (found : Option ℕ) → Taking 0 w.harts found → happens program w (Step h) ≡ waited w h i.hart found → AwaitsOthers program w h i.hart
+  unfolding Taking
+  by_taking None t e = AwaitsOthers.all_have (λ g one. t g one.hart one.here one.phase_is) e
+  by_taking (Some g) t e =
+      let same : t.place ≡ g = (let z : g ≡ 0 + t.place = t.hart_is in omega (arith, z)) in
+      AwaitsOthers.one_takes g (record { hart = t.hart; here = subst (λ (n : ℕ). slice_get w.harts n ≡ Some t.hart) same t.there; phase_is = t.phase_is }) e
+
+  pub waits_step : AwaitsOthers program w h i.hart
+  waits_step = by_taking (taking_from 0 w.harts) (taking 0 w.harts) (by_phase program w h i.hart i.here Wait i.phase_is)
+
+-- ---- Resume
+
+mapped : (f : ℕ → ℕ) (at count r : ℕ) → r < count → get_or (map f (numbers_from at count)) r 0 ≡ f (at + r)
+mapped f at zero r l = absurd (let z : ⊥ = omega (arith, l) in z)
+mapped f at (suc count) zero l = ap f (sym (add-zero at))
+mapped f at (suc count) (suc r) l = let e : at + 1 + r ≡ at + suc r = omega arith in mapped f (at + 1) count r (omega (arith, l)) ∙ ap f e
+
+count_mapped : (f : ℕ → ℕ) (at count : ℕ) → length (map f (numbers_from at count)) ≡ count
+count_mapped f at zero = refl
+count_mapped f at (suc count) = let more = count_mapped f (at + 1) count in omega (arith, more)
+
+resumed_hart : World → (h : ℕ) → Hart → Hart
+resumed_hart w h hart = record hart {
+  registers = map (resumed_register w.words h) (numbers_from 0 32);
+  pc = resume_of (durable_point w.words h);
+  phase = Run;
+}
+
+pub resumes_step : (program : List (List Slot)) (w : World) (h : ℕ) (i : IsInPhase w h Resume) → ResumesHart program w h i.hart
+unfolding resumed_hart
+resumes_step program w h i =
+    let does : happens program w (Step h) ≡ moved w h (resumed_hart w h i.hart) = by_phase program w h i.hart i.here Resume i.phase_is in
+    record {
+      after = resumed_hart w h i.hart;
+      does = does;
+      runs = refl;
+      pc = refl;
+      count = count_mapped (resumed_register w.words h) 0 32;
+      registers = λ r l. mapped (resumed_register w.words h) 0 32 r l ∙ ap (λ (n : ℕ). resumed_register w.words h n) (let z : 0 + r ≡ r = omega arith in z);
+      queue = refl;
+      at = moved_harts_begin program w w h i.hart (resumed_hart w h i.hart) i.here does refl;
+    }
+
+-- ---- Stopped
+
+pub stopped_stay : (program : List (List Slot)) (w : World) (h : ℕ) (phase : Phase) → (phase ≡ Done) ⊎ (phase ≡ Ended) → IsInPhase w h phase →
+    happens program w (Step h) ≡ (w, Still)
+stopped_stay program w h phase (inl is) i = by_phase program w h i.hart i.here Done (i.phase_is ∙ is)
+stopped_stay program w h phase (inr is) i = by_phase program w h i.hart i.here Ended (i.phase_is ∙ is)

@@ -1,0 +1,72 @@
+-- No more steps are kept than there are events, whatever events they are.
+use Rattle.std.proofs.Common.{◌≡◌, ◌⊎◌, inl, inr, ℕ, suc, ◌+◌, ◌<◌, ◌≤◌, List, [], ◌∷◌, length, Bool, true, false, refl, ap, ◌∙◌, arith, replicate}
+use Rattle.std.proofs.lemmas.Bool.{cases_lt}
+use Rattle.std.proofs.lemmas.List.{set_past}
+use Rattle.ido_base.specs.declared.event.Event.{Event}
+use Rattle.ido_base.specs.declared.event.Event.TheVariants.{Step, Evict, Crash}
+use Rattle.ido_base.specs.Words.{Word, last_position, word_at}
+use Rattle.rv64_isa.specs.declared.object.Slot.{Slot}
+use Rattle.rv64_isa.specs.Machine.{World, after_event}
+use Rattle.rv64_isa.specs.Schedule.{HartSteps, Steps, first_steps, hart_steps, passes_mark, steps_after}
+use Rattle.rv64_isa.specs.Schedule.{steps_along, stores_point, with_begun, with_bound, with_all_kept}
+use Rattle.run_tracker.specs.links.AccountRepresentation.{point_word, weight}
+use Rattle.run_tracker.proofs.Public.{begun_if, harts-noted, noted, weight-after, weight-noted, weightless, weight-all_kept}
+
+-- ---- A hart that doesn't exist
+
+module _ (s : Steps) (h : ℕ) (past : length s.harts ≤ h) where
+  begun_past : (mark : Bool) → (begun_if mark h s).harts ≡ s.harts
+  begun_past true = set_past s.harts h (record (hart_steps s h) { free = (hart_steps s h).free + 1 }) past
+  begun_past false = refl
+
+  noted_past : (mark point : Bool) (position : ℕ) → (noted mark point h position s).harts ≡ s.harts
+  noted_past mark true position =
+      let t = begun_if mark h s in
+      set_past t.harts h _ (omega (arith, past, ap length (begun_past mark))) ∙ begun_past mark
+  noted_past mark false position = begun_past mark
+
+  same_kept : (mark point : Bool) (position : ℕ) → (noted mark point h position s).kept ≡ s.kept
+  same_kept true true position = refl
+  same_kept true false position = refl
+  same_kept false true position = refl
+  same_kept false false position = refl
+
+  weight_past : (mark point : Bool) (position : ℕ) → weight (noted mark point h position s) ≡ weight s
+  weight_past mark point position =
+      ap (λ (ks : List ℕ). weight (record (noted mark point h position s) { kept = ks })) (same_kept mark point position)
+      ∙ ap (λ (hs : List HartSteps). weight (record s { harts = hs })) (noted_past mark point position)
+
+-- ---- An event
+
+module _ (marks : List (List ℕ)) (program : List (List Slot)) where
+  one_event : (w : World) (event : Event) (s : Steps) → weight (steps_after marks program w event s) ≤ weight s + 1
+  unfolding steps_after
+  one_event w (Step h) s = by (cases_lt h (length s.harts))
+    where
+      words : List Word
+      words = (after_event program w (Step h)).words
+
+      position : ℕ
+      position = last_position (word_at words (point_word h))
+
+      by : (h < length s.harts) ⊎ (length s.harts ≤ h) → weight (steps_after marks program w (Step h) s) ≤ weight s + 1
+      by (inl within) = weight-after marks program w (Step h) s within
+      by (inr past) =
+          let mark = passes_mark marks program w h in
+          let point = stores_point program w (Step h) h in
+          omega (
+            arith,
+            weight-all_kept words (length s.harts) (noted mark point h position s) (omega (arith, harts-noted mark point h position s)),
+            weight_past s h past mark point position,
+          )
+  one_event w (Evict line mask) s = omega (arith, weight-all_kept (after_event program w (Evict line mask)).words (length s.harts) s (omega arith))
+  one_event w Crash s = weight-after marks program w Crash s tt
+
+  all_events : (w : World) (events : List Event) (s : Steps) → weight (steps_along marks program w events s) ≤ weight s + length events
+  all_events w [] s = omega arith
+  all_events w (e ∷ es) s =
+      omega (arith, all_events (after_event program w e) es (steps_after marks program w e s), one_event w e s)
+
+  pub kept_few : (w : World) (events : List Event) (threads : ℕ) (kept : List ℕ) →
+      length (steps_along marks program w events (first_steps threads kept)).kept ≤ length kept + length events
+  kept_few w events threads kept = omega (arith, all_events w events (first_steps threads kept), weightless threads)

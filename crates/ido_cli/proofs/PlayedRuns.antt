@@ -1,0 +1,168 @@
+-- What is played of a compiled source: the machine and the kept steps of its translation, which are those of the source.
+use Rattle.std.proofs.Common.{◌≡◌, refl, ℕ, suc, ◌+◌, ◌≤◌, List, [], ◌∷◌, ◌++◌, length, map, take}
+use Rattle.std.proofs.Common.{sym, ◌∙◌, ap, ap₂, subst, true, Some, None, ◌-◌, ◌^◌, flat_map}
+use Rattle.std.specs.Prelude.{codes}
+use Rattle.std.proofs.lemmas.List.{length-map, take_all}
+use Rattle.ido_base.specs.declared.event.Event.{Event}
+use Rattle.ido_base.specs.Cores.{played}
+use Rattle.ido_base.specs.declared.limits.TheConstants.{MOST_EVENTS}
+use Rattle.c_tree.specs.Flats as f
+use Rattle.c_tree.specs.Source as m
+use Rattle.rv64_isa.specs.declared.object.Object.{Object}
+use Rattle.rv64_isa.specs.declared.object.Marks.{Marks}
+use Rattle.rv64_isa.specs.declared.object.Slot.{Slot}
+use Rattle.rv64_isa.specs.Machine.{World, after_event, after_events, numbers_from, start_of}
+use Rattle.rv64_isa.specs.Frames.{IsWellFormedWorld}
+use Rattle.rv64_isa.specs.Programs.{program_of, slot_of}
+use Rattle.rv64_isa.specs.Schedule.{Steps, first_steps, steps_along}
+use Rattle.rv64_isa.proofs.Public.{queues_stand, starts_simulate}
+use Rattle.flow_graph.specs.declared.cuts.Cuts.{Cuts}
+use Rattle.flow_graph.specs.Nodes.{Graph}
+use Rattle.flow_graph.specs.Lowering.{parts, thread_count}
+use Rattle.flow_graph.proofs.Public.{lowered_threads}
+use Rattle.c_tree.specs.WellFormed.{shape_of}
+use Rattle.memory_layout.specs.Variables.{HaveRoom}
+use Rattle.variable_words.proofs.Public.{well_formed_placed}
+use Rattle.variable_words.specs.Variables.{durable_variables}
+use Rattle.source_machine.specs.Laws.{SizesStay}
+use Rattle.flat_compile.specs.TranslatedForms.{IsTranslated}
+use Rattle.compiler_correctness.specs.Translations.{first_world, world, steps}
+use Rattle.compiler_correctness.specs.Compilations.{IsCompilation}
+use Rattle.run_scripts.specs.Reports as r
+use Rattle.run_scripts.specs.Plays.{excess_at, script_events}
+use Rattle.run_scripts.specs.Scripts.{Line}
+use Rattle.run_tracker.specs.ObjectLives.{Course, LifeConfig, living, new_life, opening_of, steps_in, world_of}
+use Rattle.ido_compile.specs.CompileAnswers.{translation_to}
+use Rattle.ido_cli.specs.Plays.{IsRunBy, ScriptAnswer, beginning, events_by, too_long}
+use Rattle.ido_cli.specs.Refusals.{IsRefusedAt}
+use Rattle.ido_cli.specs.Reports.{machine_state, unsettled_harts}
+use Rattle.ido_cli.specs.Runs.{IsReport, counted, named, run_state, taken, unsettled_threads}
+use Rattle.ido_cli.proofs.GatheredReports.{reported_is}
+use Rattle.ido_cli.proofs.ScriptEventCount.{events_fit, events_pass}
+use Rattle.ido_cli.proofs.SettledReports.{run_of}
+
+-- ---- Harts of a machine
+
+harts_stay : (program : List (List Slot)) (w : World) (es : List Event) → length program ≡ length w.harts → IsWellFormedWorld w →
+    length (after_events program w es).harts ≡ length w.harts
+harts_stay program w [] count sound = refl
+harts_stay program w (e ∷ es) count sound =
+    let next = queues_stand program w e count sound in
+    harts_stay program (after_event program w e) es (count ∙ sym next.1) next.0 ∙ next.1
+
+harts_count : (program : List (List Slot)) (locks : ℕ) (initial : List ℕ) (es : List Event) →
+    length (after_events program (start_of program locks initial) es).harts ≡ length program
+harts_count program locks initial es =
+    let starts = starts_simulate program locks initial in
+    harts_stay program (start_of program locks initial) es (sym starts.1) starts.0 ∙ starts.1
+
+-- ---- What is translated
+
+parts_count : (ts : List f.Thread) (first : ℕ) → length (parts ts first) ≡ length ts
+parts_count [] first = refl
+parts_count (t ∷ ts) first = ap suc (parts_count ts (first + thread_count t))
+
+pub as_many_threads : (flat : f.Flat) (object : Object) (marks : Marks) (cuts : Cuts) → IsTranslated flat object marks cuts →
+    length object.code.items ≡ length flat.threads
+as_many_threads flat object marks cuts t =
+    let y = t.system in
+    sym (length-map object.code.items (λ code. map slot_of code.items)) ∙ sym (ap length t.runs) ∙ t.is.count
+    ∙ ap length (ap (λ (g : Graph). g.threads) t.is.plan.lowered ∙ lowered_threads y.plan.flat) ∙ parts_count y.plan.flat.threads 0
+    ∙ ap (λ (x : f.Flat). length x.threads) t.of_flat
+
+pub has_room : (flat : f.Flat) (object : Object) (marks : Marks) (cuts : Cuts) → IsTranslated flat object marks cuts → HaveRoom (map shape_of flat.variables)
+has_room flat object marks cuts t =
+    subst (λ (x : f.Flat). HaveRoom (map shape_of x.variables)) t.of_flat (well_formed_placed t.system.plan.flat t.is.plan.formed).room
+
+-- ---- A life that a script was played on
+
+-- the life is that of the object, with these events
+pub record HasPlayed (object : Object) (marks : Marks) (life : Course) (events : List Event) : Type 0 where
+  pub begins : opening_of life ≡ opening_of (new_life object marks 0)
+  pub journal : life.journal ≡ events
+
+module _ (flat : f.Flat) (object : Object) (marks : Marks) (cuts : Cuts) (life : Course) (events : List Event) (p : HasPlayed object marks life events) where
+  pub same_world : world_of life ≡ world (translation_to flat object marks cuts) events
+  same_world =
+      ap (λ (x : LifeConfig). after_events x.program x.world life.journal) p.begins
+      ∙ ap (after_events (program_of object) (first_world (translation_to flat object marks cuts))) p.journal
+
+  pub same_steps : steps_in life ≡ steps (translation_to flat object marks cuts) events
+  same_steps =
+      ap (λ (x : LifeConfig). steps_along x.marks x.program x.world life.journal (first_steps (length x.program) x.kept_before)) p.begins
+      ∙ ap (λ (es : List Event). steps (translation_to flat object marks cuts) es) p.journal
+
+  pub harts_of_life : length (world_of life).harts ≡ length life.program
+  harts_of_life =
+      ap (λ (w : World). length w.harts) same_world ∙ harts_count (program_of object) object.mutexes object.initial.items events
+      ∙ sym (ap (λ (x : LifeConfig). length x.program) p.begins)
+
+  module _ (compilation : IsCompilation (translation_to flat object marks cuts)) where
+    pub run_by : (status : ℕ) (output : List ℕ) → IsReport (machine_state flat (world_of life) (steps_in life).kept) status output →
+        IsRunBy (translation_to flat object marks cuts) events status output
+    run_by status output told =
+        let c = translation_to flat object marks cuts in
+        run_of c compilation events status output
+        (subst (λ (s : Steps). IsReport (machine_state flat (world c events) s.kept) status output) same_steps
+        (subst (λ (w : World). IsReport (machine_state flat w (steps_in life).kept) status output) same_world told))
+
+-- ---- The play of a script
+
+-- what is played is the script's events, up to so many
+module _ (flat : f.Flat) (object : Object) (marks : Marks) (cuts : Cuts) (lines : List Line) where
+  module _ (room cap : ℕ) (old : Course) (is : old ≡ new_life object marks cap) where
+    -- no line is too much, and all of it is played
+    pub has_played : (life : Course) → opening_of life ≡ opening_of old →
+        life.journal ≡ old.journal ++ take room (script_events living (played living (opening_of old) old.journal) lines) →
+        excess_at living (played living (opening_of old) old.journal) room lines ≡ None →
+        HasPlayed object marks life (events_by (translation_to flat object marks cuts) lines)
+    has_played life opening journal none =
+        let begin = opening_of (new_life object marks cap) in
+        let here = subst (λ (x : Course). excess_at living (played living (opening_of x) x.journal) room lines ≡ None) is none in
+        let made = subst (λ (x : Course). life.journal
+        ≡ x.journal ++ take room (script_events living (played living (opening_of x) x.journal) lines)) is journal in
+        record {
+          begins = opening ∙ ap opening_of is;
+          journal = made ∙ take_all room (script_events living begin lines) (events_fit living begin room lines here);
+        }
+
+    pub fits : excess_at living (played living (opening_of old) old.journal) room lines ≡ None →
+        length (events_by (translation_to flat object marks cuts) lines) ≤ room
+    fits none =
+        let here = subst (λ (x : Course). excess_at living (played living (opening_of x) x.journal) room lines ≡ None) is none in
+        events_fit living (beginning (translation_to flat object marks cuts)) room lines here
+
+    pub passed_at : (place : ℕ) → excess_at living (played living (opening_of old) old.journal) room lines ≡ Some place →
+        excess_at living (beginning (translation_to flat object marks cuts)) room lines ≡ Some place
+    passed_at place some =
+        subst (λ (x : Course). excess_at living (played living (opening_of x) x.journal) room lines ≡ Some place) is some
+
+  pub refused : (Says : List Event → ℕ → List ℕ → Type 0) (input : List ℕ) (begins place status : ℕ) (output : List ℕ) →
+      excess_at living (beginning (translation_to flat object marks cuts)) MOST_EVENTS lines ≡ Some place →
+      IsRefusedAt 6 (codes "E1") input (begins + place) status output →
+      ScriptAnswer (translation_to flat object marks cuts) Says (record { lines = lines; input = input; begins = begins }) status output
+  refused Says input begins place status output some told =
+      too_long (events_pass living (beginning (translation_to flat object marks cuts)) MOST_EVENTS place lines some) place some told
+
+-- ---- What is reported
+
+pub ended_is : SizesStay → (x : f.Flat) (schedule : List ℕ) → length schedule ≤ 2 ^ 64 - 1 →
+    counted (λ t. 0 + m.ended_from (m.start x) schedule t) (length (m.after_from (m.start x) schedule).threads)
+    ≡ map (m.ended_from (m.start x) schedule) (numbers_from 0 (length x.threads))
+unfolding run_state
+ended_is stay x schedule short =
+    let after = m.after_from (m.start x) schedule in
+    ap (λ (s : r.ReportedState). s.ended)
+    (reported_is stay x schedule (unsettled_threads after) (counted (λ t. 0 + m.ended_from (m.start x) schedule t) (length after.threads))
+    (taken x.variables (flat_map (λ ns. ns) after.variables)) refl refl refl short)
+
+pub machine_reported : (x : f.Flat) (w : World) (kept unsettled ended schedule : List ℕ) (variables : List r.Variable) → unsettled ≡ unsettled_harts w →
+    variables ≡ named x.variables (durable_variables w.words x.variables) → ended ≡ map (m.ended_from (m.start x) kept) (numbers_from 0 (length x.threads)) →
+    schedule ≡ kept →
+    (let s : r.ReportedState = record { unsettled = unsettled; variables = variables; ended = ended; schedule = schedule } in s) ≡ machine_state x w kept
+unfolding machine_state
+machine_reported x w kept unsettled ended schedule variables u v e k =
+    ap₂ (λ (us : List ℕ) (vs : List r.Variable). let s : r.ReportedState = record { unsettled = us; variables = vs; ended = ended; schedule = schedule } in
+    s) u v
+    ∙ ap₂ (λ (es ks : List ℕ). let s : r.ReportedState =
+    record { unsettled = unsettled_harts w; variables = named x.variables (durable_variables w.words x.variables); ended = es; schedule = ks } in s) e k

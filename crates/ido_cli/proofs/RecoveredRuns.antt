@@ -1,0 +1,136 @@
+-- A run that goes on from an image's file.
+use Rattle.std.proofs.Common.{◌≡◌, ℕ, ◌+◌, ◌-◌, ◌*◌, ◌/◌, ◌≤◌, List, [], ◌∷◌, ◌++◌, length, map, take, drop}
+use Rattle.std.proofs.Common.{replicate, ap, ap₂, sym, subst, ◌∙◌, arith, length-append, length-drop, length-take, Ok}
+use Rattle.std.proofs.lemmas.List.{length-map, length-replicate}
+use Rattle.ido_base.specs.declared.event.Event.{Event}
+use Rattle.ido_base.specs.declared.event.Event.TheVariants.{Crash}
+use Rattle.ido_base.specs.Layout.{spread_words, word_count}
+use Rattle.c_tree.specs.Flats as f
+use Rattle.rv64_isa.specs.declared.object.Object.{Object}
+use Rattle.rv64_isa.specs.declared.object.Marks.{Marks}
+use Rattle.rv64_isa.specs.Frames.{IsWellFormedWorld}
+use Rattle.rv64_isa.specs.Machine.{World, after_events, machine_from}
+use Rattle.rv64_isa.specs.Programs.{program_of, slot_of}
+use Rattle.rv64_isa.specs.Schedule.{Steps, first_steps, steps_along}
+use Rattle.rv64_isa.proofs.Public.{crashes_simulate}
+use Rattle.flow_graph.specs.declared.cuts.Cuts.{Cuts}
+use Rattle.flat_compile.specs.TranslatedForms.{IsTranslated}
+use Rattle.compiler_correctness.specs.Compilations.{IsCompilation}
+use Rattle.compiler_correctness.specs.Images.{Image, file_of, first_from, image_in, image_of, steps_from, world_from}
+use Rattle.compiler_correctness.specs.Laws.{ImagesAreCrashes}
+use Rattle.compiler_correctness.specs.Translations.{Translation, steps, world}
+use Rattle.image_checks.specs.declared.image.Image as i
+use Rattle.image_checks.specs.Images.{IsImageAnswer, whole}
+use Rattle.ido_compile.specs.CompileAnswers.{IsCompiled, translation_to}
+use Rattle.ido_compile.specs.Files.{FilesBegin}
+use Rattle.run_tracker.specs.ObjectLives.{Course, LifeConfig, life_from, living, opening_of, steps_in, world_of}
+use Rattle.ido_cli.specs.Legs.{IsLeg, most_leg_events}
+use Rattle.ido_cli.specs.Plays.{IsRunBy}
+use Rattle.ido_cli.specs.Recoveries.{IsRecovery, recovering}
+use Rattle.ido_cli.specs.Reports.{machine_state}
+use Rattle.ido_cli.specs.Runs.{IsReport}
+use Rattle.ido_cli.proofs.SettledReports.{run_of}
+use Rattle.ido_cli.proofs.Turns.{sound_along}
+
+-- ---- A run from a file of the same translation
+
+after_crash : ImagesAreCrashes → (c : Translation) → IsCompilation c → (file : Image) (journal : List Event) (status : ℕ) (output : List ℕ) →
+    IsReport (machine_state c.flat (world_from c (image_in c file) journal) (steps_from c (image_in c file) journal).kept) status output →
+    (before : List Event) → file ≡ file_of c (image_of c before) → IsRunBy c (before ++ Crash ∷ journal) status output
+after_crash crashes c is file journal status output told before left =
+    let here : image_in c file ≡ image_of c before = ap (image_in c) left ∙ (is.in_file before).is_all in
+    let crashed = crashes c before journal in
+    let of_image = subst (λ (i : Image). IsReport (machine_state c.flat (world_from c i journal) (steps_from c i journal).kept) status output) here told in
+    let of_world = subst (λ (w : World). IsReport (machine_state c.flat w (steps_from c (image_of c before) journal).kept) status output)
+    crashed.world_is of_image in
+    run_of c is (before ++ Crash ∷ journal) status output
+    (subst (λ (ks : List ℕ). IsReport (machine_state c.flat (world c (before ++ Crash ∷ journal)) ks) status output) crashed.kept_is of_world)
+
+-- ---- A life that begins with a file's words
+
+spread_size : (n threads : ℕ) (words : List ℕ) → n ≤ 8192 → length words ≡ n + 128 * threads → length (spread_words n words) ≡ word_count threads
+unfolding spread_words
+spread_size n threads words few size =
+    let front = take n words in
+    let zeros : List ℕ = replicate (8192 - n) 0 in
+    let rest = drop n words in
+    omega (
+      arith,
+      length-append front (zeros ++ rest),
+      length-append zeros rest,
+      length-append (front ++ zeros) rest,
+      length-append front zeros,
+      length-replicate {A = ℕ} (8192 - n) 0,
+      length-take n words,
+      length-drop n words,
+      few,
+      size,
+    )
+
+module _ (flat : f.Flat) (object : Object) (marks : Marks) (cuts : Cuts) (t : IsTranslated flat object marks cuts) (file : Image) (cap : ℕ) (begun : Course)
+    (is : begun ≡ life_from object marks file.words file.kept cap) where
+  abbrev made : Translation
+  made = translation_to flat object marks cuts
+
+  pub none_made : begun.journal ≡ []
+  none_made = ap (λ (x : Course). x.journal) is
+
+  pub room_left : cap ≤ begun.cap
+  room_left = omega (arith, ap (λ (x : Course). x.cap) is)
+
+  module _ (size : length file.words ≡ length object.initial.items / 8 + 128 * length object.code.items) where
+    first : World
+    first = machine_from object file.words []
+
+    stands : IsWellFormedWorld (machine_from object file.words []) × (length (machine_from object file.words []).harts ≡ length (program_of object))
+    stands =
+        let threads = length-map object.code.items (λ code. map slot_of code.items) in
+        crashes_simulate (program_of object) object.mutexes (spread_words (length object.initial.items / 8) file.words)
+        (spread_size (length object.initial.items / 8) (length (program_of object)) file.words (omega (arith, t.limits.bytes)) (omega (arith, size, threads)))
+
+    pub harts_stand : length (world_of begun).harts ≡ length begun.program
+    harts_stand = ap (λ (x : Course). length (world_of x).harts) is ∙ stands.1 ∙ sym (ap (λ (x : Course). length x.program) is)
+
+    pub is_sound : IsWellFormedWorld (world_of begun)
+    is_sound = subst (λ (x : Course). IsWellFormedWorld (world_of x)) (sym is) stands.0
+
+  -- ---- After its leg
+
+  module _ (life : Course) (same : opening_of life ≡ opening_of begun) where
+    pub harts_after : length file.words ≡ length object.initial.items / 8 + 128 * length object.code.items → length (world_of life).harts ≡ length life.program
+    harts_after size =
+        let first = stands size in
+        ap (λ (m : LifeConfig). length (after_events m.program m.world life.journal).harts) (same ∙ ap opening_of is)
+        ∙ (sound_along (program_of object) (machine_from object file.words []) life.journal (sym first.1) first.0).1 ∙ first.1
+        ∙ sym (ap (λ (m : LifeConfig). length m.program) (same ∙ ap opening_of is))
+
+    module _ (files : FilesBegin) where
+      opens : opening_of life ≡ recovering made file
+      opens =
+          same ∙ ap opening_of is
+          ∙ ap (λ (w : World). let m : LifeConfig = record (recovering made file) { world = w } in m) (files flat object marks cuts file [])
+
+      same_world : world_of life ≡ world_from made (image_in made file) life.journal
+      same_world = ap (λ (m : LifeConfig). after_events m.program m.world life.journal) opens
+
+      same_steps : steps_in life ≡ steps_from made (image_in made file) life.journal
+      same_steps = ap (λ (m : LifeConfig). steps_along m.marks m.program m.world life.journal (first_steps (length m.program) m.kept_before)) opens
+
+      pub recovery : ImagesAreCrashes → IsCompilation made → (turns status : ℕ) (output : List ℕ) →
+          IsLeg living (opening_of begun) (length begun.program) turns most_leg_events life.journal →
+          IsReport (machine_state flat (world_of life) (steps_in life).kept) status output → IsRecovery made file turns status output
+      recovery crashes compilation turns status output leg told =
+          let of_world = subst (λ (w : World). IsReport (machine_state flat w (steps_in life).kept) status output) same_world told in
+          let reported = subst (λ (s : Steps). IsReport (machine_state flat (world_from made (image_in made file) life.journal) s.kept) status output)
+          same_steps of_world in
+          record {
+            journal = life.journal;
+            leg = subst (λ (m : LifeConfig). IsLeg living m (length m.program) turns most_leg_events life.journal) (sym same ∙ opens) leg;
+            reported = reported;
+            goes_on = after_crash crashes made compilation file life.journal status output reported;
+          }
+
+-- ---- What is read
+
+pub compiled_in : (bytes : List ℕ) (image : i.Image) → IsImageAnswer bytes (Ok image) → (source : List ℕ) × IsCompiled source image.compiled
+compiled_in bytes image (whole read is) = (is.is.source.source, is.is.source.compiled)

@@ -1,0 +1,74 @@
+-- What a crash would leave of a life that a script was played on.
+use Rattle.std.proofs.Common.{◌≡◌, ℕ, ◌+◌, ◌*◌, ◌/◌, ◌≤◌, List, [], length, map, take, drop, ap, sym, subst, ◌∙◌, arith}
+use Rattle.std.proofs.lemmas.List.{length-map}
+use Rattle.ido_base.specs.declared.event.Event.{Event}
+use Rattle.c_tree.specs.Flats as f
+use Rattle.rv64_isa.specs.declared.object.Object.{Object}
+use Rattle.rv64_isa.specs.declared.object.Marks.{Marks}
+use Rattle.rv64_isa.specs.Machine.{World}
+use Rattle.rv64_isa.specs.Programs.{program_of, slot_of}
+use Rattle.rv64_isa.specs.Schedule.{Steps}
+use Rattle.flow_graph.specs.declared.cuts.Cuts.{Cuts}
+use Rattle.flat_compile.specs.TranslatedForms.{IsTranslated}
+use Rattle.compiler_correctness.specs.Compilations.{IsCompilation}
+use Rattle.compiler_correctness.specs.Images.{file_of, image_of, variable_words}
+use Rattle.compiler_correctness.specs.Translations.{Translation, first_world, steps, world}
+use Rattle.crash_images.specs.Contents.{contents}
+use Rattle.crash_images.specs.ImageEncoder.{spelling}
+use Rattle.run_tracker.specs.ObjectLives.{Course, LifeConfig, left_words, steps_in, world_of}
+use Rattle.ido_compile.specs.CompileAnswers.{translation_to}
+use Rattle.ido_cli.specs.Images.{IsImageAfter, file_text}
+use Rattle.ido_cli.proofs.KeptStepsBounded.{kept_few}
+use Rattle.ido_cli.proofs.PlayedRuns.{HasPlayed, same_steps, same_world}
+
+module _ (flat : f.Flat) (object : Object) (marks : Marks) (cuts : Cuts) (life : Course) (events : List Event) (p : HasPlayed object marks life events) where
+  abbrev made : Translation
+  made = translation_to flat object marks cuts
+
+  abbrev left : List ℕ
+  left = left_words life.variable_words (world_of life).words
+
+  pub same_variables : life.variable_words ≡ length object.initial.items / 8
+  same_variables = ap (λ (m : LifeConfig). m.variable_words) p.begins
+
+  same_left : left ≡ (file_of made (image_of made events)).words
+  unfolding left_words
+  same_left =
+      ap (λ (n : ℕ). left_words n (world_of life).words) same_variables
+      ∙ ap (λ (w : World). left_words (variable_words made) w.words) (same_world flat object marks cuts life events p)
+
+  same_kept : (steps_in life).kept ≡ (file_of made (image_of made events)).kept
+  same_kept = ap (λ (s : Steps). s.kept) (same_steps flat object marks cuts life events p)
+
+  pub steps_few : length (steps_in life).kept ≤ length events
+  steps_few =
+      let c = made in
+      let few = kept_few c.marks c.program (first_world c) events (length c.program) [] in
+      omega (arith, ap length same_kept, few)
+
+  module _ (t : IsTranslated flat object marks cuts) (compilation : IsCompilation made) where
+    pub variables_few : life.variable_words ≤ 8192
+    variables_few = omega (arith, same_variables, t.limits.bytes)
+
+    size : length left ≡ life.variable_words + 128 * length object.code.items
+    size =
+        let harts = length-map object.code.items (λ code. map slot_of code.items) in
+        omega (arith, ap length same_left, (compilation.in_file events).size, same_variables, harts)
+
+    pub variables_within : life.variable_words ≤ length left
+    variables_within = omega (arith, size)
+
+    pub logs_few : length left ≤ life.variable_words + 1024
+    logs_few = omega (arith, size, t.limits.threads)
+
+  pub image_after : (source : List ℕ) (status : ℕ) (output : List ℕ) → status ≡ 0 →
+      output ≡ spelling (contents source (take life.variable_words left) (drop life.variable_words left) (steps_in life).kept) →
+      IsImageAfter source made events status output
+  image_after source status output done told = record {
+    status_is = done;
+    output_is = told
+        ∙ ap (λ (n : ℕ). spelling (contents source (take n left) (drop n left) (steps_in life).kept)) same_variables
+        ∙ ap (λ (ws : List ℕ). spelling (contents source (take (variable_words made) ws) (drop (variable_words made) ws) (steps_in life).kept)) same_left
+        ∙ ap (λ (ks : List ℕ). let ws = (file_of made (image_of made events)).words in
+        spelling (contents source (take (variable_words made) ws) (drop (variable_words made) ws) ks)) same_kept;
+  }

@@ -1,0 +1,135 @@
+-- What a run of the top call comes to.
+use Rattle.std.proofs.Common.{◌≡◌, ℕ, ◌+◌, ◌<◌, ◌⊎◌, List, [], ◌∷◌, length, replicate, Some, None, refl, sym, subst, arith, IfSome, inl, inr}
+use Rattle.std.specs.declared.option.Option.{Option}
+use Rattle.std.proofs.lemmas.List.{length-replicate}
+use Rattle.std.specs.Prelude.{codes}
+use Rattle.ido_cli.specs.declared.said.Said.{Said}
+use Rattle.ido_base.specs.declared.event.Event.{Event}
+use Rattle.ido_base.specs.declared.limits.TheConstants.{MOST_INPUT_BYTES}
+use Rattle.c_tree.specs.Flats as f
+use Rattle.compiler_correctness.specs.Translations.{Translation}
+use Rattle.ido_cli.specs.declared.command.Command.{Command}
+use Rattle.ido_cli.specs.declared.command.Command.TheVariants as command
+use Rattle.ido_cli.specs.Commands.{command_of}
+use Rattle.ido_cli.specs.Runs.{RunAnswer, ran, stopped, run_state, status_by}
+use Rattle.ido_cli.specs.Images.{IsImageAfter}
+use Rattle.ido_cli.specs.Inputs.{source_of}
+use Rattle.ido_cli.specs.Plays.{IsRunBy, too_long, ran as ran_by}
+use Rattle.ido_cli.specs.Answers.{CompileAnswer, uncompiled, compiled, RegionsAnswer, uncut, cut, ScriptedAnswer}
+use Rattle.ido_cli.specs.Answers.{unplayed, no_script, of_script, SourceAnswer, unaccepted, no_schedule, of_schedule}
+use Rattle.ido_cli.specs.Answers.{CommandAnswer, ListAnswer, no_object, of_object, RecoverAnswer, no_image, of_image}
+use Rattle.ido_cli.specs.Answers.{IsPastLimits, AnswerToInput, past_limits, within_limits, Answer, wrong_words, taken_words}
+use Rattle.ido_cli.specs.Answers.{IsAnswer, IsAnswered, Outside, answered, sink_failed}
+use Rattle.ido_cli.specs.Deliveries.{IsSaidToInput, IsDelivered, whole, broken}
+
+-- ---- Inputs that the source may not tell
+
+some_longer : (n : ℕ) → (input : List ℕ) × (n < length input)
+some_longer n = (replicate (n + 1) 0, omega (arith, length-replicate {A = ℕ} (n + 1) 0))
+
+long_is_past : (c : Command) (input : List ℕ) → MOST_INPUT_BYTES < length input → IsPastLimits c input
+long_is_past command.Compile input long = omega (arith, long)
+long_is_past command.Regions input long = omega (arith, long)
+long_is_past command.Play input long = inl long
+long_is_past command.Source input long = inl long
+long_is_past command.List input long = long
+long_is_past command.Image input long = inl long
+long_is_past (command.Recover turns) input long = long
+
+pub said_to_long_input : (c : Command) (left : Option (List ℕ)) (said : Said) → IfSome left (λ bytes. MOST_INPUT_BYTES < length bytes) → said.status ≡ 6 →
+    said.output.items ≡ codes "refused limit\n" → IsSaidToInput c left said
+said_to_long_input c (Some bytes) said long status output =
+    record { input = bytes; told = refl; answer = past_limits (long_is_past c bytes long) (status, output) }
+said_to_long_input c None said long status output =
+    let some : (input : List ℕ) × (MOST_INPUT_BYTES < length input) = some_longer MOST_INPUT_BYTES in
+    record { input = some.0; told = tt; answer = past_limits (long_is_past c some.0 some.1) (status, output) }
+
+told_some : (left : Option (List ℕ)) → (input : List ℕ) × IfSome left (λ bytes. input ≡ bytes)
+told_some (Some bytes) = (bytes, refl)
+told_some None = ([], tt)
+
+pub answer_to_wrong_words : (words : List (List ℕ)) (left : Option (List ℕ)) (status : ℕ) (output : List ℕ) → command_of words ≡ None → status ≡ 2 →
+    output ≡ codes "refused words\n" → IsAnswer words left status output
+answer_to_wrong_words words left status output wrong status_is output_is =
+    let some : (input : List ℕ) × IfSome left (λ bytes. input ≡ bytes) = told_some left in
+    record { input = some.0; told = some.1; answer = wrong_words wrong (status_is, output_is) }
+
+pub answer_to_taken_words : (words : List (List ℕ)) (c : Command) (left : Option (List ℕ)) (said : Said) → command_of words ≡ Some c →
+    IsSaidToInput c left said → IsAnswer words left said.status said.output.items
+answer_to_taken_words words c left said taken s = record { input = s.input; told = s.told; answer = taken_words c taken s.answer }
+
+-- ---- Statuses of answers
+
+not_four_or_seven : (status n : ℕ) → status ≡ n → (n < 4) ⊎ (n ≡ 6) → (status ≡ 4) ⊎ (status ≡ 7) → ⊥
+not_four_or_seven status n e small h = omega arith
+
+by_unsettled : (unsettled : List ℕ) (status : ℕ) → status ≡ status_by unsettled → (status ≡ 4) ⊎ (status ≡ 7) → ⊥
+by_unsettled [] status e h = not_four_or_seven status 0 e (inl (omega arith)) h
+by_unsettled (t ∷ ts) status e h = not_four_or_seven status 3 e (inl (omega arith)) h
+
+of_run : (x : f.Flat) (schedule : List ℕ) (status : ℕ) (output : List ℕ) → RunAnswer x schedule status output → (status ≡ 4) ⊎ (status ≡ 7) → ⊥
+of_run x schedule status output (ran runs reported) h = by_unsettled (run_state x schedule).unsettled status reported.status_is h
+of_run x schedule status output (stopped stop is e out) h = not_four_or_seven status 6 e (inr refl) h
+
+of_source : (input : List ℕ) (status : ℕ) (output : List ℕ) → SourceAnswer input status output → (status ≡ 4) ⊎ (status ≡ 7) → ⊥
+of_source input status output (unaccepted found place is refused) h = not_four_or_seven status 1 refused.0 (inl (omega arith)) h
+of_source input status output (no_schedule flat is x read refused) h = not_four_or_seven status 6 refused.0 (inr refl) h
+of_source input status output (of_schedule flat is schedule read answer) h = of_run flat schedule status output answer h
+
+of_compile : (source : List ℕ) (status : ℕ) (output : List ℕ) → CompileAnswer source status output → (status ≡ 4) ⊎ (status ≡ 7) → ⊥
+of_compile source status output (uncompiled found place is refused) h = not_four_or_seven status 1 refused.0 (inl (omega arith)) h
+of_compile source status output (compiled flat is object marks cuts made e told) h = not_four_or_seven status 0 e (inl (omega arith)) h
+
+of_regions : (source : List ℕ) (status : ℕ) (output : List ℕ) → RegionsAnswer source status output → (status ≡ 4) ⊎ (status ≡ 7) → ⊥
+of_regions source status output (uncut found place is refused) h = not_four_or_seven status 1 refused.0 (inl (omega arith)) h
+of_regions source status output (cut flat is object marks cuts made e told) h = not_four_or_seven status 0 e (inl (omega arith)) h
+
+of_scripted : (Says : Translation → List Event → ℕ → List ℕ → Type 0) →
+    ((c : Translation) (events : List Event) (status : ℕ) (output : List ℕ) → Says c events status output → (status ≡ 4) ⊎ (status ≡ 7) → ⊥) →
+    (input : List ℕ) (status : ℕ) (output : List ℕ) → ScriptedAnswer Says input status output → (status ≡ 4) ⊎ (status ≡ 7) → ⊥
+of_scripted Says others input status output (unplayed found place is refused) h = not_four_or_seven status 1 refused.0 (inl (omega arith)) h
+of_scripted Says others input status output (no_script flat is x read refused) h = not_four_or_seven status 6 refused.0 (inr refl) h
+of_scripted Says others input status output (of_script flat is lines read c made (too_long many place excess refused)) h =
+    not_four_or_seven status 6 refused.0 (inr refl) h
+of_scripted Says others input status output (of_script flat is lines read c made (ran_by fits said)) h = others c _ status output said h
+
+of_recover : (turns : ℕ) (input : List ℕ) (status : ℕ) (output : List ℕ) → RecoverAnswer turns input status output → (status ≡ 4) ⊎ (status ≡ 7) → ⊥
+of_recover turns input status output (no_image error is e told) h = not_four_or_seven status 6 e (inr refl) h
+of_recover turns input status output (of_image image is recovery) h = by_unsettled _ status recovery.reported.status_is h
+
+of_list : (input : List ℕ) (status : ℕ) (output : List ℕ) → ListAnswer input status output → (status ≡ 4) ⊎ (status ≡ 7) → ⊥
+of_list input status output (no_object fault read e told) h = not_four_or_seven status 6 e (inr refl) h
+of_list input status output (of_object object read e told) h = not_four_or_seven status 0 e (inl (omega arith)) h
+
+of_command : (c : Command) (input : List ℕ) (status : ℕ) (output : List ℕ) → CommandAnswer c input status output → (status ≡ 4) ⊎ (status ≡ 7) → ⊥
+of_command command.Compile input status output answer h = of_compile input status output answer h
+of_command command.Regions input status output answer h = of_regions input status output answer h
+of_command command.Play input status output answer h =
+    of_scripted IsRunBy (λ c events s o run. by_unsettled _ s run.reported.status_is) input status output answer h
+of_command command.Source input status output answer h = of_source input status output answer h
+of_command command.List input status output answer h = of_list input status output answer h
+of_command command.Image input status output answer h =
+    of_scripted (IsImageAfter (source_of input)) (λ c events s o image. not_four_or_seven s 0 image.status_is (inl (omega arith))) input status output answer h
+of_command (command.Recover turns) input status output answer h = of_recover turns input status output answer h
+
+of_input : (c : Command) (input : List ℕ) (status : ℕ) (output : List ℕ) → AnswerToInput c input status output → (status ≡ 4) ⊎ (status ≡ 7) → ⊥
+of_input c input status output (past_limits past refused) h = not_four_or_seven status 6 refused.0 (inr refl) h
+of_input c input status output (within_limits within answer) h = of_command c input status output answer h
+
+of_answer : (words : List (List ℕ)) (input : List ℕ) (status : ℕ) (output : List ℕ) → Answer words input status output → (status ≡ 4) ⊎ (status ≡ 7) → ⊥
+of_answer words input status output (wrong_words wrong refused) h = not_four_or_seven status 2 refused.0 (inl (omega arith)) h
+of_answer words input status output (taken_words c taken answer) h = of_input c input status output answer h
+
+-- ---- What was delivered
+
+pub answered_by_delivery : (words : List (List ℕ)) (o : Outside) (said : Said) (status : ℕ) → IsAnswer words o.left said.status said.output.items →
+    IsDelivered said o.written_before o.written o.sink_faults_before o.sink_faults status → IsAnswered words o status
+answered_by_delivery words o said status answer (whole e added) =
+    answered said.output.items (subst (λ (s : ℕ). IsAnswer words o.left s said.output.items) (sym e) answer) added
+answered_by_delivery words o said status answer (broken e rose added) = sink_failed said.output.items said.status e rose answer added
+
+pub delivered_something : (words : List (List ℕ)) (left : Option (List ℕ)) (said : Said) (before after : Option (List ℕ)) (faults_before faults status : ℕ) →
+    IsAnswer words left said.status said.output.items → IsDelivered said before after faults_before faults status → (status ≡ 4) ⊎ (status ≡ 7) → ⊥
+delivered_something words left said before after faults_before faults status answer (whole e added) h =
+    of_answer words answer.input said.status said.output.items answer.answer (subst (λ (s : ℕ). (s ≡ 4) ⊎ (s ≡ 7)) e h)
+delivered_something words left said before after faults_before faults status answer (broken e rose added) h = omega (arith, e, h)

@@ -1,0 +1,237 @@
+-- Words and an input have one answer, where it stands on no compilation.
+use Rattle.std.proofs.Common.{◌≡◌, ℕ, ◌+◌, List, [], ◌∷◌, length, Option, Some, None, Result, Ok, Err, true, false, sym, ap, ap₂, ◌∙◌, subst, arith}
+use Rattle.ido_base.specs.declared.event.Event.{Event}
+use Rattle.ido_base.specs.declared.place.Place.{Place}
+use Rattle.c_tree.specs.Flats as f
+use Rattle.c_tree.specs.Source.{start}
+use Rattle.run_scripts.specs.Schedules as s
+use Rattle.run_scripts.specs.Scripts as scripts
+use Rattle.source_machine.specs.Laws.{OneStop, NotWhole}
+use Rattle.ido_cli.specs.declared.command.Command as c
+use Rattle.ido_cli.specs.declared.command.Command.TheVariants as command
+use Rattle.c_tree.specs.declared.rule.Rule as r
+use Rattle.flow_graph.specs.Refusals.{IsAccepted, IsRefusedBy}
+use Rattle.compiler_correctness.specs.Translations.{Translation}
+use Rattle.ido_cli.specs.Commands.{command_of}
+use Rattle.ido_cli.specs.Images.{IsImageAfter}
+use Rattle.ido_cli.specs.Plays.{IsRunBy, ScriptAnswer, too_long, ran as ran_by}
+use Rattle.ido_cli.specs.Refusals.{IsRefusedAt, code_of, fault_code, fault_place, line_at, line_at_byte, line_at_step, object_fault_code, object_fault_place}
+use Rattle.ido_cli.specs.Refusals.{script_fault_code, script_fault_place, stop_code}
+use Rattle.object_format.specs.Contents.{Contents}
+use Rattle.file_fields.specs.Fields as fields
+use Rattle.ido_cli.specs.ObjectListing.{listing}
+use Rattle.ido_cli.specs.Runs.{RunAnswer, ran, stopped, status_by}
+use Rattle.ido_cli.specs.Inputs.{source_of, rest_of}
+use Rattle.ido_cli.specs.Answers.{CommandAnswer, CompileAnswer, uncompiled, compiled, RegionsAnswer, uncut, cut, PlayAnswer}
+use Rattle.ido_cli.specs.Answers.{ScriptedAnswer, unplayed, no_script, of_script, ImageAnswer, RecoverAnswer, no_image, of_image}
+use Rattle.ido_cli.specs.Answers.{SourceAnswer, unaccepted, no_schedule, of_schedule, rest_begins, ListAnswer, no_object}
+use Rattle.ido_cli.specs.Answers.{of_object, AnswerToInput, IsPastLimits, past_limits, within_limits, wrong_words, taken_words}
+use Rattle.ido_compile.specs.Verdicts.{OneFlat, OneFault, NotBoth}
+use Rattle.ido_cli.specs.Laws.{IsUncompiled, plain, past, breaks_rule, misspelled, OneAnswer}
+
+abbrev fails : fields.Fault → Result Contents fields.Fault
+fails fault = Err fault
+
+abbrev gives : Contents → Result Contents fields.Fault
+gives object = Ok object
+
+-- both are the same status and output
+abbrev Same : (status other : ℕ) → (output written : List ℕ) → Type 0
+Same status other output written = (status ≡ other) × (output ≡ written)
+
+-- a rule that the source breaks, or what else is answered, which has another status
+data Verdict (text : List ℕ) (status : ℕ) (output : List ℕ) : Type 0 where
+  breaks : (found : r.Rule) (place : Place) → IsRefusedBy text found place → IsRefusedAt 1 (code_of found) text place.0 status output →
+      Verdict text status output
+  keeps : (flat : f.Flat) → IsAccepted text flat → (status ≡ 1 → ⊥) → Verdict text status output
+
+module _ (one_flat : OneFlat) (one_fault : OneFault) (not_both : NotBoth) (one_stop : OneStop) (not_whole : NotWhole) where
+  -- ---- A run
+
+  one_run : (x : f.Flat) (schedule : List ℕ) (status other : ℕ) (output written : List ℕ) → RunAnswer x schedule status output →
+      RunAnswer x schedule other written → Same status other output written
+  one_run x schedule status other output written (ran runs told) (ran also more) = (told.status_is ∙ sym more.status_is, told.output_is ∙ sym more.output_is)
+  one_run x schedule status other output written (ran runs told) (stopped stop is e told_too) =
+      let both : true ≡ false = sym runs ∙ not_whole (start x) schedule stop is in cc both
+  one_run x schedule status other output written (stopped stop is e told) (ran runs more) =
+      let both : true ≡ false = sym runs ∙ not_whole (start x) schedule stop is in cc both
+  one_run x schedule status other output written (stopped stop is e told) (stopped again also h more) =
+      (e ∙ sym h, told ∙ ap (λ y. line_at_step (stop_code y.kind) y.step) (one_stop (start x) schedule stop again is also) ∙ sym more)
+
+  -- ---- An input of `source`
+
+  one_source : (input : List ℕ) (status other : ℕ) (output written : List ℕ) → SourceAnswer input status output → SourceAnswer input other written →
+      Same status other output written
+  one_source input status other output written (unaccepted found place is (e, told)) (unaccepted again elsewhere also (h, more)) =
+      let both = one_fault (source_of input) found again place elsewhere is also in
+      (e ∙ sym h, told ∙ ap₂ (λ rule (at : Place). line_at (code_of rule) (source_of input) at.0) both.0 both.1 ∙ sym more)
+  one_source input status other output written (unaccepted found place is told) (no_schedule flat accepted x read more) =
+      absurd (not_both (source_of input) flat found place accepted is)
+  one_source input status other output written (unaccepted found place is told) (of_schedule flat accepted schedule read more) =
+      absurd (not_both (source_of input) flat found place accepted is)
+  one_source input status other output written (no_schedule flat accepted x read told) (unaccepted found place is more) =
+      absurd (not_both (source_of input) flat found place accepted is)
+  one_source input status other output written (of_schedule flat accepted schedule read told) (unaccepted found place is more) =
+      absurd (not_both (source_of input) flat found place accepted is)
+  one_source input status other output written (no_schedule flat accepted x read (e, told)) (no_schedule flat' accepted' y read' (h, more)) =
+      let both : s.Refused x ≡ s.Refused y = sym read ∙ read' in
+      let same : x ≡ y = cc both in
+      (e ∙ sym h, told ∙ ap (λ z. line_at (fault_code z) input (rest_begins input + fault_place z)) same ∙ sym more)
+  one_source input status other output written (no_schedule flat accepted x read told) (of_schedule flat' accepted' schedule read' more) =
+      let both : s.Refused x ≡ s.Steps schedule = sym read ∙ read' in cc both
+  one_source input status other output written (of_schedule flat accepted schedule read told) (no_schedule flat' accepted' x read' more) =
+      let both : s.Steps schedule ≡ s.Refused x = sym read ∙ read' in cc both
+  one_source input status other output written (of_schedule flat accepted schedule read told) (of_schedule flat' accepted' schedule' read' more) =
+      let both : s.Steps schedule ≡ s.Steps schedule' = sym read ∙ read' in
+      let same : schedule ≡ schedule' = cc both in
+      let forms : flat ≡ flat' = one_flat (source_of input) flat flat' accepted accepted' in
+      one_run flat' schedule' status other output written
+      (subst (λ z. RunAnswer flat' z status output) same (subst (λ z. RunAnswer z schedule status output) forms told)) more
+
+  -- ---- An input of `list`
+
+  one_list : (input : List ℕ) (status other : ℕ) (output written : List ℕ) → ListAnswer input status output → ListAnswer input other written →
+      Same status other output written
+  one_list input status other output written (no_object x read e told) (no_object y read' h more) =
+      let both : fails x ≡ fails y = sym read ∙ read' in
+      let same : x ≡ y = cc both in
+      (e ∙ sym h, told ∙ ap (λ z. line_at_byte (object_fault_code z) (object_fault_place z)) same ∙ sym more)
+  one_list input status other output written (no_object x read e told) (of_object y read' h more) = let both : fails x ≡ Ok y = sym read ∙ read' in cc both
+  one_list input status other output written (of_object x read e told) (no_object y read' h more) = let both : fails y ≡ Ok x = sym read' ∙ read in cc both
+  one_list input status other output written (of_object x read e told) (of_object y read' h more) =
+      let both : gives x ≡ gives y = sym read ∙ read' in
+      let same : x ≡ y = cc both in
+      (e ∙ sym h, told ∙ ap (λ z. listing z.code) same ∙ sym more)
+
+  -- ---- A refused source
+
+  one_refusal : (text : List ℕ) (status other : ℕ) (output written : List ℕ) → status ≡ 1 → Verdict text status output → Verdict text other written →
+      Same status other output written
+  one_refusal text status other output written one (breaks found place is (e, told)) (breaks again elsewhere also (h, more)) =
+      let both = one_fault text found again place elsewhere is also in
+      (e ∙ sym h, told ∙ ap₂ (λ rule (at : Place). line_at (code_of rule) text at.0) both.0 both.1 ∙ sym more)
+  one_refusal text status other output written one (breaks found place is told) (keeps flat accepted other_one) =
+      absurd (not_both text flat found place accepted is)
+  one_refusal text status other output written one (keeps flat accepted other_one) v = absurd (other_one one)
+
+  not_one : (status n : ℕ) → status ≡ n → (n ≡ 1 → ⊥) → status ≡ 1 → ⊥
+  not_one status n e other one = other (sym e ∙ one)
+
+  not_by_unsettled : (unsettled : List ℕ) (status : ℕ) → status ≡ status_by unsettled → status ≡ 1 → ⊥
+  not_by_unsettled [] status e one = omega arith
+  not_by_unsettled (h ∷ hs) status e one = omega arith
+
+  of_compile : (text : List ℕ) (status : ℕ) (output : List ℕ) → CompileAnswer text status output → Verdict text status output
+  of_compile text status output (uncompiled found place is told) = breaks found place is told
+  of_compile text status output (compiled flat is object marks cuts made e told) = keeps flat is (λ one. omega (arith, e, one))
+
+  of_regions : (text : List ℕ) (status : ℕ) (output : List ℕ) → RegionsAnswer text status output → Verdict text status output
+  of_regions text status output (uncut found place is told) = breaks found place is told
+  of_regions text status output (cut flat is object marks cuts made e told) = keeps flat is (λ one. omega (arith, e, one))
+
+  module _ (Says : Translation → List Event → ℕ → List ℕ → Type 0)
+      (others : (c : Translation) (events : List Event) (status : ℕ) (output : List ℕ) → Says c events status output → status ≡ 1 → ⊥) where
+    not_of_script : (c : Translation) (lines : List scripts.Line) (input : List ℕ) (begins status : ℕ) (output : List ℕ) →
+        ScriptAnswer c (Says c) (record { lines = lines; input = input; begins = begins }) status output → status ≡ 1 → ⊥
+    not_of_script c lines input begins status output (too_long many place excess refused) one = let is = refused.0 in omega (arith, is, one)
+    not_of_script c lines input begins status output (ran_by few said) one = others c _ status output said one
+
+    of_scripted : (input : List ℕ) (status : ℕ) (output : List ℕ) → ScriptedAnswer Says input status output → Verdict (source_of input) status output
+    of_scripted input status output (unplayed found place is told) = breaks found place is told
+    of_scripted input status output (no_script flat is x read told) = keeps flat is (λ one. let six = told.0 in omega (arith, six, one))
+    of_scripted input status output (of_script flat is lines read c made answer) =
+        keeps flat is (not_of_script c lines input (rest_begins input) status output answer)
+
+  of_play : (input : List ℕ) (status : ℕ) (output : List ℕ) → PlayAnswer input status output → Verdict (source_of input) status output
+  of_play input status output answer = of_scripted IsRunBy (λ c events s o run. not_by_unsettled _ s run.reported.status_is) input status output answer
+
+  of_image_of : (input : List ℕ) (status : ℕ) (output : List ℕ) → ImageAnswer input status output → Verdict (source_of input) status output
+  of_image_of input status output answer =
+      of_scripted (IsImageAfter (source_of input)) (λ c events s o image one. let zero = image.status_is in omega (arith, zero, one)) input
+      status output answer
+
+  not_of_recover : (turns : ℕ) (input : List ℕ) (status : ℕ) (output : List ℕ) → RecoverAnswer turns input status output → status ≡ 1 → ⊥
+  not_of_recover turns input status output (no_image error is e told) one = omega (arith, e, one)
+  not_of_recover turns input status output (of_image image is recovery) one = not_by_unsettled _ status recovery.reported.status_is one
+
+  -- ---- A script that isn't spelled as one
+
+  module _ (Says : Translation → List Event → ℕ → List ℕ → Type 0) (input : List ℕ) (flat : f.Flat) (is : IsAccepted (source_of input) flat) (x : scripts.Fault)
+      (bad : scripts.read (length flat.threads) (rest_of input) ≡ scripts.Refused x) where
+    reading : (other : f.Flat) → IsAccepted (source_of input) other → scripts.read (length other.threads) (rest_of input) ≡ scripts.Refused x
+    reading other also = ap (λ (z : f.Flat). scripts.read (length z.threads) (rest_of input)) (one_flat (source_of input) other flat also is) ∙ bad
+
+    misspelling : (status : ℕ) (output : List ℕ) → ScriptedAnswer Says input status output →
+        IsRefusedAt 6 (script_fault_code x) input (rest_begins input + script_fault_place x) status output
+    misspelling status output (unplayed found place broken told) = absurd (not_both (source_of input) flat found place is broken)
+    misspelling status output (no_script other also y read told) =
+        let both : scripts.Refused y ≡ scripts.Refused x = sym read ∙ reading other also in
+        let same : y ≡ x = cc both in
+        subst (λ z. IsRefusedAt 6 (script_fault_code z) input (rest_begins input + script_fault_place z) status output) same told
+    misspelling status output (of_script other also lines read c made answer) =
+        let both : scripts.Lines lines ≡ scripts.Refused x = sym read ∙ reading other also in cc both
+
+    one_misspelling : (status other : ℕ) (output written : List ℕ) → ScriptedAnswer Says input status output → ScriptedAnswer Says input other written →
+        Same status other output written
+    one_misspelling status other output written told more =
+        let one = misspelling status output told in
+        let two = misspelling other written more in
+        (one.0 ∙ sym two.0, one.1 ∙ sym two.1)
+
+  -- ---- All words
+
+  one_within : (d : c.Command) (input : List ℕ) (status other : ℕ) (output written : List ℕ) → (IsPastLimits d input → ⊥) → IsUncompiled (Some d) input status →
+      CommandAnswer d input status output → CommandAnswer d input other written → Same status other output written
+  one_within d input status other output written within (past d' e over) told more =
+      let same : d ≡ d' = cc e in
+      absurd (within (subst (λ z. IsPastLimits z input) (sym same) over))
+  one_within command.Compile input status other output written within (plain n) told more = absurd n
+  one_within command.Compile input status other output written within (breaks_rule one) told more =
+      one_refusal input status other output written one (of_compile input status output told) (of_compile input other written more)
+  one_within command.Compile input status other output written within (misspelled takes flat is x bad) told more = absurd takes
+  one_within command.Regions input status other output written within (plain n) told more = absurd n
+  one_within command.Regions input status other output written within (breaks_rule one) told more =
+      one_refusal input status other output written one (of_regions input status output told) (of_regions input other written more)
+  one_within command.Regions input status other output written within (misspelled takes flat is x bad) told more = absurd takes
+  one_within command.Play input status other output written within (plain n) told more = absurd n
+  one_within command.Play input status other output written within (breaks_rule one) told more =
+      one_refusal (source_of input) status other output written one (of_play input status output told) (of_play input other written more)
+  one_within command.Play input status other output written within (misspelled takes flat is x bad) told more =
+      one_misspelling IsRunBy input flat is x bad status other output written told more
+  one_within command.Image input status other output written within (plain n) told more = absurd n
+  one_within command.Image input status other output written within (breaks_rule one) told more =
+      one_refusal (source_of input) status other output written one (of_image_of input status output told) (of_image_of input other written more)
+  one_within command.Image input status other output written within (misspelled takes flat is x bad) told more =
+      one_misspelling (IsImageAfter (source_of input)) input flat is x bad status other output written told more
+  one_within (command.Recover turns) input status other output written within (plain n) told more = absurd n
+  one_within (command.Recover turns) input status other output written within (breaks_rule one) told more =
+      absurd (not_of_recover turns input status output told one)
+  one_within (command.Recover turns) input status other output written within (misspelled takes flat is x bad) told more = absurd takes
+  one_within command.Source input status other output written within (plain n) told more = one_source input status other output written told more
+  one_within command.Source input status other output written within (breaks_rule one) told more = one_source input status other output written told more
+  one_within command.Source input status other output written within (misspelled takes flat is x bad) told more =
+      one_source input status other output written told more
+  one_within command.List input status other output written within (plain n) told more = one_list input status other output written told more
+  one_within command.List input status other output written within (breaks_rule one) told more = one_list input status other output written told more
+  one_within command.List input status other output written within (misspelled takes flat is x bad) told more =
+      one_list input status other output written told more
+
+  one_to_input : (d : c.Command) (input : List ℕ) (status other : ℕ) (output written : List ℕ) → IsUncompiled (Some d) input status →
+      AnswerToInput d input status output → AnswerToInput d input other written → Same status other output written
+  one_to_input d input status other output written n (past_limits over (e, told)) (past_limits over' (h, more)) = (e ∙ sym h, told ∙ sym more)
+  one_to_input d input status other output written n (past_limits over told) (within_limits within more) = absurd (within over)
+  one_to_input d input status other output written n (within_limits within told) (past_limits over more) = absurd (within over)
+  one_to_input d input status other output written n (within_limits within told) (within_limits within' more) =
+      one_within d input status other output written within n told more
+
+  pub one_answer : OneAnswer
+  one_answer words input status other output written n (wrong_words wrong (e, told)) (wrong_words wrong' (h, more)) = (e ∙ sym h, told ∙ sym more)
+  one_answer words input status other output written n (wrong_words wrong told) (taken_words d taken more) = let both : None ≡ Some d = sym wrong ∙ taken in
+      cc both
+  one_answer words input status other output written n (taken_words d taken told) (wrong_words wrong more) = let both : None ≡ Some d = sym wrong ∙ taken in
+      cc both
+  one_answer words input status other output written n (taken_words d taken told) (taken_words d' taken' more) =
+      let both : Some d ≡ Some d' = sym taken ∙ taken' in
+      let same : d ≡ d' = cc both in
+      one_to_input d' input status other output written (subst (λ o. IsUncompiled o input status) taken' n)
+      (subst (λ z. AnswerToInput z input status output) same told) more

@@ -1,0 +1,44 @@
+-- What is answered to a text: its object, or the first rule that it breaks.
+use Rattle.std.specs.Prelude.{◌≡◌, ℕ, List, Result, Ok, Err}
+use Rattle.c_tree.specs.Flats.{Flat, flat_of}
+use Rattle.rv64_isa.specs.declared.object.Object.{Object}
+use Rattle.rv64_isa.specs.declared.object.Marks.{Marks}
+use Rattle.rv64_isa.specs.Programs.{program_of}
+use Rattle.flow_graph.specs.declared.cuts.Cuts.{Cuts}
+use Rattle.flow_graph.specs.IdempotentCuts.{boundaries_of}
+use Rattle.flow_graph.specs.Refusals.{IsAccepted, IsRefusedBy}
+use Rattle.compiler_correctness.specs.Translations.{Translation}
+use Rattle.compiler_correctness.specs.Compilations.{IsCompilation}
+use Rattle.flat_compile.specs.TranslatedForms.{IsTranslated, IsResumable, node_marks, resume_marks}
+use Rattle.ido_compile.specs.declared.compiler.Compiled.{Compiled}
+use Rattle.ido_compile.specs.declared.error.CompileError.{CompileError}
+use Rattle.ido_compile.specs.declared.error.CompileError.TheVariants as e
+
+-- what a flat form is compiled to
+abbrev pub translation_to : Flat → Object → Marks → Cuts → Translation
+translation_to flat object marks cuts = record {
+  flat = flat;
+  program = program_of object;
+  mutexes = object.mutexes;
+  initial = object.initial.items;
+  marks = node_marks marks.threads.items;
+  resumes = resume_marks marks.threads.items;
+  boundaries = boundaries_of cuts;
+}
+
+abbrev pub translation_in : Compiled → Translation
+translation_in c = translation_to (flat_of c.flat) c.translated.object c.translated.marks c.translated.cuts
+
+-- the text is accepted, what a machine runs is a translation of its flat form, and so it does what the source does, whatever happens
+pub record IsCompiled (text : List ℕ) (c : Compiled) : Type 0 where
+  pub text_is : c.text.items ≡ text
+  pub accepted : IsAccepted text (flat_of c.flat)
+  pub translated : IsTranslated (flat_of c.flat) c.translated.object c.translated.marks c.translated.cuts
+  -- of each thread it tells what it has where recovery may resume it
+  pub resumable : IsResumable (flat_of c.flat) c.translated.object c.translated.marks c.translated.cuts c.translated.resumes.items
+  pub compilation : IsCompilation (translation_in c)
+
+abbrev pub IsCompileAnswer : (text : List ℕ) → Result Compiled CompileError → Type 0
+IsCompileAnswer text (Ok c) = IsCompiled text c
+IsCompileAnswer text (Err (e.Refused x)) = IsRefusedBy text x.rule x.place
+IsCompileAnswer text (Err e.Memory) = Unit {0}

@@ -1,0 +1,63 @@
+-- What is answered to a text: its flat form, or the first rule that it breaks.
+use Rattle.std.specs.Prelude.{ℕ, List, Result, Ok, Err}
+use Rattle.c_tree.specs.AcceptedTexts.{IsFlattened}
+use Rattle.c_tree.specs.Flats as f
+use Rattle.c_tree.specs.Flats.{flat_of}
+use Rattle.c_tree.specs.declared.flat.Flat.{Flat}
+use Rattle.ido_base.specs.declared.place.Place.{Place}
+use Rattle.c_tree.specs.declared.rule.Rule.{Rule}
+use Rattle.c_tree.specs.declared.rule.Rule.TheVariants as rule
+use Rattle.c_tree.specs.declared.refusal.SourceError.{SourceError}
+use Rattle.c_tree.specs.declared.refusal.SourceError.TheVariants as source
+use Rattle.c_ranges.specs.declared.indexes.IndexError.{IndexError}
+use Rattle.c_inline.specs.declared.inline.InlineError as inline
+use Rattle.c_inline.specs.declared.inline.InlineError.TheVariants as inline_error
+use Rattle.flow_graph.specs.Refusals.{IsAccepted, IsRefusedBy}
+use Rattle.flat_analysis.specs.declared.analyses.Analysis.{Analysis}
+use Rattle.flat_compile.specs.declared.compile.Translated.{Translated}
+use Rattle.flat_analysis.specs.Analyses.{IsAnalysis}
+use Rattle.flat_compile.specs.TranslatedForms.{IsTranslated, IsResumable}
+use Rattle.ido_compile.specs.declared.error.CompileError.{CompileError}
+use Rattle.ido_compile.specs.declared.error.CompileError.TheVariants as e
+
+-- the text is refused; want of memory may come at any time
+abbrev pub IsRefusal : (text : List ℕ) → CompileError → Type 0
+IsRefusal text (e.Refused x) = IsRefusedBy text x.rule x.place
+IsRefusal text e.Memory = Unit {0}
+
+abbrev pub IsFrontAnswer : (text : List ℕ) → Result Flat CompileError → Type 0
+IsFrontAnswer text (Ok flat) = IsAccepted text (flat_of flat)
+IsFrontAnswer text (Err x) = IsRefusal text x
+
+-- by the checks up to the flat form
+abbrev pub IsFlatAnswer : (text : List ℕ) → Result Flat CompileError → Type 0
+IsFlatAnswer text (Ok flat) = IsFlattened text (flat_of flat)
+IsFlatAnswer text (Err x) = IsRefusal text x
+
+-- by the checks of the flat form
+abbrev pub IsAnalysisAnswer : (text : List ℕ) → f.Flat → Result Analysis CompileError → Type 0
+IsAnalysisAnswer text flat (Ok a) = IsAccepted text flat × IsAnalysis a
+IsAnalysisAnswer text flat (Err x) = IsRefusal text x
+
+-- what a machine runs for the flat form
+abbrev pub IsTranslationAnswer : (text : List ℕ) → f.Flat → Result Translated CompileError → Type 0
+IsTranslationAnswer text flat (Ok t) =
+    IsAccepted text flat × (IsTranslated flat t.object t.marks t.cuts × IsResumable flat t.object t.marks t.cuts t.resumes.items)
+IsTranslationAnswer text flat (Err x) = IsRefusal text x
+
+-- ---- The same error, of each check
+
+abbrev pub of_source : SourceError → CompileError
+of_source (source.Refused x) = e.Refused x
+of_source source.Memory = e.Memory
+
+abbrev pub refused : Rule → Place → CompileError
+refused found place = e.Refused (record { rule = found; place = place })
+
+abbrev pub of_index : IndexError → CompileError
+of_index x = refused rule.Index x.place
+
+abbrev pub of_inline : inline.InlineError → CompileError
+of_inline (inline_error.Recursion place) = refused rule.Recursion place
+of_inline (inline_error.Code place) = refused rule.Code place
+of_inline inline_error.Memory = e.Memory

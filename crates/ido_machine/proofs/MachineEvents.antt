@@ -1,0 +1,240 @@
+-- Events of a machine.
+use Rattle.std.proofs.Common.{◌≡◌, ℕ, zero, suc, ◌<◌, List, [], ◌∷◌, length, map, replicate, slice_get, slice_set, Option, Some}
+use Rattle.std.proofs.Common.{None, Bool, true, false, inl, inr, refl, sym, ◌∙◌, ap, subst, arith, not, ◌&&◌, if◌then◌else◌}
+use Rattle.std.proofs.lemmas.Bool.{cases_eq}
+use Rattle.std.proofs.lemmas.List.{length-set}
+use Rattle.ido_base.specs.declared.event.Event.TheVariants.{Step, Evict, Crash}
+use Rattle.ido_base.specs.declared.event.Reply.{Reply}
+use Rattle.ido_base.specs.declared.event.Reply.TheVariants.{Device}
+use Rattle.ido_base.specs.Locks.{holds_none}
+use Rattle.ido_base.specs.Words.{Word, Entry, word_of, durable_value, evicted, crashed}
+use Rattle.line_memory.specs.declared.memory.LineMemory.{LineMemory}
+use Rattle.line_memory.specs.declared.queue.Queue.{Queue}
+use Rattle.line_memory.specs.links.Queues.{RepresentsQueue}
+use Rattle.line_memory.specs.links.MemoryRepresentation.{Represents, threads_of}
+use Rattle.line_memory.proofs.Public.{RepresentsQueue-evicted}
+use Rattle.rv64_isa.specs.declared.object.Slot.{Slot}
+use Rattle.rv64_isa.specs.declared.phase.Phase.{Phase}
+use Rattle.rv64_isa.specs.declared.phase.Phase.TheVariants.{Run, Done}
+use Rattle.rv64_isa.specs.Machine.{Hart as HartModel, World, Outcome, happens, hart_step, run_step, stepped, phase_step}
+use Rattle.rv64_isa.specs.Machine.{done_if_over, over_after, with_hart, phase_after_crash, durable_point, numbers_from}
+use Rattle.hart_core.specs.declared.hart.Hart.{Hart}
+use Rattle.hart_core.specs.links.Harts.{RepresentsHart}
+use Rattle.hart_core.specs.StepsOnParts.{Parts, PartsStand, PartsEnd}
+use Rattle.hart_core.proofs.Public.{found_set}
+use Rattle.resume_recovery.specs.RecoverySteps.{phase_at, IsRecoveryStep}
+use Rattle.ido_machine.specs.Harts.{HartsStand, AreFresh}
+use Rattle.ido_machine.specs.Machines.{MachineState, RepresentsMachineState, StateEnds}
+use Rattle.ido_machine.proofs.Lists.{set_same, set_other, get_some, get_map, map_set, map_map}
+use Rattle.ido_machine.proofs.Starts.{crash_simulates}
+
+-- ---- Steps
+
+-- harts that represent their models at some words do so at others that keep what queues represent
+kept : (it : Hart) (model : HartModel) (words words' : List Word) →
+    ((any : Queue) (entries : List Entry) → RepresentsQueue any entries words → RepresentsQueue any entries words') → RepresentsHart it model words →
+    RepresentsHart it model words'
+kept it model words words' queues s = record { registers = s.registers; pc = s.pc; queue = queues it.queue model.queue s.queue }
+
+-- what a step of one hart reaches
+abbrev pub parts_of : MachineState → Phase → Hart → Parts
+parts_of state phase it = record { phase = phase; hart = it; memory = state.memory; locks = state.locks }
+
+pub parts_stand : (state : MachineState) (number : ℕ) (phase : Phase) (it : Hart) (w : World) (model : HartModel) →
+    threads_of state.memory ≡ length state.harts →
+    phase_at state.phases number ≡ phase → slice_get state.harts number ≡ Some it → slice_get w.harts number ≡ Some model → RepresentsMachineState state w →
+    PartsStand (parts_of state phase it) number w model
+parts_stand state number phase it w model threads is found there s = record {
+  words = s.words;
+  holders = s.holders;
+  count = s.standing.count ∙ sym threads;
+  found = there;
+  phase = sym (get_map (λ (hart : HartModel). hart.phase) w.harts number model Done there) ∙ ap (λ (phases : List Phase). phase_at phases number) s.phases ∙ is;
+  hart = s.standing.each number it model found there;
+}
+
+-- what a step of one hart leaves
+abbrev pub state_with : MachineState → (number : ℕ) → Parts → MachineState
+state_with state number after = record {
+  phases = slice_set state.phases number after.phase;
+  harts = slice_set state.harts number after.hart;
+  memory = after.memory;
+  locks = after.locks;
+  recovering = state.recovering;
+}
+
+harts_stand : (state : MachineState) (number : ℕ) (after : Parts) (reply : Reply) (w : World) (outcome : Outcome) → RepresentsMachineState state w →
+    PartsEnd after reply number w outcome → HartsStand (slice_set state.harts number after.hart) outcome.0.harts outcome.0.words
+harts_stand state number after reply w outcome s e = record {
+  count = ap length e.harts ∙ length-set w.harts number e.model ∙ s.standing.count ∙ sym (length-set state.harts number after.hart);
+  each = λ n one model found there. elim (cases_eq n number) [
+    | inl same ↦
+        let one_is : after.hart ≡ one =
+        set_same state.harts number after.hart one (subst (λ (k : ℕ). slice_get (slice_set state.harts number after.hart) k ≡ Some one) same found) in
+        let model_is : e.model ≡ model =
+        set_same w.harts number e.model model
+        (subst (λ (k : ℕ). slice_get (slice_set w.harts number e.model) k ≡ Some model) same
+        (subst (λ (ms : List HartModel). slice_get ms n ≡ Some model) e.harts there)) in
+        subst (λ (x : Hart). RepresentsHart x model outcome.0.words) one_is
+        (subst (λ (m : HartModel). RepresentsHart after.hart m outcome.0.words) model_is e.stand.hart)
+    | inr other ↦
+        let found' : slice_get state.harts n ≡ Some one = sym (set_other state.harts number n after.hart other) ∙ found in
+        let there' : slice_get w.harts n ≡ Some model =
+        sym (set_other w.harts number n e.model other) ∙ subst (λ (ms : List HartModel). slice_get ms n ≡ Some model) e.harts there in
+        kept one model w.words outcome.0.words e.queues (s.standing.each n one model found' there')
+  ];
+}
+
+state_end : (state : MachineState) (number : ℕ) (after : Parts) (reply : Reply) (w : World) (outcome : Outcome) → RepresentsMachineState state w →
+    PartsEnd after reply number w outcome → StateEnds (state_with state number after) reply outcome
+state_end state number after reply w outcome s e = record {
+  replied = e.replied;
+  stands = record {
+    words = e.stand.words;
+    holders = e.stand.holders;
+    phases =
+        ap (map (λ (hart : HartModel). hart.phase)) e.harts ∙ map_set (λ (hart : HartModel). hart.phase) w.harts number e.model
+        ∙ ap (λ (phases : List Phase). slice_set phases number e.model.phase) s.phases ∙ ap (slice_set state.phases number) e.stand.phase;
+    standing = harts_stand state number after reply w outcome s e;
+    recovering = e.recovering ∙ s.recovering;
+  };
+}
+
+-- the step of a hart that there is goes by its phase
+stepped-is : (program : List (List Slot)) (w : World) (number : ℕ) (model : HartModel) (phase : Phase) → slice_get w.harts number ≡ Some model →
+    model.phase ≡ phase → happens program w (Step number) ≡ phase_step program w number model phase
+unfolding happens
+stepped-is program w number model phase there is = ap (stepped program w number) there ∙ ap (phase_step program w number model) is
+
+-- in recovery, the last release makes the hart done
+abbrev done_end : World → ℕ → Outcome → Option HartModel → Outcome
+done_end w h o found = (done_if_over w h found o.0, o.1)
+
+abbrev over_end : ℕ → Outcome → HartModel → Bool → Outcome
+over_end h o model over = ((if over then with_hart o.0 h (record model { phase = Done }) else o.0), o.1)
+
+after-done : (w : World) (h : ℕ) (o : Outcome) (model : HartModel) (b : Bool) → slice_get o.0.harts h ≡ Some model → over_after w o.0 h ≡ b →
+    done_end w h o (slice_get o.0.harts h) ≡ over_end h o model b
+after-done w h o model b found is = ap (done_end w h o) found ∙ ap (over_end h o model) is
+
+and_both : (r a b : Bool) → (r && (a && b)) ≡ ((r && a) && b)
+and_both true a b = refl
+and_both false a b = refl
+
+set_set : {X : Type 0} (xs : List X) (n : ℕ) (x y : X) → slice_set (slice_set xs n x) n y ≡ slice_set xs n y
+set_set [] n x y = refl
+set_set (z ∷ zs) zero x y = refl
+set_set (z ∷ zs) (suc n) x y = ap (λ (rest : List _). z ∷ rest) (set_set zs n x y)
+
+module _ (program : List (List Slot)) (number : ℕ) (recovering held over : Bool) (before after : Parts) (reply : Reply) (w : World) (model : HartModel) where
+  over-is : w.recovering ≡ recovering → held ≡ (recovering && not (holds_none before.locks number)) → over ≡ (held && holds_none after.locks number) →
+      PartsStand before number w model → (e : PartsEnd after reply number w (hart_step program w number model)) →
+      over_after w (hart_step program w number model).0 number ≡ over
+  over-is recovers is_held is_over s e =
+      ap (λ (r : Bool). r && (not (holds_none w.holders number) && holds_none (hart_step program w number model).0.holders number)) recovers
+      ∙ ap (λ (holders : List (Option ℕ)).
+      recovering && (not (holds_none holders number) && holds_none (hart_step program w number model).0.holders number)) s.holders
+      ∙ ap (λ (holders : List (Option ℕ)). recovering && (not (holds_none before.locks number) && holds_none holders number)) e.stand.holders
+      ∙ and_both recovering (not (holds_none before.locks number)) (holds_none after.locks number)
+      ∙ ap (λ (h : Bool). h && holds_none after.locks number) (sym is_held)
+      ∙ sym is_over
+
+  pub run_on : w.recovering ≡ recovering → held ≡ (recovering && not (holds_none before.locks number)) → over ≡ (held && holds_none after.locks number) →
+      over ≡ false → PartsStand before number w model → PartsEnd after reply number w (hart_step program w number model) →
+      PartsEnd after reply number w (run_step program w number model)
+  run_on recovers is_held is_over stays s e =
+      let o : Outcome = hart_step program w number model in
+      subst (λ (x : Outcome). PartsEnd after reply number w x)
+      (sym (after-done w number o e.model false e.stand.found (over-is recovers is_held is_over s e ∙ stays))) e
+
+  pub run_done : w.recovering ≡ recovering → held ≡ (recovering && not (holds_none before.locks number)) → over ≡ (held && holds_none after.locks number) →
+      over ≡ true → PartsStand before number w model → PartsEnd after reply number w (hart_step program w number model) →
+      PartsEnd (record after { phase = Done }) reply number w (run_step program w number model)
+  run_done recovers is_held is_over ends s e =
+      let o : Outcome = hart_step program w number model in
+      let done : HartModel = record e.model { phase = Done } in
+      subst (λ (x : Outcome). PartsEnd (record after { phase = Done }) reply number w x)
+      (sym (after-done w number o e.model true e.stand.found (over-is recovers is_held is_over s e ∙ ends))) (record {
+        replied = e.replied;
+        model = done;
+        stand = record {
+          words = e.stand.words;
+          holders = e.stand.holders;
+          count = length-set o.0.harts number done ∙ e.stand.count;
+          found = found_set o.0.harts number e.model done e.stand.found;
+          phase = refl;
+          hart = record { registers = e.stand.hart.registers; pc = e.stand.hart.pc; queue = e.stand.hart.queue };
+        };
+        harts = ap (λ (models : List HartModel). slice_set models number done) e.harts ∙ set_set w.harts number e.model done;
+        recovering = e.recovering;
+        queues = e.queues;
+      })
+
+-- a step of a hart that runs
+pub run_end : (program : List (List Slot)) (number : ℕ) (state : MachineState) (phase : Phase) (it : Hart) (after : Parts) (reply : Reply) (w : World) →
+    number < length state.harts → threads_of state.memory ≡ length state.harts → slice_get state.harts number ≡ Some it → phase_at state.phases number ≡ phase →
+    phase ≡ Run → ((v : World) (model : HartModel) → v.recovering ≡ state.recovering → PartsStand (parts_of state phase it) number v model →
+    PartsEnd after reply number v (run_step program v number model)) → RepresentsMachineState state w →
+    StateEnds (state_with state number after) reply (happens program w (Step number))
+run_end program number state phase it after reply w within threads found is run step s =
+    let some : (m : HartModel) × (slice_get w.harts number ≡ Some m) = get_some w.harts number (omega (arith, s.standing.count)) in
+    let model : HartModel = some.0 in
+    let there : slice_get w.harts number ≡ Some model = some.1 in
+    let one : PartsStand (parts_of state phase it) number w model = parts_stand state number phase it w model threads is found there s in
+    subst (λ (o : Outcome). StateEnds (state_with state number after) reply o) (sym (stepped-is program w number model Run there (one.phase ∙ run)))
+    (state_end state number after reply w (run_step program w number model) s (step w model s.recovering one))
+
+-- a step of a hart in recovery
+pub recovery_end : (program : List (List Slot)) (number : ℕ) (state : MachineState) (it : Hart) (after : Parts) (reply : Reply) (w : World) →
+    number < length state.harts → threads_of state.memory ≡ length state.harts → slice_get state.harts number ≡ Some it →
+    IsRecoveryStep number (parts_of state (phase_at state.phases number) it) after state.phases reply → RepresentsMachineState state w →
+    StateEnds (state_with state number after) reply (happens program w (Step number))
+recovery_end program number state it after reply w within threads found step s =
+    let some : (m : HartModel) × (slice_get w.harts number ≡ Some m) = get_some w.harts number (omega (arith, s.standing.count)) in
+    let model : HartModel = some.0 in
+    let there : slice_get w.harts number ≡ Some model = some.1 in
+    let one : PartsStand (parts_of state (phase_at state.phases number) it) number w model =
+    parts_stand state number (phase_at state.phases number) it w model threads refl found there s in
+    let phase : Phase = phase_at state.phases number in
+    subst (λ (o : Outcome). StateEnds (state_with state number after) reply o) (sym (stepped-is program w number model phase there one.phase))
+    (state_end state number after reply w (phase_step program w number model phase) s (step.each program w model one s.phases))
+
+-- ---- Evictions and crashes
+
+pub evict_end : (program : List (List Slot)) (state : MachineState) (memory : LineMemory) (line mask : ℕ) (w : World) →
+    ((words : List Word) → Represents state.memory words → Represents memory (evicted words line mask)) → RepresentsMachineState state w →
+    StateEnds (record state { memory = memory }) Device (happens program w (Evict line mask))
+unfolding happens
+evict_end program state memory line mask w stands s = record {
+  replied = refl;
+  stands = record {
+    words = stands w.words s.words;
+    holders = s.holders;
+    phases = s.phases;
+    standing = record {
+      count = s.standing.count;
+      each =
+          λ n one model found there. kept one model w.words (evicted w.words line mask)
+          (λ any entries q. RepresentsQueue-evicted any entries w.words line mask q)
+          (s.standing.each n one model found there);
+    };
+    recovering = s.recovering;
+  };
+}
+
+pub crash_end : (program : List (List Slot)) (state state' : MachineState) (w : World) → AreFresh program state'.harts (length program) →
+    ((words : List Word) → Represents state'.memory words →
+    state'.phases ≡ map (λ thread. phase_after_crash (durable_point words thread)) (numbers_from 0 (length program))) →
+    ((words : List Word) → Represents state.memory words → Represents state'.memory (crashed words)) → state'.locks ≡ replicate (length state.locks) None →
+    state'.recovering ≡ true → RepresentsMachineState state w → StateEnds state' Device (happens program w Crash)
+unfolding happens
+crash_end program state state' w fresh phases stands free recovering s =
+    let left : map word_of (map durable_value w.words) ≡ crashed w.words = map_map word_of durable_value w.words in
+    let there : Represents state'.memory (map word_of (map durable_value w.words)) =
+    subst (λ (words : List Word). Represents state'.memory words) (sym left) (stands w.words s.words) in
+    record {
+      replied = refl;
+      stands =
+          crash_simulates program (length w.holders) (map durable_value w.words) state' fresh (phases (map word_of (map durable_value w.words)) there) there
+          (free ∙ ap (λ (locks : List (Option ℕ)). replicate (length locks) None) (sym s.holders)) recovering;
+    }

@@ -1,7 +1,0 @@
--- What has been gathered from a source.
-use Rattle.std.specs.Prelude.{◌≡◌, ℕ, ◌+◌, List, ◌++◌, Option}
-use Rattle.std.specs.Io.KnownBytes.{Consumes}
-
--- the front of what was left was taken, and stands now behind the bytes
-abbrev pub Gathers : Option (List ℕ) → Option (List ℕ) → List ℕ → List ℕ → Type 0
-Gathers old new before after = (taken : List ℕ) × Consumes old new taken × (after ≡ before ++ taken)

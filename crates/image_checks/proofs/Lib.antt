@@ -1,0 +1,11 @@
+mod ScheduleLaws
+mod Forms
+mod Elements
+mod Banks
+mod Points
+mod Tables
+mod Masks
+mod CompiledLimits
+mod States
+mod ImageAnswers
+mod OneFault

@@ -1,0 +1,51 @@
+-- Each live local of a table of places has a register with a slot.
+use Rattle.std.proofs.Common.{◌≡◌, ℕ, zero, suc, ◌<◌, List, [], ◌∷◌, length, map, get_or, sym, ap, ◌∙◌, subst, rules, lit<}
+use Rattle.std.specs.Prelude.{slice_index, Vec}
+use Rattle.std.specs.Global.{Global}
+use Rattle.std.specs.List.{AllByRecursion}
+use Rattle.std.proofs.lemmas.List.{get_or_default}
+use Rattle.std.proofs.lemmas.List.Elements.{Contains-get_or}
+use Rattle.std.proofs.lemmas.Option.{slice_get-get_or}
+use Rattle.memory_layout.specs.declared.roles.TheConstants.{LOCALS}
+use Rattle.thread_code.specs.Plans.{Plan, Thread, IsThread}
+use Rattle.thread_code.specs.Programs.{IsThreadCode}
+use Rattle.code_runs.specs.CodeTraces.{Program}
+use Rattle.recovered_threads.specs.RecordDescriptions.{Codes}
+use Rattle.flat_compile.specs.declared.resumes.LiveLocal.{LiveLocal}
+use Rattle.flat_compile.specs.declared.resumes.Resume.{Resume}
+use Rattle.flat_compile.specs.ResumePlaces.{IsFound, AreResumes, IsResumeTable, resumes_at}
+use Rattle.image_checks.specs.links.Tables.{HaveSlots, AllHaveSlots, TablesHaveSlots}
+use Rattle.image_checks.proofs.Points.{table_at}
+
+all_small : AllByRecursion (λ (n : ℕ). n < 32) LOCALS
+all_small = search rules
+
+small_in : (ns : List ℕ) (k : ℕ) → AllByRecursion (λ (n : ℕ). n < 32) ns → slice_index ns k < 32
+small_in [] k h = lit< tt
+small_in (n ∷ ns) zero h = h.0
+small_in (n ∷ ns) (suc k) h = small_in ns k h.1
+
+register_small : (colours : List ℕ) (local : ℕ) → slice_index (map (λ (colour : ℕ). slice_index LOCALS colour) colours) local < 32
+register_small [] local = lit< tt
+register_small (c ∷ cs) zero = small_in LOCALS c all_small
+register_small (c ∷ cs) (suc local) = register_small cs local
+
+live_slots : (p : Plan) (t : Thread) (r : Resume) → IsThread p t → IsFound p t r → HaveSlots r.live.items
+live_slots p t r is found k d within =
+    let l : LiveLocal = get_or r.live.items k d in
+    let live = (found.live l).0 (Contains-get_or r.live.items k d within) in
+    let at : l.register ≡ slice_index (map (λ (colour : ℕ). slice_index LOCALS colour) is.colours) l.local =
+    live.register_is ∙ ap (λ (rs : List ℕ). slice_index rs l.local) is.registers in
+    subst (λ (n : ℕ). n < 32) (sym at) (register_small is.colours l.local)
+
+resumes_slots : (p : Plan) (t : Thread) (program : Program) (code : IsThreadCode p t program) (rs : List Resume) →
+    IsThread p t → AreResumes p t program code rs → AllHaveSlots rs
+resumes_slots p t program code rs is are k d within = live_slots p t (get_or rs k d) is (are.each k (get_or rs k d) (slice_get-get_or rs k d within)).found
+
+pub table_slots : (p : Plan) (codes : Codes p) (table : List (Vec Resume Global)) → IsResumeTable p codes table → TablesHaveSlots table
+table_slots p codes table is k d within =
+    let below : k < length p.graph.threads = subst (λ (n : ℕ). k < n) is.count within in
+    let code = codes.each k below in
+    let rs : Vec Resume Global = get_or table k d in
+    let same : resumes_at table k ≡ rs.items = sym (table_at table k rs within (get_or_default table k d rs within)) in
+    subst AllHaveSlots same (resumes_slots p code.thread code.program code.is (resumes_at table k) code.of (is.each k below))

@@ -1,0 +1,8 @@
+use Rattle.image_checks.proofs.OneFault.{one_fault, none_if_sound}
+use Rattle.image_checks.proofs.laws.images_have_one_fault.Goals as goal
+
+pub returns-clause-one : goal.returns-clause-one
+returns-clause-one c = one_fault
+
+pub returns-clause-none : goal.returns-clause-none
+returns-clause-none c = none_if_sound

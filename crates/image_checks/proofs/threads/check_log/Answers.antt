@@ -1,0 +1,15 @@
+use Rattle.std.proofs.Common.{sym}
+use Rattle.image_checks.specs.Checks.{nowhere}
+use Rattle.image_checks.proofs.Points.{found_slots, bank_answer}
+use Rattle.image_checks.proofs.threads.check_log.Goals as goal
+
+pub check_bank-requires-clause-slots : goal.check_bank-requires-clause-slots
+check_bank-requires-clause-slots c = found_slots c.args.resumes.now c.in-At.address c.in-Some.resume.now c.requires.slots (sym c.in-Some.ensures)
+
+pub returns-in-Some : goal.returns-in-Some
+returns-in-Some c =
+    bank_answer _ c.args.resumes.now c.args.logs.now c.args.thread c.in-At.address c.in-At.bank c.in-Some.resume.now c.check_bank.result
+    (sym c.in-At.ensures) (sym c.in-Some.ensures) c.check_bank.ensures
+
+pub returns-in-None : goal.returns-in-None
+returns-in-None c = nowhere c.in-At.address c.in-At.bank (sym c.in-At.ensures) (sym c.in-None.ensures)

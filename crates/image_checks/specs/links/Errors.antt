@@ -1,0 +1,26 @@
+-- Faults of fields, of sources and of schedules, as faults of an image.
+use Rattle.ido_compile.specs.declared.error.CompileError.{CompileError}
+use Rattle.ido_compile.specs.declared.error.CompileError.TheVariants as compiling
+use Rattle.file_fields.specs.declared.error.ReadError.{ReadError}
+use Rattle.file_fields.specs.declared.error.ReadError.TheVariants as read
+use Rattle.image_checks.specs.declared.schedules.ScheduleFault.{ScheduleFault}
+use Rattle.image_checks.specs.declared.schedules.ScheduleFault.TheVariants as schedule
+use Rattle.image_checks.specs.declared.error.ImageError.{ImageError}
+use Rattle.image_checks.specs.declared.error.ImageError.TheVariants as e
+
+abbrev pub of_read : ReadError → ImageError
+of_read read.Magic = e.Magic
+of_read read.Version = e.Version
+of_read (read.Cut place) = e.Cut place
+of_read (read.Field place) = e.Source
+of_read (read.Rest place) = e.Rest place
+of_read read.Memory = e.Memory
+
+-- any rule that the source breaks
+abbrev pub of_compile : CompileError → ImageError
+of_compile (compiling.Refused refusal) = e.Source
+of_compile compiling.Memory = e.Memory
+
+abbrev pub of_schedule : ScheduleFault → ImageError
+of_schedule (schedule.Step step) = e.Schedule step
+of_schedule schedule.Memory = e.Memory

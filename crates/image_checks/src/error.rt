@@ -1,0 +1,101 @@
+//! Why bytes are no image.
+ghost use Rattle.std.specs.Prelude.{◌≡◌};
+
+use crate::schedules::ScheduleFault;
+use file_fields::error::ReadError;
+use ido_base::memory::OutOfMemory;
+use ido_base::place::Place;
+use ido_compile::CompileError;
+use thiserror::Error;
+
+/// The first fault of bytes, in the order of these variants.
+#[derive(Clone, Copy, Debug, PartialEq, Eq, Drop, Error)]
+pub enum ImageError {
+    /// The first 8 bytes are others.
+    #[error("no image")]
+    Magic,
+    /// The version, at byte 8, is another.
+    #[error("another version")]
+    Version,
+    /// A field isn't whole. The place is the end of the bytes.
+    #[error("bytes are missing")]
+    Cut(Place),
+    /// The source is too long, the compiler refuses it, or its variables take another number of bytes.
+    #[error("another source")]
+    Source,
+    /// The image ends there, and more bytes follow.
+    #[error("bytes behind the end")]
+    Rest(Place),
+    /// The thread can't be resumed at its point.
+    #[error("no point of thread {thread}")]
+    Point { thread: u32 },
+    /// Where the thread is resumed, it holds other mutexes than its log says.
+    #[error("other mutexes of thread {thread}")]
+    Mask { thread: u32 },
+    /// No local that is live in the register where the thread is resumed has such a number; or, of register 28,
+    /// no element that the thread may write next has this address.
+    #[error("another number in register {register} of thread {thread}")]
+    Slot { thread: u32, register: u8 },
+    /// Both threads hold the mutex of this number.
+    #[error("mutex {lock} is held by threads {first} and {second}")]
+    Shared { lock: u32, first: u32, second: u32 },
+    /// The step of the schedule, counted from 1, is none that the source makes, or isn't told as it should be.
+    #[error("no step {step}")]
+    Schedule { step: u64 },
+    /// An allocation was refused.
+    #[error("out of memory")]
+    Memory,
+}
+
+impl From<ReadError> for ImageError {
+    ghost use Rattle.image_checks.specs.links.Errors.{of_read};
+
+    ghost from_gives = { λ x e. e ≡ of_read x };
+
+    fn from(error: ReadError) -> Self {
+        match error {
+            ReadError::Magic => ImageError::Magic,
+            ReadError::Version => ImageError::Version,
+            ReadError::Cut(place) => ImageError::Cut(place),
+            ReadError::Field(_) => ImageError::Source,
+            ReadError::Rest(place) => ImageError::Rest(place),
+            ReadError::Memory => ImageError::Memory,
+        }
+    }
+}
+
+impl From<OutOfMemory> for ImageError {
+    ghost use Rattle.image_checks.specs.declared.error.ImageError.TheVariants.{Memory as Unremembered};
+
+    ghost from_gives = { λ _ e. e ≡ Unremembered };
+
+    fn from(_: OutOfMemory) -> Self {
+        ImageError::Memory
+    }
+}
+
+impl From<CompileError> for ImageError {
+    ghost use Rattle.image_checks.specs.links.Errors.{of_compile};
+
+    ghost from_gives = { λ x e. e ≡ of_compile x };
+
+    fn from(error: CompileError) -> Self {
+        match error {
+            CompileError::Refused(_) => ImageError::Source,
+            CompileError::Memory => ImageError::Memory,
+        }
+    }
+}
+
+impl From<ScheduleFault> for ImageError {
+    ghost use Rattle.image_checks.specs.links.Errors.{of_schedule};
+
+    ghost from_gives = { λ x e. e ≡ of_schedule x };
+
+    fn from(error: ScheduleFault) -> Self {
+        match error {
+            ScheduleFault::Step(step) => ImageError::Schedule { step },
+            ScheduleFault::Memory => ImageError::Memory,
+        }
+    }
+}

@@ -1,0 +1,284 @@
+-- The walk and the flow at each form of a statement, from what its parts give.
+use Rattle.std.proofs.Common.{◌≡◌, ◌<◌, ℕ, ◌+◌, Bool, not, ◌&&◌, ◌||◌, Option, Some, None, List, [], ◌∷◌, ◌++◌, length, drop}
+use Rattle.std.proofs.Common.{get_or, true, false, Vec, Global, All, refl, sym, ap, ap₂, ◌∙◌, subst, append_assoc}
+use Rattle.std.proofs.lemmas.List.{drop_more}
+use Rattle.std.specs.List.{list_any, list_all}
+use Rattle.std.proofs.lemmas.List.Folds.{list_any-append, list_all-append}
+use Rattle.std.proofs.lemmas.List.Elements.{All-nil, All-cons, All-head, All-tail}
+use Rattle.ido_base.specs.declared.place.Place.{Place}
+use Rattle.c_tree.specs.Exprs.{expr_of, lvalue_of}
+use Rattle.c_tree.specs.declared.expr.Placed.{Placed}
+use Rattle.c_tree.specs.declared.expr.Lvalue.{Lvalue}
+use Rattle.c_tree.specs.declared.flat.Statement as s
+use Rattle.c_tree.specs.declared.flat.Arm as arm
+use Rattle.c_tree.specs.Programs.{Variable}
+use Rattle.c_tree.specs.Flats as f
+use Rattle.c_tree.specs.LockDiscipline.{Held, holds, numbers_below, is_in_some, is_in_all, least_difference, Fault, Walked, After}
+use Rattle.c_tree.specs.LockDiscipline.{and_then, expr_uses, target_uses, walk_uses, join, join_all, walk, walk_all, walk_arms}
+use Rattle.lock_discipline.specs.links.Flow.{held_after, held_after_all, sets_in, sets_in_all, sets_in_arms}
+use Rattle.c_tree.proofs.Public.{flat_rows_of_while as of_while, flat_rows_of_do as of_do, flat_rows_of_if as of_if}
+use Rattle.c_tree.specs.declared.rule.Rule.TheVariants as rule
+use Rattle.lock_discipline.proofs.Sets.{AllLong, AllLong-append, AllAre-right, same_found, same_where_none}
+use Rattle.lock_discipline.proofs.CheckerCorrectness.{none_or, after_then, after_keeps, after_keep_all, keeps_length, keep_all_length}
+use Rattle.lock_discipline.proofs.Flows.{boundary_after_is, after_all_is}
+use Rattle.lock_discipline.proofs.Refusals.{uses_append}
+
+-- ---- Sets at a join
+
+all_long : (n : ℕ) (xs : List Held) → All (λ x. length x ≡ n) xs → AllLong n xs
+all_long n [] p = tt
+all_long n (x ∷ xs) p = (All-head (λ y. length y ≡ n) x xs p, all_long n xs (All-tail (λ y. length y ≡ n) x xs p))
+
+last_or : (a b : Bool) → (a || (b || false)) ≡ (b || a)
+last_or true true = refl
+last_or true false = refl
+last_or false true = refl
+last_or false false = refl
+
+last_and : (a b : Bool) → (a && (b && true)) ≡ (b && a)
+last_and true true = refl
+last_and true false = refl
+last_and false true = refl
+last_and false false = refl
+
+some_last : (hs : List Held) (h : Held) (m : ℕ) → is_in_some (hs ++ h ∷ []) m ≡ is_in_some (h ∷ hs) m
+some_last hs h m = list_any-append (λ x. holds x m) hs (h ∷ []) ∙ last_or (list_any (λ x. holds x m) hs) (holds h m)
+
+all_last : (hs : List Held) (h : Held) (m : ℕ) → is_in_all (hs ++ h ∷ []) m ≡ is_in_all (h ∷ hs) m
+all_last hs h m = list_all-append (λ x. holds x m) hs (h ∷ []) ∙ last_and (list_all (λ x. holds x m) hs) (holds h m)
+
+difference_last : (n : ℕ) (hs : List Held) (h : Held) → least_difference n (hs ++ h ∷ []) ≡ least_difference n (h ∷ hs)
+difference_last n hs h =
+    same_found (λ m. is_in_some (hs ++ h ∷ []) m && not (is_in_all (hs ++ h ∷ []) m)) (λ m. is_in_some (h ∷ hs) m && not (is_in_all (h ∷ hs) m))
+    (numbers_below n)
+    (λ m. ap₂ (λ (a b : Bool). a && not b) (some_last hs h m) (all_last hs h m))
+
+same_end : (o p : Option ℕ) (fault : ℕ → Fault) (h k : Held) → o ≡ p → (o ≡ None → h ≡ k) → none_or o fault h ≡ none_or p fault k
+same_end None p fault h k e same = ap After (same refl) ∙ ap (λ (q : Option ℕ). none_or q fault k) e
+same_end (Some x) p fault h k e same = ap (λ (q : Option ℕ). none_or q fault k) e
+
+-- the sets may be met with the last one first
+pub join_last : (vs : List Variable) (n : ℕ) (place : Place) (h : Held) (hs : List Held) → length h ≡ n → All (λ x. length x ≡ n) hs →
+    join_all vs n place (hs ++ h ∷ []) ≡ join vs n place h hs
+join_last vs n place h [] l ls = refl
+join_last vs n place h (k ∷ ks) l ls =
+    let long = all_long n (k ∷ ks) ls in
+    same_end (least_difference n (k ∷ ks ++ h ∷ [])) (least_difference n (h ∷ k ∷ ks)) (λ m. record { rule = rule.Join; place = place; mutex = m }) k h
+    (difference_last n (k ∷ ks) h)
+    (λ e. sym (AllAre-right k ks (h ∷ []) (same_where_none n k (ks ++ h ∷ []) long.0 (AllLong-append n ks (h ∷ []) long.1 (l, tt)) e)).0)
+
+-- ---- A statement of a list
+
+module _ (vs : List Variable) (n : ℕ) (w : Walked) where
+  pub at_next : (h : Held) (xs : List s.Statement) (i : ℕ) (x : s.Statement) → i < length xs → x ≡ get_or xs i x → length h ≡ n →
+      w ≡ walk_all vs n h (f.statements_of (drop i xs)) → w ≡ and_then (walk vs (length h) h (f.statement_of x))
+      (λ after. walk_all vs n after (f.statements_of (drop (i + 1) xs)))
+  at_next h xs i x lt is l e =
+      let next = λ (after : Held). walk_all vs n after (f.statements_of (drop (i + 1) xs)) in
+      e ∙ ap (λ (ys : List s.Statement). walk_all vs n h (f.statements_of ys)) (drop_more xs i x lt)
+      ∙ ap (λ (y : s.Statement). and_then (walk vs n h (f.statement_of y)) next) (sym is)
+      ∙ ap (λ (m : ℕ). and_then (walk vs m h (f.statement_of x)) next) (sym l)
+
+  pub next_walk : (h k : Held) (xs : List s.Statement) (i : ℕ) (x : s.Statement) → i < length xs → x ≡ get_or xs i x → length h ≡ n →
+      w ≡ walk_all vs n h (f.statements_of (drop i xs)) → walk vs (length h) h (f.statement_of x) ≡ After k →
+      w ≡ walk_all vs n k (f.statements_of (drop (i + 1) xs))
+  next_walk h k xs i x lt is l e walked = at_next h xs i x lt is l e ∙ after_then _ (λ after. walk_all vs n after (f.statements_of (drop (i + 1) xs))) k walked
+
+pub next_sets : (h k : Held) (xs : List s.Statement) (i : ℕ) (x : s.Statement) (old new all : List Held) → i < length xs → x ≡ get_or xs i x →
+    held_after h (f.statement_of x) ≡ k →
+    new ≡ old ++ sets_in h (f.statement_of x) → old ++ sets_in_all h (f.statements_of (drop i xs)) ≡ all →
+    new ++ sets_in_all k (f.statements_of (drop (i + 1) xs)) ≡ all
+next_sets h k xs i x old new all lt is b p e =
+    let rest = f.statements_of (drop (i + 1) xs) in
+    ap (λ (ys : List Held). ys ++ sets_in_all k rest) p ∙ append_assoc old (sets_in h (f.statement_of x)) (sets_in_all k rest)
+    ∙ ap (λ (y : Held). old ++ (sets_in h (f.statement_of x) ++ sets_in_all y rest)) (sym b)
+    ∙ ap (λ (y : s.Statement). old ++ (sets_in h (f.statement_of y) ++ sets_in_all (held_after h (f.statement_of y)) rest)) is
+    ∙ ap (λ (ys : List s.Statement). old ++ sets_in_all h (f.statements_of ys)) (sym (drop_more xs i x lt)) ∙ e
+
+-- ---- An arm of a list
+
+module _ (vs : List Variable) (h : Held) (w : (List Held → Walked) → Walked) where
+  -- the walk of an arm begins with its condition
+  pub at_arm : (left : List Held) (xs : List arm.Arm) (i : ℕ) (x : arm.Arm) → i < length xs → x ≡ get_or xs i x →
+      ((held_after : List Held → Walked) → w held_after ≡ walk_arms vs (length h) h left (f.arms_list_of (drop i xs)) held_after) →
+      (held_after : List Held → Walked) →
+      w held_after ≡ and_then (walk_uses vs (length h) h (expr_uses (expr_of x.condition.expr)))
+      (λ _. and_then (walk_all vs (length h) h (f.statements_of x.body.items))
+      (λ after. walk_arms vs (length h) h (left ++ after ∷ []) (f.arms_list_of (drop (i + 1) xs)) held_after))
+  at_arm left xs i x lt is e held_after =
+      e held_after ∙ ap (λ (ys : List arm.Arm). walk_arms vs (length h) h left (f.arms_list_of ys) held_after) (drop_more xs i x lt)
+      ∙ ap (λ (y : arm.Arm). and_then (walk_uses vs (length h) h (expr_uses (expr_of y.condition.expr)))
+      (λ _. and_then (walk_all vs (length h) h (f.statements_of y.body.items))
+      (λ after. walk_arms vs (length h) h (left ++ after ∷ []) (f.arms_list_of (drop (i + 1) xs)) held_after))) (sym is)
+
+  -- after its condition the walk of an arm comes to its body
+  pub in_arm_body : (left : List Held) (xs : List arm.Arm) (i : ℕ) (x : arm.Arm) (body : List s.Statement) → i < length xs → x ≡ get_or xs i x →
+      body ≡ x.body.items →
+      ((held_after : List Held → Walked) → w held_after ≡ walk_arms vs (length h) h left (f.arms_list_of (drop i xs)) held_after) →
+      walk_uses vs (length h) h (expr_uses (expr_of x.condition.expr)) ≡ After h → (held_after : List Held → Walked) →
+      w held_after ≡ and_then (walk_all vs (length h) h (f.statements_of body))
+      (λ after. walk_arms vs (length h) h (left ++ after ∷ []) (f.arms_list_of (drop (i + 1) xs)) held_after)
+  in_arm_body left xs i x body lt is same e tested held_after =
+      at_arm left xs i x lt is e held_after
+      ∙ after_then _ (λ _. and_then (walk_all vs (length h) h (f.statements_of x.body.items))
+      (λ after. walk_arms vs (length h) h (left ++ after ∷ []) (f.arms_list_of (drop (i + 1) xs)) held_after)) h tested
+      ∙ ap (λ (ys : List s.Statement). and_then (walk_all vs (length h) h (f.statements_of ys))
+      (λ after. walk_arms vs (length h) h (left ++ after ∷ []) (f.arms_list_of (drop (i + 1) xs)) held_after)) (sym same)
+
+  pub next_arm : (left ends : List Held) (k : Held) (xs : List arm.Arm) (i : ℕ) (x : arm.Arm) (body : List s.Statement) → i < length xs → x ≡ get_or xs i x →
+      body ≡ x.body.items →
+      ((held_after : List Held → Walked) → w held_after ≡ walk_arms vs (length h) h left (f.arms_list_of (drop i xs)) held_after) →
+      walk_uses vs (length h) h (expr_uses (expr_of x.condition.expr)) ≡ After h → walk_all vs (length h) h (f.statements_of body) ≡ After k →
+      ends ≡ left ++ k ∷ [] → (held_after : List Held → Walked) →
+      w held_after ≡ walk_arms vs (length h) h ends (f.arms_list_of (drop (i + 1) xs)) held_after
+  next_arm left ends k xs i x body lt is same e tested walked p held_after =
+      in_arm_body left xs i x body lt is same e tested held_after
+      ∙ after_then _ (λ after. walk_arms vs (length h) h (left ++ after ∷ []) (f.arms_list_of (drop (i + 1) xs)) held_after) k walked
+      ∙ ap (λ (hs : List Held). walk_arms vs (length h) h hs (f.arms_list_of (drop (i + 1) xs)) held_after) (sym p)
+
+pub next_arm_sets : (h : Held) (xs : List arm.Arm) (i : ℕ) (x : arm.Arm) (body : List s.Statement) (old one new all : List Held) → i < length xs →
+    x ≡ get_or xs i x → body ≡ x.body.items →
+    one ≡ old ++ h ∷ [] → new ≡ one ++ sets_in_all h (f.statements_of body) → old ++ sets_in_arms h (f.arms_list_of (drop i xs)) ≡ all →
+    new ++ sets_in_arms h (f.arms_list_of (drop (i + 1) xs)) ≡ all
+next_arm_sets h xs i x body old one new all lt is same p q e =
+    let rest = sets_in_arms h (f.arms_list_of (drop (i + 1) xs)) in
+    ap (λ (ys : List Held). ys ++ rest) (q ∙ ap₂ (λ (a : List Held) (b : List s.Statement). a ++ sets_in_all h (f.statements_of b)) p same)
+    ∙ append_assoc (old ++ h ∷ []) (sets_in_all h (f.statements_of x.body.items)) rest
+    ∙ append_assoc old (h ∷ []) (sets_in_all h (f.statements_of x.body.items) ++ rest)
+    ∙ ap (λ (y : arm.Arm). old ++ (h ∷ sets_in_all h (f.statements_of y.body.items) ++ rest)) is
+    ∙ ap (λ (ys : List arm.Arm). old ++ sets_in_arms h (f.arms_list_of ys)) (sym (drop_more xs i x lt)) ∙ e
+
+module _ (vs : List Variable) (h : Held) where
+  -- ---- The set after a part
+
+  pub walked_length : (x : f.Statement) (k : Held) → walk vs (length h) h x ≡ After k → length k ≡ length h
+  walked_length x k e = keeps_length vs (after_keeps vs (length h) x h k refl e)
+
+  pub walked_after : (x : f.Statement) (k : Held) → walk vs (length h) h x ≡ After k → held_after h x ≡ k
+  walked_after x k e = boundary_after_is vs (after_keeps vs (length h) x h k refl e)
+
+  pub walked_all_length : (x : f.Statements) (k : Held) → walk_all vs (length h) h x ≡ After k → length k ≡ length h
+  walked_all_length x k e = keep_all_length vs (after_keep_all vs (length h) x h k refl e)
+
+  pub walked_all_after : (x : f.Statements) (k : Held) → walk_all vs (length h) h x ≡ After k → held_after_all h x ≡ k
+  walked_all_after x k e = after_all_is vs (after_keep_all vs (length h) x h k refl e)
+
+  -- ---- An assignment
+
+  pub assign_is : (x : s.Statement) (place : Place) (target : Lvalue) (value : Placed) → x ≡ s.Assign place target value →
+      walk vs (length h) h (f.statement_of x) ≡ and_then (walk_uses vs (length h) h (expr_uses (expr_of value.expr)))
+      (λ _. walk_uses vs (length h) h (target_uses (lvalue_of target)))
+  assign_is x place target value is = ap (λ y. walk vs (length h) h (f.statement_of y)) is
+      ∙ uses_append vs (length h) h (expr_uses (expr_of value.expr)) (target_uses (lvalue_of target))
+
+  -- ---- A `while`
+
+  pub while_is : (x : s.Statement) (place : Place) (condition : Placed) (body : Vec s.Statement Global) (xs : List s.Statement) →
+      x ≡ s.While place condition body → xs ≡ body.items →
+      walk_uses vs (length h) h (expr_uses (expr_of condition.expr)) ≡ After h →
+      walk vs (length h) h (f.statement_of x) ≡ and_then (walk_all vs (length h) h (f.statements_of xs)) (λ after. join vs (length h) place h (after ∷ []))
+  while_is x place condition body xs is same tested =
+      ap (λ y. walk vs (length h) h (f.statement_of y)) is
+      ∙ ap (walk vs (length h) h) (of_while place condition body)
+      ∙ after_then _ (λ _. and_then (walk_all vs (length h) h (f.statements_of body.items)) (λ after. join vs (length h) place h (after ∷ []))) h tested
+      ∙ ap (λ (y : List s.Statement). and_then (walk_all vs (length h) h (f.statements_of y)) (λ after. join vs (length h) place h (after ∷ []))) (sym same)
+
+  pub while_sets : (x : s.Statement) (place : Place) (condition : Placed) (body : Vec s.Statement Global) (xs : List s.Statement) (old one all : List Held) →
+      x ≡ s.While place condition body → xs ≡ body.items →
+      one ≡ old ++ h ∷ [] → all ≡ one ++ sets_in_all h (f.statements_of xs) → all ≡ old ++ sets_in h (f.statement_of x)
+  while_sets x place condition body xs old one all is same p q =
+      q ∙ ap₂ (λ (a b : List Held). a ++ b) p (ap (λ (y : List s.Statement). sets_in_all h (f.statements_of y)) same)
+      ∙ append_assoc old (h ∷ []) (sets_in_all h (f.statements_of body.items))
+      ∙ ap (λ (y : f.Statement). old ++ sets_in h y) (sym (ap f.statement_of is ∙ of_while place condition body))
+
+  -- ---- A `do`
+
+  pub do_is : (x : s.Statement) (place : Place) (body : Vec s.Statement Global) (condition : Placed) (xs : List s.Statement) → x ≡ s.Do place body condition →
+      xs ≡ body.items →
+      walk vs (length h) h (f.statement_of x) ≡ and_then (walk_all vs (length h) h (f.statements_of xs))
+      (λ after. and_then (walk_uses vs (length h) after (expr_uses (expr_of condition.expr))) (λ _. join vs (length h) place h (after ∷ [])))
+  do_is x place body condition xs is same =
+      ap (λ y. walk vs (length h) h (f.statement_of y)) is
+      ∙ ap (walk vs (length h) h) (of_do place body condition)
+      ∙ ap (λ (y : List s.Statement). and_then (walk_all vs (length h) h (f.statements_of y))
+      (λ after. and_then (walk_uses vs (length h) after (expr_uses (expr_of condition.expr))) (λ _. join vs (length h) place h (after ∷ [])))) (sym same)
+
+  -- after its body
+  pub do_tests : (x : s.Statement) (place : Place) (body : Vec s.Statement Global) (condition : Placed) (xs : List s.Statement) (k : Held) →
+      x ≡ s.Do place body condition → xs ≡ body.items →
+      walk_all vs (length h) h (f.statements_of xs) ≡ After k →
+      walk vs (length h) h (f.statement_of x) ≡ and_then (walk_uses vs (length k) k (expr_uses (expr_of condition.expr)))
+      (λ _. join vs (length h) place h (k ∷ []))
+  do_tests x place body condition xs k is same walked =
+      do_is x place body condition xs is same
+      ∙ after_then _ (λ after. and_then (walk_uses vs (length h) after (expr_uses (expr_of condition.expr)))
+      (λ _. join vs (length h) place h (after ∷ []))) k walked
+      ∙ ap (λ (n : ℕ). and_then (walk_uses vs n k (expr_uses (expr_of condition.expr))) (λ _. join vs (length h) place h (k ∷ [])))
+      (sym (walked_all_length (f.statements_of xs) k walked))
+
+  pub do_sets : (x : s.Statement) (place : Place) (body : Vec s.Statement Global) (condition : Placed) (xs : List s.Statement) (k : Held)
+      (old some all : List Held) → x ≡ s.Do place body condition → xs ≡ body.items →
+      walk_all vs (length h) h (f.statements_of xs) ≡ After k →
+      some ≡ old ++ sets_in_all h (f.statements_of xs) → all ≡ some ++ k ∷ [] → all ≡ old ++ sets_in h (f.statement_of x)
+  do_sets x place body condition xs k old some all is same walked p q =
+      q ∙ ap (λ (a : List Held). a ++ k ∷ []) p ∙ append_assoc old (sets_in_all h (f.statements_of xs)) (k ∷ [])
+      ∙ ap (λ (b : Held). old ++ (sets_in_all h (f.statements_of xs) ++ b ∷ [])) (sym (walked_all_after (f.statements_of xs) k walked))
+      ∙ ap (λ (y : List s.Statement). old ++ (sets_in_all h (f.statements_of y) ++ held_after_all h (f.statements_of y) ∷ [])) same
+      ∙ ap (λ (y : f.Statement). old ++ sets_in h y) (sym (ap f.statement_of is ∙ of_do place body condition))
+
+  -- a set to compare with another
+  pub one_long : (k : Held) → length k ≡ length h → All (λ x. length x ≡ length h) (k ∷ [])
+  one_long k l = All-cons (λ x. length x ≡ length h) k [] l (All-nil (λ x. length x ≡ length h))
+
+  -- ---- An `if`
+
+  pub if_is : (x : s.Statement) (place : Place) (arms : Vec arm.Arm Global) (otherwise : Vec s.Statement Global) (choices : List arm.Arm) →
+      x ≡ s.If place arms otherwise → choices ≡ arms.items →
+      walk vs (length h) h (f.statement_of x) ≡ walk_arms vs (length h) h [] (f.arms_list_of choices)
+      (λ left. and_then (walk_all vs (length h) h (f.statements_of otherwise.items)) (λ after. join_all vs (length h) place (left ++ after ∷ [])))
+  if_is x place arms otherwise choices is same =
+      ap (λ y. walk vs (length h) h (f.statement_of y)) is
+      ∙ ap (walk vs (length h) h) (of_if place arms otherwise)
+      ∙ ap (λ (y : List arm.Arm). walk_arms vs (length h) h [] (f.arms_list_of y)
+      (λ left. and_then (walk_all vs (length h) h (f.statements_of otherwise.items)) (λ after. join_all vs (length h) place (left ++ after ∷ []))))
+      (sym same)
+
+  -- after its arms
+  pub otherwise_is : (x : s.Statement) (place : Place) (arms : Vec arm.Arm Global) (otherwise : Vec s.Statement Global) (choices : List arm.Arm)
+      (xs : List s.Statement) (ends : List Held) → x ≡ s.If place arms otherwise → choices ≡ arms.items → xs ≡ otherwise.items →
+      ((held_after : List Held → Walked) → walk_arms vs (length h) h [] (f.arms_list_of choices) held_after ≡ held_after ends) →
+      walk vs (length h) h (f.statement_of x) ≡ and_then (walk_all vs (length h) h (f.statements_of xs))
+      (λ after. join_all vs (length h) place (ends ++ after ∷ []))
+  otherwise_is x place arms otherwise choices xs ends is same equal walked =
+      if_is x place arms otherwise choices is same
+      ∙ walked (λ left. and_then (walk_all vs (length h) h (f.statements_of otherwise.items)) (λ after. join_all vs (length h) place (left ++ after ∷ [])))
+      ∙ ap (λ (y : List s.Statement). and_then (walk_all vs (length h) h (f.statements_of y)) (λ after. join_all vs (length h) place (ends ++ after ∷ [])))
+      (sym equal)
+
+  -- where its paths meet
+  pub ends_meet : (x : s.Statement) (place : Place) (arms : Vec arm.Arm Global) (otherwise : Vec s.Statement Global) (choices : List arm.Arm)
+      (xs : List s.Statement) (ends others : List Held) (end : Held) → x ≡ s.If place arms otherwise → choices ≡ arms.items → xs ≡ otherwise.items →
+      ((held_after : List Held → Walked) → walk_arms vs (length h) h [] (f.arms_list_of choices) held_after ≡ held_after ends) →
+      All (λ y. length y ≡ length h) ends →
+      walk_all vs (length h) h (f.statements_of xs) ≡ After end → others ≡ ends →
+      walk vs (length h) h (f.statement_of x) ≡ join vs (length end) place end others
+  ends_meet x place arms otherwise choices xs ends others end is same equal walked long reached e =
+      otherwise_is x place arms otherwise choices xs ends is same equal walked
+      ∙ after_then _ (λ after. join_all vs (length h) place (ends ++ after ∷ [])) end reached
+      ∙ join_last vs (length h) place end ends (walked_all_length (f.statements_of xs) end reached) long
+      ∙ ap₂ (λ (n : ℕ) (hs : List Held). join vs n place end hs) (sym (walked_all_length (f.statements_of xs) end reached)) (sym e)
+
+  pub ends_long : (xs : List s.Statement) (end : Held) (ends others : List Held) → walk_all vs (length h) h (f.statements_of xs) ≡ After end → others ≡ ends →
+      All (λ y. length y ≡ length h) ends → All (λ y. length y ≡ length end) others
+  ends_long xs end ends others reached e long =
+      subst (λ (ys : List Held). All (λ y. length y ≡ length end) ys) (sym e)
+      (subst (λ (n : ℕ). All (λ (y : Held). length y ≡ n) ends) (sym (walked_all_length (f.statements_of xs) end reached)) long)
+
+  pub if_sets : (x : s.Statement) (place : Place) (arms : Vec arm.Arm Global) (otherwise : Vec s.Statement Global) (choices : List arm.Arm)
+      (xs : List s.Statement) (old one all : List Held) → x ≡ s.If place arms otherwise → choices ≡ arms.items → xs ≡ otherwise.items →
+      one ≡ old ++ sets_in_arms h (f.arms_list_of choices) → all ≡ one ++ sets_in_all h (f.statements_of xs) → all ≡ old ++ sets_in h (f.statement_of x)
+  if_sets x place arms otherwise choices xs old one all is same equal p q =
+      q ∙ ap (λ (ys : List Held). ys ++ sets_in_all h (f.statements_of xs)) p
+      ∙ append_assoc old (sets_in_arms h (f.arms_list_of choices)) (sets_in_all h (f.statements_of xs))
+      ∙ ap₂ (λ (a : List arm.Arm) (b : List s.Statement). old ++ (sets_in_arms h (f.arms_list_of a) ++ sets_in_all h (f.statements_of b))) same equal
+      ∙ ap (λ (y : f.Statement). old ++ sets_in h y) (sym (ap f.statement_of is ∙ of_if place arms otherwise))

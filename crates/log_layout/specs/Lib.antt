@@ -1,3 +1,0 @@
-pub mod Points
-pub mod Roles
-pub mod Variables

@@ -1,0 +1,150 @@
+-- A boundary's own cleans and fences.
+use Rattle.std.proofs.Common.{◌≡◌, inl, inr, ℕ, ◌+◌, ◌*◌, ◌/◌, ◌%◌, ◌<◌, ◌≤◌, List, [], ◌∷◌, ◌++◌, length, ap, arith, sym, ◌∙◌, subst}
+use Rattle.std.specs.List.{Contains}
+use Rattle.ido_base.specs.Words.{Word, Entry, word_at, last_position, live_value, entry_of}
+use Rattle.ido_base.specs.Growth.{AreEntries, PersistsThrough}
+use Rattle.ido_base.specs.Layout.{point_at, slot_at, byte_number, word_number}
+use Rattle.ido_base.proofs.Public.{reach_stays, cleans_reach, changed_refl, clean_entry, entries_append}
+use Rattle.rv64_isa.specs.Rows.{Cleans, Fences}
+use Rattle.rv64_isa.specs.Machine.{bank_of}
+use Rattle.log_states.specs.Logs.{Record, slots_of, value_of, bank_word, point_in, slot_in, IsWord, HasLog, IsDurable, HasBank, IsRecorded}
+use Rattle.log_states.specs.Stages.{LogConfig, IsComing, ToStore, ToClean, Queued, IsWriting, IsPointed, Stage, Writing, Written, Pointed, PointQueued, Over}
+use Rattle.log_states.specs.Stages.{MayOverwrite}
+use Rattle.log_states.proofs.Lists.{contains_none, contains_cases, contains_first, contains_later}
+use Rattle.log_states.proofs.Heads.{no_head, not_done, same_address, same_rest}
+use Rattle.log_states.proofs.Numbers.{word_of_slot, word_of_point, line_of_slots, line_of_point}
+use Rattle.log_states.proofs.UnstoredLogStays.{bank_below, of_slot, of_point}
+
+-- ---- A clean
+
+-- each word of the line is reached, and each other as far as before
+pub record IsCleaned (words : List Word) (before after : List Entry) (line : ℕ) : Type 0 where
+  pub entries : AreEntries words after
+  pub here : (k : ℕ) → k < 8 → PersistsThrough words after (8 * line + k) (last_position (word_at words (8 * line + k)))
+  pub stays : (j position : ℕ) → PersistsThrough words before j position → PersistsThrough words after j position
+
+pub cleaned_line : (words : List Word) (queue : List Entry) (line : ℕ) → 8 * line + 8 ≤ length words → AreEntries words queue →
+    IsCleaned words queue (queue ++ entry_of words line ∷ []) line
+cleaned_line words queue line exists entries = record {
+  entries = entries_append words queue (entry_of words line) entries (clean_entry words line exists);
+  here = λ k below. (cleans_reach words queue line k exists below entries).1;
+  stays = λ j position h. reach_stays words words queue (entry_of words line ∷ []) j position (changed_refl words) h;
+}
+
+module _ (thread : ℕ) (old new : Record) (m n : LogConfig) (f : MayOverwrite old new) (log : HasLog thread m.words)
+    (entries : AreEntries m.words m.queue) (address : ℕ)
+    (does : m.rest ≡ Cleans address ∷ n.rest) (words : n.words ≡ m.words) (queue : n.queue ≡ m.queue ++ entry_of m.words (byte_number address / 64) ∷ []) where
+  does_clean : (place line : ℕ) → address ≡ place → byte_number place / 64 ≡ line → 8 * line + 8 ≤ length m.words → IsCleaned n.words m.queue n.queue line
+  does_clean place line same is exists =
+      let e : m.queue ++ entry_of m.words line ∷ [] ≡ n.queue =
+      ap (λ (l : ℕ). m.queue ++ entry_of m.words l ∷ []) (sym is ∙ ap (λ (a : ℕ). byte_number a / 64) (sym same)) ∙ sym queue in
+      subst (λ (ws : List Word). IsCleaned ws m.queue n.queue line) (sym words)
+      (subst (λ (q : List Entry). IsCleaned m.words m.queue q line) e (cleaned_line m.words m.queue line exists entries))
+
+  -- words are as they were
+  cleaned_words : (P : List Word → Type 0) → P m.words → P n.words
+  cleaned_words P h = subst P (sym words) h
+
+  -- a slot of the line, and one of another
+  cleaned_slot : (line : ℕ) (lines : List ℕ) (slot : ℕ) → IsCleaned n.words m.queue n.queue (1025 + 16 * thread + 4 * bank_of new.point + line)
+      → IsComing thread new [] (line ∷ lines) m slot → IsComing thread new [] lines n slot
+  cleaned_slot line lines slot c (ToStore h) = absurd (contains_none slot h)
+  cleaned_slot line lines slot c (ToClean live h) =
+      let holds : live_value (slot_in n.words thread new slot) ≡ value_of new slot =
+      cleaned_words (λ ws. live_value (slot_in ws thread new slot) ≡ value_of new slot) live in
+      elim (contains_cases line lines (slot / 8) h) [
+        | inl is ↦
+            let place : 8 * (1025 + 16 * thread + 4 * bank_of new.point + line) + slot % 8 ≡ bank_word thread (bank_of new.point) slot =
+            omega (arith, is, word_of_slot thread (bank_of new.point) slot) in
+            Queued holds (subst (λ (j : ℕ). PersistsThrough n.words n.queue j (last_position (word_at n.words j))) place (c.here (slot % 8) (omega arith)))
+        | inr more ↦ ToClean holds more
+      ]
+  cleaned_slot line lines slot c (Queued live h) =
+      Queued (cleaned_words (λ ws. live_value (slot_in ws thread new slot) ≡ value_of new slot) live)
+      (c.stays (bank_word thread (bank_of new.point) slot) (last_position (slot_in n.words thread new slot))
+      (cleaned_words (λ ws. PersistsThrough ws m.queue (bank_word thread (bank_of new.point) slot) (last_position (slot_in ws thread new slot))) h))
+
+  cleaned_stage : AreEntries n.words n.queue → Stage thread old new n → AreEntries n.words n.queue × Stage thread old new n
+  cleaned_stage e s = (e, s)
+
+  cleans : (slots lines : List ℕ) → IsWriting thread new slots lines m → IsRecorded thread old m.words → AreEntries n.words n.queue × Stage thread old new n
+  cleans (slot ∷ slots) lines w h = absurd (no_head _ _ _ _ (sym does ∙ w.rest) (omega arith))
+  cleans [] [] w h = absurd (no_head _ _ _ _ (sym does ∙ w.rest) (omega arith))
+  cleans [] (line ∷ lines) w h =
+      let e = sym does ∙ w.rest in
+      let bank : ℕ = bank_of new.point in
+      let exists : 8 * (1025 + 16 * thread + 4 * bank + line) + 8 ≤ length m.words =
+      omega (arith, log.exists, bank_below new.point, w.exist line (contains_first line lines)) in
+      let c = does_clean (slot_at thread bank (8 * line)) (1025 + 16 * thread + 4 * bank + line) (same_address _ _ _ _ e)
+      (line_of_slots thread bank line) exists in (
+        c.entries,
+        Writing [] lines (record {
+          rest = same_rest _ _ _ _ e;
+          own = w.own;
+          after = λ slot d. absurd (contains_none slot d);
+          exist = λ l d. w.exist l (contains_later line lines l d);
+          each = λ slot d. cleaned_slot line lines slot c (w.each slot d);
+        }) (cleaned_words (IsRecorded thread old) h),
+      )
+
+  point_cleaned : m.rest ≡ Cleans (point_at thread) ∷ Fences ∷ [] → IsPointed thread old new m.words → AreEntries n.words n.queue × Stage thread old new n
+  point_cleaned rest h =
+      let e = sym does ∙ rest in
+      let c = does_clean (point_at thread) (1024 + 16 * thread) (same_address _ _ _ _ e) (line_of_point thread) (omega (arith, log.exists)) in
+      let place : 8 * (1024 + 16 * thread) + 0 ≡ word_number (point_at thread) = omega (arith, word_of_point thread) in (
+        c.entries,
+        PointQueued (same_rest _ _ _ _ e) (cleaned_words (IsPointed thread old new) h)
+            (subst (λ (j : ℕ). PersistsThrough n.words n.queue j (last_position (word_at n.words j))) place (c.here 0 (omega arith))),
+      )
+
+  pub own_clean : Stage thread old new m → AreEntries n.words n.queue × Stage thread old new n
+  own_clean (Writing slots lines w h) = cleans slots lines w h
+  own_clean (Written rest h bank) = absurd (no_head _ _ _ _ (sym does ∙ rest) (omega arith))
+  own_clean (Pointed rest h) = point_cleaned rest h
+  own_clean (PointQueued rest h r) = absurd (no_head _ _ _ _ (sym does ∙ rest) (omega arith))
+  own_clean (Over rest h) = absurd (not_done _ _ (sym rest ∙ does))
+
+-- ---- A fence
+
+-- with an empty queue, what it reached is durable
+pub reached_durable : (words : List Word) (j value : ℕ) → IsWord (word_at words j) → live_value (word_at words j) ≡ value →
+    PersistsThrough words [] j (last_position (word_at words j)) →
+    IsDurable (word_at words j) value
+reached_durable words j value is live h = record { durable = omega (arith, is.durable, h); live = live }
+
+module _ (thread : ℕ) (old new : Record) (m n : LogConfig) (f : MayOverwrite old new) (log : HasLog thread m.words) (does : m.rest ≡ Fences ∷ n.rest)
+    (words : n.words ≡ m.words)
+    (empty : m.queue ≡ []) where
+  fenced_words : (P : List Word → Type 0) → P m.words → P n.words
+  fenced_words P h = subst P (sym words) h
+
+  fenced_slot : (slot : ℕ) → Contains (slots_of new) slot → IsComing thread new [] [] m slot → IsDurable (slot_in m.words thread new slot) (value_of new slot)
+  fenced_slot slot c (ToStore h) = absurd (contains_none slot h)
+  fenced_slot slot c (ToClean live h) = absurd (contains_none (slot / 8) h)
+  fenced_slot slot c (Queued live h) =
+      reached_durable m.words (bank_word thread (bank_of new.point) slot) (value_of new slot)
+      (of_slot thread (λ j. IsWord (word_at m.words j)) log.each new slot f.new_is c) live
+      (subst (λ (q : List Entry). PersistsThrough m.words q (bank_word thread (bank_of new.point) slot) (last_position (slot_in m.words thread new slot))) empty
+      h)
+
+  fences : (slots lines : List ℕ) → IsWriting thread new slots lines m → IsRecorded thread old m.words → Stage thread old new n
+  fences (slot ∷ slots) lines w h = absurd (no_head _ _ _ _ (sym does ∙ w.rest) (omega arith))
+  fences [] (line ∷ lines) w h = absurd (no_head _ _ _ _ (sym does ∙ w.rest) (omega arith))
+  fences [] [] w h =
+      Written (same_rest _ _ _ _ (sym does ∙ w.rest)) (fenced_words (IsRecorded thread old) h)
+      (fenced_words (HasBank thread new) (λ slot c. fenced_slot slot c (w.each slot c)))
+
+  point_fenced : m.rest ≡ Fences ∷ [] → IsPointed thread old new m.words →
+      PersistsThrough m.words m.queue (word_number (point_at thread)) (last_position (point_in m.words thread)) → Stage thread old new n
+  point_fenced rest h r =
+      let is : IsWord (point_in m.words thread) = of_point thread (λ j. IsWord (word_at m.words j)) log.each in
+      let point : IsDurable (point_in m.words thread) new.point = reached_durable m.words (word_number (point_at thread)) new.point is h.last
+      (subst (λ (q : List Entry). PersistsThrough m.words q (word_number (point_at thread)) (last_position (point_in m.words thread))) empty r) in
+      Over (same_rest _ _ _ _ (sym does ∙ rest)) (fenced_words (IsRecorded thread new) (record { point = point; bank = h.new_bank }))
+
+  pub own_fence : Stage thread old new m → Stage thread old new n
+  own_fence (Writing slots lines w h) = fences slots lines w h
+  own_fence (Written rest h bank) = absurd (no_head _ _ _ _ (sym does ∙ rest) (omega arith))
+  own_fence (Pointed rest h) = absurd (no_head _ _ _ _ (sym does ∙ rest) (omega arith))
+  own_fence (PointQueued rest h r) = point_fenced rest h r
+  own_fence (Over rest h) = absurd (not_done _ _ (sym rest ∙ does))

@@ -1,0 +1,5 @@
+pub mod Public
+mod VariableEnds
+mod Laying
+mod Filling
+mod Worked

@@ -1,0 +1,4 @@
+pub mod Points
+pub mod Roles
+pub mod Variables
+pub mod links

@@ -1,0 +1,218 @@
+-- Boundaries.
+use Rattle.std.proofs.Common.{◌≡◌, ℕ, ◌+◌, ◌-◌, ◌*◌, ◌%◌, ◌^◌, ◌<◌, List, [], ◌∷◌, ◌++◌, length, map, refl, ap, sym, ◌∙◌, arith, subst, Bool, true}
+use Rattle.std.proofs.Common.{false, ◌==◌, ◌≤◌}
+use Rattle.std.specs.Prelude.{sum_by, if◌then◌else◌, slice_set, pos, ℤ}
+use Rattle.std.specs.List.{list_any}
+use Rattle.rv64_isa.specs.Signed.{twos_complement}
+use Rattle.std.proofs.Math.Nat.{mod-eq_of_lt}
+use Rattle.std.proofs.lemmas.List.{length-set, length-append}
+use Rattle.std.proofs.lemmas.List.Sums.{sum_by-append}
+use Rattle.ido_base.specs.Layout.{slot_at}
+use Rattle.rv64_isa.specs.declared.instr.Instr.{Instr}
+use Rattle.rv64_isa.specs.declared.instr.Instr.TheVariants.{Lui, Auipc, Jal, Jalr, Branch, Load, Store, OpImmediate, ShiftImmediate}
+use Rattle.rv64_isa.specs.declared.instr.Instr.TheVariants.{ShiftImmediateWord, Op, CboClean, Fence, Ecall}
+use Rattle.rv64_isa.specs.declared.object.CodeItem.{CodeItem}
+use Rattle.rv64_isa.specs.declared.object.CodeItem.TheVariants.{ResumeNext}
+use Rattle.rv64_isa.specs.Rows.{Effect, Stores, Cleans, row, read, written}
+use Rattle.rv64_link.specs.LabelledCode.{most_words_of, stands_here, is_mark, is_resume, positions_from}
+use Rattle.boundary_code.specs.Boundaries.{Boundary, AtBank, boundary_effects, bank_effects, commit_effects, lines_in_use, resume_address}
+use Rattle.operator_code.specs.StraightLineCode.{registers_after, left_by}
+use Rattle.operator_code.proofs.Public as s
+use Rattle.code_runs.specs.CodeTraces.{GoesThrough, AreMemory}
+use Rattle.node_code.specs.Sites.{Linking, IsPart, mark_waits, begin_of, end_of}
+use Rattle.node_code.specs.Pieces.{LeavesRegisters, boundary_observations, IsBoundaryPiece, words_in}
+use Rattle.node_code.specs.links.BoundaryCode.{IsCodeOf}
+use Rattle.node_code.specs.links.ItemLists.{plain, boundary_items}
+use Rattle.node_code.proofs.Fences.{boundary_items_fences}
+use Rattle.node_code.proofs.ItemAddresses.{part_left, part_right, waits_left, waits_append, waits_plain_on, labels_append, labels_plain}
+use Rattle.node_code.proofs.ItemAddresses.{positions_append, no_marks_in, no_resumes_in}
+use Rattle.node_code.proofs.Words.{AreExact, exact_plain, exact_append, exact_words}
+use Rattle.node_code.proofs.LinkedPartRuns.{waiting, stays_at, has_room, code_end}
+use Rattle.node_code.proofs.LegComposition.{fragment, end_is, weaker, more_room, straight_leg, words_of_plain}
+
+-- ---- Registers after code
+
+written_count : (x : List ℕ) (r v : ℕ) → length (written x r v) ≡ length x
+written_count x r v = by (r == 0)
+  where
+    by : (b : Bool) → length (if b then x else slice_set x r v) ≡ length x
+    by true = refl
+    by false = length-set x r v
+
+row_count : (i : Instr) (x : List ℕ) (pc : ℕ) → length (left_by x (row i x pc)) ≡ length x
+unfolding row
+row_count (Lui rd immediate) x pc = written_count x rd _
+row_count (Auipc rd immediate) x pc = written_count x rd _
+row_count (Jal rd offset) x pc = written_count x rd _
+row_count (Jalr rd rs1 offset) x pc = written_count x rd _
+row_count (Branch condition rs1 rs2 offset) x pc = refl
+row_count (Load kind rd rs1 offset) x pc = refl
+row_count (Store kind rs2 rs1 offset) x pc = refl
+row_count (OpImmediate operation rd rs1 immediate) x pc = written_count x rd _
+row_count (ShiftImmediate operation rd rs1 count) x pc = written_count x rd _
+row_count (ShiftImmediateWord operation rd rs1 count) x pc = written_count x rd _
+row_count (Op operation rd rs1 rs2) x pc = written_count x rd _
+row_count (CboClean rs1) x pc = refl
+row_count Fence x pc = refl
+row_count Ecall x pc = refl
+
+after_count : (code : List Instr) (x : List ℕ) (pc : ℕ) → length (registers_after code x pc) ≡ length x
+after_count [] x pc = refl
+after_count (i ∷ is) x pc = after_count is (left_by x (row i x pc)) (pc + 4) ∙ row_count i x pc
+
+-- ---- What a boundary does goes to memory
+
+memory_both : (es fs : List Effect) → AreMemory es → AreMemory fs → AreMemory (es ++ fs)
+memory_both [] fs h k = k
+memory_both (e ∷ es) fs h k = (h.0, memory_both es fs h.1 k)
+
+stores_memory : (f : ℕ → ℕ) (g : ℕ → ℕ) (rs : List ℕ) → AreMemory (map (λ r. Stores (f r) 8 (g r)) rs)
+stores_memory f g [] = tt
+stores_memory f g (r ∷ rs) = (refl, stores_memory f g rs)
+
+cleans_memory : (f : ℕ → ℕ) (lines : List ℕ) → AreMemory (map (λ line. Cleans (f line)) lines)
+cleans_memory f [] = tt
+cleans_memory f (line ∷ lines) = (refl, cleans_memory f lines)
+
+commit_memory : (thread point : ℕ) → AreMemory (commit_effects thread point)
+commit_memory thread point = (refl, (refl, (refl, (refl, tt))))
+
+pub boundary_memory : (b : Boundary) (bank resume : ℕ) (x : List ℕ) → AreMemory (boundary_effects b bank resume x)
+boundary_memory b bank resume x = by (b.mask == 0)
+  where
+    by : (m : Bool) → AreMemory (if m then commit_effects b.thread 0 else bank_effects b bank x ++ commit_effects b.thread ((resume + bank) % 2 ^ 64))
+    by true = commit_memory b.thread 0
+    by false = (
+      refl,
+      memory_both (map (λ r. Stores (slot_at b.thread bank r) 8 (read x r)) b.live ++ map (λ line. Cleans (slot_at b.thread bank (8 * line)))
+          (lines_in_use (0 ∷ b.live)))
+          (commit_effects b.thread ((resume + bank) % 2 ^ 64))
+          (memory_both (map (λ r. Stores (slot_at b.thread bank r) 8 (read x r)) b.live)
+          (map (λ line. Cleans (slot_at b.thread bank (8 * line))) (lines_in_use (0 ∷ b.live)))
+          (stores_memory (λ r. slot_at b.thread bank r) (λ r. read x r) b.live) (cleans_memory (λ line. slot_at b.thread bank (8 * line))
+          (lines_in_use (0 ∷ b.live))))
+          (commit_memory b.thread ((resume + bank) % 2 ^ 64)),
+    )
+
+-- ---- Code of a boundary
+
+pub some_code : (b : Boundary) (x : List ℕ) (bank : ℕ) → AtBank bank x → IsCodeOf b [] → ⊥
+some_code b x bank a h = by (b.mask == 0) (h.effects_are.does x 0 bank a)
+  where
+    by : (m : Bool) → [] ≡ (if m then commit_effects b.thread 0 else bank_effects b (1 - bank) x ++ commit_effects b.thread
+        ((resume_address b [] 0 + (1 - bank)) % 2 ^ 64)) → ⊥
+    by true e = cc e
+    by false e = cc e
+
+pub left_is : (b : Boundary) (code : List Instr) (x : List ℕ) (pc bank : ℕ) → IsCodeOf b code → AtBank bank x →
+    LeavesRegisters b bank x (registers_after code x pc)
+left_is b code x pc bank h a = record {
+  at_bank = record {
+    count = after_count code x pc ∙ a.count;
+    zero_is = h.keeps.keeps x pc bank a 0 refl (λ e. let z : ⊥ = omega (arith, e) in z) ∙ a.zero_is;
+    offset = h.offset.leaves x pc bank a;
+    exists = by (b.mask == 0) a.exists;
+  };
+  others = h.keeps.keeps x pc bank a;
+}
+  where
+    by : (m : Bool) → bank < 2 → (if m then bank else 1 - bank) < 2
+    by true l = l
+    by false l = omega arith
+
+module _ (all : List CodeItem) (n : Linking all) where
+  abbrev at : ℕ → ℕ
+  at = n.linked.address_of
+
+  -- a boundary's code, after the mark that waits for it
+  pub boundary_leg : (k : ℕ) (b : Boundary) (code : List Instr) (p : IsPart all k (plain code)) (x : List ℕ) (bank resume : ℕ) (w : Bool) →
+      mark_waits false p.before ≡ w →
+      IsCodeOf b code → AtBank bank x → resume_address b code (at k) ≡ resume →
+      GoesThrough n.environment (fragment x (at k) (at (k + length (plain code))) (length code)) (waiting w ++ boundary_observations b bank resume x)
+      (LeavesRegisters b bank x)
+  boundary_leg k b [] p x bank resume w waits h a e = absurd (some_code b x bank a h)
+  boundary_leg k b (i ∷ is) p x bank resume w waits h a e =
+      let y : List ℕ = registers_after (i ∷ is) x (at k) in
+      let run : s.RunsFrom (i ∷ is) x (at k) (boundary_effects b (1 - bank) resume x) y = record {
+        sees = h.effects_are.does x (at k) bank a ∙ ap (λ (m : ℕ). boundary_effects b (1 - bank) m x) e;
+        leaves = refl;
+      } in
+      weaker n.environment (fragment x (at k) (at (k + length (plain (i ∷ is)))) (length (i ∷ is)))
+      (waiting w ++ boundary_observations b bank resume x) (λ z. z ≡ y)
+      (LeavesRegisters b bank x)
+      (λ z f. subst (λ (v : List ℕ). LeavesRegisters b bank x v) (sym f) (left_is b (i ∷ is) x (at k) bank h a))
+      (straight_leg all n k i is p x y (boundary_effects b (1 - bank) resume x) w waits run (boundary_memory b (1 - bank) resume x))
+
+  pub resumed_at : (k : ℕ) (b : Boundary) (t : ℕ) (code : List Instr) (p : IsPart all k (plain code)) → b.resume ≡ pos t →
+      at (k + length (plain code)) + t < 2 ^ 64 →
+      resume_address b code (at k) ≡ at (k + length (plain code)) + t
+  resumed_at k b t code p e l =
+      let same : at k + 4 * length code ≡ at (k + length (plain code)) = sym (code_end all n k code p) ∙ end_is all n k code in
+      ap (λ (z : ℤ). (at k + 4 * length code + twos_complement 64 z) % 2 ^ 64) e ∙ ap (λ (m : ℕ). (m + t) % 2 ^ 64) same ∙ mod-eq_of_lt l
+
+  -- the mark to resume at takes no room
+  pub resume_stays : (k : ℕ) (code : List Instr) (p : IsPart all k (boundary_items code)) → at (k + length (boundary_items code)) ≡ at (k + length (plain code))
+  resume_stays k code p =
+      let q : IsPart all (k + length (plain code)) (ResumeNext ∷ []) = part_right all k (plain code) (ResumeNext ∷ []) p in
+      let e : k + length (boundary_items code) ≡ k + length (plain code) + 1 = omega (arith, length-append (plain code) (ResumeNext ∷ [])) in
+      ap at e ∙ stays_at all n (k + length (plain code)) ResumeNext [] q refl
+
+  pub boundary_items_leg : (k : ℕ) (b : Boundary) (code : List Instr) (p : IsPart all k (boundary_items code)) (x : List ℕ) (bank : ℕ) →
+      mark_waits false p.before ≡ false →
+      IsCodeOf b code → b.resume ≡ pos 0 → AtBank bank x →
+      GoesThrough n.environment (fragment x (at k) (at (k + length (boundary_items code))) (length code))
+      (boundary_observations b bank (at (k + length (boundary_items code))) x)
+      (LeavesRegisters b bank x)
+  boundary_items_leg k b code p x bank closed h e a =
+      let q : IsPart all k (plain code) = part_left all k (plain code) (ResumeNext ∷ []) p in
+      let stays : at (k + length (boundary_items code)) ≡ at (k + length (plain code)) = resume_stays k code p in
+      let low : at (k + length (plain code)) < 2 ^ 64 = has_room all n k (plain code) q in
+      let resume : resume_address b code (at k) ≡ at (k + length (boundary_items code)) =
+      resumed_at k b 0 code q e (omega arith) ∙ omega arith in
+      let leg : GoesThrough n.environment (fragment x (at k) (at (k + length (plain code))) (length code))
+      (boundary_observations b bank (at (k + length (boundary_items code))) x) (LeavesRegisters b bank x) =
+      boundary_leg k b code q x bank (at (k + length (boundary_items code))) false (waits_left all k (plain code) (ResumeNext ∷ []) p ∙ closed) h a resume in
+      subst (λ (m : ℕ). GoesThrough n.environment (fragment x (at k) m (length code)) (boundary_observations b bank (at (k + length (boundary_items code))) x)
+      (LeavesRegisters b bank x))
+      (sym stays) leg
+
+  pub boundary_marks : (k : ℕ) (code : List Instr) → positions_from k is_mark (boundary_items code) ≡ []
+  boundary_marks k code = positions_append k is_mark (plain code) (ResumeNext ∷ []) ∙ ap (λ (ns : List ℕ). ns ++ []) (no_marks_in code k)
+
+  pub boundary_resumes : (k : ℕ) (code : List Instr) → positions_from k is_resume (boundary_items code) ≡ (k + length (plain code)) ∷ []
+  boundary_resumes k code = positions_append k is_resume (plain code) (ResumeNext ∷ []) ∙
+      ap (λ (ns : List ℕ). ns ++ ((k + length (plain code)) ∷ [])) (no_resumes_in code k)
+
+pub boundary_words : (code : List Instr) → sum_by most_words_of (boundary_items code) ≡ length code
+boundary_words code = sum_by-append most_words_of (plain code) (ResumeNext ∷ []) ∙
+    (let e : sum_by most_words_of (plain code) ≡ length code = words_of_plain code in omega (arith, e))
+
+pub boundary_exact : (code : List Instr) → AreExact (boundary_items code)
+boundary_exact code = exact_append (plain code) (ResumeNext ∷ []) (exact_plain code) (refl, tt)
+
+pub boundary_waits_on : (code : List Instr) → mark_waits false (boundary_items code) ≡ false
+boundary_waits_on code = waits_append false (plain code) (ResumeNext ∷ []) ∙ waits_plain_on code
+
+pub boundary_labels : (label : ℕ) (code : List Instr) → list_any (stands_here label) (boundary_items code) ≡ false
+boundary_labels label code = labels_append label (plain code) (ResumeNext ∷ []) (labels_plain label code) refl
+
+pub is_boundary : (b : Boundary) (code : List Instr) → b.resume ≡ pos 0 → IsCodeOf b code → IsBoundaryPiece b (boundary_items code)
+is_boundary b code e h = record {
+  closed = record { waits = boundary_waits_on code; labels = λ label. boundary_labels label code };
+  few = let z : sum_by most_words_of (boundary_items code) ≡ length code = boundary_words code in let l : length code ≤ length b.live + 35 = h.short in
+      omega arith;
+  fences = boundary_items_fences b code h.effects_are;
+  at = λ at. record {
+    keeps = λ x bank a.
+        more_room at.linking.environment x (begin_of (boundary_items code) at) (end_of (boundary_items code) at) (length code)
+        (words_in (boundary_items code) at)
+        (boundary_observations b bank (end_of (boundary_items code) at) x) (LeavesRegisters b bank x)
+        (let z : words_in (boundary_items code) at ≡ length code = exact_words (boundary_items code) at (boundary_exact code) ∙ boundary_words code in
+        omega (arith, z))
+        (boundary_items_leg at.items at.linking at.position b code at.is_part x bank at.closed h e a);
+    marks = ap (λ (ns : List ℕ). map at.linking.linked.address_of ns) (boundary_marks at.items at.linking at.position code);
+    resumes =
+        ap (λ (ns : List ℕ). map at.linking.linked.address_of ns) (boundary_resumes at.items at.linking at.position code) ∙
+        ap (λ (m : ℕ). m ∷ []) (sym (resume_stays at.items at.linking at.position code at.is_part));
+  };
+}

@@ -1,7 +1,0 @@
-use Rattle.std.proofs.Common.{◌≡◌, ◌-◌}
-use Rattle.object_format.specs.Reading.{repeated, word_at}
-use Rattle.object_format.proofs.Loop.{with_prefix}
-use Rattle.object_format.proofs.reading.words_at.Given as goal
-
-abbrev pub invariant-loop : goal.invariant-loop
-invariant-loop l = with_prefix l.words.items (repeated (word_at l.total) (l.count - l.counter) l.rest) ≡ repeated (word_at l.total) l.count l.bytes

@@ -1,0 +1,145 @@
+-- What is live after an unlock is live before it, and no store is pending there.
+use Rattle.std.proofs.Common.{◌≡◌, ℕ, zero, suc, ◌+◌, List, [], ◌∷◌, ◌++◌, refl, ap, arith, sym, ◌∙◌, subst, false, Option, Some, None, is_some}
+use Rattle.std.specs.Prelude.{slice_get}
+use Rattle.std.specs.List.{AllByRecursion, Contains}
+use Rattle.std.proofs.lemmas.Bool.{true≢false}
+use Rattle.std.proofs.lemmas.Option.{none-some, same_Some, slice_get_within}
+use Rattle.ido_base.specs.declared.place.Place.{Place}
+use Rattle.c_tree.specs.Exprs as e
+use Rattle.c_tree.specs.Flats as f
+use Rattle.c_tree.specs.Source.{Pending}
+use Rattle.flow_graph.specs.Nodes.{Action, Eval, Store, Test, Lock, Unlock, End, Node, Graph, successors}
+use Rattle.flow_graph.specs.Actions.{GraphThread, FlowState, seen_by}
+use Rattle.flow_graph.specs.Lowering.{assign_nodes, count, statements_count, arms_count, thread_count, entry, statement_nodes, statements_nodes, arms_nodes}
+use Rattle.flow_graph.specs.Lowering.{thread_nodes, threads_nodes}
+use Rattle.flow_graph.specs.Lockstep.{Standing, threads_standings, GraphThreadMatches}
+use Rattle.flow_graph.specs.Liveness.{NodeAt, IsLive, is_read_later}
+use Rattle.flow_graph.proofs.Public.{found_in, lowered_nodes, ActionLeads, Agree, Unlocks, agrees}
+use Rattle.thread_code.specs.Plans.{Plan, IsPlan}
+use Rattle.thread_code.specs.RegistersAtNodes.{IsPendingIn, Enters}
+use Rattle.recovered_threads.specs.RecordDescriptions.{Code, IsOrderly}
+use Rattle.recovered_threads.specs.Laws.{UnlocksEnter}
+
+-- ---- An unlock assigns nothing
+
+abbrev AssignsAs : Action → Node → Type 0
+AssignsAs (Eval target value next) n = Unit {0}
+AssignsAs (Store variable kind next) n = Unit {0}
+AssignsAs (Test condition to other) n = Unit {0}
+AssignsAs (Lock mutex next) n = Unit {0}
+AssignsAs (Unlock mutex next) n = n.assigns ≡ None
+AssignsAs End n = Unit {0}
+
+abbrev AllAssign : List Node → Type 0
+AllAssign ns = AllByRecursion (λ (n : Node). AssignsAs n.action n) ns
+
+both : (ns ms : List Node) → AllAssign ns → AllAssign ms → AllAssign (ns ++ ms)
+both [] ms a b = b
+both (n ∷ ns) ms a b = (a.0, both ns ms a.1 b)
+
+assign_assigns : (place : Place) (target : e.Lvalue) (value : e.Placed) (first next : ℕ) → AllAssign (assign_nodes place target value first next)
+assign_assigns place (e.ToLocal local kind) value first next = (tt, tt)
+assign_assigns place (e.ToVariable name variable kind) value first next = (tt, (tt, tt))
+assign_assigns place (e.ToElement name variable kind index) value first next = (tt, (tt, tt))
+
+mutual
+  one_assigns : (x : f.Statement) (first next : ℕ) → AllAssign (statement_nodes x first next)
+  one_assigns (f.Assign place target value) first next = assign_assigns place target value first next
+  one_assigns (f.If place arms otherwise) first next =
+      both (arms_nodes arms place (entry (statements_count otherwise) (first + arms_count arms) next) first next)
+      (statements_nodes otherwise (first + arms_count arms) next)
+      (arms_assign arms place (entry (statements_count otherwise) (first + arms_count arms) next) first next)
+      (all_assign otherwise (first + arms_count arms) next)
+  one_assigns (f.While place condition body) first next = (tt, all_assign body (suc first) first)
+  one_assigns (f.Do place body condition) first next =
+      both (statements_nodes body first (first + statements_count body)) _ (all_assign body first (first + statements_count body)) (tt, tt)
+  one_assigns (f.Lock place mutex) first next = (tt, tt)
+  one_assigns (f.Unlock place mutex) first next = (refl, tt)
+
+  all_assign : (xs : f.Statements) (first next : ℕ) → AllAssign (statements_nodes xs first next)
+  all_assign f.no_statement first next = tt
+  all_assign (f.statement_and x more) first next =
+      both (statement_nodes x first (entry (statements_count more) (first + count x) next)) (statements_nodes more (first + count x) next)
+      (one_assigns x first (entry (statements_count more) (first + count x) next)) (all_assign more (first + count x) next)
+
+  arms_assign : (xs : f.Arms) (place : Place) (last first next : ℕ) → AllAssign (arms_nodes xs place last first next)
+  arms_assign f.no_arm place last first next = tt
+  arms_assign (f.arm_and condition body more) place last first next = (
+    tt,
+    both (statements_nodes body (suc first) next) (arms_nodes more place last (suc first + statements_count body) next)
+        (all_assign body (suc first) next) (arms_assign more place last (suc first + statements_count body) next),
+  )
+
+threads_assign : (ts : List f.Thread) (first : ℕ) → AllAssign (threads_nodes ts first)
+threads_assign [] first = tt
+threads_assign (t ∷ ts) first =
+    both (thread_nodes t first) (threads_nodes ts (first + thread_count t))
+    (both (statements_nodes t.body first (first + statements_count t.body)) _ (all_assign t.body first (first + statements_count t.body)) (tt, tt))
+    (threads_assign ts (first + thread_count t))
+
+assigns_at : (ns : List Node) (k : ℕ) (n : Node) → AllAssign ns → slice_get ns k ≡ Some n → AssignsAs n.action n
+assigns_at [] k n all g = absurd (none-some n g)
+assigns_at (x ∷ ns) zero n all g = subst (λ (y : Node). AssignsAs y.action y) (same_Some x n g) all.0
+assigns_at (x ∷ ns) (suc k) n all g = assigns_at ns k n all.1 g
+
+-- ---- What stands at a node
+
+standing_of : (all : List Standing) (ns : List Node) (ss : List Standing) (k : ℕ) (n : Node) → Agree all ns ss → slice_get ns k ≡ Some n →
+    (s : Standing) × ActionLeads all n.action s
+standing_of all [] ss k n h g = absurd (none-some n g)
+standing_of all (x ∷ ns) [] k n h g = absurd h
+standing_of all (x ∷ ns) (s ∷ ss) zero n h g = (s, subst (λ (y : Node). ActionLeads all y.action s) (same_Some x n g) h.0)
+standing_of all (x ∷ ns) (s ∷ ss) (suc k) n h g = standing_of all ns ss k n h.1 g
+
+-- ---- The next node
+
+not_pending : (o : Option Pending) → is_some o ≡ false → o ≡ None
+not_pending None h = refl
+not_pending (Some store) h = absurd (true≢false h)
+
+no_pending_in : (p : Plan) (a : Action) (s : FlowState) (graph_thread : GraphThread) (x : List ℕ) → graph_thread.pending ≡ None →
+    IsPendingIn p a (seen_by s graph_thread) x
+no_pending_in p (Eval target value next) s graph_thread x none = tt
+no_pending_in p (Store variable kind next) s graph_thread x none = λ store some. absurd (none-some store (sym none ∙ some))
+no_pending_in p (Test condition to other) s graph_thread x none = tt
+no_pending_in p (Lock mutex next) s graph_thread x none = tt
+no_pending_in p (Unlock mutex next) s graph_thread x none = tt
+no_pending_in p End s graph_thread x none = tt
+
+module _ (p : Plan) (code : Code p) (s : FlowState) (graph_thread : GraphThread) (from mutex : ℕ) (is : Node) (plan : IsPlan p) (orderly : IsOrderly p s)
+    (there : slice_get s.graph_threads code.thread.number ≡ Some graph_thread) (at : NodeAt p.graph from is)
+    (unlocks : is.action ≡ Unlock mutex graph_thread.at) where
+  node_is : slice_get (threads_nodes p.flat.threads 0) from ≡ Some is
+  node_is = ap (λ (ns : List Node). slice_get ns from) (sym (ap (λ (g : Graph). g.nodes) plan.lowered ∙ lowered_nodes p.flat)) ∙ at
+
+  assigns_none : is.assigns ≡ None
+  assigns_none = subst (λ (a : Action). AssignsAs a is) unlocks (assigns_at (threads_nodes p.flat.threads 0) from is (threads_assign p.flat.threads 0) node_is)
+
+  live_before : (local : ℕ) → IsLive p.graph local graph_thread.at → IsLive p.graph local from
+  live_before local live =
+      is_read_later is at (λ assigns. none-some local (sym assigns_none ∙ assigns))
+      (subst (λ (a : Action). Contains (successors a) graph_thread.at) (sym unlocks) (0, omega arith, refl)) live
+
+  none_pending : graph_thread.pending ≡ None
+  none_pending =
+      let all = threads_standings p.flat.threads in
+      let does = standing_of all (threads_nodes p.flat.threads 0) all from is (agrees p.flat plan.formed.threads) node_is in
+      let after : Unlocks all mutex graph_thread.at does.0 = subst (λ (a : Action). ActionLeads all a does.0) unlocks does.1 in
+      let source = found_in orderly.source.threads code.thread.number
+      (let l = slice_get_within s.graph_threads code.thread.number graph_thread there in omega (arith, l, orderly.matches.count)) in
+      let matches : GraphThreadMatches p.flat graph_thread source.0 = orderly.matches.each code.thread.number graph_thread source.0 there source.1 in
+      let same = same_Some _ _ (sym matches.stands ∙ after.follows) in
+      matches.pending ∙ not_pending source.0.pending (ap (λ (z : Standing). z.owes) same)
+
+  enters_after : (bank : ℕ) (x : List ℕ) → Enters p code.thread from (seen_by s graph_thread) bank x →
+      Enters p code.thread graph_thread.at (seen_by s graph_thread) bank x
+  enters_after bank x enters = record {
+    at_bank = enters.at_bank;
+    count = enters.count;
+    locals = λ local k kind live. enters.locals local k kind (live_before local live);
+    pending = λ node here. no_pending_in p node.action s graph_thread x none_pending;
+  }
+
+pub unlocks_enter : UnlocksEnter
+unlocks_enter p code s graph_thread from mutex bank is x plan orderly there at unlocks enters =
+    enters_after p code s graph_thread from mutex is plan orderly there at unlocks bank x enters

@@ -1,0 +1,150 @@
+-- The locks of a thread's record are those that it holds in the kept state.
+use Rattle.std.proofs.Common.{◌≡◌, ◌≢◌, ◌↔◌, ℕ, zero, suc, ◌+◌, ◌-◌, ◌*◌, ◌==◌, List, [], ◌∷◌, refl, ap, arith, sym, ◌∙◌, cond, Bool, true, false}
+use Rattle.std.proofs.Common.{Option, Some, None, is_none}
+use Rattle.std.specs.Prelude.{slice_get, slice_index_or}
+use Rattle.std.proofs.lemmas.Bool.{true≢false, cond-false, eqb-true, ne_eqb}
+use Rattle.std.proofs.lemmas.Nat.Bits.{bit_at-zero}
+use Rattle.std.proofs.lemmas.Option.{none-some, same_Some, slice_get_within, get_or_from_slice_get}
+use Rattle.ido_base.specs.Locks.{is_held_by, held_from, holds_none, has_lock}
+use Rattle.c_tree.specs.Source as m
+use Rattle.c_tree.specs.LockDiscipline.{Held, holds}
+use Rattle.source_machine.specs.Mutexes.{held_by}
+use Rattle.lock_discipline.specs.Masks.{mask_of}
+use Rattle.lock_discipline.specs.HeldSetsByStep.{AreSetsOf, HeldBefore}
+use Rattle.lock_discipline.proofs.Public.{bit, bit_at-mask_of, held_is_held}
+use Rattle.flow_graph.specs.declared.graph.Part.{Part}
+use Rattle.flow_graph.specs.Nodes.{Graph}
+use Rattle.flow_graph.specs.Lowering.{parts}
+use Rattle.flow_graph.specs.Lockstep.{GraphThreadMatches}
+use Rattle.flow_graph.specs.Actions.{GraphThread, FlowState}
+use Rattle.flow_graph.proofs.Public.{found_in, lowered_threads}
+use Rattle.log_states.specs.Logs.{Record}
+use Rattle.thread_code.specs.Plans.{Plan, Thread, IsThread, IsNodeOf, IsPlan, mask_before}
+use Rattle.recovered_threads.specs.RecordDescriptions.{Code, IsOrderly, Describes, between, inside, locks_of}
+use Rattle.recovered_threads.specs.Laws.{LocksAreHeld, PointsHaveLocks, RecordsAreApart}
+use Rattle.recovered_threads.proofs.NodesBeforeSteps.{left_at, standing_at}
+
+-- ---- Masks and holders
+
+bit_is : (b : Bool) → (bit b == 1) ≡ b
+bit_is true = refl
+bit_is false = refl
+
+mask_has : (h : Held) (lock : ℕ) → has_lock (mask_of h) lock ≡ holds h lock
+mask_has h lock = ap (λ (n : ℕ). n == 1) (bit_at-mask_of h lock) ∙ bit_is (holds h lock)
+
+pub held_is : (n : ℕ) (holder : Option ℕ) → is_held_by n holder ≡ true → holder ≡ Some n
+held_is n None e = absurd (true≢false (sym e))
+held_is n (Some g) e = ap (λ (k : ℕ). Some k) (sym (eqb-true n g e))
+
+pub is_own : (n : ℕ) → is_held_by n (Some n) ≡ true
+is_own n = let e : (n == n) ≡ true = grind arith in e
+
+-- a set of held locks says who holds them
+holds_is : (n : ℕ) (holders : List (Option ℕ)) (lock : ℕ) → (holds (held_by n holders) lock ≡ true) ↔ (slice_get holders lock ≡ Some (Some n))
+holds_is n [] lock = (λ e. absurd (true≢false (sym e)), λ e. absurd (none-some (Some n) e))
+holds_is n (o ∷ holders) zero =
+    (λ e. ap (λ (x : Option ℕ). Some x) (held_is n o e), λ e. ap (λ (x : Option ℕ). is_held_by n x) (same_Some o (Some n) e) ∙ is_own n)
+holds_is n (o ∷ holders) (suc lock) = holds_is n holders lock
+
+pub mask_holds : (n : ℕ) (holders : List (Option ℕ)) (lock : ℕ) →
+    (has_lock (mask_of (held_by n holders)) lock ≡ true) ↔ (slice_get holders lock ≡ Some (Some n))
+mask_holds n holders lock =
+    (λ e. (holds_is n holders lock).0 (sym (mask_has (held_by n holders) lock) ∙ e), λ e. mask_has (held_by n holders) lock ∙ (holds_is n holders lock).1 e)
+
+zero_twice : (k : ℕ) → (k == 0) ≡ (0 + 2 * k == 0)
+zero_twice zero = refl
+zero_twice (suc k) =
+    let one : (suc k == 0) ≡ false = grind arith in
+    let other : (0 + 2 * suc k == 0) ≡ false = grind arith in
+    one ∙ sym other
+
+-- the mask is 0 where a thread holds none
+none_is : (at n : ℕ) (holders : List (Option ℕ)) → is_none (held_from at holders n) ≡ (mask_of (held_by n holders) == 0)
+none_is at n [] = refl
+none_is at n (o ∷ holders) = by (is_held_by n o) (none_is (at + 1) n holders)
+  where
+    by : (b : Bool) → is_none (held_from (at + 1) holders n) ≡ (mask_of (held_by n holders) == 0) →
+        is_none (cond b (Some at) (held_from (at + 1) holders n)) ≡ (cond b 1 0 + 2 * mask_of (held_by n holders) == 0)
+    by true h = let e : (1 + 2 * mask_of (held_by n holders) == 0) ≡ false = grind arith in sym e
+    by false h = h ∙ zero_twice (mask_of (held_by n holders))
+
+pub none_where : (n : ℕ) (holders : List (Option ℕ)) → holds_none holders n ≡ (mask_of (held_by n holders) == 0)
+none_where n holders = none_is 0 n holders
+
+pub zero_has : (lock : ℕ) → has_lock 0 lock ≡ false
+zero_has lock = ap (λ (n : ℕ). n == 1) (bit_at-zero lock)
+
+-- who holds none holds this one neither
+pub holds_none_is : (n : ℕ) (holders : List (Option ℕ)) (lock : ℕ) → holds_none holders n ≡ true → slice_get holders lock ≡ Some (Some n) → ⊥
+holds_none_is n holders lock none there =
+    let zero_is : mask_of (held_by n holders) ≡ 0 = eqb-true (mask_of (held_by n holders)) 0 (sym (none_where n holders) ∙ none) in
+    true≢false (sym ((mask_holds n holders lock).1 there) ∙ (ap (λ (mask : ℕ). has_lock mask lock) zero_is ∙ zero_has lock))
+
+-- ---- The set before a node
+
+module _ (p : Plan) (kept : FlowState) (plan : IsPlan p) (orderly : IsOrderly p kept) (t : Thread) (is : IsThread p t) (graph_thread : GraphThread)
+    (there : slice_get kept.graph_threads t.number ≡ Some graph_thread) (own : IsNodeOf t graph_thread.at) where
+  found : (thread : m.Thread) × (slice_get orderly.source.threads t.number ≡ Some thread)
+  found =
+      found_in orderly.source.threads t.number (let l = slice_get_within kept.graph_threads t.number graph_thread there in
+      omega (arith, l, orderly.matches.count))
+
+  sets : (table : List Held) × (slice_get p.held t.number ≡ Some table)
+  sets = found_in p.held t.number (let l = slice_get_within p.flat.threads t.number is.text is.of_text in omega (arith, l, plan.held.each_thread))
+
+  part_is : slice_get (parts p.flat.threads 0) t.number ≡ Some t.part
+  part_is = ap (λ (ps : List Part). slice_get ps t.number) (sym (ap (λ (g : Graph). g.threads) plan.lowered ∙ lowered_threads p.flat)) ∙ is.nodes
+
+  pub mask_is : mask_before p t graph_thread.at ≡ mask_of (held_by t.number kept.holders)
+  mask_is =
+      let n = t.number in
+      let step = graph_thread.at - t.part.first in
+      let thread = found.0 in
+      let matches : GraphThreadMatches p.flat graph_thread thread = orderly.matches.each n graph_thread thread there found.1 in
+      let stands = sym (standing_at p.flat n t.part is.text graph_thread.at part_is is.of_text own.from_first own.below_end) ∙ matches.stands in
+      let left = left_at is.text step _ stands in
+      let of : AreSetsOf p.flat is.text sets.0 = plan.held.sets n is.text sets.0 is.of_text sets.1 in
+      let held : Held = held_by n orderly.source.holders in
+      let before : HeldBefore p.flat is.text step held =
+      (held_is_held p.flat orderly.source n step is.text thread held of.disciplined orderly.keeps found.1 left).1 refl in
+      let set_is : slice_get sets.0 step ≡ Some held = (of.exactly step held).1 before in
+      ap (λ (table : List Held). mask_of (slice_index_or table step [])) (get_or_from_slice_get p.held n sets.0 [] sets.1)
+      ∙ (ap mask_of (get_or_from_slice_get sets.0 step held [] set_is) ∙ ap (λ (os : List (Option ℕ)). mask_of (held_by n os)) (sym orderly.matches.holders))
+
+-- ---- Records
+
+pub between_locks : (r : Record) → r.point ≡ 0 → locks_of r ≡ 0
+between_locks r none = ap (λ (point : ℕ). cond (point == 0) 0 r.mask) none
+
+pub inside_locks : (r : Record) → r.point ≢ 0 → locks_of r ≡ r.mask
+inside_locks r some = cond-false (r.point == 0) 0 r.mask (ne_eqb r.point 0 some)
+
+module _ (p : Plan) (code : Code p) (kept : FlowState) (r : Record) (plan : IsPlan p) (orderly : IsOrderly p kept) where
+  pub locks_are : Describes p code kept r → locks_of r ≡ mask_of (held_by code.thread.number kept.holders)
+  locks_are (between none point) =
+      between_locks r point ∙ sym (eqb-true (mask_of (held_by code.thread.number kept.holders)) 0 (sym (none_where code.thread.number kept.holders) ∙ none))
+  locks_are (inside some i) =
+      inside_locks r i.point ∙ (i.mask ∙ mask_is p kept plan orderly code.thread code.of i.graph_thread i.there i.own)
+
+pub locks_are_held : LocksAreHeld
+locks_are_held p code kept r plan orderly describes lock =
+    let same = locks_are p code kept r plan orderly describes in
+    let held = mask_holds code.thread.number kept.holders lock in
+    (λ e. held.0 (sym (ap (λ (mask : ℕ). has_lock mask lock) same) ∙ e), λ e. ap (λ (mask : ℕ). has_lock mask lock) same ∙ held.1 e)
+
+pub records_are_apart : RecordsAreApart
+records_are_apart p codes kept records plan orderly describe g h lock gb hb eg eh =
+    let one = (locks_are_held p (codes.each g gb) kept (records g) plan orderly (describe g gb) lock).0 eg in
+    let other = (locks_are_held p (codes.each h hb) kept (records h) plan orderly (describe h hb) lock).0 eh in
+    let same = same_Some (codes.each g gb).thread.number (codes.each h hb).thread.number (same_Some _ _ (sym one ∙ other)) in
+    sym (codes.number g gb) ∙ (same ∙ codes.number h hb)
+
+pub points_have_locks : PointsHaveLocks
+points_have_locks p code kept r plan orderly (between none point) = (λ e. point, λ e. between_locks r point)
+points_have_locks p code kept r plan orderly (inside some i) = (
+  λ e.
+      let is : mask_of (held_by code.thread.number kept.holders) ≡ 0 = sym (locks_are p code kept r plan orderly (inside some i)) ∙ e in
+      absurd (true≢false (ap (λ (mask : ℕ). mask == 0) (sym is) ∙ (sym (none_where code.thread.number kept.holders) ∙ some))),
+  λ e. absurd (i.point e),
+)

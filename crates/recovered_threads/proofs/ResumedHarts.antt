@@ -1,0 +1,88 @@
+-- A hart that is resumed goes on where its record says.
+use Rattle.std.proofs.Common.{◌≡◌, ℕ, zero, suc, ◌+◌, ◌*◌, ◌<◌, List, [], map, get_or, refl, ap, arith, sym, ◌∙◌, subst, add-zero}
+use Rattle.std.specs.List.{Contains}
+use Rattle.ido_base.specs.Layout.{bank_bytes}
+use Rattle.rv64_isa.specs.declared.object.Slot.{Slot}
+use Rattle.rv64_isa.specs.declared.phase.Phase.TheVariants.{Resume}
+use Rattle.rv64_isa.specs.Rows.{read}
+use Rattle.rv64_isa.specs.Machine.{World, bank_of, resume_of, resumed_register, numbers_from}
+use Rattle.boundary_code.specs.Boundaries.{AtBank}
+use Rattle.log_states.specs.Logs.{Record, nothing_recorded, IsRecord}
+use Rattle.log_states.specs.Machines.{config_of}
+use Rattle.log_states.specs.Laws as log
+use Rattle.log_states.proofs.Public.{ends, record_is_resumed}
+use Rattle.hart_runs.specs.Calls as runs
+use Rattle.hart_runs.proofs.Public.{moved_harts_begin, resumes_step}
+use Rattle.flow_graph.specs.Actions.{FlowState, seen_by}
+use Rattle.thread_code.specs.Plans.{Plan, IsNodeOf}
+use Rattle.thread_code.specs.Programs as c
+use Rattle.thread_code.proofs.Public.{enters_again}
+use Rattle.recovered_threads.specs.RecordDescriptions.{Code, ResumesAt, at_chosen, past_lock, past_unlock, IsInside, between, inside}
+use Rattle.recovered_threads.specs.RecoveryStates.{IsRecoveredHart, ResumesThread}
+use Rattle.recovered_threads.specs.Laws.{HartsGoOn}
+
+element : (f : ℕ → ℕ) (at count i : ℕ) → i < count → get_or (map f (numbers_from at count)) i 0 ≡ f (at + i)
+element f at zero i below = absurd (let z : ⊥ = omega (arith, below) in z)
+element f at (suc count) zero below = ap f (sym (add-zero at))
+element f at (suc count) (suc i) below = let e : at + 1 + i ≡ at + suc i = omega arith in element f (at + 1) count i (omega (arith, below)) ∙ ap f e
+
+-- an address of the thread's table
+resumed_there : (p : Plan) (code : Code p) (node address : ℕ) → IsNodeOf code.thread node → ResumesAt p code node address →
+    c.IsResumeAddress p code.thread code.is.places address
+resumed_there p code node address own (at_chosen chosen) = c.at_chosen node own chosen
+resumed_there p code node address own (past_lock from mutex is from_own at locks) = c.past_lock from mutex node is from_own at locks
+resumed_there p code node address own (past_unlock from mutex is from_own at unlocks holds) = c.past_unlock from mutex node is from_own at unlocks holds
+
+module _ (program : List (List Slot)) (p : Plan) (code : Code p) (kept : FlowState) (w : World) (r : Record) (told : IsInside p code kept r)
+    (ready : IsRecoveredHart w code.thread.number r) (i : runs.IsInPhase w code.thread.number Resume) where
+  abbrev h : ℕ
+  h = code.thread.number
+
+  is_record : IsRecord r
+  is_record = ready.log.log.follows.new_is
+
+  recovered : log.ResumesRecord h r w.words
+  recovered = record_is_resumed h r w.words is_record (ends h nothing_recorded r (config_of w ready.log.hart []) ready.log.log refl)
+
+  step : runs.ResumesHart program w h i.hart
+  step = resumes_step program w h i
+
+  at_bank : AtBank (bank_of r.point) step.after.registers
+  at_bank = record {
+    count = step.count;
+    zero_is = step.registers 0 (omega arith);
+    offset = step.registers 3 (omega arith) ∙ ap (λ (n : ℕ). bank_bytes * bank_of n) recovered.point;
+    exists = omega arith;
+  }
+
+  pc_is : step.after.pc ≡ resume_of r.point
+  pc_is = step.pc ∙ ap resume_of recovered.point
+
+  -- what the boundary kept is there
+  same : (register : ℕ) → Contains (code.is.places.live told.graph_thread.at) register → read step.after.registers register ≡ read r.registers register
+  same register live =
+      let mine : Contains r.live register = subst (λ (rs : List ℕ). Contains rs register) (sym told.live) live in
+      let below : register < 32 = (is_record.live register mine).exists in
+      let e : 0 + register ≡ register = omega arith in
+      step.registers register below
+      ∙ (sym (element (resumed_register w.words h) 0 32 register below ∙ ap (resumed_register w.words h) e) ∙ recovered.registers ready.inside register mine)
+
+  goes_on : ResumesThread program code kept w i.hart r
+  goes_on = record {
+    told = told;
+    after = step.after;
+    does = step.does;
+    runs = step.runs;
+    pc = pc_is;
+    listed = (code.is.resumes step.after.pc).1 (subst (λ (a : ℕ). c.IsResumeAddress p code.thread code.is.places a) (sym pc_is)
+        (resumed_there p code told.graph_thread.at (resume_of r.point) told.own told.resumes));
+    enters = enters_again p code.thread told.graph_thread.at (seen_by kept told.graph_thread) told.bank (bank_of r.point) r.registers step.after.registers
+        (code.is.places.live told.graph_thread.at) (code.is.kept told.graph_thread.at told.own) told.enters at_bank same;
+    at_record = record { registers = at_bank; is = λ some. refl };
+    queue = step.queue;
+    begins = moved_harts_begin program w w h i.hart step.after i.here step.does step.runs;
+  }
+
+pub harts_go_on : HartsGoOn
+harts_go_on program p code kept w r (between none point) ready i = absurd (ready.inside point)
+harts_go_on program p code kept w r (inside some told) ready i = goes_on program p code kept w r told ready i

@@ -1,0 +1,166 @@
+-- What holds of every config, whatever happens.
+use Rattle.std.specs.Prelude.{◌⊎◌, suc, slice_get, Some, ℤ, length, ◌≡◌, ◌≢◌, ℕ, ◌+◌, ◌<◌, ◌≤◌, List, ◌++◌, All, map, replicate, true}
+use Rattle.c_tree.specs.Flats as f
+use Rattle.c_tree.specs.Source.{State, start, is_between, after_from, runs_from, ended_from}
+use Rattle.c_tree.specs.LockDiscipline.{IsDisciplined}
+use Rattle.source_machine.specs.Discipline.{Guards}
+use Rattle.source_machine.specs.StepExchanges.{IsSameTo, AcquiresReleased}
+use Rattle.source_machine.specs.Mutexes.{locks, unlocks}
+use Rattle.recovery_semantics.specs.ElementHistories.{Memory, IsStable, IsSince, IsStored, IsOther, ArePersisted}
+use Rattle.recovery_semantics.specs.ElementHistories.{durable_number, history_at, live_number, number_at}
+use Rattle.recovery_semantics.specs.Attempts.{solo, Attempt, Writes, WritesAt}
+use Rattle.recovery_semantics.specs.Configs.{Config, Invariant, attempt_of, now}
+use Rattle.recovery_semantics.specs.Executions.{first_config, Execution}
+use Rattle.recovery_semantics.specs.Events.{IsGoing, ConfigStep, settled_by, IsSettled, steps_begun}
+
+-- ---- The invariant
+
+-- the start meets the invariant
+abbrev pub StartMeets : Type 0
+StartMeets = (x : f.Flat) → All (IsDisciplined x) x.threads → Invariant x (first_config x)
+
+-- every event keeps it
+abbrev pub EventsKeep : Type 0
+EventsKeep = (x : f.Flat) (m next : Config) → Invariant x m → ConfigStep m next → Invariant x next
+
+-- ---- What it says
+
+-- what earlier attempts wrote from here on this one has written already
+abbrev pub IsRewritten : Config → (thread variable element : ℕ) → Type 0
+IsRewritten m thread variable element = (k : ℕ) → (attempt_of m thread).done ≤ k → k < (attempt_of m thread).longest →
+    WritesAt m.kept thread k variable element → Writes m.kept thread (attempt_of m thread).done variable element
+
+-- what a thread reads of its own variables is the source's number
+abbrev pub ReadsAreRight : Type 0
+ReadsAreRight = (x : f.Flat) (m : Config) (thread variable element : ℕ) → Invariant x m → Guards x (now m) thread variable →
+    IsRewritten m thread variable element → live_number (history_at m.memory variable element) ≡ number_at (now m) variable element
+
+-- where no attempt has written anything, durable memory has what is kept
+abbrev pub DurableIsKept : Type 0
+DurableIsKept = (x : f.Flat) (m : Config) → Invariant x m →
+    ((thread variable element : ℕ) → ¬ (Writes m.kept thread (attempt_of m thread).longest variable element)) →
+    map (map durable_number) m.memory ≡ m.kept.variables
+
+-- what a thread writes along its attempts it guards in what is kept
+abbrev pub WritersGuard : Type 0
+WritersGuard = (x : f.Flat) (m : Config) (thread variable element : ℕ) → Invariant x m →
+    Writes m.kept thread (attempt_of m thread).longest variable element → Guards x m.kept thread variable
+
+-- two threads write no elements of one variable
+abbrev pub WritersApart : Type 0
+WritersApart = (x : f.Flat) (m : Config) (one other variable e d : ℕ) → Invariant x m → other ≢ one →
+    Writes m.kept one (attempt_of m one).longest variable e → ¬ (Writes m.kept other (attempt_of m other).longest variable d)
+
+-- where what is kept leaves all threads between sections, durable memory has its variables
+abbrev pub BetweenIsKept : Type 0
+BetweenIsKept = (x : f.Flat) (m : Config) → Invariant x m → ((thread : ℕ) → is_between m.kept thread ≡ true) →
+    map (map durable_number) m.memory ≡ m.kept.variables
+
+-- ---- Mutexes
+
+-- a thread acquires no released mutex where no other thread has it in what is kept
+abbrev pub LeftIsFree : Type 0
+LeftIsFree = (x : f.Flat) (m : Config) (thread : ℕ) → Invariant x m → ((mutex other : ℕ) → locks (now m) thread ≡ Some mutex → other ≢ thread →
+    slice_get m.kept.holders mutex ≢ Some (Some other)) → ¬ (AcquiresReleased m.kept m.uncommitted thread)
+
+-- the step that ends the thread's attempt is begun, and locks the mutex
+pub record HasLocked (m : Config) (thread mutex : ℕ) : Type 0 where
+  pub begun : steps_begun m thread ≡ suc (attempt_of m thread).done
+  pub locks_it : locks (solo m.kept thread (attempt_of m thread).done) thread ≡ Some mutex
+
+-- the step that ends the thread's attempt is begun, and unlocks the mutex
+pub record HasUnlocked (m : Config) (thread mutex : ℕ) : Type 0 where
+  pub begun : steps_begun m thread ≡ suc (attempt_of m thread).done
+  pub unlocks_it : unlocks (solo m.kept thread (attempt_of m thread).done) thread ≡ Some mutex
+
+-- a mutex that a thread has now it has in what is kept, or it has locked it since
+abbrev pub HeldNow : Type 0
+HeldNow = (x : f.Flat) (m : Config) (thread mutex : ℕ) → Invariant x m → slice_get (now m).holders mutex ≡ Some (Some thread) →
+    (slice_get m.kept.holders mutex ≡ Some (Some thread)) ⊎ HasLocked m thread mutex
+
+-- a mutex that a thread has in what is kept it has now, or it has unlocked it since
+abbrev pub HeldBefore : Type 0
+HeldBefore = (x : f.Flat) (m : Config) (thread mutex : ℕ) → Invariant x m → slice_get m.kept.holders mutex ≡ Some (Some thread) →
+    (slice_get (now m).holders mutex ≡ Some (Some thread)) ⊎ HasUnlocked m thread mutex
+
+-- ---- Stores
+
+-- an element that is stored to has its number since the position after those before
+abbrev pub StoredIsSince : Type 0
+StoredIsSince = (old new : Memory) (variable element : ℕ) (number : ℤ) → IsStored old new variable element number →
+    IsSince (history_at new variable element) (length (history_at old variable element).values)
+
+-- where an element is stored to, another one has had its number as long as before
+abbrev pub SinceStays : Type 0
+SinceStays = (old new : Memory) (variable element : ℕ) (number : ℤ) → IsStored old new variable element number → (v e position : ℕ) →
+    IsOther variable element v e → IsSince (history_at old v e) position → IsSince (history_at new v e) position
+
+-- where memory persists, an element has had its number as long as before
+abbrev pub SinceIsPersisted : Type 0
+SinceIsPersisted = (old new : Memory) (v e position : ℕ) → ArePersisted old new → IsSince (history_at old v e) position → IsSince (history_at new v e) position
+
+-- once that position is durable, what the thread's attempt wrote is durably as it is now
+abbrev pub SinceSettles : Type 0
+SinceSettles = (x : f.Flat) (m : Config) (thread v e position : ℕ) → Invariant x m → Writes m.kept thread (attempt_of m thread).done v e →
+    IsSince (history_at m.memory v e) position → position ≤ (history_at m.memory v e).durable →
+    IsStable (history_at m.memory v e) (number_at (now m) v e)
+
+-- ---- Paths
+
+-- a thread whose attempt goes on is what its inner steps alone give
+abbrev pub GoesAlone : Type 0
+GoesAlone = (x : f.Flat) (m : Config) (thread : ℕ) → Invariant x m → IsGoing m thread →
+    IsSameTo x (now m) (solo m.kept thread (attempt_of m thread).done) thread
+
+-- where a thread's steps are kept, it is in what is kept then what it is now
+abbrev pub SettlesAsItIs : Type 0
+SettlesAsItIs = (x : f.Flat) (m : Config) (thread : ℕ) (attempts : List Attempt) → Invariant x m → IsSettled m thread attempts →
+    IsSameTo x (now m) (settled_by m thread attempts).kept thread
+
+-- where a thread's steps are kept, the longest attempts of the others go the same path as before
+abbrev pub PathsStay : Type 0
+PathsStay = (x : f.Flat) (m : Config) (thread : ℕ) (attempts : List Attempt) (other steps : ℕ) → Invariant x m → IsSettled m thread attempts →
+    other ≢ thread → steps ≤ (attempt_of m other).longest →
+    IsSameTo x (solo (settled_by m thread attempts).kept other steps) (solo m.kept other steps) other
+
+-- ---- The schedule
+
+-- the schedule leads from the start to what is kept
+pub record IsKeptBy (x : f.Flat) (s : State) (schedule : List ℕ) : Type 0 where
+  pub runs : runs_from (start x) schedule ≡ true
+  pub is : after_from (start x) schedule ≡ s
+
+-- where a thread's steps are kept, the schedule with these after it leads to what is kept then
+abbrev pub ScheduleGrows : Type 0
+ScheduleGrows = (x : f.Flat) (m : Config) (thread : ℕ) (attempts : List Attempt) (schedule : List ℕ) → Invariant x m → IsSettled m thread attempts →
+    IsKeptBy x m.kept schedule → IsKeptBy x (settled_by m thread attempts).kept (schedule ++ replicate (steps_begun m thread) thread)
+
+-- no section that has ended in it is lost
+abbrev pub SectionsStay : Type 0
+SectionsStay = (s : State) (schedule more : List ℕ) (thread : ℕ) → ended_from s schedule thread ≤ ended_from s (schedule ++ more) thread
+
+-- the state after all begun steps is the same, and so are the sections that end in them
+pub record IsSameNow (m next : Config) (thread : ℕ) : Type 0 where
+  pub is : now next ≡ now m
+  pub ended : (u : ℕ) → ended_from m.kept (replicate (steps_begun m thread) thread) u + ended_from next.kept next.uncommitted u
+      ≡ ended_from m.kept m.uncommitted u
+
+abbrev pub NowStays : Type 0
+NowStays = (x : f.Flat) (m : Config) (thread : ℕ) (attempts : List Attempt) → Invariant x m → IsSettled m thread attempts →
+    IsSameNow m (settled_by m thread attempts) thread
+
+-- ---- Whole executions
+
+-- whatever happens from the start on, the invariant holds, and the kept schedule leads to what is kept
+pub record ExecutionInv (x : f.Flat) (m : Config) (schedule : List ℕ) : Type 0 where
+  pub invariant : Invariant x m
+  pub kept : IsKeptBy x m.kept schedule
+
+abbrev pub ExecutionsResume : Type 0
+ExecutionsResume = (x : f.Flat) (m : Config) (schedule : List ℕ) → All (IsDisciplined x) x.threads → Execution x m schedule → ExecutionInv x m schedule
+
+-- whenever the kept schedule leaves all threads between sections, durable memory has exactly the variables that it leaves
+abbrev pub ExecutionsSettle : Type 0
+ExecutionsSettle = (x : f.Flat) (m : Config) (schedule : List ℕ) → All (IsDisciplined x) x.threads → Execution x m schedule →
+    ((thread : ℕ) → is_between (after_from (start x) schedule) thread ≡ true) →
+    map (map durable_number) m.memory ≡ (after_from (start x) schedule).variables

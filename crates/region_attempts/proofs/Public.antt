@@ -1,0 +1,10 @@
+-- What crates above may use of this crate's proofs, passed on from one place. Declares nothing.
+pub use Rattle.region_attempts.proofs.AttemptReads.{kept_good, readers_guard, reads_are_right}
+pub use Rattle.region_attempts.proofs.ExecutionsStayInRegion.{executions_stay}
+pub use Rattle.region_attempts.proofs.GraphFollowsSource.{graph_follows, graph_settles, graph_stands}
+pub use Rattle.region_attempts.proofs.GraphRuns.{inner_runs, matched_run, own_step}
+pub use Rattle.region_attempts.proofs.Nodes.{StoresHere, locking_at, owes_at, owing_at, unlocking_at, writing_stores}
+pub use Rattle.region_attempts.proofs.Region.{one_node}
+pub use Rattle.region_attempts.proofs.RegionEndCleans.{stores_are_cleaned}
+pub use Rattle.region_attempts.proofs.StepBisimulation.{IsThere, is_there, step_lockstep}
+pub use Rattle.region_attempts.proofs.WholeAttempts.{attempts_are_whole}

@@ -1,7 +1,0 @@
-use Rattle.std.proofs.Common.{◌≡◌, map, take}
-use Rattle.flow_graph.specs.Nodes.{node_of}
-use Rattle.region_cutter.specs.links.Trying.{takes}
-use Rattle.region_cutter.proofs.start.behind_each.Given as goal
-
-abbrev pub invariant-loop-node : goal.invariant-loop-node
-invariant-loop-node l = l.behind.items ≡ map takes (map node_of (take l.node-index l.nodes))

@@ -1,0 +1,49 @@
+-- What threads hold at boundaries: one that stands by choice stands before a store, whose mutex is held there.
+use Rattle.std.specs.Prelude.{◌≡◌, ◌≢◌, ℕ, ◌+◌, List, slice_get, Some, true}
+use Rattle.ido_ints.specs.declared.kinds.Kind.{Kind}
+use Rattle.c_tree.specs.Flats as f
+use Rattle.c_tree.specs.LockDiscipline.{Held, holds, guard_of}
+use Rattle.lock_discipline.specs.Masks.{mask_of}
+use Rattle.lock_discipline.specs.HeldSetsByStep.{AreAllSetsOf}
+use Rattle.flow_graph.specs.declared.graph.Part.{Part}
+use Rattle.flow_graph.specs.Nodes.{Node, Store}
+use Rattle.flow_graph.specs.Liveness.{NodeAt}
+use Rattle.flow_graph.specs.Lowering.{lowered}
+use Rattle.flow_graph.specs.IdempotentCuts.{Boundaries, IsChosen, AreAtWrites}
+
+-- the node is the step of this number of this thread, and the table has this set of held mutexes before it
+pub record IsHeldAt (x : f.Flat) (table : List (List Held)) (thread step node : ℕ) (held : Held) : Type 0 where
+  pub part : Part
+  pub own : slice_get (lowered x).threads thread ≡ Some part
+  pub is : node ≡ part.first + step
+  pub sets : List Held
+  pub row : slice_get table thread ≡ Some sets
+  pub before : slice_get sets step ≡ Some held
+
+-- the node stores a variable whose mutex is in the set, which so isn't empty
+pub record StoresLocked (x : f.Flat) (node : ℕ) (held : Held) : Type 0 where
+  pub is : Node
+  pub at : NodeAt (lowered x) node is
+  pub variable : ℕ
+  pub kind : Kind
+  pub next : ℕ
+  pub stores : is.action ≡ Store variable kind next
+  pub locked : holds held (guard_of x.variables variable) ≡ true
+  pub some : mask_of held ≢ 0
+
+-- a boundary that stands by choice stands before a store of a variable whose mutex its thread holds
+abbrev pub ChosenAreLocked : Type 0
+ChosenAreLocked = (x : f.Flat) (table : List (List Held)) (b : Boundaries) (thread step node : ℕ) (held : Held) → AreAllSetsOf x table →
+    AreAtWrites (lowered x) b → IsChosen (lowered x) b node → IsHeldAt x table thread step node held → StoresLocked x node held
+
+-- the set that the table has before a node
+pub record IsHeldBefore (x : f.Flat) (table : List (List Held)) (node : ℕ) : Type 0 where
+  pub thread : ℕ
+  pub step : ℕ
+  pub held : Held
+  pub at : IsHeldAt x table thread step node held
+
+-- each node of the graph is a step of a thread, and the table has a set before it
+abbrev pub NodesAreSteps : Type 0
+NodesAreSteps = (x : f.Flat) (table : List (List Held)) (node : ℕ) (is : Node) → AreAllSetsOf x table → NodeAt (lowered x) node is →
+    IsHeldBefore x table node

@@ -1,0 +1,3 @@
+-- What crates above may use of this crate's proofs, passed on from one place. Declares nothing.
+pub use Rattle.run_scripts.proofs.MergedRuns.{runs_merged}
+pub use Rattle.run_scripts.proofs.RunLaws.{IsRunWithin, each_step, few_runs, runs_tell}

@@ -1,0 +1,114 @@
+-- The life of a compiled object: what it represents, and how it behaves as a core.
+use Rattle.std.specs.Prelude.{ℕ, ◌*◌, ◌/◌, List, [], ◌∷◌, ◌++◌, length, map, take, drop, slice_get, Bool, true, false, Some, None}
+use Rattle.ido_base.specs.declared.event.Event.{Event}
+use Rattle.ido_base.specs.Words.{Word, durable_value}
+use Rattle.ido_base.specs.Layout.{variable_lines}
+use Rattle.ido_base.specs.Cores.{Behaviour}
+use Rattle.rv64_isa.specs.declared.object.Object.{Object}
+use Rattle.rv64_isa.specs.declared.object.Marks.{Marks}
+use Rattle.rv64_isa.specs.declared.object.Slot.{Slot}
+use Rattle.rv64_isa.specs.declared.phase.Phase.{Phase}
+use Rattle.rv64_isa.specs.declared.phase.Phase.TheVariants.{Take, Wait, Resume, Run, Done, Ended}
+use Rattle.rv64_isa.specs.Programs.{program_of}
+use Rattle.rv64_isa.specs.Machine.{World, after_event, after_events, reply_to, machine_start, machine_from}
+use Rattle.rv64_isa.specs.Schedule.{Steps, stores_point, finishes_fence, first_steps, steps_along}
+
+-- ---- What a life is
+
+pub record Course : Type 0 where
+  pub program : List (List Slot)
+  -- of each thread the addresses of its marks
+  pub marks : List (List ℕ)
+  -- words of its variables
+  pub variable_words : ℕ
+  -- the schedule that was kept before the first event
+  pub kept_before : List ℕ
+  -- the world before the first event
+  pub opening : World
+  -- the events so far
+  pub journal : List Event
+  -- how many events it takes
+  pub cap : ℕ
+
+-- the world now
+abbrev pub world_of : Course → World
+world_of life = after_events life.program life.opening life.journal
+
+-- the steps begun and kept by now
+abbrev pub steps_in : Course → Steps
+steps_in life = steps_along life.marks life.program life.opening life.journal (first_steps (length life.program) life.kept_before)
+
+-- of each thread the addresses of its marks
+abbrev pub addresses_of : Marks → List (List ℕ)
+addresses_of marks = map (λ t. t.nodes.items) marks.threads.items
+
+-- the life of an object before any event, which begins at this world with this schedule kept
+abbrev pub life_at : Object → Marks → World → (kept : List ℕ) → (cap : ℕ) → Course
+life_at object marks world kept cap = record {
+  program = program_of object;
+  marks = addresses_of marks;
+  variable_words = length object.initial.items / 8;
+  kept_before = kept;
+  opening = world;
+  journal = [];
+  cap = cap;
+}
+
+-- the life that begins at the object's start
+abbrev pub new_life : Object → Marks → (cap : ℕ) → Course
+new_life object marks cap = life_at object marks (machine_start object) [] cap
+
+-- the life that begins as after a crash that left these words of its variables and logs, with this schedule kept
+abbrev pub life_from : Object → Marks → (words kept : List ℕ) → (cap : ℕ) → Course
+life_from object marks words kept cap = life_at object marks (machine_from object words []) kept cap
+
+-- the life with an event more
+abbrev pub with_event : Course → Event → Course
+with_event life event = record life { journal = life.journal ++ event ∷ [] }
+
+-- what a crash would leave of so many words of variables, and after them of the logs
+unfoldable pub left_words : (variable_words : ℕ) → List Word → List ℕ
+left_words variable_words words = take variable_words (map durable_value words) ++ drop (8 * variable_lines) (map durable_value words)
+
+-- ---- A life as a core
+
+-- a program with the world that it is at; and its marks, the words of its variables and the schedule that was kept before, which no event changes
+pub record LifeConfig : Type 0 where
+  pub program : List (List Slot)
+  pub marks : List (List ℕ)
+  pub variable_words : ℕ
+  pub kept_before : List ℕ
+  pub world : World
+
+-- the hart has ended, or its recovery is done
+abbrev pub is_stopped_phase : Phase → Bool
+is_stopped_phase Done = true
+is_stopped_phase Ended = true
+is_stopped_phase Take = false
+is_stopped_phase Wait = false
+is_stopped_phase Resume = false
+is_stopped_phase Run = false
+
+abbrev pub is_stopped : World → (h : ℕ) → Bool
+is_stopped w h = elim (slice_get w.harts h) [
+  | Some hart ↦ is_stopped_phase hart.phase
+  | None ↦ false
+]
+
+abbrev pub living : Behaviour LifeConfig
+living = record {
+  next = λ m event. record m { world = after_event m.program m.world event };
+  reply = λ m event. reply_to m.program m.world event;
+  is_stopped = λ m h. is_stopped m.world h;
+  stores_point = λ m h event. stores_point m.program m.world event h;
+  finishes_fence = λ m h event. finishes_fence m.program m.world event h;
+}
+
+abbrev pub opening_of : Course → LifeConfig
+opening_of life = record {
+  program = life.program;
+  marks = life.marks;
+  variable_words = life.variable_words;
+  kept_before = life.kept_before;
+  world = life.opening;
+}

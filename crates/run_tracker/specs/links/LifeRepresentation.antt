@@ -1,0 +1,56 @@
+-- What the fields of a life represent.
+use Rattle.std.specs.Prelude.{Vec, ◌≡◌, ℕ, ◌+◌, ◌/◌, ◌<◌, ◌≤◌, ◌^◌, List, length, map, slice_index, Option, Some, None}
+use Rattle.std.specs.Global.{Global}
+use Rattle.std.specs.Vec.{vec_capacity, vec_len}
+use Rattle.ido_base.specs.Cores.{point_stores, finished_fences}
+use Rattle.ido_base.specs.Layout.{spread_words}
+use Rattle.ido_base.specs.declared.limits.TheConstants.{MOST_VARIABLE_BYTES}
+use Rattle.rv64_isa.specs.declared.object.Slot.{Slot}
+use Rattle.rv64_isa.specs.Machine.{World, start_of, after_crash_of}
+use Rattle.rv64_isa.specs.Frames.{IsWellFormedWorld}
+use Rattle.ido_machine.specs.Machines.{RepresentsMachine, program_in, events_of}
+use Rattle.run_tracker.specs.declared.life.Life.TheInside.{Inside}
+use Rattle.run_tracker.specs.links.AccountRepresentation.{AccountInv, AreOpen, AreOrdered, weight}
+use Rattle.run_tracker.specs.links.SignTables.{AreTables}
+use Rattle.run_tracker.specs.ObjectLives.{Course, world_of, steps_in, living, opening_of}
+
+-- the world before the first event: that of the start, or that after a crash that left these words
+abbrev pub opening_by : List (List Slot) → (locks : ℕ) → (initial : List ℕ) → Option (Vec ℕ Global) → World
+opening_by program locks initial None = start_of program locks initial
+opening_by program locks initial (Some words) = after_crash_of program locks (spread_words (length initial / 8) words.items)
+
+abbrev pub course_of : Inside → Course
+course_of life = record {
+  program = program_in life.machine;
+  marks = map (λ a. a.items) life.addresses.items;
+  variable_words = length life.initial.items / 8;
+  kept_before = life.before.items;
+  opening = opening_by (program_in life.machine) life.mutexes life.initial.items life.left;
+  journal = life.journal.events;
+  cap = life.cap;
+}
+
+-- each hart has done it as often as is counted
+abbrev pub AreCounts : List ℕ → (harts : ℕ) → (done : ℕ → ℕ) → Type 0
+AreCounts counts harts done = (length counts ≡ harts) × ((h : ℕ) → h < harts → slice_index counts h ≡ done h)
+
+-- machine, account and counts are those of the events in the journal
+pub record LifeInv (life : Inside) : Type 0 where
+  pub machine : RepresentsMachine life.machine (world_of (course_of life))
+  pub sound : IsWellFormedWorld (world_of (course_of life))
+  pub events : events_of life.machine ≡ length life.journal.events
+  pub tables : AreTables life.tables.items (program_in life.machine) (map (λ a. a.items) life.addresses.items)
+  pub account : AccountInv life.account (steps_in (course_of life))
+  pub harts : length life.account.harts.items ≡ length (program_in life.machine)
+  pub ordered : AreOrdered (world_of (course_of life)).words (steps_in (course_of life))
+  pub are_open : AreOpen (world_of (course_of life)).words (steps_in (course_of life))
+  pub light : weight (steps_in (course_of life)) ≤ length life.before.items + length life.journal.events
+  pub points : AreCounts life.counts.points.items (length (program_in life.machine)) (point_stores living (opening_of (course_of life)) life.journal.events)
+  pub fences : AreCounts life.counts.fences.items (length (program_in life.machine)) (finished_fences living (opening_of (course_of life)) life.journal.events)
+  pub within : length life.journal.events ≤ life.cap
+  pub few : length life.before.items + life.cap < 2 ^ 63
+  pub bytes : length life.initial.items ≤ MOST_VARIABLE_BYTES
+  pub journal_room : life.cap ≤ life.journal.room
+  pub kept_room : length life.before.items + life.cap ≤ vec_capacity life.account.kept
+  pub stores_room : life.cap ≤ vec_capacity life.account.stores
+  pub stores : vec_len life.account.stores ≤ length life.journal.events

@@ -1,0 +1,280 @@
+-- Pieces of nodes, one after another, and the threads that they make up.
+use Rattle.std.proofs.Common.{◌≡◌, ◌⊎◌, inl, inr, ⊎_elim, refl, ℕ, zero, suc, ◌+◌, ◌-◌, ◌<◌, ◌≤◌, List, [], ◌∷◌, ◌++◌, append_assoc, length, ◌∙◌, ap, ap₂}
+use Rattle.std.proofs.Common.{sym, subst, arith, Some}
+use Rattle.std.specs.Prelude.{slice_get, slice_index_or, map, sum_by, Vec, MatchResult, Ok, Err}
+use Rattle.std.specs.declared.result.Result.{Result}
+use Rattle.std.specs.Global.{Global}
+use Rattle.std.proofs.lemmas.Bool.{cases_lt}
+use Rattle.std.proofs.lemmas.List.{length-append, length-map}
+use Rattle.std.proofs.lemmas.List.Sums.{sum_by-append, sum_by-cons}
+use Rattle.std.proofs.lemmas.Option.{slice_get_within, slice_get-get_or}
+use Rattle.ido_base.specs.declared.limits.TheConstants.{MOST_CODE_WORDS}
+use Rattle.rv64_isa.specs.declared.object.Label.{Label}
+use Rattle.rv64_isa.specs.declared.object.CodeItem.{CodeItem}
+use Rattle.rv64_isa.specs.declared.object.CodeItem.TheVariants.{Here}
+use Rattle.rv64_link.specs.LabelledCode.{most_words_of}
+use Rattle.flow_graph.specs.declared.graph.Part.{Part}
+use Rattle.flow_graph.specs.Nodes.{Node, Graph}
+use Rattle.flow_graph.specs.Liveness.{NodeAt}
+use Rattle.flow_graph.specs.Lowering.{thread_nodes, threads_nodes, parts}
+use Rattle.flow_graph.proofs.Public.{length-thread_nodes, found_in}
+use Rattle.node_code.specs.Pieces.{Appends}
+use Rattle.node_code.specs.JoinedPieces.{joined}
+use Rattle.thread_code.specs.Plans.{Plan, Thread, IsPlan, IsNodeOf}
+use Rattle.rv64_codegen.specs.declared.error.EmitError.{EmitError}
+use Rattle.rv64_codegen.specs.declared.error.EmitError.TheVariants.{Temporaries, Memory}
+use Rattle.rv64_codegen.specs.declared.thread.ThreadPlan as opened
+use Rattle.rv64_codegen.specs.Evaluations.{NeedFew}
+use Rattle.rv64_codegen.specs.ThreadPieces.{IsNodePiece, IsEmitted}
+use Rattle.rv64_codegen.specs.RefusedGraphs.{action_exprs, IsRefusedBy, AllNeedFew, IsRefusedGraph}
+use Rattle.rv64_codegen.specs.links.Threads.{IsOpen, IsOwn, DoesAction, DoesAt, NeedFewAt, IsRefusedAt, IsPiece, plan_in, thread_of, choices_of}
+use Rattle.rv64_codegen.specs.links.Emission.{NeedFewFrom, IsRefusedFrom, IsEmittedThread, IsRefusedThread, IsEmittedOf, IsRefusedOf, AreEmittedTo, AreEmitted}
+use Rattle.rv64_codegen.proofs.Homes.{one_thread}
+use Rattle.rv64_codegen.proofs.PlannedNodes.{nodes_are, threads_are, node_in, end_is, cheap, node_exists}
+use Rattle.rv64_codegen.proofs.LoweredNodes.{price_of, prices, thread_of_node, thread_before}
+use Rattle.rv64_codegen.proofs.NodePieces.{are_choices}
+
+-- ---- Answers
+
+one_node : (g : Graph) (node : ℕ) (a b : Node) → NodeAt g node a → NodeAt g node b → a ≡ b
+one_node g node a b h k = let both : Some a ≡ Some b = sym h ∙ k in cc
+
+pub weaker_ok : {X E : Type 0} (r : Result X E) (P R : X → Type 0) (Q : E → Type 0) → ((x : X) → P x → R x) → MatchResult r P Q → MatchResult r R Q
+weaker_ok (Ok x) P R Q f m = f x m
+weaker_ok (Err error) P R Q f m = m
+
+-- what is said of the node that was found is said of each that is there
+pub at_node : (x : opened.ThreadPlan) (node : ℕ) (found : Node) (r : Result (Unit {0}) EmitError) (old new : List CodeItem) →
+    NodeAt (plan_in x).graph node found →
+    MatchResult r (λ _. NeedFew (action_exprs found.action) × Appends old new (DoesAction x node found.action))
+    (λ error. IsRefusedBy (action_exprs found.action) error) →
+    MatchResult r (λ _. NeedFewAt x node × Appends old new (DoesAt x node)) (λ error. IsRefusedAt x node error)
+at_node x node found (Ok done) old new at m = (
+  λ is there. subst (λ (z : Node). NeedFew (action_exprs z.action)) (one_node (plan_in x).graph node found is at there) m.0,
+  record {
+    piece = m.1.piece;
+    appended = m.1.appended;
+    is = λ is there. subst (λ (z : Node). DoesAction x node z.action m.1.piece) (one_node (plan_in x).graph node found is at there) m.1.is;
+  },
+)
+at_node x node found (Err error) old new at m = λ is there. subst (λ (z : Node). IsRefusedBy (action_exprs z.action) error)
+    (one_node (plan_in x).graph node found is at there) m
+
+-- ---- Lists
+
+pub get_cases : {X : Type 0} (xs : List X) (y : X) (i : ℕ) (z : X) → slice_get (xs ++ y ∷ []) i ≡ Some z →
+    (slice_get xs i ≡ Some z) ⊎ ((i ≡ length xs) × (y ≡ z))
+get_cases [] y zero z g = inr (refl, let same : y ≡ z = cc in same)
+get_cases [] y (suc i) z g = cc
+get_cases (x ∷ xs) y zero z g = inl g
+get_cases (x ∷ xs) y (suc i) z g = ⊎_elim (λ l. inl l) (λ r. inr (ap suc r.0, r.1)) (get_cases xs y i z g)
+
+abbrev label_made : ℕ → Label
+label_made k = record { 0 = k }
+
+append_nil : (xs : List CodeItem) → xs ++ [] ≡ xs
+append_nil [] = refl
+append_nil (y ∷ ys) = ap (λ (zs : List CodeItem). y ∷ zs) (append_nil ys)
+
+joined_more : (n : ℕ) (pieces : List (List CodeItem)) (piece : List CodeItem) (label : Label) → label.0 ≡ n + length pieces →
+    joined n (pieces ++ piece ∷ []) ≡ (joined n pieces ++ Here label ∷ []) ++ piece
+joined_more n [] piece label e =
+    let here : n ≡ label.0 = omega (arith, e) in
+    ap₂ (λ (k : ℕ) (xs : List CodeItem). Here (label_made k) ∷ xs) here (append_nil piece)
+joined_more n (q ∷ pieces) piece label e =
+    let first : List CodeItem = Here (record { 0 = n }) ∷ q in
+    ap (λ (xs : List CodeItem). first ++ xs) (joined_more (n + 1) pieces piece label (omega (arith, e)))
+    ∙ sym (append_assoc first (joined (n + 1) pieces ++ Here label ∷ []) piece)
+    ∙ ap (λ (xs : List CodeItem). xs ++ piece) (sym (append_assoc first (joined (n + 1) pieces) (Here label ∷ [])))
+
+words_joined : (n : ℕ) (pieces : List (List CodeItem)) (ns : List Node) → length pieces ≡ length ns →
+    ((i : ℕ) (piece : List CodeItem) (is : Node) → slice_get pieces i ≡ Some piece → slice_get ns i ≡ Some is →
+    sum_by most_words_of piece ≤ price_of is) → sum_by most_words_of (joined n pieces) ≤ prices ns
+words_joined n [] ns e h = omega arith
+words_joined n (q ∷ pieces) [] e h = absurd (omega (arith, e))
+words_joined n (q ∷ pieces) (m ∷ ns) e h =
+    omega (
+      arith,
+      sum_by-append most_words_of (Here (record { 0 = n }) ∷ q) (joined (n + 1) pieces),
+      sum_by-cons most_words_of (Here (record { 0 = n })) q,
+      sum_by-cons price_of m ns,
+      h 0 q m refl refl,
+      words_joined (n + 1) pieces ns (omega (arith, e)) (λ i piece is g k. h (suc i) piece is g k),
+    )
+
+-- ---- A thread
+
+-- the pieces of its nodes up to one
+pub record Begun (x : opened.ThreadPlan) (node : ℕ) (items : List CodeItem) : Type 0 where
+  pub pieces : List (List CodeItem)
+  pub long : length pieces ≡ node - x.part.first
+  pub each : (i : ℕ) (piece : List CodeItem) → slice_get pieces i ≡ Some piece → IsPiece x (x.part.first + i) piece
+  pub joined_are : items ≡ joined 0 pieces
+  pub need : NeedFewFrom (plan_in x).graph x.part.first node
+
+pub begun_more : (x : opened.ThreadPlan) (node : ℕ) (old mid new : List CodeItem) (label : Label) → x.part.first ≤ node → label.0 ≡ node - x.part.first →
+    Begun x node old → mid ≡ old ++ Here label ∷ [] → NeedFewAt x node → Appends mid new (IsPiece x node) → Begun x (node + 1) new
+begun_more x node old mid new label from label_is b here few a = record {
+  pieces = b.pieces ++ a.piece ∷ [];
+  long = omega (arith, length-append b.pieces (a.piece ∷ []), b.long, from);
+  each = λ i piece g. ⊎_elim (λ l. b.each i piece l)
+      (λ r.
+      let e : node ≡ x.part.first + i = omega (arith, r.0, b.long, from) in
+      let there : IsPiece x (x.part.first + i) a.piece = subst (λ (n : ℕ). IsPiece x n a.piece) e a.is in
+      subst (λ (q : List CodeItem). IsPiece x (x.part.first + i) q) r.1 there)
+      (get_cases b.pieces a.piece i piece g);
+  joined_are = a.appended ∙ ap (λ (xs : List CodeItem). xs ++ a.piece) (here ∙ ap (λ (xs : List CodeItem). xs ++ Here label ∷ []) b.joined_are)
+      ∙ sym (joined_more 0 b.pieces a.piece label (omega (arith, label_is, b.long)));
+  need = λ other is low high at. ⊎_elim (λ l. b.need other is low l at)
+      (λ l.
+      let e : node ≡ other = omega (arith, high, l) in
+      few is (subst (λ (n : ℕ). NodeAt (plan_in x).graph n is) (sym e) at))
+      (cases_lt other node);
+}
+
+pub thread_emitted : (x : opened.ThreadPlan) (items : List CodeItem) → IsOpen x → Begun x x.part.end items → IsEmittedThread x items
+thread_emitted x items o b =
+    let p = plan_in x in
+    let t = thread_of x in
+    let ns = thread_nodes o.thread.text t.part.first in
+    record {
+      emitted = record {
+        choices = choices_of x;
+        are = are_choices x o;
+        pieces = b.pieces;
+        of_nodes = record { count = b.long; each = λ i piece is g at. b.each i piece g is at };
+        joined_are = b.joined_are;
+      };
+      words = omega (
+        arith,
+        ap (λ (xs : List CodeItem). sum_by most_words_of xs) b.joined_are,
+        words_joined 0 b.pieces ns (omega (arith, b.long, end_is p o.plan t o.thread, length-thread_nodes o.thread.text t.part.first))
+            (λ i piece is g k.
+            let below : i < length b.pieces = slice_get_within b.pieces i piece g in
+            let own : IsNodeOf t (t.part.first + i) = record { from_first = omega arith; below_end = omega (arith, below, b.long) } in
+            let there = node_exists p o.plan t o.thread (t.part.first + i) own in
+            let e : t.part.first + i - t.part.first ≡ i = omega arith in
+            let other : slice_get ns i ≡ Some there.0 = ap (slice_get ns) (sym e) ∙ node_in p o.plan t o.thread (t.part.first + i) there.0 own there.1 in
+            let same : there.0 ≡ is = (let both : Some there.0 ≡ Some is = sym other ∙ k in cc) in
+            let piece_of : IsNodePiece p t (choices_of x) (t.part.first + i) there.0 piece = b.each i piece g there.0 there.1 in
+            omega (arith, piece_of.price, ap (λ (z : Node). price_of z) same)),
+        cheap p o.plan t o.thread,
+      );
+      need = b.need;
+    }
+
+-- refused at a node
+pub refused_at : (x : opened.ThreadPlan) (node : ℕ) (items : List CodeItem) (error : EmitError) → IsOwn x node → Begun x node items →
+    IsRefusedAt x node error → IsRefusedThread x error
+refused_at x node items (Temporaries place) own b r =
+    let there = node_exists (plan_in x) own.open_is.plan (thread_of x) own.open_is.thread node own.own in
+    record {
+      node = node;
+      is = there.0;
+      at = there.1;
+      from_first = own.own.from_first;
+      below_end = own.own.below_end;
+      of = r there.0 there.1;
+      earlier = b.need;
+    }
+refused_at x node items Memory own b r = tt
+
+-- ---- Threads
+
+part_same : (g : Graph) (k : ℕ) (a b : Part) → slice_get g.threads k ≡ Some a → slice_get g.threads k ≡ Some b → a ≡ b
+part_same g k a b h i = let both : Some a ≡ Some b = sym h ∙ i in cc
+
+pub of_thread : (x : opened.ThreadPlan) (number : ℕ) (items : List CodeItem) → x.number ≡ number → IsOpen x → IsEmittedThread x items →
+    IsEmittedOf (plan_in x) number items
+of_thread x number items e o is = record {
+  each = λ t th same. subst (λ (u : Thread). IsEmitted (plan_in x) u items)
+      (one_thread (plan_in x) (thread_of x) t o.thread th (omega (arith, e, same))) is.emitted;
+  words = is.words;
+  need = λ part there.
+      let same : x.part ≡ part = part_same (plan_in x).graph number x.part part
+      (ap (slice_get (plan_in x).graph.threads) (sym e) ∙ o.thread.nodes) there in
+      subst (λ (q : Part). NeedFewFrom (plan_in x).graph q.first q.end) same is.need;
+}
+
+pub of_refused : (x : opened.ThreadPlan) (number : ℕ) (error : EmitError) → x.number ≡ number → IsOpen x → IsRefusedThread x error →
+    IsRefusedOf (plan_in x) number error
+of_refused x number error e o r part there =
+    let same : x.part ≡ part = part_same (plan_in x).graph number x.part part
+    (ap (slice_get (plan_in x).graph.threads) (sym e) ∙ o.thread.nodes) there in
+    subst (λ (q : Part). IsRefusedFrom (plan_in x).graph q.first q.end error) same r
+
+pub number_done : (x : opened.ThreadPlan) (number : ℕ) (r : Result (Vec CodeItem Global) EmitError) → x.number ≡ number → IsOpen x →
+    MatchResult r (λ (v : Vec CodeItem Global). IsEmittedThread x v.items) (IsRefusedThread x) →
+    MatchResult r (λ (v : Vec CodeItem Global). IsEmittedOf (plan_in x) number v.items) (IsRefusedOf (plan_in x) number)
+number_done x number (Ok v) e o m = of_thread x number v.items e o m
+number_done x number (Err error) e o m = of_refused x number error e o m
+
+pub emitted_more : (p : Plan) (count : ℕ) (threads : List (Vec CodeItem Global)) (items : Vec CodeItem Global) → AreEmittedTo p count threads →
+    IsEmittedOf p count items.items → AreEmittedTo p (count + 1) (threads ++ items ∷ [])
+emitted_more p count threads items are is = record {
+  long = omega (arith, length-append threads (items ∷ []), are.long);
+  each = λ number other h. ⊎_elim (λ l. are.each number other l)
+      (λ r.
+      let e : count ≡ number = omega (arith, r.0, are.long) in
+      subst (λ (v : Vec CodeItem Global). IsEmittedOf p number v.items) r.1 (subst (λ (n : ℕ). IsEmittedOf p n items.items) e is))
+      (get_cases threads items number other h);
+}
+
+module _ (p : Plan) (plan : IsPlan p) where
+  there_is : (k : ℕ) (q : Part) → slice_get (parts p.flat.threads 0) k ≡ Some q → slice_get p.graph.threads k ≡ Some q
+  there_is k q h = ap (λ (qs : List Part). slice_get qs k) (threads_are p plan) ∙ h
+
+  here_is : (k : ℕ) (q : Part) → slice_get p.graph.threads k ≡ Some q → slice_get (parts p.flat.threads 0) k ≡ Some q
+  here_is k q h = ap (λ (qs : List Part). slice_get qs k) (sym (threads_are p plan)) ∙ h
+
+  pub all_need_few : (threads : List (Vec CodeItem Global)) → AreEmittedTo p (length p.graph.threads) threads → AllNeedFew p.graph
+  all_need_few threads are node is at =
+      let at' : slice_get (threads_nodes p.flat.threads 0) node ≡ Some is = ap (λ (ns : List Node). slice_get ns node) (sym (nodes_are p plan)) ∙ at in
+      let w = thread_of_node p.flat.threads 0 node is at' in
+      let own = there_is w.0 w.1 w.2.is in
+      let below : w.0 < length threads = omega (arith, slice_get_within p.graph.threads w.0 w.1 own, are.long) in
+      let made = found_in threads w.0 below in
+      (are.each w.0 made.0 made.1).need w.1 own node is (omega (arith, w.2.from_first)) (omega (arith, w.2.below_end)) at
+
+  earlier_few : (count : ℕ) (threads : List (Vec CodeItem Global)) (part : Part) → AreEmittedTo p count threads →
+      slice_get p.graph.threads count ≡ Some part → (node : ℕ) (is : Node) → node < part.first → NodeAt p.graph node is → NeedFew (action_exprs is.action)
+  earlier_few count threads part are there node is low at =
+      let w = thread_before p.flat.threads 0 count part node (here_is count part there) (omega arith) low in
+      let own = there_is w.0 w.1 w.3.is in
+      let below : w.0 < length threads = omega (arith, w.2, are.long) in
+      let made = found_in threads w.0 below in
+      (are.each w.0 made.0 made.1).need w.1 own node is w.3.from_first w.3.below_end at
+
+  pub graph_refused : (count : ℕ) (threads : List (Vec CodeItem Global)) (part : Part) (error : EmitError) → AreEmittedTo p count threads →
+      slice_get p.graph.threads count ≡ Some part → IsRefusedOf p count error → IsRefusedGraph p.graph error
+  graph_refused count threads part (Temporaries place) are there r =
+      let first = r part there in
+      record {
+        node = first.node;
+        is = first.is;
+        at = first.at;
+        first = first.of;
+        earlier = λ other before low at. ⊎_elim (λ l. earlier_few count threads part are there other before l at)
+            (λ l. first.earlier other before l low at) (cases_lt other part.first);
+      }
+  graph_refused count threads part Memory are there r = tt
+
+  items_at : (threads : List (Vec CodeItem Global)) (k : ℕ) (items : List CodeItem) →
+      slice_get (map (λ (v : Vec CodeItem Global). v.items) threads) k ≡ Some items →
+      (v : Vec CodeItem Global) × (slice_get threads k ≡ Some v) × (v.items ≡ items)
+  items_at [] k items g = cc
+  items_at (v ∷ vs) zero items g = (v, refl, let same : v.items ≡ items = cc in same)
+  items_at (v ∷ vs) (suc k) items g = items_at vs k items g
+
+  pub are_emitted : (threads : List (Vec CodeItem Global)) → AreEmittedTo p (length p.graph.threads) threads →
+      AreEmitted p (map (λ (v : Vec CodeItem Global). v.items) threads)
+  are_emitted threads are = record {
+    count = omega (arith, length-map threads (λ (v : Vec CodeItem Global). v.items), are.long);
+    each = λ t items th g.
+        let w = items_at threads t.number items g in
+        subst (λ (xs : List CodeItem). IsEmitted p t xs) w.2 ((are.each t.number w.0 w.1).each t th refl);
+  }
+
+  pub few_words : (threads : List (Vec CodeItem Global)) (count k : ℕ) (d : Vec CodeItem Global) → AreEmittedTo p count threads → k < length threads →
+      sum_by most_words_of (slice_index_or threads k d).items ≤ MOST_CODE_WORDS
+  few_words threads count k d are below = (are.each k (slice_index_or threads k d) (slice_get-get_or threads k d below)).words

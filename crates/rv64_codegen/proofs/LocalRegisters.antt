@@ -1,0 +1,117 @@
+-- Each local of a thread has a register of locals, and two that are live at once have different ones.
+use Rattle.std.proofs.Common.{◌≡◌, ◌≢◌, ◌⊎◌, inl, inr, ℕ, zero, suc, ◌<◌, ◌≤◌, List, [], ◌∷◌, length, get_or, refl, ap, arith, sym, ◌∙◌, Bool, true, Some}
+use Rattle.std.proofs.Common.{◌==◌, eqb-true}
+use Rattle.std.specs.Prelude.{slice_get, slice_index, ◌&&◌, if◌then◌else◌}
+use Rattle.std.specs.List.{list_all}
+use Rattle.std.proofs.lemmas.Bool.{and_parts}
+use Rattle.std.proofs.lemmas.List.{get_or-map}
+use Rattle.std.proofs.lemmas.List.Elements.{Contains-get_or}
+use Rattle.std.proofs.lemmas.Option.{slice_get-get_or}
+use Rattle.memory_layout.specs.declared.roles.TheConstants.{LOCALS}
+use Rattle.memory_layout.specs.Roles.{is_local}
+use Rattle.flow_graph.specs.Liveness.{Spans}
+use Rattle.thread_code.specs.Plans.{Plan, Thread, IsThread, IsPlan}
+use Rattle.thread_code.proofs.Public.{locals_are}
+
+one_local : (xs : List ℕ) (at : ℕ) → list_all is_local xs ≡ true → at < length xs → is_local (slice_index xs at) ≡ true
+one_local [] at h below = absurd (let z : ⊥ = omega (arith, below) in z)
+one_local (x ∷ xs) zero h below = (and_parts (is_local x) (list_all is_local xs) h).0
+one_local (x ∷ xs) (suc at) h below = one_local xs at (and_parts (is_local x) (list_all is_local xs) h).1 (omega (arith, below))
+
+-- ---- Registers of locals differ
+
+-- where a register stands in a list
+abbrev place_in : ℕ → List ℕ → ℕ
+place_in r [] = 0
+place_in r (x ∷ xs) = if x == r then 0 else suc (place_in r xs)
+
+abbrev all_below : ℕ → (ℕ → Bool) → Bool
+all_below zero test = true
+all_below (suc n) test = test n && all_below n test
+
+one_below : (n : ℕ) (test : ℕ → Bool) (i : ℕ) → all_below n test ≡ true → i < n → test i ≡ true
+one_below zero test i h l = absurd (omega (arith, l))
+one_below (suc n) test i h l = by (same_or_other i n) (λ less. one_below n test i (and_parts (test n) (all_below n test) h).1 less)
+  where
+    same_or_other : (a b : ℕ) → (a ≡ b) ⊎ (a ≢ b)
+    same_or_other a b = grind arith
+
+    by : (i ≡ n) ⊎ (i ≢ n) → (i < n → test i ≡ true) → test i ≡ true
+    by (inl same) earlier = ap test same ∙ (and_parts (test n) (all_below n test) h).0
+    by (inr other) earlier = earlier (omega (arith, l))
+
+stands_back : all_below 18 (λ i. place_in (slice_index LOCALS i) LOCALS == i) ≡ true
+stands_back = refl
+
+same_place : (i j : ℕ) → i < 18 → j < 18 → slice_index LOCALS i ≡ slice_index LOCALS j → i ≡ j
+same_place i j l m same =
+    let back : (k : ℕ) → k < 18 → place_in (slice_index LOCALS k) LOCALS ≡ k =
+    λ k below. eqb-true (place_in (slice_index LOCALS k) LOCALS) k (one_below 18 (λ n. place_in (slice_index LOCALS n) LOCALS == n) k stands_back below) in
+    sym (back i l) ∙ ap (λ (r : ℕ). place_in r LOCALS) same ∙ back j m
+
+-- ---- Registers of a thread's locals
+
+module _ (p : Plan) (t : Thread) (plan : IsPlan p) (of : IsThread p t) where
+  abbrev colour : ℕ → ℕ
+  colour local = get_or of.colours local 0
+
+  has_colour : (local : ℕ) → local < length t.kinds → local < length of.colours
+  has_colour local below =
+      let count : length of.colours ≡ t.part.locals = plan.registers.locals t.number t.part of.colours of.nodes of.of_colours in
+      omega (arith, below, count, locals_are p t plan of)
+
+  colour_exists : (local : ℕ) → local < length t.kinds → colour local < 18
+  colour_exists local below =
+      plan.registers.exist t.number (colour local) of.colours of.of_colours (Contains-get_or of.colours local 0 (has_colour local below))
+
+  register_is : (local : ℕ) → local < length t.kinds → slice_index t.registers local ≡ slice_index LOCALS (colour local)
+  register_is local below =
+      ap (λ (rs : List ℕ). slice_index rs local) of.registers ∙
+      get_or-map (λ (c : ℕ). slice_index LOCALS c) of.colours local 0 0 (has_colour local below)
+
+  pub register_local : (local : ℕ) → local < length t.kinds → is_local (slice_index t.registers local) ≡ true
+  register_local local below = ap is_local (register_is local below) ∙ one_local LOCALS (colour local) refl (colour_exists local below)
+
+  coloured : (local : ℕ) → local < length t.kinds → slice_get of.colours local ≡ Some (colour local)
+  coloured local below = slice_get-get_or of.colours local 0 (has_colour local below)
+
+  pub registers_differ : (a b node : ℕ) → a < length t.kinds → b < length t.kinds → a ≢ b → Spans p.graph t.part a node → Spans p.graph t.part b node →
+      slice_index t.registers a ≢ slice_index t.registers b
+  registers_differ a b node below_a below_b other spans_a spans_b same =
+      let colours : colour a ≡ colour b =
+      same_place (colour a) (colour b) (colour_exists a below_a) (colour_exists b below_b)
+      (sym (register_is a below_a) ∙ same ∙ register_is b below_b) in
+      by colours (less_or_more a b)
+    where
+      less_or_more : (m n : ℕ) → (m < n) ⊎ (n ≤ m)
+      less_or_more m n = grind arith
+
+      by : colour a ≡ colour b → (a < b) ⊎ (b ≤ a) → ⊥
+      by colours (inl less) = plan.apart node a b (record {
+        thread = t.number;
+        part = t.part;
+        own = of.nodes;
+        registers = of.colours;
+        register = colour a;
+        of_thread = of.of_colours;
+        of_first = coloured a below_a;
+        of_second = coloured b below_b ∙ ap Some (sym colours);
+        different = less;
+        first = spans_a;
+        second = spans_b;
+      })
+      by colours (inr more) =
+          let less : b < a = omega arith in
+          plan.apart node b a (record {
+            thread = t.number;
+            part = t.part;
+            own = of.nodes;
+            registers = of.colours;
+            register = colour b;
+            of_thread = of.of_colours;
+            of_first = coloured b below_b;
+            of_second = coloured a below_a ∙ ap Some colours;
+            different = less;
+            first = spans_b;
+            second = spans_a;
+          })

@@ -1,0 +1,418 @@
+-- What the code of a node does is what the node does.
+use Rattle.std.proofs.Common.{◌≡◌, ◌≢◌, ℕ, ◌+◌, ◌*◌, ◌^◌, ◌<◌, List, [], ◌∷◌, ◌++◌, map, refl, ap, arith, sym, ◌∙◌, subst, Bool}
+use Rattle.std.proofs.Common.{true, false, Some, None, ◌==◌, ◌||◌, if◌then◌else◌}
+use Rattle.std.specs.Prelude.{slice_get, slice_index, Contains, pos, not}
+use Rattle.std.specs.Option.{option_map}
+use Rattle.std.proofs.lemmas.Bool.{true≢false}
+use Rattle.std.proofs.lemmas.Option.{same_Some, slice_get-map, slice_get_within}
+use Rattle.ido_base.specs.Layout.{variable_at}
+use Rattle.ido_ints.specs.declared.kinds.Kind.{Kind}
+use Rattle.ido_ints.specs.Kinds.{bytes_of}
+use Rattle.ido_ints.specs.Operators.{is_zero}
+use Rattle.ido_ints.specs.Reduction.{reduced}
+use Rattle.ido_ints.specs.TypedNumbers.{typed, register_form_of}
+use Rattle.c_tree.specs.Exprs as e
+use Rattle.c_tree.specs.Programs as v
+use Rattle.c_tree.specs.Source.{Pending}
+use Rattle.c_tree.specs.Values.{value}
+use Rattle.c_tree.specs.WellFormed.{shape_of}
+use Rattle.rv64_isa.specs.declared.object.CodeItem.{CodeItem}
+use Rattle.rv64_isa.specs.Rows.{Stores, row, read}
+use Rattle.rv64_link.specs.LinkedCode.{IsInstructionAt}
+use Rattle.memory_layout.specs.Roles as roles
+use Rattle.memory_layout.specs.Roles.{is_temporary, is_local}
+use Rattle.boundary_code.specs.Boundaries.{Boundary, AtBank}
+use Rattle.operator_code.specs.ComputingCode.{AreRegisters}
+use Rattle.operator_code.proofs.Public.{equal_by}
+use Rattle.code_runs.specs.CodeTraces.{Program, MarkedEnvironment, Meets, Observation, Mark, GoesThrough}
+use Rattle.expr_code.specs.EvaluationCode.{Homes, Source}
+use Rattle.expr_code.proofs.Public.{or_right}
+use Rattle.flow_graph.specs.Nodes.{Action, Eval, Store, Test, Lock, Unlock, Node, Graph, successors}
+use Rattle.flow_graph.specs.Actions as a
+use Rattle.flow_graph.specs.Actions.{Seen, effect_of, number_in, element_in}
+use Rattle.flow_graph.specs.Lowering.{expr_locals, target_locals}
+use Rattle.flow_graph.specs.Liveness.{NodeAt}
+use Rattle.node_code.specs.Pieces.{store_observations, boundary_observations, bank_after, LeavesRegisters}
+use Rattle.node_code.specs.Pieces.{Asks, Makes, Locks, Unlocks, IsEndPiece, takes, gives, ends}
+use Rattle.node_code.specs.Sites.{Site, label_of}
+use Rattle.node_code.proofs.Public.{fragment, weaker, moved}
+use Rattle.thread_code.specs.Plans.{Plan, Thread, IsThread, IsPlan, IsNodeOf, IsKept, of_local, of_address, of_value, homes, mask_before}
+use Rattle.thread_code.specs.RegistersAtNodes.{HasPending, IsPendingIn, Enters, source_of, IsAnswered}
+use Rattle.thread_code.specs.NodeCodeEffects.{Places, Entrance, kind_at, keeping, Asking, Storing, Performs}
+use Rattle.thread_code.proofs.Public.{enters_again}
+use Rattle.rv64_codegen.specs.Evaluations.{IsEvaluation, IsAssigned, may_write, IsTest, IsTested, is_taken}
+use Rattle.rv64_codegen.specs.Locals.{HoldsEach}
+use Rattle.rv64_codegen.specs.ThreadPieces.{Choices, AreChoices, IsGuarded, GoesTo, IsChoosing, turned, straight, IsDoing, boundary_before, label_of_node}
+use Rattle.rv64_codegen.proofs.EvaluationCode.{spare, local_spare}
+use Rattle.rv64_codegen.proofs.ReadLocals.{live_is_enough, left_held, right_held}
+use Rattle.rv64_codegen.proofs.Nodes.{Known, EvalKnown, StoreKnown, TestKnown, PlainKnown, StoresThere, node_known}
+use Rattle.rv64_codegen.proofs.StoresAfterEvaluations.{owes}
+use Rattle.rv64_codegen.proofs.PieceSites.{IsLinkedIn, spot_site, IsSited}
+use Rattle.rv64_codegen.proofs.LocalRegisters.{register_local}
+use Rattle.rv64_codegen.proofs.RegistersAfterNodes.{enters_on, enters_owing, enters_set}
+use Rattle.rv64_codegen.proofs.LegalEvaluations.{registers_at, may_evaluate, may_reach}
+use Rattle.rv64_codegen.proofs.PieceParts as parts
+
+-- ---- Registers that are kept
+
+local_plain : (r : ℕ) → is_local r ≡ true → is_temporary r ≡ false
+local_plain r h = or_right (r == 28) (is_temporary r) (or_right (r == 29) (r == 28 || is_temporary r) (local_spare r h))
+
+local_other : (r k : ℕ) → is_local k ≡ false → is_local r ≡ true → r ≢ k
+local_other r k off h same = true≢false (sym h ∙ ap is_local same ∙ off)
+
+differs : (r k : ℕ) → r ≢ k → (r == k) ≡ false
+differs r k other = by (r == k) refl
+  where
+    by : (b : Bool) → (r == k) ≡ b → (r == k) ≡ false
+    by false h = h
+    by true h = absurd (other (equal_by r k h))
+
+at_bank_on : (bank : ℕ) (x y : List ℕ) → AtBank bank x → AreRegisters y → read y 3 ≡ read x 3 → AtBank bank y
+at_bank_on bank x y a are same = record { count = are.count; zero_is = are.zero_is; offset = same ∙ a.offset; exists = a.exists }
+
+-- an assignment of a local writes its register and temporaries
+set_kept : (h : Homes) (local : ℕ) (kind : Kind) (r : ℕ) → is_temporary r ≡ false → r ≢ slice_index h.registers local →
+    may_write h (e.ToLocal local kind) r ≡ false
+set_kept h local kind r plain other = ap (λ (b : Bool). b || is_temporary r) (differs r (slice_index h.registers local) other) ∙ plain
+
+module _ (p : Plan) (t : Thread) (plan : IsPlan p) (of : IsThread p t) where
+  kept_plain : (node register : ℕ) → IsKept p t node register → (is_temporary register ≡ false) × (register ≢ 3)
+  kept_plain node register (of_local local k there live) =
+      let is : is_local (slice_index t.registers local) ≡ true = register_local p t plan of local (slice_get_within t.kinds local k there) in
+      (local_plain (slice_index t.registers local) is, local_other (slice_index t.registers local) 3 refl is)
+  kept_plain node register (of_address store) = (refl, λ same. let z : ⊥ = omega (arith, same) in z)
+  kept_plain node register (of_value store) = (refl, λ same. let z : ⊥ = omega (arith, same) in z)
+
+  -- what is known of a node of the thread
+  pub known_of : (node : ℕ) (is : Node) → IsNodeOf t node → NodeAt p.graph node is →
+      Known p.flat t.kinds t.part.first t.part.end p.graph.nodes is is.action
+  known_of node is own at =
+      subst (λ (ks : List Kind). Known p.flat ks t.part.first t.part.end p.graph.nodes is is.action) (sym of.kinds)
+      (subst (λ (g : Graph). Known p.flat of.text.locals t.part.first t.part.end g.nodes is is.action) (sym plan.lowered)
+      (node_known p.flat plan.formed t.number t.part of.text (subst (λ (g : Graph). slice_get g.threads t.number ≡ Some t.part) plan.lowered of.nodes)
+      of.of_text node is (subst (λ (g : Graph). NodeAt g node is) plan.lowered at) own.from_first own.below_end))
+
+  -- after a boundary that keeps what is live there
+  pub enters_kept : (c : Choices) → AreChoices p t c → (node resume : ℕ) → IsNodeOf t node → (seen : Seen) (bank : ℕ) (x y : List ℕ) →
+      Enters p t node seen bank x → LeavesRegisters (boundary_before p t c node resume) bank x y →
+      Enters p t node seen (bank_after (boundary_before p t c node resume) bank) y
+  enters_kept c choices node resume own seen bank x y enters left =
+      enters_again p t node seen bank (bank_after (boundary_before p t c node resume) bank) x y (c.live node) (choices.kept node own) enters left.at_bank
+      (λ r has. let plain = kept_plain node r ((choices.kept node own r).0 has) in left.others r plain.0 plain.1)
+
+module _ (p : Plan) (t : Thread) (c : Choices) (plan : IsPlan p) (of : IsThread p t) (choices : AreChoices p t c) (places : Places) (program : Program)
+    (items : List CodeItem) (n : IsLinkedIn program items) (node : ℕ) (is : Node) (own : IsNodeOf t node) (at : NodeAt p.graph node is)
+    (before does goes : List CodeItem) (guarded : IsGuarded p t c node before) (doing : IsDoing p t c node is.action does goes)
+    (sited : IsSited t program items n places.entry node (before ++ (does ++ goes)))
+    (counted : places.entry (node + 1) ≡ places.entry node + 4 * places.words node) (of_program : places.program ≡ program)
+    (live : (other : ℕ) → places.live other ≡ c.live other) (cleans : places.cleans node ≡ c.cleans node) where
+  abbrev to : ℕ → ℕ
+  to k = n.linked.address_of k
+
+  abbrev does_at : ℕ
+  does_at = parts.does_at p t c program items n places.entry node is at before does goes guarded doing sited
+
+  abbrev goes_at : ℕ
+  goes_at = parts.goes_at p t c program items n places.entry node is at before does goes guarded doing sited
+
+  abbrev words : ℕ
+  words = places.words node
+
+  abbrev does_words : ℕ
+  does_words = parts.does_words p t c program items n places.entry node is at before does goes guarded doing sited
+
+  module _ (core : places.core node ≡ to does_at) (s : MarkedEnvironment) (meets : Meets program s) where
+    abbrev before_site : Site before
+    before_site = spot_site n before (parts.before_spot p t c program items n places.entry node is at before does goes guarded doing sited) s meets
+
+    abbrev does_site : Site does
+    does_site = spot_site n does (parts.does_spot p t c program items n places.entry node is at before does goes guarded doing sited) s meets
+
+    -- ---- Legs
+
+    from_core : (x : List ℕ) (there : ℕ) (ss : List Observation) (P : List ℕ → Type 0) → GoesThrough s (fragment x (to does_at) there words) ss P →
+        GoesThrough s (fragment x (places.core node) there words) ss P
+    from_core x there ss P g = moved s x (to does_at) (places.core node) there there words ss P (sym core) refl g
+
+    then_next : (next : ℕ) → IsNodeOf t next → GoesTo p t c node next goes → (x : List ℕ) (ss : List Observation) (P : List ℕ → Type 0) →
+        GoesThrough s (fragment x (to does_at) (to goes_at) does_words) ss P → GoesThrough s (fragment x (places.core node) (places.entry next) words) ss P
+    then_next next of_next g x ss P leg =
+        from_core x (places.entry next) ss P
+        (parts.then_next p t c program items n places.entry node is at before does goes guarded doing sited words counted next of_next g s meets x ss P leg)
+
+    within : (x : List ℕ) (there : ℕ) (ss : List Observation) (P : List ℕ → Type 0) → GoesThrough s (fragment x (to does_at) there does_words) ss P →
+        GoesThrough s (fragment x (places.core node) there words) ss P
+    within x there ss P leg =
+        from_core x there ss P
+        (parts.within p t c program items n places.entry node is at before does goes guarded doing sited words counted s x (to does_at) there ss P leg)
+
+    module _ (seen : Seen) (bank : ℕ) (x : List ℕ) (enters : Enters p t node seen bank x) where
+      abbrev m : Entrance
+      m = record { environment = s; node = node; seen = seen; bank = bank; registers = x }
+
+      abbrev h : Homes
+      h = homes p t
+
+      abbrev src : Source
+      src = source_of p t seen
+
+      are : AreRegisters x
+      are = registers_at bank x enters.at_bank
+
+      held_all : HoldsEach h src x is.uses
+      held_all = live_is_enough p.graph node is h src x at (λ local k alive there. enters.locals local k there alive)
+
+      -- ---- Evaluations
+
+      module _ (target : e.Lvalue) (val : e.Placed) (next : ℕ) (same : is.action ≡ Eval target val next)
+          (known : EvalKnown p.flat t.kinds t.part.first t.part.end p.graph.nodes target val next is)
+          (evaluation : IsEvaluation h target val.expr does) (goes_to : GoesTo p t c node next goes)
+          (answered : IsAnswered src s.around.loads (Eval target val next))
+        where
+          of_next : IsNodeOf t next
+          of_next = record { from_first = known.inside.0; below_end = known.inside.1 }
+
+          follows : Contains (successors is.action) next
+          follows = subst (λ (b : Action). Contains (successors b) next) (sym same) (0, omega arith, refl)
+
+          pub held_uses : HoldsEach h src x (target_locals target ++ expr_locals val.expr)
+          held_uses = subst (λ (ls : List ℕ). HoldsEach h src x ls) known.uses held_all
+
+          eval_leg : GoesThrough s (fragment x (to does_at) (to goes_at) does_words) (Mark ∷ []) (IsAssigned h src target val.expr x)
+          eval_leg = (evaluation.at does_site).evaluates src x are
+              (may_reach p t plan of seen s.around x target known.target_is
+              (left_held h src x (target_locals target) (expr_locals val.expr) held_uses) answered.0)
+              (may_evaluate p t plan of seen s.around x val known.value_is
+              (right_held h src x (target_locals target) (expr_locals val.expr) held_uses) answered.1)
+
+          eval_goes : (P : List ℕ → Type 0) → ((y : List ℕ) → IsAssigned h src target val.expr x y → P y) →
+              GoesThrough s (fragment x (places.core node) (places.entry next) words) (Mark ∷ []) P
+          eval_goes P f = then_next next of_next goes_to x (Mark ∷ []) P
+              (weaker s (fragment x (to does_at) (to goes_at) does_words) (Mark ∷ []) (IsAssigned h src target val.expr x) P f eval_leg)
+
+      pub sets : (local : ℕ) (kind : Kind) (val : e.Placed) (next : ℕ) → is.action ≡ Eval (e.ToLocal local kind) val next →
+          EvalKnown p.flat t.kinds t.part.first t.part.end p.graph.nodes (e.ToLocal local kind) val next is →
+          IsEvaluation h (e.ToLocal local kind) val.expr does → GoesTo p t c node next goes →
+          IsAnswered src s.around.loads (Eval (e.ToLocal local kind) val next) →
+          Performs p t places m (a.Sets local (reduced kind (number_in seen val.expr)) next)
+      sets local kind val next same known evaluation goes_to answered =
+          eval_goes (e.ToLocal local kind) val next same known evaluation goes_to answered _ (λ y got.
+          let register : is_local (slice_index t.registers local) ≡ true =
+          register_local p t plan of local (slice_get_within t.kinds local kind known.target_is.0) in
+          enters_set p t plan of node next is at (follows (e.ToLocal local kind) val next same known evaluation goes_to answered) seen bank x enters own
+          local kind
+          (reduced kind (number_in seen val.expr)) y known.target_is.0 known.assigns
+          (λ r is_one other. got.unchanged r (set_kept h local kind r (local_plain r is_one) other)) got.has (ap owes same)
+          (at_bank_on bank x y enters.at_bank got.are
+          (got.unchanged 3 (set_kept h local kind 3 refl (λ e3. local_other (slice_index t.registers local) 3 refl register (sym e3))))))
+
+      -- a store is pending after it
+      module _ (target : e.Lvalue) (val : e.Placed) (next : ℕ) (same : is.action ≡ Eval target val next)
+          (known : EvalKnown p.flat t.kinds t.part.first t.part.end p.graph.nodes target val next is)
+          (evaluation : IsEvaluation h target val.expr does) (goes_to : GoesTo p t c node next goes)
+          (answered : IsAnswered src s.around.loads (Eval target val next))
+          (store : Pending) (variable : ℕ) (kind : Kind) (assigns : is.assigns ≡ None) (stores : StoresThere p.graph.nodes next variable kind)
+          (writes : (r : ℕ) → may_write h target r ≡ spare r)
+          (has : (y : List ℕ) → IsAssigned h src target val.expr x y → HasPending p store variable kind y) where
+        pub owes_it : Performs p t places m (a.Owes store next)
+        owes_it = eval_goes target val next same known evaluation goes_to answered _ (λ y got.
+            enters_owing p t plan of node next is at (follows target val next same known evaluation goes_to answered) seen bank x enters
+            (record seen { pending = Some store }) y store variable kind assigns refl refl
+            (at_bank_on bank x y enters.at_bank got.are (got.unchanged 3 (writes 3)))
+            (λ r is_one. got.unchanged r (writes r ∙ local_spare r is_one)) stores (has y got))
+
+      -- ---- Stores
+
+      module _ (variable : ℕ) (kind : Kind) (next : ℕ) (same : is.action ≡ Store variable kind next)
+          (known : StoreKnown p.flat t.kinds t.part.first t.part.end p.graph.nodes variable kind next is) (makes : Makes kind (c.cleans node) does does_site)
+          (goes_to : GoesTo p t c node next goes) (store : Pending) (pending : seen.pending ≡ Some store) where
+        owed : HasPending p store variable kind x
+        owed = subst (λ (b : Action). IsPendingIn p b seen x) same (enters.pending is at) store pending
+
+        abbrev address : ℕ
+        address = variable_at (map shape_of p.flat.variables) store.variable store.element
+
+        small : read x roles.pending_address < 2 ^ 64
+        small = subst (λ (z : ℕ). z < 2 ^ 64) (sym owed.address) owed.below
+
+        module _ (k : Kind) (there : kind_at p.flat.variables store.variable ≡ Some k) where
+          kinds : kind ≡ k
+          kinds =
+              let declared : kind_at p.flat.variables variable ≡ Some known.declared.it.kind =
+              slice_get-map (λ (z : v.Variable). z.kind) p.flat.variables variable ∙ ap (option_map (λ (z : v.Variable). z.kind)) known.declared.found in
+              sym known.declared.kind ∙
+              same_Some known.declared.it.kind k (sym declared ∙ ap (λ (z : ℕ). kind_at p.flat.variables z) (sym owed.variable_is) ∙ there)
+
+          stores_same : Stores (read x roles.pending_address) (bytes_of kind) (read x roles.pending_value) ≡
+              Stores address (bytes_of k) (register_form_of (typed k store.number))
+          stores_same =
+              ap (λ (z : ℕ). Stores z (bytes_of kind) (read x roles.pending_value)) owed.address ∙
+              ap (λ (z : ℕ). Stores address (bytes_of kind) z) owed.value.form ∙
+              ap (λ (j : Kind). Stores address (bytes_of j) (register_form_of (typed j store.number))) kinds
+
+          observations_same : store_observations (read x roles.pending_address) (bytes_of kind) (read x roles.pending_value) (c.cleans node) ≡
+              store_observations address (bytes_of k) (register_form_of (typed k store.number)) (places.cleans node)
+          observations_same =
+              ap (λ (z : ℕ). store_observations z (bytes_of kind) (read x roles.pending_value) (c.cleans node)) owed.address ∙
+              ap (λ (z : ℕ). store_observations address (bytes_of kind) z (c.cleans node)) owed.value.form ∙
+              ap (λ (j : Kind). store_observations address (bytes_of j) (register_form_of (typed j store.number)) (c.cleans node)) kinds ∙
+              ap (λ (b : Bool). store_observations address (bytes_of k) (register_form_of (typed k store.number)) b) (sym cleans)
+
+          storing : Storing p t places m k store
+          storing = record {
+            instr = makes.instr;
+            stands =
+                subst (λ (z : ℕ). IsInstructionAt places.program.start places.program.code z makes.instr) (sym core)
+                (subst (λ (q : Program). IsInstructionAt q.start q.code (to does_at) makes.instr) (sym of_program) makes.stands);
+            does = ap (λ (z : ℕ). row makes.instr x z) core ∙ makes.first x small ∙ stores_same;
+          }
+
+          made : GoesThrough s (fragment x (places.core node) (places.entry next) words)
+              (store_observations address (bytes_of k) (register_form_of (typed k store.number)) (places.cleans node))
+              (Enters p t next (record seen { pending = None }) bank)
+          made = then_next next (record { from_first = known.inside.0; below_end = known.inside.1 }) goes_to x
+              (store_observations address (bytes_of k) (register_form_of (typed k store.number)) (places.cleans node))
+              (Enters p t next (record seen { pending = None }) bank)
+              (subst (λ (ss : List Observation). GoesThrough s (fragment x (to does_at) (to goes_at) does_words) ss
+              (Enters p t next (record seen { pending = None }) bank)) observations_same
+              (weaker s (fragment x (to does_at) (to goes_at) does_words)
+              (store_observations (read x roles.pending_address) (bytes_of kind) (read x roles.pending_value) (c.cleans node)) (λ y. y ≡ x)
+              (Enters p t next (record seen { pending = None }) bank)
+              (λ y is_x. enters_on p t plan of node next is at (subst (λ (b : Action). Contains (successors b) next) (sym same)
+              (0, omega arith, refl)) seen bank x enters
+              (record seen { pending = None }) bank y known.assigns (ap owes same) refl (subst (λ (z : List ℕ). AtBank bank z) (sym is_x) enters.at_bank)
+              (λ r is_one. ap (λ (z : List ℕ). read z r) is_x))
+              (makes.makes x are small)))
+
+        pub makes_it : Performs p t places m (a.Makes store next)
+        makes_it k there = (storing k there, made k there)
+
+      -- ---- Tests
+
+      module _ (condition : e.Placed) (holds fails : ℕ) (same : is.action ≡ Test condition holds fails)
+          (known : TestKnown p.flat t.kinds t.part.first t.part.end p.graph.nodes condition holds fails is)
+          (answered : IsAnswered src s.around.loads (Test condition holds fails)) where
+        abbrev zero_there : Bool
+        zero_there = is_zero (number_in seen condition.expr)
+
+        tested : (turns : Bool) (label : ℕ) → IsTest h condition.expr turns label does →
+            GoesThrough s (fragment x (to does_at)
+            (if is_taken turns (value src.locals src.numbers condition.expr) then label_of does does_site label else to goes_at)
+            does_words)
+            (Mark ∷ []) (IsTested x)
+        tested turns label test =
+            (test.at does_site).tests src x are
+            (may_evaluate p t plan of seen s.around x condition known.condition_is (subst (λ (ls : List ℕ). HoldsEach h src x ls) known.uses held_all) answered)
+
+        after_it : (next : ℕ) → Contains (successors (Test condition holds fails)) next → (y : List ℕ) → IsTested x y → Enters p t next seen bank y
+        after_it next goes_on y got =
+            enters_on p t plan of node next is at (subst (λ (b : Action). Contains (successors b) next) (sym same) goes_on) seen bank x enters seen bank y
+            known.assigns (ap owes same) refl (at_bank_on bank x y enters.at_bank got.are (got.unchanged 3 refl))
+            (λ r is_one. got.unchanged r (local_plain r is_one))
+
+        of_holds : IsNodeOf t holds
+        of_holds = record { from_first = known.holds_inside.0; below_end = known.holds_inside.1 }
+
+        of_fails : IsNodeOf t fails
+        of_fails = record { from_first = known.fails_inside.0; below_end = known.fails_inside.1 }
+
+        label_is : (next : ℕ) → IsNodeOf t next → label_of does does_site (label_of_node p t c next) ≡ places.entry next
+        label_is next of_next = sited.labels next of_next
+
+        -- to the label, or to what stands after the branch
+        to_label : (next : ℕ) → IsNodeOf t next → Contains (successors (Test condition holds fails)) next →
+            GoesThrough s (fragment x (to does_at) (label_of does does_site (label_of_node p t c next)) does_words) (Mark ∷ []) (IsTested x) →
+            GoesThrough s (fragment x (places.core node) (places.entry next) words) (Mark ∷ []) (Enters p t next seen bank)
+        to_label next of_next goes_on leg =
+            within x (places.entry next) (Mark ∷ []) (Enters p t next seen bank)
+            (weaker s (fragment x (to does_at) (places.entry next) does_words) (Mark ∷ []) (IsTested x) (Enters p t next seen bank) (after_it next goes_on)
+            (moved s x (to does_at) (to does_at) (label_of does does_site (label_of_node p t c next)) (places.entry next) does_words (Mark ∷ [])
+            (IsTested x) refl
+            (label_is next of_next) leg))
+
+        to_next : (next : ℕ) → IsNodeOf t next → Contains (successors (Test condition holds fails)) next → GoesTo p t c node next goes →
+            GoesThrough s (fragment x (to does_at) (to goes_at) does_words) (Mark ∷ []) (IsTested x) →
+            GoesThrough s (fragment x (places.core node) (places.entry next) words) (Mark ∷ []) (Enters p t next seen bank)
+        to_next next of_next goes_on goes_to leg =
+            then_next next of_next goes_to x (Mark ∷ []) (Enters p t next seen bank)
+            (weaker s (fragment x (to does_at) (to goes_at) does_words) (Mark ∷ []) (IsTested x) (Enters p t next seen bank) (after_it next goes_on) leg)
+
+        first_follows : Contains (holds ∷ fails ∷ []) holds
+        first_follows = (0, omega arith, refl)
+
+        second_follows : Contains (holds ∷ fails ∷ []) fails
+        second_follows = (1, omega arith, refl)
+
+        pub tests_it : IsChoosing p t c node condition holds fails does goes → Performs p t places m (a.Goes (if zero_there then fails else holds))
+        tests_it (turned next_is test none) = by zero_there (tested true (label_of_node p t c fails) test)
+          where
+            by : (z : Bool) → GoesThrough s (fragment x (to does_at)
+                (if (if true then z else not z) then label_of does does_site (label_of_node p t c fails) else to goes_at)
+                does_words) (Mark ∷ []) (IsTested x) →
+                GoesThrough s (fragment x (places.core node) (places.entry (if z then fails else holds)) words) (Mark ∷ [])
+                (Enters p t (if z then fails else holds) seen bank)
+            by true leg = to_label fails of_fails second_follows leg
+            by false leg = to_next holds of_holds first_follows (record { follows = λ e1. none; jumps = λ other. absurd (other next_is) }) leg
+        tests_it (straight test goes_to) = by zero_there (tested false (label_of_node p t c holds) test)
+          where
+            by : (z : Bool) → GoesThrough s (fragment x (to does_at)
+                (if (if false then z else not z) then label_of does does_site (label_of_node p t c holds) else to goes_at)
+                does_words) (Mark ∷ []) (IsTested x) →
+                GoesThrough s (fragment x (places.core node) (places.entry (if z then fails else holds)) words) (Mark ∷ [])
+                (Enters p t (if z then fails else holds) seen bank)
+            by true leg = to_next fails of_fails second_follows goes_to leg
+            by false leg = to_label holds of_holds first_follows leg
+
+      -- ---- Locks and unlocks
+
+      module _ (next : ℕ) (none : is.assigns ≡ None) (free : owes is.action ≡ false) (follows_it : Contains (successors is.action) next) where
+        -- a call's registers are no local's
+        asks_enter : (number mutex other : ℕ) (z y : List ℕ) → AtBank other z → ((r : ℕ) → is_local r ≡ true → read z r ≡ read x r) → Asks number mutex z y →
+            Asking p t places number mutex next seen other y
+        asks_enter number mutex other z y banked kept asks = record {
+          call = asks.call;
+          lock = asks.lock;
+          enters = enters_on p t plan of node next is at follows_it seen bank x enters seen other y none free refl
+              (at_bank_on other z y banked asks.are
+              (asks.others 3 (λ e1. let w : ⊥ = omega (arith, e1) in w) (λ e1. let w : ⊥ = omega (arith, e1) in w)))
+              (λ r is_one. asks.others r (local_other r 10 refl is_one) (local_other r 17 refl is_one) ∙ kept r is_one);
+        }
+
+      pub takes_it : (mutex next : ℕ) → is.action ≡ Lock mutex next → PlainKnown p.flat t.kinds t.part.first t.part.end p.graph.nodes next is →
+          (locks : Locks (boundary_before p t c next 0) mutex does does_site) → places.call node ≡ locks.call → Performs p t places m (a.Takes mutex next)
+      takes_it mutex next same known locks call =
+          within x (places.call node) [] (Asking p t places takes mutex next seen bank)
+          (moved s x (to does_at) (to does_at) locks.call (places.call node) does_words [] (Asking p t places takes mutex next seen bank) refl (sym call)
+          (weaker s (fragment x (to does_at) locks.call does_words) [] (Asks takes mutex x) (Asking p t places takes mutex next seen bank)
+          (λ y asks. asks_enter next known.assigns (ap owes same) (subst (λ (b : Action). Contains (successors b) next) (sym same)
+          (0, omega arith, refl)) takes mutex
+          bank x y enters.at_bank (λ r is_one. refl) asks)
+          (locks.asks x are)))
+
+      pub gives_it : (mutex next : ℕ) → is.action ≡ Unlock mutex next → PlainKnown p.flat t.kinds t.part.first t.part.end p.graph.nodes next is →
+          (unlocks : Unlocks (boundary_before p t c next 12) mutex does does_site) → places.call node ≡ unlocks.call → places.after node ≡ to goes_at →
+          Performs p t places m (a.Gives mutex next)
+      gives_it mutex next same known unlocks call after =
+          let b : Boundary = boundary_before p t c next 12 in
+          let P : List ℕ → Type 0 = Asking p t places gives mutex next seen (bank_after b bank) in
+          let observations : List Observation = Mark ∷ boundary_observations (keeping p t places next) bank (places.after node) x in
+          let lockstep : Mark ∷ boundary_observations b bank (to goes_at) x ≡ observations =
+          ap (λ (z : ℕ). Mark ∷ boundary_observations b bank z x) (sym after) ∙
+          ap (λ (ls : List ℕ). Mark ∷ boundary_observations (record { thread = t.number; mask = mask_before p t next; live = ls; resume = pos 0 }) bank
+          (places.after node) x) (sym (live next)) in
+          within x (places.call node) observations P
+          (moved s x (to does_at) (to does_at) unlocks.call (places.call node) does_words observations P refl (sym call)
+          (subst (λ (ss : List Observation). GoesThrough s (fragment x (to does_at) unlocks.call does_words) ss P) lockstep
+          (weaker s (fragment x (to does_at) unlocks.call does_words) (Mark ∷ boundary_observations b bank (to goes_at) x)
+          (λ y. (z : List ℕ) × LeavesRegisters b bank x z × Asks gives mutex z y) P
+          (λ y got. asks_enter next known.assigns (ap owes same) (subst (λ (d : Action). Contains (successors d) next) (sym same)
+          (0, omega arith, refl)) gives mutex
+          (bank_after b bank) got.0 y got.1.at_bank (λ r is_one. got.1.others r (local_plain r is_one) (local_other r 3 refl is_one)) got.2)
+          (unlocks.asks x bank enters.at_bank))))
+
+      pub ends_it : (ending : IsEndPiece does does_site) → places.call node ≡ ending.call → Performs p t places m a.Ends
+      ends_it ending call =
+          within x (places.call node) (Mark ∷ []) (λ y. read y roles.call ≡ ends)
+          (moved s x (to does_at) (to does_at) ending.call (places.call node) does_words (Mark ∷ []) (λ y. read y roles.call ≡ ends) refl (sym call)
+          (ending.asks x are))

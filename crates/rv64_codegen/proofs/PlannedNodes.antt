@@ -1,0 +1,222 @@
+-- What a plan says of a thread's nodes.
+use Rattle.std.proofs.Common.{◌≡◌, ⊎_elim, refl, ℕ, zero, suc, ◌+◌, ◌-◌, ◌*◌, ◌<◌, ◌≤◌, List, [], ◌∷◌, length, ◌∙◌, ap, ap₂, sym, subst, arith, Option, Some}
+use Rattle.std.proofs.Common.{None, Bool, true, false, cond}
+use Rattle.std.specs.Prelude.{slice_get, slice_index_or, nat_lt, find}
+use Rattle.std.specs.Option.{option_map}
+use Rattle.std.proofs.lemmas.Option.{slice_get_within}
+use Rattle.std.proofs.lemmas.List.Sums.{sum_by-cons}
+use Rattle.ido_base.specs.declared.location.Location.{Location}
+use Rattle.ido_base.specs.declared.limits.TheConstants.{MOST_PRICE, MOST_THREADS}
+use Rattle.c_tree.specs.Exprs as e
+use Rattle.c_tree.specs.Flats as f
+use Rattle.c_tree.specs.LockDiscipline.{Held}
+use Rattle.c_tree.specs.Prices.{node_price, thread_price}
+use Rattle.c_tree.specs.Temporaries.{price_fault}
+use Rattle.c_tree.specs.WellFormed.{AreFlatStatements}
+use Rattle.lock_discipline.specs.HeldSetsByStep.{assign_steps, steps, steps_of_all, steps_of_arms, thread_steps}
+use Rattle.flow_graph.specs.declared.graph.Part.{Part}
+use Rattle.flow_graph.specs.Nodes.{Action, Eval, Store, Test, Lock, Unlock, End, Node, Graph}
+use Rattle.flow_graph.specs.IdempotentCuts.{IsChosen, Writes}
+use Rattle.flow_graph.specs.Liveness.{NodeAt}
+use Rattle.flow_graph.specs.Lowering.{assign_count, count, statements_count, arms_count, thread_count, thread_nodes, threads_nodes, part, parts}
+use Rattle.flow_graph.proofs.Public.{length-thread_nodes, all_at, found_in, lowered_nodes, lowered_threads, ShapedAs, node_shaped}
+use Rattle.thread_code.specs.Plans.{Plan, Thread, IsPlan, IsThread, IsNodeOf}
+use Rattle.thread_code.specs.Programs.{action_nodes}
+use Rattle.rv64_codegen.proofs.LoweredNodes.{price_of, prices, price_thread, IsLoweredNode, sound_thread, sound_at, part_is, node_of_thread}
+
+-- ---- As many steps as nodes
+
+assign_lockstep : (target : e.Lvalue) → assign_steps target ≡ assign_count target
+assign_lockstep (e.ToLocal local kind) = refl
+assign_lockstep (e.ToVariable place variable kind) = refl
+assign_lockstep (e.ToElement place variable kind index) = refl
+
+mutual
+  steps_lockstep : (y : f.Statement) → steps y ≡ count y
+  steps_lockstep (f.Assign place target value) = assign_lockstep target
+  steps_lockstep (f.If place arms otherwise) = ap₂ ◌+◌ (arms_lockstep arms) (all_lockstep otherwise)
+  steps_lockstep (f.While place condition body) = ap suc (all_lockstep body)
+  steps_lockstep (f.Do place body condition) = omega (arith, all_lockstep body)
+  steps_lockstep (f.Lock place mutex) = refl
+  steps_lockstep (f.Unlock place mutex) = refl
+
+  all_lockstep : (ys : f.Statements) → steps_of_all ys ≡ statements_count ys
+  all_lockstep f.no_statement = refl
+  all_lockstep (f.statement_and y rest) = ap₂ ◌+◌ (steps_lockstep y) (all_lockstep rest)
+
+  arms_lockstep : (arms : f.Arms) → steps_of_arms arms ≡ arms_count arms
+  arms_lockstep f.no_arm = refl
+  arms_lockstep (f.arm_and condition body rest) = ap suc (ap₂ ◌+◌ (all_lockstep body) (arms_lockstep rest))
+
+thread_lockstep : (t : f.Thread) → thread_steps t ≡ thread_count t
+thread_lockstep t = omega (arith, all_lockstep t.body)
+
+-- ---- Prices
+
+pub prices_at : (ns : List Node) (k : ℕ) (n : Node) → slice_get ns k ≡ Some n → price_of n ≤ prices ns
+prices_at [] k n g = cc
+prices_at (m ∷ ns) zero n g = let same : m ≡ n = cc in
+    let P : Node → Type 0 = λ z. price_of z ≤ prices (m ∷ ns) in subst P same (omega (arith, sum_by-cons price_of m ns))
+prices_at (m ∷ ns) (suc k) n g = omega (arith, sum_by-cons price_of m ns, prices_at ns k n g)
+
+prices_many : (ns : List Node) → 96 * length ns ≤ prices ns
+prices_many [] = omega arith
+prices_many (n ∷ ns) = omega (arith, sum_by-cons price_of n ns, prices_many ns)
+
+none_mapped : {X Y : Type 0} (g : X → Y) (o : Option X) → option_map g o ≡ None → o ≡ None
+none_mapped g None h = refl
+none_mapped g (Some x) h = cc
+
+none_chosen : {X : Type 0} (b : Bool) (y : X) (o : Option X) → cond b (Some y) o ≡ None → (b ≡ false) × (o ≡ None)
+none_chosen true y o h = cc
+none_chosen false y o h = (refl, h)
+
+none_found : {X : Type 0} (test : X → Bool) (xs : List X) (k : ℕ) (x : X) → find test xs ≡ None → slice_get xs k ≡ Some x → test x ≡ false
+none_found test [] k x h g = cc
+none_found test (y ∷ xs) zero x h g =
+    let same : y ≡ x = cc in
+    subst (λ z. test z ≡ false) same (none_chosen (test y) y (find test xs) h).0
+none_found test (y ∷ xs) (suc k) x h g = none_found test xs k x (none_chosen (test y) y (find test xs) h).1 g
+
+thread_cheap : (x : f.Flat) (k : ℕ) (t : f.Thread) → price_fault x ≡ None → slice_get x.threads k ≡ Some t → nat_lt MOST_PRICE (thread_price t) ≡ false
+unfolding price_fault
+thread_cheap x k t h g = none_found (λ (u : f.Thread). nat_lt MOST_PRICE (thread_price u)) x.threads k t
+    (none_mapped (λ (u : f.Thread). u.name.place) (find (λ (u : f.Thread). nat_lt MOST_PRICE (thread_price u)) x.threads) h) g
+
+not_above : (n m : ℕ) → nat_lt n m ≡ false → m ≤ n
+not_above n m h = grind arith
+
+-- ---- The graph
+
+module _ (p : Plan) (plan : IsPlan p) where
+  pub nodes_are : p.graph.nodes ≡ threads_nodes p.flat.threads 0
+  nodes_are = ap (λ (g : Graph). g.nodes) plan.lowered ∙ lowered_nodes p.flat
+
+  pub threads_are : p.graph.threads ≡ parts p.flat.threads 0
+  threads_are = ap (λ (g : Graph). g.threads) plan.lowered ∙ lowered_threads p.flat
+
+  node_there : (node : ℕ) (is : Node) → NodeAt p.graph node is → slice_get (threads_nodes p.flat.threads 0) node ≡ Some is
+  node_there node is at = ap (λ (ns : List Node). slice_get ns node) (sym nodes_are) ∙ at
+
+  part_there : (number : ℕ) (q : Part) → slice_get p.graph.threads number ≡ Some q → slice_get (parts p.flat.threads 0) number ≡ Some q
+  part_there number q at = ap (λ (qs : List Part). slice_get qs number) (sym threads_are) ∙ at
+
+  -- ---- Boundaries that are chosen
+
+  abbrev pub IsStoring : Action → Type 0
+  IsStoring (Eval target value next) = ⊥
+  IsStoring (Store variable kind next) = Unit {0}
+  IsStoring (Test condition holds fails) = ⊥
+  IsStoring (Lock mutex next) = ⊥
+  IsStoring (Unlock mutex next) = ⊥
+  IsStoring End = ⊥
+
+  silent : (n : Node) (l : Location) → n.writes ≡ None → n.writes ≡ Some l → ⊥
+  silent n l none some = let both : None ≡ Some l = sym none ∙ some in cc
+
+  writes_by : (all : List Node) (n : Node) (a : Action) (l : Location) → ShapedAs all n a → n.writes ≡ Some l → IsStoring a
+  writes_by all n (Eval target value next) l shape is = silent n l shape.writes is
+  writes_by all n (Store variable kind next) l shape is = tt
+  writes_by all n (Test condition holds fails) l shape is = silent n l shape.writes is
+  writes_by all n (Lock mutex next) l shape is = silent n l shape is
+  writes_by all n (Unlock mutex next) l shape is = silent n l shape is
+  writes_by all n End l shape is = silent n l shape is
+
+  writes_here : (node : ℕ) (is : Node) → NodeAt p.graph node is → Writes p.graph node → IsStoring is.action
+  writes_here node is at w =
+      let same : w.is ≡ is = let there = w.at in cc in
+      let P : Node → Type 0 = λ z. IsStoring z.action in
+      subst P same (writes_by (threads_nodes p.flat.threads 0) w.is w.is.action w.written (node_shaped p.flat node w.is (node_there node w.is w.at)) w.writes)
+
+  pub chosen_stores : (node : ℕ) (is : Node) → NodeAt p.graph node is → IsChosen p.graph p.boundaries node → IsStoring is.action
+  chosen_stores node is at c = ⊎_elim (λ u. absurd (c.free u)) (λ w. writes_here node is at w) (plan.at_writes.before node c.stands)
+
+  -- ---- Nodes of a thread
+
+  module _ (t : Thread) (th : IsThread p t) where
+    own_part : slice_get (parts p.flat.threads 0) t.number ≡ Some t.part
+    own_part = part_there t.number t.part th.nodes
+
+    part_here : t.part ≡ part th.text t.part.first
+    part_here = part_is p.flat.threads 0 t.number th.text t.part th.of_text own_part
+
+    pub end_is : t.part.end ≡ t.part.first + thread_count th.text
+    end_is = ap (λ (q : Part). q.end) part_here
+
+    pub locals_are : t.part.locals ≡ length th.text.locals
+    locals_are = ap (λ (q : Part). q.locals) part_here
+
+    pub node_in : (node : ℕ) (is : Node) → IsNodeOf t node → NodeAt p.graph node is →
+        slice_get (thread_nodes th.text t.part.first) (node - t.part.first) ≡ Some is
+    node_in node is own at =
+        sym (node_of_thread p.flat.threads 0 t.number th.text t.part (node - t.part.first) node th.of_text own_part
+        (omega (arith, own.from_first, own.below_end, end_is)) (omega (arith, own.from_first))) ∙ node_there node is at
+
+    pub node_exists : (node : ℕ) → IsNodeOf t node → (is : Node) × NodeAt p.graph node is
+    node_exists node own =
+        let i = node - t.part.first in
+        let short : i < length (thread_nodes th.text t.part.first) =
+        omega (arith, own.from_first, own.below_end, end_is, length-thread_nodes th.text t.part.first) in
+        let there = found_in (thread_nodes th.text t.part.first) i short in (
+          there.0,
+          ap (λ (ns : List Node). slice_get ns node) nodes_are
+              ∙ node_of_thread p.flat.threads 0 t.number th.text t.part i node th.of_text own_part
+              (omega (arith, own.from_first, own.below_end, end_is)) (omega (arith, own.from_first)) ∙ there.1,
+        )
+
+    pub end_within : t.part.end ≤ length p.graph.nodes
+    end_within =
+        let last = t.part.end - 1 in
+        let own : IsNodeOf t last = record { from_first = omega (arith, end_is); below_end = omega (arith, end_is) } in
+        let there = node_exists last own in
+        omega (arith, slice_get_within p.graph.nodes last there.0 there.1, end_is)
+
+    pub first_below : t.part.first < t.part.end
+    first_below = omega (arith, end_is)
+
+    pub sound_node : (node : ℕ) (is : Node) → IsNodeOf t node → NodeAt p.graph node is →
+        IsLoweredNode p.flat th.text.locals t.part.first t.part.end plan.formed.shared.variables is
+    sound_node node is own at =
+        sound_at p.flat th.text.locals t.part.first t.part.end plan.formed.shared.variables (thread_nodes th.text t.part.first) (node - t.part.first) is
+        (sound_thread p.flat th.text.locals t.part.first t.part.end plan.formed.shared.variables th.text t.part.first
+        (all_at (λ (u : f.Thread). AreFlatStatements p.flat u.locals u.body) p.flat.threads t.number th.text plan.formed.threads th.of_text)
+        (omega arith) (omega (arith, end_is))) (node_in node is own at)
+
+    -- ---- Prices
+
+    pub cheap : prices (thread_nodes th.text t.part.first) ≤ MOST_PRICE
+    cheap = omega (
+      arith,
+      price_thread th.text t.part.first,
+      not_above MOST_PRICE (thread_price th.text) (thread_cheap p.flat t.number th.text plan.priced th.of_text),
+    )
+
+    pub cheap_node : (node : ℕ) (is : Node) → IsNodeOf t node → NodeAt p.graph node is → node_price (action_nodes is.action) ≤ MOST_PRICE
+    cheap_node node is own at =
+        omega (arith, cheap, prices_at (thread_nodes th.text t.part.first) (node - t.part.first) is (node_in node is own at))
+
+    pub few_nodes : t.part.end ≤ t.part.first + 682
+    few_nodes = omega (arith, cheap, prices_many (thread_nodes th.text t.part.first), length-thread_nodes th.text t.part.first, end_is)
+
+    -- ---- The thread
+
+    pub number_below : t.number < length p.flat.threads
+    number_below = slice_get_within p.flat.threads t.number th.text th.of_text
+
+    pub thread_below : t.number < MOST_THREADS
+    thread_below = omega (arith, number_below, plan.formed.shared.threads)
+
+    pub held_there : t.number < length p.held
+    held_there = omega (arith, number_below, plan.held.each_thread)
+
+    pub held_sets : (node : ℕ) → IsNodeOf t node → node - t.part.first < length (slice_index_or p.held t.number [])
+    held_sets node own =
+        let there = found_in p.held t.number held_there in
+        let sets = plan.held.sets t.number th.text there.0 th.of_text there.1 in
+        let is : slice_index_or p.held t.number [] ≡ there.0 = or_there p.held t.number there.0 there.1 in
+        omega (arith, ap (λ (s : List Held). length s) is, sets.each_step, thread_lockstep th.text, end_is, own.from_first, own.below_end)
+      where
+        or_there : (xs : List (List Held)) (k : ℕ) (y : List Held) → slice_get xs k ≡ Some y → slice_index_or xs k [] ≡ y
+        or_there [] k y g = cc
+        or_there (x ∷ xs) zero y g = cc
+        or_there (x ∷ xs) (suc k) y g = or_there xs k y g

@@ -1,0 +1,134 @@
+-- What a plan says of all its threads and variables.
+use Rattle.std.proofs.Common.{◌≡◌, refl, ℕ, suc, ◌+◌, ◌<◌, ◌≤◌, List, [], ◌∷◌, length, ◌∙◌, ap, sym, subst, arith, Some, true, ◌||◌, ◌==◌, get_or}
+use Rattle.std.specs.Prelude.{slice_get, slice_index, map, Vec}
+use Rattle.std.specs.Global.{Global}
+use Rattle.std.specs.List.{AllByRecursion}
+use Rattle.std.specs.Option.{option_map}
+use Rattle.std.proofs.lemmas.Option.{slice_get_within, slice_get-map}
+use Rattle.ido_base.specs.declared.limits.TheConstants.{MOST_THREADS}
+use Rattle.ido_ints.specs.declared.kinds.Kind.{Kind}
+use Rattle.ido_ints.specs.Kinds.{bytes_of}
+use Rattle.c_tree.specs.Flats as f
+use Rattle.c_tree.specs.Programs as p
+use Rattle.c_tree.specs.WellFormed.{shape_of, IsVariable, initial_numbers}
+use Rattle.memory_layout.specs.declared.roles.TheConstants.{LOCALS}
+use Rattle.expr_code.specs.EvaluationCode.{Homes}
+use Rattle.flow_graph.specs.declared.graph.Part.{Part}
+use Rattle.flow_graph.specs.Nodes.{Node}
+use Rattle.flow_graph.specs.Lowering.{thread_count, threads_nodes, parts}
+use Rattle.flow_graph.proofs.Public.{found_in}
+use Rattle.region_cutter.specs.Places.{WriteElements}
+use Rattle.memory_layout.specs.Variables.{AreAddresses, AreCounted, HaveRoom}
+use Rattle.thread_code.specs.Plans.{Plan, Thread, IsPlan, IsThread}
+use Rattle.rv64_codegen.specs.declared.thread.ThreadPlan as opened
+use Rattle.rv64_codegen.specs.links.Emission.{AreRegistersOf, AreListsOf}
+use Rattle.rv64_codegen.specs.links.Threads.{AreCleaned, IsOpen, plan_in, kinds_in}
+use Rattle.rv64_codegen.proofs.ChosenBoundaries.{read_get}
+use Rattle.rv64_codegen.proofs.Homes.{addresses_are, kinds_there}
+use Rattle.rv64_codegen.proofs.PlannedNodes.{nodes_are, threads_are, sound_node, first_below, end_within}
+use Rattle.rv64_codegen.proofs.LoweredNodes.{thread_of_node}
+
+-- ---- Variables
+
+counted : (mutexes : ℕ) (vs : List p.Variable) → AllByRecursion (IsVariable mutexes) vs → AreCounted (map shape_of vs) (map initial_numbers vs)
+counted mutexes [] h = tt
+counted mutexes (v ∷ vs) h = (h.0.count, counted mutexes vs h.1)
+
+pub all_counted : (q : Plan) → IsPlan q → AreCounted (map shape_of q.flat.variables) (map initial_numbers q.flat.variables)
+all_counted q plan = counted (length q.flat.mutexes) q.flat.variables plan.formed.shared.variables
+
+pub have_room : (q : Plan) → IsPlan q → HaveRoom (map shape_of q.flat.variables)
+have_room q plan = plan.formed.shared.bytes
+
+-- ---- Threads
+
+length-parts : (ts : List f.Thread) (first : ℕ) → length (parts ts first) ≡ length ts
+length-parts [] first = refl
+length-parts (t ∷ ts) first = ap suc (length-parts ts (first + thread_count t))
+
+module _ (q : Plan) (plan : IsPlan q) where
+  pub as_many : length q.graph.threads ≡ length q.flat.threads
+  as_many = ap (λ (xs : List Part). length xs) (threads_are q plan) ∙ length-parts q.flat.threads 0
+
+  pub few_threads : length q.graph.threads ≤ MOST_THREADS
+  few_threads = omega (arith, as_many, plan.formed.shared.threads)
+
+  abbrev made : ℕ → Part → List ℕ → Thread
+  made number here registers = record { number = number; part = here; kinds = kinds_in q number; registers = registers }
+
+  -- the thread of a number
+  pub is_thread : (number : ℕ) (here : Part) (registers : List ℕ) → slice_get q.graph.threads number ≡ Some here → AreRegistersOf q number registers →
+      IsThread q (made number here registers)
+  is_thread number here registers at are =
+      let below = slice_get_within q.graph.threads number here at in
+      let text = found_in q.flat.threads number (omega (arith, below, as_many)) in
+      let colours = found_in q.colours number (omega (arith, below, plan.registers.threads)) in
+      record {
+        nodes = at;
+        text = text.0;
+        of_text = text.1;
+        kinds = kinds_there q.flat.threads number text.0 text.1;
+        colours = colours.0;
+        of_colours = colours.1;
+        registers = are colours.0 colours.1;
+      }
+
+  of_number : (number : ℕ) (here : Part) → slice_get q.graph.threads number ≡ Some here → (t : Thread) × IsThread q t × (t.part ≡ here)
+  of_number number here at =
+      let colours = found_in q.colours number (omega (arith, slice_get_within q.graph.threads number here at, plan.registers.threads)) in
+      let registers : List ℕ = map (λ (colour : ℕ). slice_index LOCALS colour) colours.0 in (
+        made number here registers,
+        is_thread number here registers at (λ others g.
+            let same : colours.0 ≡ others = (let both : Some colours.0 ≡ Some others = sym colours.1 ∙ g in cc) in
+            ap (λ (cs : List ℕ). map (λ (colour : ℕ). slice_index LOCALS colour) cs) same),
+        refl,
+      )
+
+  pub part_order : (number : ℕ) (here : Part) → slice_get q.graph.threads number ≡ Some here → here.first ≤ here.end
+  part_order number here at =
+      let w = of_number number here at in
+      let P : Part → Type 0 = λ z. z.first ≤ z.end in
+      subst P w.2 (let less = first_below q plan w.0 w.1 in omega (arith, less))
+
+  pub part_end : (number : ℕ) (here : Part) → slice_get q.graph.threads number ≡ Some here → here.end ≤ length q.graph.nodes
+  part_end number here at =
+      let w = of_number number here at in
+      let P : Part → Type 0 = λ z. z.end ≤ length q.graph.nodes in
+      subst P w.2 (end_within q plan w.0 w.1)
+
+  -- each single element that a node writes exists
+  pub writes_exist : WriteElements q.graph (map shape_of q.flat.variables)
+  writes_exist = record {
+    each = λ node is at.
+        let there : slice_get (threads_nodes q.flat.threads 0) node ≡ Some is = ap (λ (ns : List Node). slice_get ns node) (sym (nodes_are q plan)) ∙ at in
+        let w = thread_of_node q.flat.threads 0 node is there in
+        let own : slice_get q.graph.threads w.0 ≡ Some w.1 = ap (λ (xs : List Part). slice_get xs w.0) (threads_are q plan) ∙ w.2.is in
+        let t = of_number w.0 w.1 own in
+        let first : t.0.part.first ≡ w.1.first = ap (λ (z : Part). z.first) t.2 in
+        let end : t.0.part.end ≡ w.1.end = ap (λ (z : Part). z.end) t.2 in
+        (sound_node q plan t.0 t.1 node is
+        (record { from_first = omega (arith, w.2.from_first, first); below_end = omega (arith, w.2.below_end, end) }) at).writes;
+  }
+
+-- ---- A thread whose code is made
+
+abbrev homes_made : List ℕ → List ℕ → Homes
+homes_made addresses registers = record { addresses = addresses; registers = registers }
+
+pub is_open : (x : opened.ThreadPlan) → IsPlan (plan_in x) → AreAddresses (map shape_of (plan_in x).flat.variables) x.frame.addresses.now →
+    AreCleaned (plan_in x) x.later.now →
+    slice_get (plan_in x).graph.threads x.number ≡ Some x.part → AreRegistersOf (plan_in x) x.number x.frame.registers.now →
+    AreListsOf (plan_in x) x.number x.frame.registers.now x.live.now → IsOpen x
+is_open x plan addresses later at registers lists = record {
+  plan = plan;
+  thread = is_thread (plan_in x) plan x.number x.part x.frame.registers.now at registers;
+  homes = ap (λ (places : List ℕ). homes_made places x.frame.registers.now) (addresses_are (plan_in x).flat.variables x.frame.addresses.now addresses);
+  lists = lists x.part at;
+  later = later;
+}
+
+-- ---- Registers
+
+pub colours_at : (vs : List (Vec ℕ Global)) (k : ℕ) (v : Vec ℕ Global) → k < length vs → v ≡ get_or vs k v →
+    slice_get (map (λ (u : Vec ℕ Global). u.items) vs) k ≡ Some v.items
+colours_at vs k v h e = slice_get-map (λ (u : Vec ℕ Global). u.items) vs k ∙ ap (option_map (λ (u : Vec ℕ Global). u.items)) (read_get vs k v h e)

@@ -1,0 +1,144 @@
+-- What registers hold after a node represents what the thread sees at the next one.
+use Rattle.std.proofs.Common.{◌≡◌, ◌≢◌, ◌⊎◌, inl, inr, ℕ, ◌<◌, List, length, ap, arith, sym, ◌∙◌, subst, true, false, Some, None}
+use Rattle.std.specs.Prelude.{slice_get, slice_set, slice_index, slice_index_or, Contains, ℤ, pos}
+use Rattle.std.proofs.lemmas.Bool.{true≢false}
+use Rattle.std.proofs.lemmas.List.{length-set, get_or-set_same, get_or-set_other}
+use Rattle.std.proofs.lemmas.Option.{none-some, same_Some, slice_get_within}
+use Rattle.ido_ints.specs.declared.kinds.Kind.{Kind}
+use Rattle.ido_ints.specs.TypedNumbers.{Typed, typed}
+use Rattle.c_tree.specs.Source.{Pending}
+use Rattle.rv64_isa.specs.Rows.{read}
+use Rattle.memory_layout.specs.Roles.{is_local}
+use Rattle.boundary_code.specs.Boundaries.{AtBank}
+use Rattle.operator_code.specs.ComputingCode.{Carries}
+use Rattle.flow_graph.specs.Nodes.{Action, Eval, Store, Test, Lock, Unlock, End, Node, Graph, successors}
+use Rattle.flow_graph.specs.Actions.{Seen}
+use Rattle.flow_graph.specs.Lowering.{lowered}
+use Rattle.flow_graph.specs.Liveness.{NodeAt, IsLive, is_read_later, Spans}
+use Rattle.thread_code.specs.Plans.{Plan, Thread, IsThread, IsPlan, IsNodeOf}
+use Rattle.thread_code.specs.RegistersAtNodes.{HasPending, IsPendingIn, Enters}
+use Rattle.rv64_codegen.proofs.Nodes.{StoresThere}
+use Rattle.rv64_codegen.proofs.StoresAfterEvaluations.{owes, is_store, no_store_after}
+use Rattle.rv64_codegen.proofs.LocalRegisters.{register_local, registers_differ}
+
+carries_on : (x y : List ℕ) (r : ℕ) (v : Typed) → read y r ≡ read x r → Carries x r v → Carries y r v
+carries_on x y r v same c = record { held = c.held; form = same ∙ c.form }
+
+none_pending : (p : Plan) (a : Action) (seen : Seen) (x : List ℕ) → is_store a ≡ false → IsPendingIn p a seen x
+none_pending p (Eval target value next) seen x other = tt
+none_pending p (Store variable kind next) seen x other = absurd (true≢false other)
+none_pending p (Test condition holds fails) seen x other = tt
+none_pending p (Lock mutex next) seen x other = tt
+none_pending p (Unlock mutex next) seen x other = tt
+none_pending p End seen x other = tt
+
+same_or_other : (m n : ℕ) → (m ≡ n) ⊎ (m ≢ n)
+same_or_other m n = grind arith
+
+module _ (p : Plan) (t : Thread) (plan : IsPlan p) (of : IsThread p t) (node next : ℕ) (is : Node) (at : NodeAt p.graph node is)
+    (goes : Contains (successors is.action) next) where
+  no_store : owes is.action ≡ false → (m : Node) → NodeAt p.graph next m → is_store m.action ≡ false
+  no_store free m there =
+      let to : (k : ℕ) (n : Node) → NodeAt p.graph k n → NodeAt (lowered p.flat) k n = λ k n h. subst (λ (g : Graph). NodeAt g k n) plan.lowered h in
+      no_store_after p.flat plan.formed node next is m (to node is at) (to next m there) free goes
+
+  -- what is live after a node and not assigned is live before it
+  live_before : (local : ℕ) → is.assigns ≢ Some local → IsLive p.graph local next → IsLive p.graph local node
+  live_before local other live = is_read_later is at other goes live
+
+  none_assigned : (local : ℕ) → is.assigns ≡ None → is.assigns ≢ Some local
+  none_assigned local none e = none-some local (sym none ∙ e)
+
+  module _ (seen : Seen) (bank : ℕ) (x : List ℕ) (enters : Enters p t node seen bank x) where
+    held_on : is.assigns ≡ None → (ls : List ℤ) → ls ≡ seen.locals → (y : List ℕ) → ((r : ℕ) → is_local r ≡ true → read y r ≡ read x r) →
+        (local : ℕ) (k : Kind) → slice_get t.kinds local ≡ Some k → IsLive p.graph local next →
+        Carries y (slice_index t.registers local) (typed k (slice_index_or ls local (pos 0)))
+    held_on none ls same y kept local k g live =
+        subst (λ (zs : List ℤ). Carries y (slice_index t.registers local) (typed k (slice_index_or zs local (pos 0)))) (sym same)
+        (carries_on x y (slice_index t.registers local) (typed k (slice_index_or seen.locals local (pos 0)))
+        (kept (slice_index t.registers local) (register_local p t plan of local (slice_get_within t.kinds local k g)))
+        (enters.locals local k g (live_before local (none_assigned local none) live)))
+
+    -- where nothing is assigned, and no store is pending after the node
+    pub enters_on : (later : Seen) (other : ℕ) (y : List ℕ) → is.assigns ≡ None → owes is.action ≡ false → later.locals ≡ seen.locals → AtBank other y →
+        ((r : ℕ) → is_local r ≡ true → read y r ≡ read x r) → Enters p t next later other y
+    enters_on later other y none free same banked kept = record {
+      at_bank = banked;
+      count = ap length same ∙ enters.count;
+      locals = held_on none later.locals same y kept;
+      pending = λ m there. none_pending p m.action later y (no_store free m there);
+    }
+
+    -- where a store is pending after it
+    pub enters_owing : (later : Seen) (y : List ℕ) (store : Pending) (variable : ℕ) (kind : Kind) → is.assigns ≡ None → later.locals ≡ seen.locals →
+        later.pending ≡ Some store → AtBank bank y → ((r : ℕ) → is_local r ≡ true → read y r ≡ read x r) →
+        StoresThere p.graph.nodes next variable kind → HasPending p store variable kind y → Enters p t next later bank y
+    enters_owing later y store variable kind none same owing banked kept stores has = record {
+      at_bank = banked;
+      count = ap length same ∙ enters.count;
+      locals = held_on none later.locals same y kept;
+      pending = λ m there.
+          let is_there : stores.node ≡ m = same_Some stores.node m (sym stores.at ∙ there) in
+          subst (λ (n : Node). IsPendingIn p n.action later y) is_there
+          (subst (λ (a : Action). IsPendingIn p a later y) (sym stores.stores)
+          (λ other e. subst (λ (s : Pending). HasPending p s variable kind y) (same_Some store other (sym owing ∙ e)) has));
+    }
+
+    -- where a local is assigned
+    module _ (own : IsNodeOf t node) (local : ℕ) (kind : Kind) (number : ℤ) (y : List ℕ) (there : slice_get t.kinds local ≡ Some kind)
+        (assigns : is.assigns ≡ Some local) (kept : (r : ℕ) → is_local r ≡ true → r ≢ slice_index t.registers local → read y r ≡ read x r)
+        (has : Carries y (slice_index t.registers local) (typed kind number)) where
+      abbrev later : List ℤ
+      later = slice_set seen.locals local number
+
+      below : local < length seen.locals
+      below = let l : local < length t.kinds = slice_get_within t.kinds local kind there in omega (arith, l, enters.count)
+
+      assigned : Spans p.graph t.part local node
+      assigned = record {
+        low = node;
+        high = node;
+        from_low = omega arith;
+        to_high = omega arith;
+        at_low = record { from_first = own.from_first; below_end = own.below_end; is = inr (record { is = is; at = at; assigns = assigns }) };
+        at_high = record { from_first = own.from_first; below_end = own.below_end; is = inr (record { is = is; at = at; assigns = assigns }) };
+      }
+
+      alive : (l : ℕ) → IsLive p.graph l node → Spans p.graph t.part l node
+      alive l live = record {
+        low = node;
+        high = node;
+        from_low = omega arith;
+        to_high = omega arith;
+        at_low = record { from_first = own.from_first; below_end = own.below_end; is = inl live };
+        at_high = record { from_first = own.from_first; below_end = own.below_end; is = inl live };
+      }
+
+      each : (l : ℕ) (k : Kind) → slice_get t.kinds l ≡ Some k → IsLive p.graph l next →
+          Carries y (slice_index t.registers l) (typed k (slice_index_or later l (pos 0)))
+      each l k g live = by (same_or_other l local)
+        where
+          by : (l ≡ local) ⊎ (l ≢ local) → Carries y (slice_index t.registers l) (typed k (slice_index_or later l (pos 0)))
+          by (inl same) =
+              let kinds : kind ≡ k = same_Some kind k (sym there ∙ subst (λ (m : ℕ). slice_get t.kinds m ≡ Some k) same g) in
+              let value : slice_index_or later local (pos 0) ≡ number = get_or-set_same seen.locals local number (pos 0) below in
+              subst (λ (m : ℕ). Carries y (slice_index t.registers m) (typed k (slice_index_or later m (pos 0)))) (sym same)
+              (subst (λ (z : ℤ). Carries y (slice_index t.registers local) (typed k z)) (sym value)
+              (subst (λ (j : Kind). Carries y (slice_index t.registers local) (typed j number)) kinds has))
+          by (inr other) =
+              let before : IsLive p.graph l node = live_before l (λ e. other (sym (same_Some local l (sym assigns ∙ e)))) live in
+              let differ : slice_index t.registers l ≢ slice_index t.registers local =
+              registers_differ p t plan of l local node (slice_get_within t.kinds l k g) (slice_get_within t.kinds local kind there) other (alive l before)
+              assigned in
+              let value : slice_index_or later l (pos 0) ≡ slice_index_or seen.locals l (pos 0) = get_or-set_other seen.locals local l number (pos 0) other in
+              subst (λ (z : ℤ). Carries y (slice_index t.registers l) (typed k z)) (sym value)
+              (carries_on x y (slice_index t.registers l) (typed k (slice_index_or seen.locals l (pos 0)))
+              (kept (slice_index t.registers l) (register_local p t plan of l (slice_get_within t.kinds l k g)) differ) (enters.locals l k g before))
+
+      pub enters_set : owes is.action ≡ false → AtBank bank y → Enters p t next (record seen { locals = later }) bank y
+      enters_set free banked = record {
+        at_bank = banked;
+        count = length-set seen.locals local number ∙ enters.count;
+        locals = each;
+        pending = λ m at_next. none_pending p m.action (record seen { locals = later }) y (no_store free m at_next);
+      }

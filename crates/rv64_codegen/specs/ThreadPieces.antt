@@ -1,0 +1,112 @@
+-- What the code of a whole thread is made of: a piece for each of its nodes, one after another.
+use Rattle.std.specs.Prelude.{◌≡◌, ◌≢◌, ◌↔◌, ℕ, ◌+◌, ◌-◌, ◌*◌, ◌^◌, ◌<◌, ◌≤◌, List, [], ◌++◌, length, map, slice_get, sum_by, Some, Bool, true, false, pos}
+use Rattle.ido_ints.specs.declared.kinds.Kind.{Kind}
+use Rattle.c_tree.specs.Exprs as e
+use Rattle.c_tree.specs.Prices.{node_price}
+use Rattle.c_tree.specs.WellFormed.{shape_of}
+use Rattle.rv64_isa.specs.declared.object.CodeItem.{CodeItem}
+use Rattle.rv64_link.specs.LabelledCode.{most_words_of}
+use Rattle.rv64_link.specs.LinkedCode.{IsLinked}
+use Rattle.boundary_code.specs.Boundaries.{Boundary}
+use Rattle.code_runs.specs.CodeTraces.{Program}
+use Rattle.flow_graph.specs.Nodes.{Action, Eval, Store, Test, Lock, Unlock, End, Node}
+use Rattle.flow_graph.specs.OmittedCleans.{IsCleanedLater}
+use Rattle.flow_graph.specs.IdempotentCuts.{IsChosen}
+use Rattle.flow_graph.specs.Liveness.{NodeAt}
+use Rattle.node_code.specs.Pieces.{IsStorePiece, IsBoundaryPiece, IsLockPiece, IsUnlockPiece, IsEnd, IsJump}
+use Rattle.node_code.specs.JoinedPieces.{joined}
+use Rattle.thread_code.specs.Plans.{Plan, IsPlan, Thread, IsThread, IsNodeOf, AreKept, homes, mask_before}
+use Rattle.thread_code.specs.Programs.{IsThreadCode, action_nodes}
+use Rattle.rv64_codegen.specs.Evaluations.{IsEvaluation, IsTest}
+
+-- of each node the registers that a boundary before it keeps, and of each store whether its line is cleaned at once
+pub record Choices : Type 0 where
+  pub live : ℕ → List ℕ
+  pub cleans : ℕ → Bool
+
+-- the kept registers are the live ones, and a clean is left out exactly where a later store of the region makes it
+pub record AreChoices (p : Plan) (t : Thread) (c : Choices) : Type 0 where
+  pub kept : (node : ℕ) → IsNodeOf t node → AreKept p t node (c.live node)
+  pub cleaned : (node : ℕ) (is : Node) (variable : ℕ) (k : Kind) (next : ℕ) → IsNodeOf t node → NodeAt p.graph node is → is.action ≡ Store variable k next →
+      (c.cleans node ≡ false) ↔ IsCleanedLater p.graph p.boundaries (map shape_of p.flat.variables) node
+
+module _ (p : Plan) (t : Thread) (c : Choices) where
+  -- the label at which a node's code begins
+  abbrev pub label_of_node : (node : ℕ) → ℕ
+  label_of_node node = node - t.part.first
+
+  -- the boundary that keeps what is live at the node's entry, and resumes so many bytes after its end
+  abbrev pub boundary_before : (node : ℕ) → (resume : ℕ) → Boundary
+  boundary_before node resume = record { thread = t.number; mask = mask_before p t node; live = c.live node; resume = pos resume }
+
+  -- ---- A node
+
+  -- before what it does stands a boundary, or nothing
+  pub record IsGuarded (node : ℕ) (piece : List CodeItem) : Type 0 where
+    pub chosen : IsChosen p.graph p.boundaries node → IsBoundaryPiece (boundary_before node 0) piece
+    pub plain : ¬ (IsChosen p.graph p.boundaries node) → piece ≡ []
+
+  -- the next node follows, or a jump leads to it
+  pub record GoesTo (node next : ℕ) (piece : List CodeItem) : Type 0 where
+    pub follows : next ≡ node + 1 → piece ≡ []
+    pub jumps : next ≢ node + 1 → IsJump (label_of_node next) piece
+
+  -- the branch leads to the one node, and the other follows, or a jump leads there
+  pub data IsChoosing (node : ℕ) (condition : e.Placed) (holds fails : ℕ) (does goes : List CodeItem) : Type 0 where
+    turned : holds ≡ node + 1 → IsTest (homes p t) condition.expr true (label_of_node fails) does → goes ≡ [] →
+        IsChoosing node condition holds fails does goes
+    straight : IsTest (homes p t) condition.expr false (label_of_node holds) does → GoesTo node fails goes →
+        IsChoosing node condition holds fails does goes
+
+  -- what it does, and how it goes on
+  abbrev pub IsDoing : (node : ℕ) → Action → (does goes : List CodeItem) → Type 0
+  IsDoing node (Eval target value next) does goes = IsEvaluation (homes p t) target value.expr does × GoesTo node next goes
+  IsDoing node (Store variable kind next) does goes = IsStorePiece kind (c.cleans node) does × GoesTo node next goes
+  IsDoing node (Test condition holds fails) does goes = IsChoosing node condition holds fails does goes
+  IsDoing node (Lock mutex next) does goes = IsLockPiece (boundary_before next 0) mutex does × GoesTo node next goes
+  IsDoing node (Unlock mutex next) does goes = IsUnlockPiece (boundary_before next 12) mutex does × GoesTo node next goes
+  IsDoing node End does goes = IsEnd does × (goes ≡ [])
+
+  -- the piece of a node, within its price
+  pub record IsNodePiece (node : ℕ) (is : Node) (piece : List CodeItem) : Type 0 where
+    pub before : List CodeItem
+    pub does : List CodeItem
+    pub goes : List CodeItem
+    pub split : piece ≡ before ++ (does ++ goes)
+    pub guarded : IsGuarded node before
+    pub doing : IsDoing node is.action does goes
+    pub price : sum_by most_words_of piece ≤ node_price (action_nodes is.action)
+
+  -- ---- A thread
+
+  -- a piece for each of its nodes, in their order
+  pub record ArePieces (pieces : List (List CodeItem)) : Type 0 where
+    pub count : length pieces ≡ t.part.end - t.part.first
+    pub each : (i : ℕ) (piece : List CodeItem) (is : Node) → slice_get pieces i ≡ Some piece → NodeAt p.graph (t.part.first + i) is →
+        IsNodePiece (t.part.first + i) is piece
+
+-- the items are those of the thread
+pub record IsEmitted (p : Plan) (t : Thread) (items : List CodeItem) : Type 0 where
+  pub choices : Choices
+  pub are : AreChoices p t choices
+  pub pieces : List (List CodeItem)
+  pub of_nodes : ArePieces p t choices pieces
+  pub joined_are : items ≡ joined 0 pieces
+
+-- ---- What they are held to
+
+-- wherever they are linked, they are the thread's code
+abbrev pub IsCodeOfThread : Plan → Thread → List CodeItem → Type 0
+IsCodeOfThread p t items = (program : Program) → IsLinked program.start items program.code program.nodes program.resumes →
+    program.start + 4 * length program.code < 2 ^ 64 → IsThreadCode p t program
+
+-- the items of each thread, wherever they are linked, are its code
+pub record IsCode (p : Plan) (threads : List (List CodeItem)) : Type 0 where
+  pub count : length threads ≡ length p.graph.threads
+  pub each : (t : Thread) (items : List CodeItem) → IsThread p t → slice_get threads t.number ≡ Some items → IsCodeOfThread p t items
+
+-- ---- Law
+
+-- items that are emitted for a thread of a plan are its code
+abbrev pub EmittedIsCode : Type 0
+EmittedIsCode = (p : Plan) → IsPlan p → (t : Thread) (items : List CodeItem) → IsThread p t → IsEmitted p t items → IsCodeOfThread p t items

@@ -1,0 +1,140 @@
+-- What a thread holds, and the values that it reads under it.
+use Rattle.std.proofs.Common.{◌≡◌, ◌≢◌, refl, ℕ, zero, suc, List, [], ◌∷◌, ◌++◌, sym, ◌∙◌, ap, ap₂}
+use Rattle.std.proofs.Common.{Bool, true, false, Option, Some, None, slice_set, replicate, arith}
+use Rattle.std.specs.Prelude.{slice_get, slice_index_or, ℤ, pos, not, find, if◌then◌else◌}
+use Rattle.std.specs.Option.{option_map, option_or, unwrap_or}
+use Rattle.std.proofs.lemmas.Bool.{eqb-true, eq-eqb}
+use Rattle.std.proofs.lemmas.Bool.Decides.{nat_tests}
+use Rattle.std.proofs.lemmas.Option.{unwrap_or-slice_get, get_or_from_slice_get}
+use Rattle.std.proofs.lemmas.List.{map-set}
+use Rattle.std.proofs.lemmas.List.Folds.{find-append}
+use Rattle.std.proofs.Math.Seq.{map-set_same}
+use Rattle.ido_base.specs.Locks.{is_held_by}
+use Rattle.ido_ints.specs.TypedNumbers.{Typed, typed, converted}
+use Rattle.ido_ints.specs.Operators.{is_zero, unary_of, binary_of}
+use Rattle.c_tree.specs.Exprs as e
+use Rattle.c_tree.specs.Programs.{Variable}
+use Rattle.c_tree.specs.Values.{element_number, element_at, value}
+use Rattle.c_tree.specs.LockDiscipline.{Held, holds, Use, expr_uses, guard_of, is_guarded, AreGuarded}
+use Rattle.source_machine.specs.Mutexes.{held_by}
+
+-- ---- What a thread holds
+
+-- a mutex that is in the set is held by the thread
+pub held_found : (t : ℕ) (hs : List (Option ℕ)) (k : ℕ) → holds (held_by t hs) k ≡ true → slice_get hs k ≡ Some (Some t)
+held_found t [] k h = cc
+held_found t (None ∷ hs) zero h = cc
+held_found t (Some u ∷ hs) zero h = ap (λ (n : ℕ). Some (Some n)) (sym (eqb-true t u h))
+held_found t (o ∷ hs) (suc k) h = held_found t hs k h
+
+-- a thread holds nothing of another's
+pub held_apart : (u t : ℕ) → u ≢ t → is_held_by u (Some t) ≡ false
+held_apart u t n = grind (arith, nat_tests)
+
+-- a mutex that is taken is in the set
+pub held_taken : (t : ℕ) (hs : List (Option ℕ)) (k : ℕ) → held_by t (slice_set hs k (Some t)) ≡ slice_set (held_by t hs) k true
+held_taken t hs k = map-set (is_held_by t) hs k (Some t) ∙ ap (slice_set (held_by t hs) k) (eq-eqb t t refl)
+
+-- a mutex that is given back isn't
+pub held_given : (t : ℕ) (hs : List (Option ℕ)) (k : ℕ) → held_by t (slice_set hs k None) ≡ slice_set (held_by t hs) k false
+held_given t hs k = map-set (is_held_by t) hs k None
+
+-- a holder that the thread can't tell from the one before leaves its set as it is
+pub held_kept : (u : ℕ) (hs : List (Option ℕ)) (k : ℕ) (before after : Option ℕ) → slice_get hs k ≡ Some before → is_held_by u after ≡ is_held_by u before →
+    held_by u (slice_set hs k after) ≡ held_by u hs
+held_kept u hs k before after g e = map-set_same (is_held_by u) hs k after None (e ∙ ap (is_held_by u) (sym (get_or_from_slice_get hs k before None g)))
+
+-- nothing is held where all is free
+pub held_none : (t n : ℕ) → held_by t (replicate n None) ≡ replicate n false
+held_none t zero = refl
+held_none t (suc n) = ap (λ (h : Held). false ∷ h) (held_none t n)
+
+-- ---- Uses
+
+-- a search that finds nothing passes over the first
+first_of_none : (b : Bool) (u : Use) (o : Option Use) → (if not b then Some u else o) ≡ None → b ≡ true
+first_of_none true u o h = refl
+first_of_none false u o h = cc
+
+-- a search that finds nothing passes over all but the first, too
+rest_of_none : (b : Bool) (u : Use) (o : Option Use) → (if not b then Some u else o) ≡ None → o ≡ None
+rest_of_none true u o h = h
+rest_of_none false u o h = cc
+
+-- of two answers without a use the first has none
+left_of_none : (a b : Option Use) → option_or a b ≡ None → a ≡ None
+left_of_none None b h = refl
+left_of_none (Some u) b h = cc
+
+-- of two answers without a use the second has none
+right_of_none : (a b : Option Use) → option_or a b ≡ None → b ≡ None
+right_of_none None b h = h
+right_of_none (Some u) b h = cc
+
+module _ (vs : List Variable) (h : Held) where
+  -- the variable's mutex isn't in the set
+  abbrev unguarded : Use → Bool
+  unguarded u = not (is_guarded vs h u)
+
+  -- the first use is guarded
+  pub guarded_first : (u : Use) (us : List Use) → AreGuarded vs h (u ∷ us) → holds h (guard_of vs u.variable) ≡ true
+  guarded_first u us g = first_of_none (is_guarded vs h u) u (find unguarded us) g
+
+  -- the uses after the first are guarded
+  pub guarded_rest : (u : Use) (us : List Use) → AreGuarded vs h (u ∷ us) → AreGuarded vs h us
+  guarded_rest u us g = rest_of_none (is_guarded vs h u) u (find unguarded us) g
+
+  -- of two lists the one in front
+  pub guarded_left : (us ws : List Use) → AreGuarded vs h (us ++ ws) → AreGuarded vs h us
+  guarded_left us ws g = left_of_none (find unguarded us) (find unguarded ws) (sym (find-append unguarded us ws) ∙ g)
+
+  -- where the uses of two lists are guarded, those of the second are
+  pub guarded_right : (us ws : List Use) → AreGuarded vs h (us ++ ws) → AreGuarded vs h ws
+  guarded_right us ws g = right_of_none (find unguarded us) (find unguarded ws) (sym (find-append unguarded us ws) ∙ g)
+
+-- ---- Values
+
+-- lists that are the same at a place are so at an index
+pub index_same : (xs ys : List (List ℤ)) (k : ℕ) → slice_get ys k ≡ slice_get xs k → slice_index_or ys k [] ≡ slice_index_or xs k []
+index_same xs ys k h = sym (unwrap_or-slice_get ys k []) ∙ (ap (λ (o : Option (List ℤ)). unwrap_or o []) h ∙ unwrap_or-slice_get xs k [])
+
+-- what is written at a place is made of what stood there
+written : (xs : List (List ℤ)) (k : ℕ) (g : List ℤ → List ℤ) → slice_get (slice_set xs k (g (slice_index_or xs k []))) k ≡ option_map g (slice_get xs k)
+written [] k g = refl
+written (x ∷ xs) zero g = refl
+written (x ∷ xs) (suc k) g = written xs k g
+
+-- what is written at a place is equal over lists that are equal there
+pub written_same : (xs ys : List (List ℤ)) (k : ℕ) (g : List ℤ → List ℤ) → slice_get ys k ≡ slice_get xs k →
+    slice_get (slice_set ys k (g (slice_index_or ys k []))) k ≡ slice_get (slice_set xs k (g (slice_index_or xs k []))) k
+written_same xs ys k g h = written ys k g ∙ (ap (option_map g) h ∙ sym (written xs k g))
+
+module _ (variables : List Variable) (h : Held) (ls : List ℤ) (vs ws : List (List ℤ))
+    (same : (v : ℕ) → holds h (guard_of variables v) ≡ true → slice_get ws v ≡ slice_get vs v) where
+  -- an element of a guarded variable
+  element_same : (v n m : ℕ) → holds h (guard_of variables v) ≡ true → n ≡ m → element_number ws v n ≡ element_number vs v m
+  element_same v n m g is = ap (element_number ws v) is ∙ ap (λ (xs : List ℤ). slice_index_or xs m (pos 0)) (index_same vs ws v (same v g))
+
+  -- an expression whose uses are guarded has one value over variables that are the same where they are guarded
+  pub value_same : (x : e.Expr) → AreGuarded variables h (expr_uses x) → value ls ws x ≡ value ls vs x
+  value_same (e.Constant x) g = refl
+  value_same (e.Local local kind) g = refl
+  value_same (e.Variable place v kind) g = ap (typed kind) (element_same v 0 0 (guarded_first variables h _ [] g) refl)
+  value_same (e.Element place v kind index_place index) g =
+      ap (typed kind) (element_same v _ _ (guarded_first variables h _ (expr_uses index) g)
+      (ap element_at (value_same index (guarded_rest variables h _ (expr_uses index) g))))
+  value_same (e.Unary operator operand) g = ap (unary_of operator) (value_same operand g)
+  value_same (e.Cast kind operand) g = ap (λ (y : Typed). converted y kind) (value_same operand g)
+  value_same (e.Converted kind operand) g = ap (λ (y : Typed). converted y kind) (value_same operand g)
+  value_same (e.Binary operator left right) g =
+      ap₂ (binary_of operator) (value_same left (guarded_left variables h (expr_uses left) (expr_uses right) g))
+      (value_same right (guarded_right variables h (expr_uses left) (expr_uses right) g))
+  value_same (e.Conditional kind condition chosen otherwise) g =
+      let first = guarded_left variables h (expr_uses condition ++ expr_uses chosen) (expr_uses otherwise) g in
+      let pick = λ (c y n : Typed). converted (if is_zero c.number then n else y) kind in
+      ap (λ (c : Typed). pick c (value ls ws chosen) (value ls ws otherwise))
+      (value_same condition (guarded_left variables h (expr_uses condition) (expr_uses chosen) first))
+      ∙ (ap (λ (y : Typed). pick (value ls vs condition) y (value ls ws otherwise))
+      (value_same chosen (guarded_right variables h (expr_uses condition) (expr_uses chosen) first))
+      ∙ ap (pick (value ls vs condition) (value ls vs chosen)) (value_same otherwise
+      (guarded_right variables h (expr_uses condition ++ expr_uses chosen) (expr_uses otherwise) g)))

@@ -1,0 +1,50 @@
+-- Registers at a node, and others that hold what a boundary keeps.
+use Rattle.std.proofs.Common.{◌≡◌, refl, ◌∙◌, ℕ, List, Some, ap}
+use Rattle.std.specs.Prelude.{slice_get, slice_index, Contains}
+use Rattle.ido_ints.specs.declared.kinds.Kind.{Kind}
+use Rattle.ido_ints.specs.TypedNumbers.{Typed}
+use Rattle.c_tree.specs.Source.{Pending}
+use Rattle.rv64_isa.specs.Rows.{read}
+use Rattle.memory_layout.specs.Roles.{pending_address, pending_value}
+use Rattle.boundary_code.specs.Boundaries.{AtBank}
+use Rattle.operator_code.specs.ComputingCode.{Carries}
+use Rattle.flow_graph.specs.Nodes.{Action, Eval, Store, Test, Lock, Unlock, End, Node}
+use Rattle.flow_graph.specs.Actions.{Seen}
+use Rattle.flow_graph.specs.IdempotentCuts.{IsStoreNode, stores}
+use Rattle.flow_graph.specs.Liveness.{NodeAt}
+use Rattle.thread_code.specs.Plans.{Plan, Thread, IsKept, of_local, of_address, of_value, AreKept}
+use Rattle.thread_code.specs.RegistersAtNodes.{HasPending, IsPendingIn, Enters}
+use Rattle.thread_code.specs.Laws.{EntersAgain}
+
+carries_on : (x y : List ℕ) (r : ℕ) (v : Typed) → read y r ≡ read x r → Carries x r v → Carries y r v
+carries_on x y r v same c = record { held = c.held; form = same ∙ c.form }
+
+module _ (p : Plan) (t : Thread) (node : ℕ) (seen : Seen) (x y : List ℕ) (live : List ℕ) (kept : AreKept p t node live)
+    (same : (register : ℕ) → Contains live register → read y register ≡ read x register) where
+  same_kept : (register : ℕ) → IsKept p t node register → read y register ≡ read x register
+  same_kept register k = same register ((kept register).1 k)
+
+  pending_again : (is : Node) → NodeAt p.graph node is → (a : Action) → is.action ≡ a → IsPendingIn p a seen x → IsPendingIn p a seen y
+  pending_again is at (Eval target value next) e h = tt
+  pending_again is at (Store variable kind next) e h = λ store s.
+      let old : HasPending p store variable kind x = h store s in
+      let here : IsStoreNode p.graph node = stores is variable kind next at e in
+      record {
+        variable_is = old.variable_is;
+        address = same_kept pending_address (of_address here) ∙ old.address;
+        below = old.below;
+        value = carries_on x y pending_value _ (same_kept pending_value (of_value here)) old.value;
+      }
+  pending_again is at (Test condition holds fails) e h = tt
+  pending_again is at (Lock mutex next) e h = tt
+  pending_again is at (Unlock mutex next) e h = tt
+  pending_again is at End e h = tt
+
+pub enters_again : EntersAgain
+enters_again p t node seen bank other x y live kept h at same = record {
+  at_bank = at;
+  count = h.count;
+  locals = λ local k g l. carries_on x y (slice_index t.registers local) _ (same_kept p t node seen x y live kept same (slice_index t.registers local)
+      (of_local local k g l)) (h.locals local k g l);
+  pending = λ is a. pending_again p t node seen x y live kept same is a is.action refl (h.pending is a);
+}

@@ -1,0 +1,130 @@
+-- Threads that ask for a mutex.
+use Rattle.std.proofs.Common.{◌≡◌, ℕ, ◌+◌, ◌-◌, List, [], length, refl, ap, sym, ◌∙◌, subst, true, false, Some, None, ◌==◌}
+use Rattle.std.specs.Prelude.{slice_get, ◌&&◌, Contains}
+use Rattle.std.specs.List.{list_any}
+use Rattle.ido_base.specs.declared.event.Event.TheVariants.{Step}
+use Rattle.ido_base.specs.declared.event.Reply.TheVariants.{Waits}
+use Rattle.rv64_isa.specs.declared.object.Slot.{Slot}
+use Rattle.rv64_isa.specs.Rows.{Effect, next, read}
+use Rattle.rv64_isa.specs.Machine.{Hart, World, Outcome, with_holder, moved, gone_on, happens, after_event}
+use Rattle.rv64_isa.specs.Schedule.{has_moved, is_mark, passes_mark}
+use Rattle.boundary_code.specs.Boundaries.{boundary_effects}
+use Rattle.node_code.specs.Pieces.{bank_after, takes}
+use Rattle.flow_graph.specs.Nodes.{Action, Lock, successors}
+use Rattle.flow_graph.specs.Actions.{Seen}
+use Rattle.code_runs.specs.ComputingRuns.{LocalConfig, config}
+use Rattle.code_runs.specs.CodeTraces.{Program, MarkedEnvironment, seen_effects}
+use Rattle.hart_runs.specs.HartsOnRuns.{Agrees, IsRunningAt, MayGo}
+use Rattle.hart_runs.specs.Calls.{IsAtCall, lock_asked}
+use Rattle.hart_runs.specs.Laws as r
+use Rattle.hart_runs.proofs.Public as k
+use Rattle.hart_runs.proofs.Public.{moved_harts_begin}
+use Rattle.thread_code.specs.Plans.{Plan, Thread, IsNodeOf}
+use Rattle.thread_code.specs.NodeCodeEffects.{Places, keeping}
+use Rattle.thread_code.specs.Programs.{IsThreadCode, IsCalling, mark_of}
+use Rattle.thread_runs.specs.CodeFragments as ways
+use Rattle.thread_runs.specs.CodeFragments.{ReadsVariables, IsLockOf, IsUnlockOf, IsOnFragment, IsPlaced, on_machine}
+use Rattle.thread_runs.specs.Laws.{TakesMutex, LocksTake, LocksWait}
+use Rattle.thread_runs.proofs.Boundaries.{boundary_may, boundary_apart}
+use Rattle.thread_runs.proofs.FragmentStarts.{on_fragment, other_bank, contains_first}
+use Rattle.thread_runs.proofs.RunObservations.{mark_of_machine}
+use Rattle.thread_runs.proofs.Graph.{mark_there}
+use Rattle.thread_runs.proofs.ThreadsAtCalls.{agrees_on, words_stay, count_stays, has_moved_by, and_right, pc_is, registers_are, call_there, boundary_after_is}
+
+module _ (p : Plan) (t : Thread) (program : List (List Slot)) (own : Program) (code : IsThreadCode p t own) (w : World) (h : ℕ) (s : MarkedEnvironment)
+    (node mutex next : ℕ) (seen : Seen) (bank : ℕ) (effects : List Effect) (counts : r.CallsCount)
+    (fragment : IsOnFragment p t code.places (on_machine program w h s) (record { exit = ways.Asks mutex next; node = node; seen = seen; bank = bank })
+    0 effects) where
+  abbrev c : Places
+  c = code.places
+
+  abbrev lock : IsLockOf p t node mutex next
+  lock = fragment.of_graph
+
+  abbrev hart : Hart
+  hart = fragment.on.hart
+
+  calling : IsCalling p t c (Lock mutex next) node
+  calling = subst (λ (a : Action). IsCalling p t c a node) lock.locks (code.code node lock.is lock.own lock.at).calls
+
+  abbrev at_call : IsAtCall program w h takes
+  at_call =
+      call_there program c w h s fragment.meets fragment.agrees node takes calling.0 fragment.registers hart fragment.on.here fragment.on.runs
+      fragment.on.walks.0 fragment.has.call
+
+  lock_is : lock_asked hart ≡ mutex
+  lock_is = ap (λ (x : List ℕ). read x 10)
+      (registers_are program c w h s fragment.meets fragment.agrees node takes calling.0 fragment.registers hart fragment.on.here fragment.on.runs
+      fragment.on.walks.0 fragment.has.call)
+      ∙ fragment.has.lock
+
+  pc : hart.pc ≡ c.call node
+  pc =
+      pc_is program c w h s fragment.meets fragment.agrees node takes calling.0 fragment.registers hart fragment.on.here fragment.on.runs fragment.on.walks.0
+      fragment.has.call
+
+  pub waits : (holder : ℕ) → slice_get w.holders mutex ≡ Some (Some holder) → (happens program w (Step h) ≡ (w, Waits mutex holder)) ×
+      ((marks : List (List ℕ)) → passes_mark marks program w h ≡ false)
+  waits holder held =
+      let does : happens program w (Step h) ≡ (w, Waits mutex holder) =
+      subst (λ (l : ℕ). happens program w (Step h) ≡ (w, Waits l holder)) lock_is
+      (k.acquires_wait program w h holder at_call (ap (λ (l : ℕ). slice_get w.holders l) lock_is ∙ held)) in
+      (does, λ marks. (counts program w h takes at_call).0 marks ∙ ap (λ (o : Outcome). has_moved o.1 && is_mark marks h hart.pc) does)
+
+  module _ (placed : IsPlaced p t c (length w.harts)) (reads : ReadsVariables s) (free : slice_get w.holders mutex ≡ Some None) where
+    does : happens program w (Step h) ≡ moved (with_holder w mutex (Some h)) h (gone_on hart)
+    does = subst (λ (l : ℕ). happens program w (Step h) ≡ moved (with_holder w l (Some h)) h (gone_on hart)) lock_is
+        (k.acquires_take program w h at_call (ap (λ (l : ℕ). slice_get w.holders l) lock_is ∙ free))
+
+    abbrev v : World
+    v = after_event program w (Step h)
+
+    same_count : length v.harts ≡ length w.harts
+    same_count = count_stays program w (with_holder w mutex (Some h)) h (gone_on hart) does refl
+
+    after : IsRunningAt v h (config fragment.registers (c.call node + 4))
+    after = subst (λ (m : LocalConfig). IsRunningAt v h m)
+        (boundary_after_is program c w h s fragment.meets fragment.agrees node takes calling.0 fragment.registers hart fragment.on.here fragment.on.runs
+        fragment.on.walks.0 fragment.has.call placed.room)
+        (moved_harts_begin program w (with_holder w mutex (Some h)) h hart (gone_on hart) fragment.on.here does fragment.on.runs)
+
+    agrees_after : Agrees program v h s
+    agrees_after = agrees_on program w v h s (words_stay program w (with_holder w mutex (Some h)) h (gone_on hart) does refl) same_count fragment.agrees
+
+    own_next : IsNodeOf t next
+    own_next = placed.closed node next lock.is lock.own lock.at (subst (λ (a : Action). Contains (successors a) next) (sym lock.locks) (contains_first next []))
+
+    marked_there : list_any (λ mark. mark == hart.pc) s.marks ≡ true
+    marked_there =
+        subst (λ (x : ℕ). list_any (λ mark. mark == x) s.marks ≡ true) (sym pc)
+        (subst (λ (a : Action). list_any (λ mark. mark == mark_of c a node) s.marks ≡ true) lock.locks
+        (mark_there p t own code s fragment.meets node lock.is lock.own lock.at))
+
+    pub takes_it : TakesMutex p t c (on_machine program w h s) mutex next
+        (record { exit = ways.Asks mutex next; node = node; seen = seen; bank = bank }) hart fragment.registers
+    takes_it = record {
+      does = does;
+      on = on_fragment p t c program v h s fragment.meets agrees_after
+          (record { exit = ways.Took node; node = next; seen = seen; bank = bank_after (keeping p t c next) bank }) (c.words node) (c.call node + 4)
+          fragment.registers (boundary_effects (keeping p t c next) (1 - bank) (c.after node) fragment.registers) own_next (mutex, lock)
+          (boundary_apart (length w.harts) s (keeping p t c next) (1 - bank) (c.after node) fragment.registers reads placed.number (other_bank bank)
+          (λ r q. placed.slots next r own_next q))
+          (subst (λ (n : ℕ). MayGo n (seen_effects (boundary_effects (keeping p t c next) (1 - bank) (c.after node) fragment.registers))) (sym same_count)
+          (boundary_may (length w.harts) (keeping p t c next) (1 - bank) (c.after node) fragment.registers placed.number (other_bank bank)
+          (λ r q. placed.slots next r own_next q)))
+          after
+          (calling.2 (record { environment = s; node = node; seen = seen; bank = bank; registers = fragment.registers }) fragment.meets refl
+          fragment.has.enters);
+      mark = λ marks same. (counts program w h takes at_call).0 marks
+          ∙ (and_right _ _ (has_moved_by program w (with_holder w mutex (Some h)) h (gone_on hart) does)
+          ∙ mark_of_machine marks h s hart.pc true same marked_there);
+      counts = ((counts program w h takes at_call).1, (counts program w h takes at_call).2);
+    }
+
+pub locks_take : r.CallsCount → LocksTake
+locks_take counts p t program own code w h s node mutex next seen bank effects placed reads fragment free =
+    takes_it p t program own code w h s node mutex next seen bank effects counts fragment placed reads free
+
+pub locks_wait : r.CallsCount → LocksWait
+locks_wait counts p t program own code w h s node mutex next seen bank effects holder fragment held =
+    waits p t program own code w h s node mutex next seen bank effects counts fragment holder held

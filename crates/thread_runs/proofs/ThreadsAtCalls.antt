@@ -1,0 +1,97 @@
+-- Threads at their calls.
+use Rattle.std.proofs.Common.{◌≡◌, ℕ, zero, suc, ◌+◌, ◌*◌, ◌^◌, ◌<◌, List, [], ◌∷◌, length, refl, ap, arith, sym, ◌∙◌, subst, Bool, true, false, Some}
+use Rattle.std.specs.Prelude.{slice_get, ◌&&◌}
+use Rattle.std.proofs.Math.Nat.{mod-eq_of_lt}
+use Rattle.std.proofs.Math.ListN.{length-set}
+use Rattle.ido_base.specs.declared.event.Event.TheVariants.{Step}
+use Rattle.ido_base.specs.Layout.{byte_number}
+use Rattle.ido_base.specs.Words.{Word, loaded}
+use Rattle.rv64_isa.specs.declared.instr.Instr.{Instr}
+use Rattle.rv64_isa.specs.declared.instr.Instr.TheVariants.{Ecall}
+use Rattle.rv64_isa.specs.declared.object.Slot.{Slot}
+use Rattle.rv64_isa.specs.declared.phase.Phase.TheVariants.{Run}
+use Rattle.rv64_isa.specs.Rows.{next, read}
+use Rattle.rv64_isa.specs.Machine.{Hart, World, Outcome, moved, happens, after_event, reply_to}
+use Rattle.rv64_isa.specs.Schedule.{has_moved}
+use Rattle.rv64_link.specs.LinkedCode.{IsInstructionAt}
+use Rattle.memory_layout.specs.Roles as roles
+use Rattle.code_runs.specs.ComputingRuns.{LocalConfig, config}
+use Rattle.code_runs.specs.CodeTraces.{Program, MarkedEnvironment, Meets}
+use Rattle.hart_runs.specs.HartsOnRuns.{Agrees, LoadGives, instr_at, is_access}
+use Rattle.hart_runs.specs.Calls.{IsAtCall}
+use Rattle.hart_runs.proofs.Public.{none_some}
+use Rattle.thread_code.specs.NodeCodeEffects.{Places}
+
+below_length : (xs : List Slot) (i : ℕ) (x : Slot) → slice_get xs i ≡ Some x → i < length xs
+below_length [] i x e = absurd (none_some x e)
+below_length (y ∷ ys) zero x e = omega arith
+below_length (y ∷ ys) (suc i) x e = let l : i < length ys = below_length ys i x e in omega (arith, l)
+
+-- the address after an instruction of code that ends within the addresses
+next_is : (program : Program) (address : ℕ) (instr : Instr) → IsInstructionAt program.start program.code address instr →
+    program.start + 4 * length program.code < 2 ^ 64 →
+    next address ≡ address + 4
+next_is program address instr st room =
+    let i : st.0 < length program.code = below_length program.code st.0 _ st.2 in
+    let at : address ≡ program.start + 4 * st.0 = st.1 in
+    mod-eq_of_lt (omega (arith, i, at, room))
+
+-- ---- The world after a call
+
+-- an environment agrees where words and the count of harts stay
+pub agrees_on : (program : List (List Slot)) (w v : World) (h : ℕ) (s : MarkedEnvironment) → v.words ≡ w.words → length v.harts ≡ length w.harts →
+    Agrees program w h s →
+    Agrees program v h s
+agrees_on program w v h s words count agrees = record {
+  fetches = agrees.fetches;
+  loads = λ address bytes value e. given address bytes value (agrees.loads address bytes value e);
+}
+  where
+    given : (address bytes value : ℕ) → LoadGives w address bytes value → LoadGives v address bytes value
+    given address bytes value g = record {
+      may = ap (λ (n : ℕ). is_access n address bytes) count ∙ g.may;
+      is = ap (λ (ws : List Word). loaded ws (byte_number address) bytes) words ∙ g.is;
+    }
+
+module _ (program : List (List Slot)) (w v : World) (h : ℕ) (after : Hart) (does : happens program w (Step h) ≡ moved v h after) where
+  pub words_stay : v.words ≡ w.words → (after_event program w (Step h)).words ≡ w.words
+  words_stay e = ap (λ (o : Outcome). o.0.words) does ∙ e
+
+  pub count_stays : v.harts ≡ w.harts → length (after_event program w (Step h)).harts ≡ length w.harts
+  count_stays e = ap (λ (o : Outcome). length o.0.harts) does ∙ (length-set v.harts h after ∙ ap (λ (hs : List Hart). length hs) e)
+
+  pub has_moved_by : has_moved (reply_to program w (Step h)) ≡ true
+  has_moved_by = ap (λ (o : Outcome). has_moved o.1) does
+
+pub and_right : (a b : Bool) → a ≡ true → (a && b) ≡ b
+and_right true b e = refl
+and_right false b e = absurd (let z : ⊥ = cc in z)
+
+pub and_none : (a b : Bool) → b ≡ false → (a && b) ≡ false
+and_none true b e = e
+and_none false b e = refl
+
+-- ---- A hart at the call of a node
+
+module _ (program : List (List Slot)) (c : Places) (w : World) (h : ℕ) (s : MarkedEnvironment) (meets : Meets c.program s)
+    (agrees : Agrees program w h s) (node number : ℕ) (stands : IsInstructionAt c.program.start c.program.code (c.call node) Ecall)
+    (registers : List ℕ) (hart : Hart) (here : slice_get w.harts h ≡ Some hart) (runs : hart.phase ≡ Run)
+    (is : config hart.registers hart.pc ≡ config registers (c.call node)) (asks : read registers roles.call ≡ number) where
+  pub pc_is : hart.pc ≡ c.call node
+  pc_is = ap (λ (x : LocalConfig). x.pc) is
+
+  pub registers_are : hart.registers ≡ registers
+  registers_are = ap (λ (x : LocalConfig). x.registers) is
+
+  abbrev pub call_there : IsAtCall program w h number
+  call_there = record {
+    hart = hart;
+    here = here;
+    runs = runs;
+    calls = subst (λ (x : ℕ). instr_at program h x ≡ Some Ecall) (sym pc_is) (agrees.fetches (c.call node) Ecall (meets.fetches (c.call node) Ecall stands));
+    asks = ap (λ (x : List ℕ). read x 17) registers_are ∙ asks;
+  }
+
+  pub boundary_after_is : c.program.start + 4 * length c.program.code < 2 ^ 64 → config hart.registers (next hart.pc) ≡ config registers (c.call node + 4)
+  boundary_after_is room = ap (λ (x : LocalConfig). config x.registers (next x.pc)) is ∙
+      ap (λ (x : ℕ). config registers x) (next_is c.program (c.call node) Ecall stands room)

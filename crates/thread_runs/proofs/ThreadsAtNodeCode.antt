@@ -1,0 +1,104 @@
+-- Threads at their nodes' code, and what they see of variables.
+use Rattle.std.proofs.Common.{◌≡◌, ℕ, List, refl, ap, sym, ◌∙◌, ℤ}
+use Rattle.std.specs.Prelude.{slice_get}
+use Rattle.rv64_isa.specs.Machine.{Hart}
+use Rattle.flow_graph.specs.Nodes.{Action, Eval, Store, Test, Lock, Unlock, End}
+use Rattle.flow_graph.specs.Actions.{Seen}
+use Rattle.code_runs.specs.ComputingRuns.{config}
+use Rattle.hart_runs.proofs.Public.{same_there, others_leave}
+use Rattle.thread_code.specs.Plans.{Plan, Thread}
+use Rattle.thread_code.specs.RegistersAtNodes.{IsPendingIn, Enters}
+use Rattle.thread_code.specs.NodeCodeEffects.{Places, Asking}
+use Rattle.thread_runs.specs.CodeFragments as ways
+use Rattle.thread_runs.specs.CodeFragments.{ExitPoint, Has}
+use Rattle.thread_runs.specs.Laws.{OthersKeepCores, StaysAreAtCore, ThreadsStart, sees, FragmentsSeeAll, CoresSeeAll}
+
+pub others_keep_cores : OthersKeepCores
+others_keep_cores p t c program w h node seen bank registers event sound other core = record {
+  own = core.own;
+  at = record { hart = core.at.hart; here = (others_leave program w h event sound other).0 ∙ core.at.here; runs = core.at.runs; is = core.at.is };
+  enters = core.enters;
+}
+
+pub stays_are_at_core : StaysAreAtCore
+stays_are_at_core p t c program w h s e stage steps effects at stays node seen bank registers core =
+    let d = stays.drains in
+    let same : core.at.hart ≡ at.on.hart = same_there (slice_get w.harts h) core.at.hart at.on.hart core.at.here at.on.here in
+    record {
+      own = core.own;
+      at = record {
+        hart = d.on.hart;
+        here = d.on.here;
+        runs = d.on.runs;
+        is = ap (λ (x : Hart). config x.registers x.pc) d.same ∙ (ap (λ (x : Hart). config x.registers x.pc) (sym same) ∙ core.at.is);
+      };
+      enters = core.enters;
+    }
+
+pub threads_start : ThreadsStart
+threads_start p t program own code w h s seen bank registers meets agrees of at enters = record {
+  meets = meets;
+  agrees = agrees;
+  apart = tt;
+  own = of;
+  of_graph = tt;
+  registers = registers;
+  on = record {
+    hart = at.hart;
+    here = at.here;
+    runs = at.runs;
+    walks = (at.is ∙ ap (λ (x : ℕ). config registers x) (sym code.begins), refl);
+    may = tt;
+  };
+  has = enters;
+}
+
+-- ---- Variables
+
+pending_seen : (p : Plan) (action : Action) (seen : Seen) (variables : List (List ℤ)) (x : List ℕ) → IsPendingIn p action seen x →
+    IsPendingIn p action (sees variables seen) x
+pending_seen p (Eval target value next) seen variables x h = tt
+pending_seen p (Store variable kind next) seen variables x h = h
+pending_seen p (Test condition holds fails) seen variables x h = tt
+pending_seen p (Lock mutex next) seen variables x h = tt
+pending_seen p (Unlock mutex next) seen variables x h = tt
+pending_seen p End seen variables x h = tt
+
+enters_seen : (p : Plan) (t : Thread) (node : ℕ) (seen : Seen) (bank : ℕ) (x : List ℕ) (variables : List (List ℤ)) → Enters p t node seen bank x →
+    Enters p t node (sees variables seen) bank x
+enters_seen p t node seen bank x variables h = record {
+  at_bank = h.at_bank;
+  count = h.count;
+  locals = h.locals;
+  pending = λ is found. pending_seen p is.action seen variables x (h.pending is found);
+}
+
+asking_seen : (p : Plan) (t : Thread) (c : Places) (number mutex next : ℕ) (seen : Seen) (bank : ℕ) (x : List ℕ) (variables : List (List ℤ)) →
+    Asking p t c number mutex next seen bank x → Asking p t c number mutex next (sees variables seen) bank x
+asking_seen p t c number mutex next seen bank x variables h =
+    record { call = h.call; lock = h.lock; enters = enters_seen p t next seen bank x variables h.enters }
+
+has_seen : (p : Plan) (t : Thread) (c : Places) (exit : ExitPoint) (node : ℕ) (seen : Seen) (bank : ℕ) (x : List ℕ) (variables : List (List ℤ)) →
+    Has p t c exit node seen bank x → Has p t c exit node (sees variables seen) bank x
+has_seen p t c ways.Arrives node seen bank x variables h = enters_seen p t node seen bank x variables h
+has_seen p t c ways.Keeps node seen bank x variables h = enters_seen p t node seen bank x variables h
+has_seen p t c (ways.Asks mutex next) node seen bank x variables h = asking_seen p t c _ mutex next seen bank x variables h
+has_seen p t c (ways.Took from) node seen bank x variables h = enters_seen p t node seen bank x variables h
+has_seen p t c (ways.Gives from mutex) node seen bank x variables h = asking_seen p t c _ mutex node seen bank x variables h
+has_seen p t c ways.Ends node seen bank x variables h = h
+
+pub fragments_see_all : FragmentsSeeAll
+fragments_see_all p t c program w h s stage steps effects variables fragment = record {
+  meets = fragment.meets;
+  agrees = fragment.agrees;
+  apart = fragment.apart;
+  own = fragment.own;
+  of_graph = fragment.of_graph;
+  registers = fragment.registers;
+  on = fragment.on;
+  has = has_seen p t c stage.exit stage.node stage.seen stage.bank fragment.registers variables fragment.has;
+}
+
+pub cores_see_all : CoresSeeAll
+cores_see_all p t c w h node seen bank registers variables core =
+    record { own = core.own; at = core.at; enters = enters_seen p t node seen bank registers variables core.enters }

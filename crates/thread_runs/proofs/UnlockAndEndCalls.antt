@@ -1,0 +1,118 @@
+-- Threads that give a mutex back, and those that end.
+use Rattle.std.proofs.Common.{◌≡◌, ℕ, List, length, refl, ap, sym, ◌∙◌, subst, false, Some, None, ◌==◌}
+use Rattle.std.specs.Prelude.{slice_get, slice_set}
+use Rattle.std.specs.List.{list_any}
+use Rattle.ido_base.specs.declared.event.Event.TheVariants.{Step}
+use Rattle.rv64_isa.specs.declared.object.Slot.{Slot}
+use Rattle.rv64_isa.specs.Rows.{Effect, next, read}
+use Rattle.rv64_isa.specs.Machine.{Hart, World, with_holder, moved, gone_on, happens, after_event}
+use Rattle.node_code.specs.Pieces.{gives, ends}
+use Rattle.flow_graph.specs.Nodes.{Action, Unlock, End}
+use Rattle.flow_graph.specs.Actions.{Seen}
+use Rattle.code_runs.specs.ComputingRuns.{LocalConfig, config}
+use Rattle.code_runs.specs.CodeTraces.{Program, MarkedEnvironment}
+use Rattle.hart_runs.specs.HartsOnRuns.{IsRunningAt}
+use Rattle.hart_runs.specs.Calls.{IsAtCall, lock_asked, phase_after}
+use Rattle.hart_runs.specs.Laws as r
+use Rattle.hart_runs.proofs.Public as k
+use Rattle.hart_runs.proofs.Public.{moved_harts_begin}
+use Rattle.thread_code.specs.Plans.{Plan, Thread}
+use Rattle.thread_code.specs.NodeCodeEffects.{Places}
+use Rattle.thread_code.specs.Programs.{IsThreadCode, IsCalling}
+use Rattle.thread_runs.specs.CodeFragments as ways
+use Rattle.thread_runs.specs.CodeFragments.{ReadsVariables, IsLockOf, IsUnlockOf, IsOnFragment, IsPlaced, on_machine}
+use Rattle.thread_runs.specs.Laws.{GivesMutex, UnlocksGive, EndsEnd}
+use Rattle.thread_runs.proofs.RunObservations.{mark_of_machine, none_marked}
+use Rattle.thread_runs.proofs.ThreadsAtCalls.{agrees_on, words_stay, count_stays, and_none, pc_is, registers_are, call_there, boundary_after_is}
+
+module _ (p : Plan) (t : Thread) (program : List (List Slot)) (own : Program) (code : IsThreadCode p t own) (w : World) (h : ℕ) (s : MarkedEnvironment)
+    (from mutex next : ℕ) (seen : Seen) (bank : ℕ) (effects : List Effect) (counts : r.CallsCount) (placed : IsPlaced p t code.places (length w.harts))
+    (fragment : IsOnFragment p t code.places (on_machine program w h s)
+    (record { exit = ways.Gives from mutex; node = next; seen = seen; bank = bank }) 0 effects)
+    (held : slice_get w.holders mutex ≡ Some (Some h)) where
+  abbrev c : Places
+  c = code.places
+
+  abbrev unlock : IsUnlockOf p t from mutex next
+  unlock = fragment.of_graph
+
+  abbrev hart : Hart
+  hart = fragment.on.hart
+
+  calling : IsCalling p t c (Unlock mutex next) from
+  calling = subst (λ (a : Action). IsCalling p t c a from) unlock.unlocks (code.code from unlock.is unlock.own unlock.at).calls
+
+  abbrev at_call : IsAtCall program w h gives
+  at_call =
+      call_there program c w h s fragment.meets fragment.agrees from gives calling.0 fragment.registers hart fragment.on.here fragment.on.runs
+      fragment.on.walks.0 fragment.has.call
+
+  lock_is : lock_asked hart ≡ mutex
+  lock_is = ap (λ (x : List ℕ). read x 10)
+      (registers_are program c w h s fragment.meets fragment.agrees from gives calling.0 fragment.registers hart fragment.on.here fragment.on.runs
+      fragment.on.walks.0 fragment.has.call)
+      ∙ fragment.has.lock
+
+  pc : hart.pc ≡ c.call from
+  pc =
+      pc_is program c w h s fragment.meets fragment.agrees from gives calling.0 fragment.registers hart fragment.on.here fragment.on.runs fragment.on.walks.0
+      fragment.has.call
+
+  abbrev after : Hart
+  after = record (gone_on hart) { phase = phase_after w h (slice_set w.holders mutex None) }
+
+  does : happens program w (Step h) ≡ moved (with_holder w mutex None) h after
+  does = subst (λ (l : ℕ). happens program w (Step h) ≡
+      moved (with_holder w l None) h (record (gone_on hart) { phase = phase_after w h (slice_set w.holders l None) })) lock_is
+      (k.releases_give program w h at_call (ap (λ (l : ℕ). slice_get w.holders l) lock_is ∙ held))
+
+  abbrev v : World
+  v = after_event program w (Step h)
+
+  plain : list_any (λ mark. mark == hart.pc) s.marks ≡ false
+  plain =
+      subst (λ (x : ℕ). list_any (λ mark. mark == x) s.marks ≡ false) (sym pc)
+      (subst (λ (ms : List ℕ). list_any (λ mark. mark == c.call from) ms ≡ false) (sym fragment.meets.marks)
+      (none_marked c.program.nodes (c.call from) calling.3))
+
+  pub gives_it : GivesMutex p t c (on_machine program w h s) from mutex
+      (record { exit = ways.Gives from mutex; node = next; seen = seen; bank = bank }) hart fragment.registers
+  gives_it = record {
+    does = does;
+    agrees = agrees_on program w v h s (words_stay program w (with_holder w mutex None) h after does refl)
+        (count_stays program w (with_holder w mutex None) h after does refl) fragment.agrees;
+    at = λ runs. subst (λ (m : LocalConfig). IsRunningAt v h m)
+        (boundary_after_is program c w h s fragment.meets fragment.agrees from gives calling.0 fragment.registers hart fragment.on.here fragment.on.runs
+        fragment.on.walks.0 fragment.has.call placed.room
+        ∙ ap (λ (x : ℕ). config fragment.registers x) (sym calling.2))
+        (moved_harts_begin program w (with_holder w mutex None) h hart after fragment.on.here does runs);
+    enters = fragment.has.enters;
+    no_mark = λ marks same. (counts program w h gives at_call).0 marks ∙ and_none _ _ (mark_of_machine marks h s hart.pc false same plain);
+    counts = ((counts program w h gives at_call).1, (counts program w h gives at_call).2);
+  }
+
+pub unlocks_give : r.CallsCount → UnlocksGive
+unlocks_give counts p t program own code w h s from mutex next seen bank effects placed fragment held =
+    gives_it p t program own code w h s from mutex next seen bank effects counts placed fragment held
+
+-- ---- Ends
+
+pub ends_end : r.CallsCount → EndsEnd
+ends_end counts p t program own code w h s node seen bank effects fragment none =
+    let c : Places = code.places in
+    let hart : Hart = fragment.on.hart in
+    let of_end = fragment.of_graph in
+    let calling : IsCalling p t c End node = subst (λ (a : Action). IsCalling p t c a node) of_end.ends (code.code node of_end.is of_end.own of_end.at).calls in
+    let at_call : IsAtCall program w h ends =
+    call_there program c w h s fragment.meets fragment.agrees node ends calling.0 fragment.registers hart fragment.on.here fragment.on.runs
+    fragment.on.walks.0 fragment.has in
+    let pc : hart.pc ≡ c.call node =
+    pc_is program c w h s fragment.meets fragment.agrees node ends calling.0 fragment.registers hart fragment.on.here fragment.on.runs
+    fragment.on.walks.0 fragment.has in
+    let plain : list_any (λ mark. mark == hart.pc) s.marks ≡ false =
+    subst (λ (x : ℕ). list_any (λ mark. mark == x) s.marks ≡ false) (sym pc)
+    (subst (λ (ms : List ℕ). list_any (λ mark. mark == c.call node) ms ≡ false) (sym fragment.meets.marks)
+    (none_marked c.program.nodes (c.call node) calling.1)) in (
+      k.ends_end program w h at_call none,
+      λ marks same. (counts program w h ends at_call).0 marks ∙ and_none _ _ (mark_of_machine marks h s hart.pc false same plain),
+    )

@@ -1,0 +1,5 @@
+use Rattle.thread_runs.proofs.FragmentStarts.{arrivals_end}
+use Rattle.thread_runs.proofs.laws.fragments_end.Goals as goal
+
+pub returns-clause-arrives : goal.returns-clause-arrives
+returns-clause-arrives c = arrivals_end

@@ -1,5 +1,0 @@
-use Rattle.thread_runs.proofs.Arriving.{arrivals_end}
-use Rattle.thread_runs.proofs.laws.ways_end.Goals as goal
-
-pub returns-clause-arrives : goal.returns-clause-arrives
-returns-clause-arrives c = arrivals_end

@@ -1,0 +1,221 @@
+-- A thread in a fragment: on its way from the mark of one node to that of the next.
+use Rattle.std.specs.Prelude.{◌≡◌, ℕ, suc, ◌+◌, ◌-◌, ◌*◌, ◌^◌, ◌<◌, ◌≤◌, List, [], ◌∷◌, length, map, Contains, Some, true, if◌then◌else◌}
+use Rattle.ido_base.specs.Layout.{logs_base, variable_at}
+use Rattle.ido_ints.specs.declared.kinds.Kind.{Kind}
+use Rattle.ido_ints.specs.Kinds.{bytes_of}
+use Rattle.ido_ints.specs.TypedNumbers.{typed, register_form_of}
+use Rattle.c_tree.specs.Source.{Pending}
+use Rattle.c_tree.specs.WellFormed.{shape_of}
+use Rattle.rv64_isa.specs.declared.object.Slot.{Slot}
+use Rattle.rv64_isa.specs.Rows.{Effect, Continues, Loads, Stores, Cleans, Fences, Calls, read}
+use Rattle.rv64_isa.specs.Machine.{World}
+use Rattle.rv64_isa.specs.Schedule.{effect_at}
+use Rattle.memory_layout.specs.Roles as roles
+use Rattle.boundary_code.specs.Boundaries.{boundary_effects}
+use Rattle.node_code.specs.Pieces.{bank_after, takes, gives, ends}
+use Rattle.flow_graph.specs.Nodes.{Lock, Unlock, End, Node, successors}
+use Rattle.flow_graph.specs.Actions as a
+use Rattle.flow_graph.specs.Liveness.{NodeAt}
+use Rattle.code_runs.specs.ComputingRuns.{config}
+use Rattle.code_runs.specs.CodeTraces.{MarkedEnvironment, Meets, Mark, seen_effects, marked}
+use Rattle.hart_runs.specs.HartsOnRuns.{is_access, Agrees, IsRunningAt, IsOnTrace}
+use Rattle.hart_runs.specs.Laws.{StoresApart}
+use Rattle.thread_code.specs.Plans.{Plan, Thread, IsNodeOf}
+use Rattle.thread_code.specs.RegistersAtNodes.{Enters}
+use Rattle.thread_code.specs.NodeCodeEffects.{Places, kind_at, seen_after, keeping, Asking}
+
+-- what a thread is on its way to
+pub data ExitPoint : Type 0 where
+  -- the entry of the node
+  Arrives : ExitPoint
+  -- the node's code, through the boundary before it
+  Keeps : ExitPoint
+  -- the ECALL of the node, which takes a mutex
+  Asks : (mutex next : ℕ) → ExitPoint
+  -- where it may be resumed, through the boundary after the lock that it has taken
+  Took : (from : ℕ) → ExitPoint
+  -- the ECALL of an unlock whose mark is passed, through the boundary before it
+  Gives : (from mutex : ℕ) → ExitPoint
+  -- the ECALL of the end, whose mark is passed
+  Ends : ExitPoint
+
+-- a thread in a fragment: the fragment's exit point, the node of the graph thread, what that sees, and the bank of the thread's point at the fragment's end
+pub record Stage : Type 0 where
+  pub exit : ExitPoint
+  pub node : ℕ
+  pub seen : a.Seen
+  pub bank : ℕ
+
+-- a hart that runs: the machine's program, its world, the hart's number, and the environment of the code that the hart runs
+pub record Running : Type 0 where
+  pub program : List (List Slot)
+  pub world : World
+  pub hart : ℕ
+  pub environment : MarkedEnvironment
+
+abbrev pub on_machine : List (List Slot) → World → (h : ℕ) → MarkedEnvironment → Running
+on_machine program w h s = record { program = program; world = w; hart = h; environment = s }
+
+-- the effects' bytes are none of those that the environment answers
+abbrev pub AreEffectsApart : MarkedEnvironment → List Effect → Type 0
+AreEffectsApart s [] = Unit {0}
+AreEffectsApart s (effect ∷ effects) = StoresApart s effect × AreEffectsApart s effects
+
+-- an environment that answers loads of variables alone
+abbrev pub ReadsVariables : MarkedEnvironment → Type 0
+ReadsVariables s = (address bytes value : ℕ) → s.around.loads address bytes ≡ Some value → address + bytes ≤ logs_base
+
+-- what is seen of an effect
+abbrev pub effects_of : Effect → List Effect
+effects_of (Continues registers pc) = []
+effects_of (Loads address bytes signed register) = []
+effects_of (Stores address bytes value) = Stores address bytes value ∷ []
+effects_of (Cleans address) = Cleans address ∷ []
+effects_of Fences = Fences ∷ []
+effects_of Calls = []
+
+module _ (p : Plan) (t : Thread) where
+  -- the thread's lock or unlock, and the node after it
+  pub record IsLockOf (from mutex next : ℕ) : Type 0 where
+    pub own : IsNodeOf t from
+    pub is : Node
+    pub at : NodeAt p.graph from is
+    pub locks : is.action ≡ Lock mutex next
+
+  pub record IsUnlockOf (from mutex next : ℕ) : Type 0 where
+    pub own : IsNodeOf t from
+    pub is : Node
+    pub at : NodeAt p.graph from is
+    pub unlocks : is.action ≡ Unlock mutex next
+
+  pub record IsEndOf (node : ℕ) : Type 0 where
+    pub own : IsNodeOf t node
+    pub is : Node
+    pub at : NodeAt p.graph node is
+    pub ends : is.action ≡ End
+
+module _ (p : Plan) (t : Thread) (c : Places) where
+  -- where a fragment ends
+  abbrev pub end_of : ExitPoint → (node : ℕ) → ℕ
+  end_of Arrives node = c.entry node
+  end_of Keeps node = c.core node
+  end_of (Asks mutex next) node = c.call node
+  end_of (Took from) node = c.after from
+  end_of (Gives from mutex) node = c.call from
+  end_of Ends node = c.call node
+
+  -- what registers are at the exit point that a thread is on its way to
+  abbrev pub Has : ExitPoint → (node : ℕ) → a.Seen → (bank : ℕ) → (registers : List ℕ) → Type 0
+  Has Arrives node seen bank registers = Enters p t node seen bank registers
+  Has Keeps node seen bank registers = Enters p t node seen bank registers
+  Has (Asks mutex next) node seen bank registers = Asking p t c takes mutex next seen bank registers
+  Has (Took from) node seen bank registers = Enters p t node seen bank registers
+  Has (Gives from mutex) node seen bank registers = Asking p t c gives mutex node seen bank registers
+  Has Ends node seen bank registers = read registers roles.call ≡ ends
+
+  -- what the graph has at the exit point that a thread is on its way to
+  abbrev pub IsInGraph : ExitPoint → (node : ℕ) → Type 0
+  IsInGraph Arrives node = Unit {0}
+  IsInGraph Keeps node = Unit {0}
+  IsInGraph (Asks mutex next) node = IsLockOf p t node mutex next
+  IsInGraph (Took from) node = (mutex : ℕ) × IsLockOf p t from mutex node
+  IsInGraph (Gives from mutex) node = IsUnlockOf p t from mutex node
+  IsInGraph Ends node = IsEndOf p t node
+
+  -- the hart is in the fragment: so many instructions are ahead, these effects are seen of them, and no mark
+  pub record IsOnFragment (r : Running) (stage : Stage) (steps : ℕ) (effects : List Effect) : Type 0 where
+    pub meets : Meets c.program r.environment
+    pub agrees : Agrees r.program r.world r.hart r.environment
+    pub apart : AreEffectsApart r.environment effects
+    pub own : IsNodeOf t stage.node
+    pub of_graph : IsInGraph stage.exit stage.node
+    pub registers : List ℕ
+    pub on : IsOnTrace r.world r.hart r.environment steps (seen_effects effects) (config registers (end_of stage.exit stage.node))
+    pub has : Has stage.exit stage.node stage.seen stage.bank registers
+
+  -- hart h stands where the code of the node begins, after the boundary before it
+  pub record IsAtCore (w : World) (h node : ℕ) (seen : a.Seen) (bank : ℕ) (registers : List ℕ) : Type 0 where
+    pub own : IsNodeOf t node
+    pub at : IsRunningAt w h (config registers (c.core node))
+    pub enters : Enters p t node seen bank registers
+
+  -- ---- After a node's mark
+
+  -- what the thread is then on its way to
+  abbrev pub stage_after : (node : ℕ) → a.Seen → (bank : ℕ) → a.Effect → Stage
+  stage_after node seen bank (a.Sets local number next) =
+      record { exit = Arrives; node = next; seen = seen_after (a.Sets local number next) seen; bank = bank }
+  stage_after node seen bank (a.Owes store next) = record { exit = Arrives; node = next; seen = seen_after (a.Owes store next) seen; bank = bank }
+  stage_after node seen bank (a.Makes store next) = record { exit = Arrives; node = next; seen = seen_after (a.Makes store next) seen; bank = bank }
+  stage_after node seen bank (a.Goes next) = record { exit = Arrives; node = next; seen = seen; bank = bank }
+  stage_after node seen bank (a.Takes mutex next) = record { exit = Asks mutex next; node = node; seen = seen; bank = bank }
+  stage_after node seen bank (a.Gives mutex next) =
+      record { exit = Gives node mutex; node = next; seen = seen; bank = bank_after (keeping p t c next) bank }
+  stage_after node seen bank a.Ends = record { exit = Ends; node = node; seen = seen; bank = bank }
+
+  -- the store of a pending one of that kind, as memory sees it
+  abbrev pub store_of : Kind → Pending → Effect
+  store_of k store = Stores (variable_at (map shape_of p.flat.variables) store.variable store.element) (bytes_of k) (register_form_of (typed k store.number))
+
+  abbrev pub cleans_of : (node : ℕ) → Pending → List Effect
+  cleans_of node store =
+      if c.cleans node then Cleans (variable_at (map shape_of p.flat.variables) store.variable store.element) ∷ [] else []
+
+  -- what is seen from the node's mark on
+  abbrev pub AreSeen : (node : ℕ) → (bank : ℕ) → (registers : List ℕ) → a.Effect → List Effect → Type 0
+  AreSeen node bank registers (a.Sets local number next) effects = effects ≡ []
+  AreSeen node bank registers (a.Owes store next) effects = effects ≡ []
+  AreSeen node bank registers (a.Makes store next) effects = (k : Kind) → kind_at p.flat.variables store.variable ≡ Some k →
+      effects ≡ store_of k store ∷ cleans_of node store
+  AreSeen node bank registers (a.Goes next) effects = effects ≡ []
+  AreSeen node bank registers (a.Takes mutex next) effects = effects ≡ []
+  AreSeen node bank registers (a.Gives mutex next) effects = effects ≡ boundary_effects (keeping p t c next) (1 - bank) (c.after node) registers
+  AreSeen node bank registers a.Ends effects = effects ≡ []
+
+  -- the instruction with the mark of a store makes it
+  abbrev pub IsMadeBy : a.Effect → Effect → Type 0
+  IsMadeBy (a.Sets local number next) effect = Unit {0}
+  IsMadeBy (a.Owes store next) effect = Unit {0}
+  IsMadeBy (a.Makes store next) effect = (k : Kind) → kind_at p.flat.variables store.variable ≡ Some k → effect ≡ store_of k store
+  IsMadeBy (a.Goes next) effect = Unit {0}
+  IsMadeBy (a.Takes mutex next) effect = Unit {0}
+  IsMadeBy (a.Gives mutex next) effect = Unit {0}
+  IsMadeBy a.Ends effect = Unit {0}
+
+  -- the hart stands at the mark of a node that does the effect: it passes it with its next instruction, and is then in the fragment after it
+  pub record IsAtMark (r : Running) (e : a.Effect) (stage : Stage) (steps : ℕ) (effects : List Effect) : Type 0 where
+    pub meets : Meets c.program r.environment
+    pub agrees : Agrees r.program r.world r.hart r.environment
+    pub apart : AreEffectsApart r.environment effects
+    pub own : IsNodeOf t stage.node
+    pub of_graph : IsInGraph stage.exit stage.node
+    pub registers : List ℕ
+    pub on : IsOnTrace r.world r.hart r.environment (suc steps) (Mark ∷ seen_effects effects) (config registers (end_of stage.exit stage.node))
+    pub has : Has stage.exit stage.node stage.seen stage.bank registers
+    pub mark : marked r.environment.marks on.hart.pc ≡ Mark ∷ []
+    pub made : (effect : Effect) → effect_at r.program r.hart on.hart ≡ Some effect → IsMadeBy e effect
+
+  -- ---- What is known of the thread's place in a machine of so many threads
+
+  pub record IsPlaced (threads : ℕ) : Type 0 where
+    pub number : t.number < threads
+    -- the code ends within the addresses
+    pub room : c.program.start + 4 * length c.program.code < 2 ^ 64
+    -- the nodes that may follow one of the thread's are the thread's
+    pub closed : (node next : ℕ) (is : Node) → IsNodeOf t node → NodeAt p.graph node is → Contains (successors is.action) next → IsNodeOf t next
+    -- a bank has a slot for each register that is kept
+    pub slots : (node register : ℕ) → IsNodeOf t node → Contains (c.live node) register → register < 32
+
+  -- the store may be made, and the environment answers none of its bytes
+  pub record MayBeMade (threads : ℕ) (s : MarkedEnvironment) (k : Kind) (store : Pending) : Type 0 where
+    pub access : is_access threads (variable_at (map shape_of p.flat.variables) store.variable store.element) (bytes_of k) ≡ true
+    pub apart : StoresApart s (store_of k store)
+
+  abbrev pub MayDo : (threads : ℕ) → MarkedEnvironment → a.Effect → Type 0
+  MayDo threads s (a.Sets local number next) = Unit {0}
+  MayDo threads s (a.Owes store next) = Unit {0}
+  MayDo threads s (a.Makes store next) = (k : Kind) × (kind_at p.flat.variables store.variable ≡ Some k) × MayBeMade threads s k store
+  MayDo threads s (a.Goes next) = Unit {0}
+  MayDo threads s (a.Takes mutex next) = Unit {0}
+  MayDo threads s (a.Gives mutex next) = Unit {0}
+  MayDo threads s a.Ends = Unit {0}

@@ -1,6 +1,0 @@
-use Rattle.std.proofs.Common.{◌≡◌, ◌++◌, take}
-use Rattle.variable_layout.specs.links.Bytes.{numbers_bytes}
-use Rattle.variable_layout.proofs.contents.push_variable.Given as goal
-
-abbrev pub invariant-loop-number : goal.invariant-loop-number
-invariant-loop-number l = l.bytes.items ≡ l.initial.bytes.items ++ numbers_bytes l.size (take l.number-index l.number-items)
