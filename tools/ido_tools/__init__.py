@@ -1,0 +1,1 @@
+"""What the tools beside this folder share: they ask the program `ido` and show what it answers."""

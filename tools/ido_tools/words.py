@@ -1,0 +1,46 @@
+"""The words of the language and of the program, which the files for editors, shells and manuals are made of."""
+
+DECLARATIONS = "mutex persistent thread".split()
+LOCKS = "lock unlock".split()
+TYPES = "char short int long signed unsigned void".split()
+CONTROLS = "if else while do for return".split()
+RESERVED = DECLARATIONS + LOCKS + TYPES + CONTROLS
+
+PUNCTUATORS = (
+    "<<= >>= << >> <= >= == != && || ++ -- += -= *= /= %= &= |= ^="
+    " ( ) [ ] { } ; , ? : = + - * / % & | ^ ~ ! < >"
+).split()
+
+# Lines of scripts, and the word that a schedule may begin with.
+SCRIPT_LETTERS = "s b f e c".split()
+SCHEDULE = "schedule"
+
+# Each command with the word behind it, its input and its output.
+COMMANDS = (
+    ("compile", "", "a source", "its object file"),
+    ("list", "", "an object file", "the listing of its code"),
+    ("regions", "", "a source", "its nodes, and the boundaries chosen among them"),
+    ("play", "", "a source, a line `%%`, a script", "the report of a run of the compiled source"),
+    ("image", "", "a source, a line `%%`, a script", "the image file that a crash after that run would leave"),
+    ("recover", "TURNS", "an image file", "the report of the run that goes on from it"),
+    ("source", "", "a source, a line `%%`, a schedule", "the report of the source's own run"),
+)
+
+# Words that the script ./ido takes before a command.
+OPTIONS = (
+    ("--explain", "Runs the command that follows, and says on standard error what a refusal means, where it stands, and what to write instead."),
+    ("--help", "Says on standard error which words are taken."),
+    ("--version", "Says on standard error which kit the repository is proved with."),
+)
+
+STATUSES = (
+    (0, "No fault; of a report, that the run is settled."),
+    (1, "The source breaks a rule: `refused RULE at LINE:COLUMN`."),
+    (2, "The words name no command: `refused words`."),
+    (3, "The run isn't settled: `unsettled`, and the harts or threads that aren't."),
+    (4, "The input could not be read."),
+    (5, "The output could not be written."),
+    (6, "The script, the schedule or the file is refused, or is too long."),
+    (7, "Memory is wanting."),
+    (70, "The script `./ido` could neither start the program nor try it."),
+)
