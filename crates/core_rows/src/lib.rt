@@ -11,6 +11,7 @@ ghost use Rattle.ido_base.specs.Cores.{played, passed_count};
 
 use ido_base::event::{Event, Reply};
 use ido_base::machine::Core;
+use ido_base::memory::OutOfMemory;
 use std::alloc::{AllocError, Global};
 
 /// Steps after which the hart has ended.
@@ -24,6 +25,10 @@ pub struct Counter {
     pub most: u64,
     ghost reserved: { most ≤ vec_capacity journal },
 }
+
+/// What runs ahead of the counter's hart: nothing, since the core has a part in each of its steps.
+#[derive(Clone, Copy, Debug, Drop)]
+pub struct NothingAhead;
 
 /// The steps since the last crash, with an event.
 fn next(steps: u32, event: Event) -> u32
@@ -114,6 +119,10 @@ impl Core for Counter {
 
     ghost evictable = { λ _ line mask. (line < line_count 1) × (mask ≤ 255) };
 
+    ghost is_local = { λ _ _ _. Unit {0} };
+
+    ghost ahead_by = { λ _. 0 };
+
     fn harts(&self) -> u32 {
         1
     }
@@ -144,5 +153,25 @@ impl Core for Counter {
 
     fn fences(&self, _: u32) -> u64 {
         self.times(1)
+    }
+
+    fn can_step(&self) -> Option<u32> {
+        if self.steps() < STEPS { Some(0) } else { None }
+    }
+
+    type Local = NothingAhead;
+
+    fn local(&self, _: Global, _: u32) -> Result<NothingAhead, OutOfMemory> {
+        Ok(NothingAhead)
+    }
+
+    fn refresh(&self, _: u32, _: &mut NothingAhead) {}
+
+    fn ahead(_: &mut NothingAhead) -> bool {
+        false
+    }
+
+    fn adopt(&mut self, _: u32, _: &NothingAhead) -> bool {
+        true
     }
 }

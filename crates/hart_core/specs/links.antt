@@ -1,3 +1,4 @@
 pub mod Harts
 pub mod Starts
 pub mod Refusals
+pub mod Waits

@@ -4,9 +4,10 @@ ghost use Rattle.ido_base.specs.Locks.{is_held_by, least_held};
 ghost use Rattle.line_memory.specs.declared.memory.LineMemory.{LineMemory};
 ghost use Rattle.rv64_isa.specs.declared.phase.Phase.{Phase};
 ghost use Rattle.rv64_isa.specs.declared.phase.Phase.TheVariants.{Ended};
-ghost use Rattle.rv64_isa.specs.Rows.{Effect, Calls};
+ghost use Rattle.rv64_isa.specs.Rows.{Effect, Calls, read};
 ghost use Rattle.rv64_isa.specs.Machine.{acquired, released, ended, applied};
 ghost use Rattle.hart_core.specs.StepsOnParts.{Parts, IsStep};
+ghost use Rattle.hart_core.specs.links.Waits.{asks_held};
 
 use crate::hart::Hart;
 use ido_base::event::{Cause, Reply};
@@ -70,6 +71,17 @@ fn end(number: u32, phase: &mut Phase, hart: &mut Hart, locks: &LockTable) -> Re
     *phase = Phase::Ended;
     hart.go_on();
     Reply::Moved
+}
+
+/// An ECALL would wait: it asks for a lock that has a holder.
+pub(crate) fn would_wait(hart: &Hart, locks: &LockTable) -> bool
+    ensures { result ≡ asks_held locks.now (read hart.now.registers 17) (read hart.now.registers 10) }
+{
+    let lock = hart.registers[LOCK];
+    if hart.registers[ASKED] != 1 || lock >= u64::from(locks.locks()) {
+        return false;
+    }
+    locks.held_by(lock as u32).is_some()
 }
 
 /// What an ECALL asks for: x17 says what, x10 of which lock.

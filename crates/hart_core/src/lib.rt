@@ -6,6 +6,7 @@ mod access;
 mod calls;
 pub mod effects;
 pub mod hart;
+pub mod local;
 pub mod program;
 pub mod rows;
 mod signs;

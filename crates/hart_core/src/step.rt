@@ -8,17 +8,18 @@ ghost use Rattle.rv64_isa.specs.Rows.{Effect as Meaning, Continues, written};
 ghost use Rattle.rv64_isa.specs.Machine.{applied, hart_step};
 ghost use Rattle.hart_core.specs.Effects.{effect_in};
 ghost use Rattle.hart_core.specs.StepsOnParts.{Parts, IsStep};
+ghost use Rattle.hart_core.specs.links.Waits.{would_wait};
 
 use crate::access::{clean, fence, load, store};
-use crate::calls::call;
 use crate::effects::Effect;
 use crate::hart::Hart;
 use crate::program::Program;
-use crate::rows;
+use crate::{calls, rows};
 use ido_base::event::{Cause, Reply};
 use line_memory::memory::LineMemory;
 use lock_table::LockTable;
 use rv64_isa::field::Register;
+use rv64_isa::instr::Instr;
 use rv64_isa::object::Slot;
 use rv64_isa::phase::Phase;
 
@@ -83,7 +84,17 @@ fn apply(
         } => store(kind, address, value, hart, memory),
         Effect::Cleans { address } => clean(address, hart, memory),
         Effect::Fences => fence(hart, memory),
-        Effect::Calls => call(number, phase, hart, locks),
+        Effect::Calls => calls::call(number, phase, hart, locks),
+    }
+}
+
+/// The next step of the hart of this number, which executes instructions, would wait for a lock.
+pub fn would_wait(number: u32, program: &Program, hart: &Hart, locks: &LockTable) -> bool
+    ensures { result ≡ would_wait program.now number hart.now.registers hart.now.pc locks.now }
+{
+    match program.fetch(number, hart.pc) {
+        Some(Slot::Row(Instr::Ecall)) => calls::would_wait(hart, locks),
+        _ => false,
     }
 }
 

@@ -4,6 +4,7 @@
 #![tactic(auto)]
 
 pub mod event;
+pub mod evictions;
 pub mod laws;
 pub mod limits;
 pub mod location;

@@ -2,3 +2,4 @@ pub mod Public
 mod Lists
 mod Starts
 mod MachineEvents
+mod LocalStates

@@ -5,7 +5,8 @@ use Rattle.std.proofs.lemmas.Bool.{cases_eq}
 use Rattle.std.proofs.lemmas.List.{length-set}
 use Rattle.ido_base.specs.declared.event.Event.TheVariants.{Step, Evict, Crash}
 use Rattle.ido_base.specs.declared.event.Reply.{Reply}
-use Rattle.ido_base.specs.declared.event.Reply.TheVariants.{Device}
+use Rattle.ido_base.specs.declared.event.Reply.TheVariants.{Device, Moved}
+use Rattle.ido_base.specs.Cores.{is_idle}
 use Rattle.ido_base.specs.Locks.{holds_none}
 use Rattle.ido_base.specs.Words.{Word, Entry, word_of, durable_value, evicted, crashed}
 use Rattle.line_memory.specs.declared.memory.LineMemory.{LineMemory}
@@ -21,9 +22,11 @@ use Rattle.rv64_isa.specs.Machine.{done_if_over, over_after, with_hart, phase_af
 use Rattle.hart_core.specs.declared.hart.Hart.{Hart}
 use Rattle.hart_core.specs.links.Harts.{RepresentsHart}
 use Rattle.hart_core.specs.StepsOnParts.{Parts, PartsStand, PartsEnd}
-use Rattle.hart_core.proofs.Public.{found_set}
-use Rattle.resume_recovery.specs.RecoverySteps.{phase_at, IsRecoveryStep}
-use Rattle.ido_machine.specs.Harts.{HartsStand, AreFresh}
+use Rattle.hart_core.specs.declared.local.LocalState.{LocalState}
+use Rattle.hart_core.specs.links.Waits.{would_wait}
+use Rattle.hart_core.proofs.Public.{changed_end, found_set, set_found, step-waits}
+use Rattle.resume_recovery.specs.RecoverySteps.{phase_at, phases_of, IsRecoveryStep}
+use Rattle.ido_machine.specs.Harts.{HartsStand, AreFresh, with_local_state}
 use Rattle.ido_machine.specs.Machines.{MachineState, RepresentsMachineState, StateEnds}
 use Rattle.ido_machine.proofs.Lists.{set_same, set_other, get_some, get_map, map_set, map_map}
 use Rattle.ido_machine.proofs.Starts.{crash_simulates}
@@ -101,7 +104,7 @@ state_end state number after reply w outcome s e = record {
 }
 
 -- the step of a hart that there is goes by its phase
-stepped-is : (program : List (List Slot)) (w : World) (number : ℕ) (model : HartModel) (phase : Phase) → slice_get w.harts number ≡ Some model →
+pub stepped-is : (program : List (List Slot)) (w : World) (number : ℕ) (model : HartModel) (phase : Phase) → slice_get w.harts number ≡ Some model →
     model.phase ≡ phase → happens program w (Step number) ≡ phase_step program w number model phase
 unfolding happens
 stepped-is program w number model phase there is = ap (stepped program w number) there ∙ ap (phase_step program w number model) is
@@ -198,6 +201,51 @@ recovery_end program number state it after reply w within threads found step s =
     let phase : Phase = phase_at state.phases number in
     subst (λ (o : Outcome). StateEnds (state_with state number after) reply o) (sym (stepped-is program w number model phase there one.phase))
     (state_end state number after reply w (phase_step program w number model phase) s (step.each program w model one s.phases))
+
+-- ---- Steps that wait
+
+-- a hart that runs is idle exactly where its next instruction asks for a lock that has a holder
+pub run_idle : (program : List (List Slot)) (number : ℕ) (registers : List ℕ) (pc : ℕ) (locks : List (Option ℕ)) (w : World) (model : HartModel) →
+    slice_get w.harts number ≡ Some model → model.phase ≡ Run → model.registers ≡ registers → model.pc ≡ pc → w.holders ≡ locks →
+    would_wait program number registers pc locks ≡ is_idle (happens program w (Step number)).1
+run_idle program number registers pc locks w model there running same_registers same_pc same_holders =
+    sym (ap (λ (o : Outcome). is_idle o.1) (stepped-is program w number model Run there running) ∙ step-waits program w number model
+    ∙ ap (λ (xs : List ℕ). would_wait program number xs model.pc w.holders) same_registers
+    ∙ ap (λ (at : ℕ). would_wait program number registers at w.holders) same_pc ∙ ap (would_wait program number registers pc) same_holders)
+
+-- the phase of a hart, by the phases of all
+pub phase_there : (phases : List Phase) (number : ℕ) (w : World) (model : HartModel) → slice_get w.harts number ≡ Some model → phases_of w ≡ phases →
+    model.phase ≡ phase_at phases number
+phase_there phases number w model there same =
+    sym (get_map (λ (hart : HartModel). hart.phase) w.harts number model Done there) ∙ ap (λ (ps : List Phase). phase_at ps number) same
+
+-- ---- A hart whose registers and pc are others
+
+pub gone_stands : (state : MachineState) (number : ℕ) (it next : Hart) (w : World) (model : HartModel) (s : LocalState) →
+    threads_of state.memory ≡ length state.harts → slice_get state.harts number ≡ Some it → slice_get w.harts number ≡ Some model →
+    next ≡ record it { registers = s.registers; pc = s.pc } → RepresentsMachineState state w →
+    RepresentsMachineState (record state { harts = slice_set state.harts number next }) (with_hart w number (with_local_state model s))
+gone_stands state number it next w model s threads found there is stands =
+    let phase : Phase = phase_at state.phases number in
+    let gone : HartModel = with_local_state model s in
+    let before : Parts = parts_of state phase it in
+    let after : Parts = record before { hart = next } in
+    let one : PartsStand before number w model = parts_stand state number phase it w model threads refl found there stands in
+    let queue : RepresentsQueue next.queue model.queue w.words =
+    subst (λ (x : Hart). RepresentsQueue x.queue model.queue w.words) (sym is) one.hart.queue in
+    let end : PartsEnd after Moved number w (with_hart w number gone, Moved) =
+    changed_end before after Moved number w model gone w.words w.holders one stands.words refl stands.holders one.phase
+    (record { registers = ap (λ (x : Hart). x.registers) (sym is); pc = ap (λ (x : Hart). x.pc) (sym is); queue = queue }) (λ any entries q. q) in
+    let phase_in : HartModel → Phase = λ hart. hart.phase in
+    record {
+      words = stands.words;
+      holders = stands.holders;
+      phases =
+          map_set phase_in w.harts number gone ∙ sym (map_set phase_in w.harts number model)
+          ∙ ap (map phase_in) (set_found w.harts number model there) ∙ stands.phases;
+      standing = harts_stand state number after Moved w (with_hart w number gone, Moved) stands end;
+      recovering = stands.recovering;
+    }
 
 -- ---- Evictions and crashes
 

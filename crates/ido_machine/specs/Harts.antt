@@ -6,6 +6,7 @@ use Rattle.rv64_isa.specs.declared.object.Slot.{Slot}
 use Rattle.rv64_isa.specs.Programs.{code_start}
 use Rattle.rv64_isa.specs.Machine.{Hart as HartModel}
 use Rattle.hart_core.specs.declared.hart.Hart.{Hart}
+use Rattle.hart_core.specs.declared.local.LocalState.{LocalState}
 use Rattle.hart_core.specs.links.Harts.{RepresentsHart}
 
 -- as many harts, and each represents the one of its number
@@ -24,3 +25,10 @@ pub record IsFresh (program : List (List Slot)) (thread : ℕ) (it : Hart) : Typ
 pub record AreFresh (program : List (List Slot)) (harts : List Hart) (count : ℕ) : Type 0 where
   pub size : length harts ≡ count
   pub each : (thread : ℕ) (it : Hart) → slice_get harts thread ≡ Some it → IsFresh program thread it
+
+-- what local steps change of a hart
+abbrev pub local_state_of : HartModel → LocalState
+local_state_of model = record { registers = model.registers; pc = model.pc }
+
+abbrev pub with_local_state : HartModel → LocalState → HartModel
+with_local_state model s = record model { registers = s.registers; pc = s.pc }

@@ -4,8 +4,9 @@ ghost use Rattle.ido_base.specs.declared.limits.TheConstants.{LOG_WORDS};
 ghost use Rattle.line_memory.specs.links.MemoryRepresentation.{threads_of, stores_of};
 
 use crate::harts;
-use crate::running::step_one;
+use crate::running::{is_idle, step_one};
 use hart_core::hart::Hart;
+use hart_core::local::LocalState;
 use hart_core::program::Program;
 use ido_base::event::{Event, Reply};
 use ido_base::memory::OutOfMemory;
@@ -33,15 +34,17 @@ pub struct Machine {
 }
 
 impl Machine {
-    ghost use Rattle.std.specs.Prelude.{◌≡◌, ℕ, ◌+◌, ◌*◌, ◌/◌, ◌^◌, ◌<◌, ◌≤◌, List, [], length, not, slice_get, Some, IfOk};
+    ghost use Rattle.std.specs.Prelude.{◌≡◌, ℕ, ◌+◌, ◌*◌, ◌/◌, ◌^◌, ◌<◌, ◌≤◌, List, [], length, not, slice_get, Some, IfOk, IsTrue, ◌↔◌};
     ghost use Rattle.ido_base.specs.declared.event.Event.TheVariants.{Step, Evict, Crash};
     ghost use Rattle.ido_base.specs.Words.{word_at, last_position, live_value, durable_value};
     ghost use Rattle.ido_base.specs.Layout.{line_count};
     ghost use Rattle.ido_base.specs.Locks.{holds_none};
+    ghost use Rattle.ido_base.specs.Cores.{is_idle};
     ghost use Rattle.rv64_isa.specs.Programs.{program_of};
-    ghost use Rattle.rv64_isa.specs.Machine.{Hart as HartModel, World, IsValidEvent, happens, machine_start, machine_from};
+    ghost use Rattle.rv64_isa.specs.Machine.{Hart as HartModel, World, IsValidEvent, happens, reply_to, with_hart, machine_start, machine_from};
     ghost use Rattle.hart_core.specs.Objects.{IsWithinLimits};
     ghost use Rattle.ido_machine.specs.Machines.{program_in, events_of, RepresentsMachine, IsAfter};
+    ghost use Rattle.ido_machine.specs.Harts.{local_state_of, with_local_state};
 
     /// The machine of an object at its start.
     pub fn start(alloc: Global, object: &Object) -> Result<Machine, OutOfMemory>
@@ -173,6 +176,59 @@ impl Machine {
         self.recovering = true;
         self.events += 1;
         Reply::Device
+    }
+
+    /// The hart's next step would neither wait nor find that the hart is done or has ended.
+    pub fn is_enabled(&self, hart: u32) -> bool
+        requires { hart < length (program_in self.now) }
+        ensures { (w : World) → RepresentsMachine self.now w → result ≡ not (is_idle (reply_to (program_in self.now) w (Step hart))) }
+    {
+        !is_idle(
+            hart,
+            &self.program,
+            &self.phases,
+            &self.harts[hart as usize],
+            &self.memory,
+            &self.locks,
+        )
+    }
+
+    /// The registers and the pc of a hart.
+    pub fn local_state(&self, hart: u32) -> LocalState
+        requires { hart < length (program_in self.now) }
+        ensures { (w : World) (model : HartModel) → RepresentsMachine self.now w → slice_get w.harts hart ≡ Some model →
+            result ≡ local_state_of model }
+    {
+        let it = &self.harts[hart as usize];
+        LocalState {
+            registers: it.registers,
+            pc: it.pc,
+        }
+    }
+
+    /// The registers and the pc of a hart are these.
+    pub fn is_at(&self, hart: u32, state: &LocalState) -> bool
+        requires { hart < length (program_in self.now) }
+        ensures { (w : World) (model : HartModel) → RepresentsMachine self.now w → slice_get w.harts hart ≡ Some model →
+            IsTrue result ↔ (state.now ≡ local_state_of model) }
+    {
+        let it = &self.harts[hart as usize];
+        it.pc == state.pc && it.registers == state.registers
+    }
+
+    /// The registers and the pc of a hart are these from now on, after so many steps of it that touch nothing else.
+    pub fn go_to(&mut self, hart: u32, state: &LocalState, steps: u32)
+        requires exists { hart < length (program_in self.old) }
+        requires room { events_of self.old + steps < 2 ^ 64 }
+        ensures world { (w : World) (model : HartModel) → RepresentsMachine self.old w → slice_get w.harts hart ≡ Some model →
+            RepresentsMachine self.new (with_hart w hart (with_local_state model state.now)) }
+        ensures program { program_in self.new ≡ program_in self.old }
+        ensures events { events_of self.new ≡ events_of self.old + steps }
+    {
+        let it = &mut self.harts[hart as usize];
+        it.registers = state.registers;
+        it.pc = state.pc;
+        self.events += u64::from(steps);
     }
 
     /// The phase of a hart.

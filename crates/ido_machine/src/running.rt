@@ -1,9 +1,11 @@
 //! The step of a hart: of one that executes instructions, or in recovery.
-ghost use Rattle.std.specs.Prelude.{◌≡◌, ◌&&◌, ◌+◌, ◌^◌, ◌<◌, ◌≤◌, ℕ, not, length, slice_get};
+ghost use Rattle.std.specs.Prelude.{◌≡◌, ◌&&◌, ◌+◌, ◌^◌, ◌<◌, ◌≤◌, ℕ, not, length, slice_get, Some};
 ghost use Rattle.ido_base.specs.declared.event.Event.TheVariants.{Step};
+ghost use Rattle.ido_base.specs.Cores.{is_idle};
 ghost use Rattle.ido_base.specs.Locks.{holds_none};
-ghost use Rattle.line_memory.specs.links.MemoryRepresentation.{threads_of, stores_of};
-ghost use Rattle.rv64_isa.specs.Machine.{Hart as HartModel, World, happens, run_step};
+ghost use Rattle.line_memory.specs.links.MemoryRepresentation.{Represents, threads_of, stores_of};
+ghost use Rattle.rv64_isa.specs.Machine.{Hart as HartModel, World, happens, reply_to, run_step};
+ghost use Rattle.resume_recovery.specs.RecoverySteps.{phases_of};
 ghost use Rattle.hart_core.specs.StepsOnParts.{Parts, PartsStand, PartsEnd};
 ghost use Rattle.ido_machine.specs.Machines.{MachineState, RepresentsMachineState, StateEnds};
 
@@ -28,6 +30,29 @@ fn is_over(held: bool, number: u32, locks: &LockTable) -> bool
     ensures { result ≡ (held && holds_none locks.now number) }
 {
     held && locks.holds_none(number)
+}
+
+/// The next step of the hart of this number would wait, or would find that the hart is done or has ended.
+pub(crate) fn is_idle(
+    number: u32,
+    program: &Program,
+    phases: &[Phase],
+    hart: &Hart,
+    memory: &LineMemory,
+    locks: &LockTable,
+) -> bool
+    requires exists { number < length program.now }
+    requires few { length program.now ≤ 8 }
+    requires phased { length phases.now ≡ length program.now }
+    requires threads { threads_of memory.now ≡ length program.now }
+    ensures { (w : World) (model : HartModel) → Represents memory.now w.words → w.holders ≡ locks.now → phases_of w ≡ phases.now →
+        slice_get w.harts number ≡ Some model → model.registers ≡ hart.now.registers → model.pc ≡ hart.now.pc →
+        result ≡ is_idle (reply_to program.now w (Step number)) }
+{
+    match phases[number as usize] {
+        Phase::Run => hart_core::step::would_wait(number, program, hart, locks),
+        _ => resume_recovery::would_wait(number, phases, memory, locks),
+    }
 }
 
 /// Makes the step; in recovery, a hart whose release leaves it with nothing is done.

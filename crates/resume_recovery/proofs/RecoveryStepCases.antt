@@ -1,8 +1,9 @@
 -- Steps of recovery.
 use Rattle.std.proofs.Common.{◌≡◌, ℕ, zero, suc, ◌+◌, ◌<◌, List, [], ◌∷◌, length, map, get_or, get_or-set_same, arith}
-use Rattle.std.proofs.Common.{slice_get, slice_set, Option, Some, None, refl, sym, ◌∙◌, ap, subst, if◌then◌else◌}
+use Rattle.std.proofs.Common.{slice_get, slice_set, Option, Some, None, is_some, refl, sym, ◌∙◌, ap, subst, if◌then◌else◌}
 use Rattle.ido_base.specs.declared.event.Reply.{Reply}
 use Rattle.ido_base.specs.declared.event.Reply.TheVariants.{Moved, Waits, Barrier, Still}
+use Rattle.ido_base.specs.Cores.{is_idle}
 use Rattle.ido_base.specs.Locks.{missing_from}
 use Rattle.ido_base.specs.Words.{Word}
 use Rattle.line_memory.specs.declared.memory.LineMemory.{LineMemory}
@@ -149,3 +150,14 @@ placed_step number phases phase phase' hart hart' memory locks locks' reply with
     (record { phase = phase_at (slice_set phases number phase') number; hart = hart'; memory = memory; locks = locks' }) phases reply) (sym is)
     (subst (λ (p : Phase). IsRecoveryStep number (record { phase = phase; hart = hart; memory = memory; locks = locks })
     (record { phase = p; hart = hart'; memory = memory; locks = locks' }) phases reply) (sym (get_or-set_same phases number phase' Done within)) step)
+
+-- ---- Steps that wait
+
+waited-idle : (w : World) (number : ℕ) (model : HartModel) (taking : Option ℕ) → is_idle (waited w number model taking).1 ≡ is_some taking
+waited-idle w number model None = refl
+waited-idle w number model (Some taking) = refl
+
+pub wait_idle : (phases : List Phase) (w : World) (number : ℕ) (model : HartModel) → phases_of w ≡ phases →
+    is_idle (waited w number model (taking_from 0 w.harts)).1 ≡ is_some (taking_among 0 phases)
+wait_idle phases w number model same =
+    waited-idle w number model (taking_from 0 w.harts) ∙ ap is_some (taking-is 0 w.harts ∙ ap (taking_among 0) same)

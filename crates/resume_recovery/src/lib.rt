@@ -7,4 +7,4 @@ mod record;
 mod step;
 
 pub use record::phase_after_crash;
-pub use step::phase_step;
+pub use step::{phase_step, would_wait};

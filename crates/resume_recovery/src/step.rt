@@ -1,10 +1,12 @@
 //! The step of a hart in recovery.
 ghost use Rattle.std.specs.Prelude.{◌≡◌, ◌<◌, ◌^◌, ℕ, List, Option, length, slice_set};
+ghost use Rattle.ido_base.specs.Cores.{is_idle};
 ghost use Rattle.ido_base.specs.Locks.{missing_from};
 ghost use Rattle.line_memory.specs.declared.memory.LineMemory.{LineMemory};
-ghost use Rattle.line_memory.specs.links.MemoryRepresentation.{threads_of};
+ghost use Rattle.line_memory.specs.links.MemoryRepresentation.{Represents, threads_of};
+ghost use Rattle.rv64_isa.specs.declared.object.Slot.{Slot};
 ghost use Rattle.rv64_isa.specs.declared.phase.Phase.TheVariants.{Take, Wait, Resume, Run};
-ghost use Rattle.rv64_isa.specs.Machine.{Hart as HartModel, World, record_of, taken, waited, taking_from, resumed};
+ghost use Rattle.rv64_isa.specs.Machine.{Hart as HartModel, World, record_of, taken, waited, taking_from, resumed, phase_step};
 ghost use Rattle.hart_core.specs.declared.hart.Hart.{Hart};
 ghost use Rattle.hart_core.specs.StepsOnParts.{Parts, PartsStand, PartsEnd, IsStep};
 ghost use Rattle.resume_recovery.specs.RecoverySteps.{phase_at, phases_of, IsRecoveryStep};
@@ -59,6 +61,45 @@ fn resume(number: u32, hart: &mut Hart, memory: &LineMemory) -> (Phase, Reply)
     hart.registers = resumed_registers(number, memory);
     hart.pc = resume_address(number, memory);
     (Phase::Run, Reply::Moved)
+}
+
+/// The hart's next step, in which it takes locks, would wait for one.
+fn take_waits(hart: u32, memory: &LineMemory, locks: &LockTable) -> bool
+    requires { hart < threads_of memory.now }
+    ensures { (w : World) (model : HartModel) → Represents memory.now w.words → w.holders ≡ locks.now →
+        result ≡ is_idle (taken w hart model (missing_from 0 w.holders (record_of w.words hart) hart)).1 }
+{
+    match locks.least_missing(record_of(hart, memory), hart) {
+        None => false,
+        Some(lock) => locks.held_by(lock).is_some(),
+    }
+}
+
+/// The next step of a hart, in which it waits for the others, would still wait.
+fn wait_waits(phases: &[Phase]) -> bool
+    requires { length phases.now < 2 ^ 32 }
+    ensures { (w : World) (number : ℕ) (model : HartModel) → phases_of w ≡ phases.now →
+        result ≡ is_idle (waited w number model (taking_from 0 w.harts)).1 }
+{
+    least_taking(phases).is_some()
+}
+
+/// The next step of the hart of this number, which doesn't execute instructions, would wait, or would find that the hart is done
+/// or has ended.
+pub fn would_wait(number: u32, phases: &[Phase], memory: &LineMemory, locks: &LockTable) -> bool
+    requires exists { number < length phases.now }
+    requires few { length phases.now < 2 ^ 32 }
+    requires logged { number < threads_of memory.now }
+    requires recovering { phase_at phases.now number ≡ Run → ⊥ }
+    ensures { (program : List (List Slot)) (w : World) (model : HartModel) → Represents memory.now w.words → w.holders ≡ locks.now →
+        phases_of w ≡ phases.now → result ≡ is_idle (phase_step program w number model (phase_at phases.now number)).1 }
+{
+    match phases[number as usize] {
+        Phase::Take => take_waits(number, memory, locks),
+        Phase::Wait => wait_waits(phases),
+        Phase::Resume => false,
+        _ => true,
+    }
 }
 
 /// A step of the hart of this number, which doesn't execute instructions: it takes a lock of its record, waits for

@@ -1,6 +1,7 @@
 -- Durable words one by one.
 use Rattle.std.proofs.Common.{◌≡◌, ℕ, zero, suc, ◌+◌, ◌<◌, ◌≤◌, List, [], ◌∷◌, ◌++◌, length, map, take, drop, get_or, ap, sym, ◌∙◌, arith}
 use Rattle.std.proofs.lemmas.List.{length-map, length-take, length-drop, get_or-map, get_or-take, get_or-drop, take_all}
+use Rattle.ido_base.specs.declared.limits.TheConstants.{VARIABLE_WORDS}
 use Rattle.ido_base.specs.Words.{Word, word_of, word_at, durable_value}
 use Rattle.rv64_isa.specs.Machine.{numbers_from}
 use Rattle.ido_machine.proofs.Public.{from_each}
@@ -40,13 +41,13 @@ durable_part words at count within =
         ∙ get_or-map durable_value words (at + n) (word_of 0) 0 (omega (arith, below, long, within))
 
 -- what a crash would leave is those of the variables and those of the logs
-pub left_is : (words : List Word) (variable_words logs : ℕ) → variable_words ≤ length words → 8192 + logs ≡ length words →
-    durable_from words 0 variable_words ++ durable_from words 8192 logs ≡ left_words variable_words words
+pub left_is : (words : List Word) (variable_words logs : ℕ) → variable_words ≤ length words → VARIABLE_WORDS + logs ≡ length words →
+    durable_from words 0 variable_words ++ durable_from words VARIABLE_WORDS logs ≡ left_words variable_words words
 unfolding left_words
 left_is words variable_words logs within long =
     let all = map durable_value words in
-    let count : length (drop 8192 all) ≤ logs = omega (arith, length-drop 8192 all, length-map words durable_value, long) in
+    let count : length (drop VARIABLE_WORDS all) ≤ logs = omega (arith, length-drop VARIABLE_WORDS all, length-map words durable_value, long) in
     let first : durable_from words 0 variable_words ≡ take variable_words all = sym (durable_part words 0 variable_words (omega (arith, within))) in
-    let after : durable_from words 8192 logs ≡ drop 8192 all =
-    sym (durable_part words 8192 logs (omega (arith, long))) ∙ take_all logs (drop 8192 all) count in
-    ap (λ (xs : List ℕ). xs ++ durable_from words 8192 logs) first ∙ ap (λ (xs : List ℕ). take variable_words all ++ xs) after
+    let after : durable_from words VARIABLE_WORDS logs ≡ drop VARIABLE_WORDS all =
+    sym (durable_part words VARIABLE_WORDS logs (omega (arith, long))) ∙ take_all logs (drop VARIABLE_WORDS all) count in
+    ap (λ (xs : List ℕ). xs ++ durable_from words VARIABLE_WORDS logs) first ∙ ap (λ (xs : List ℕ). take variable_words all ++ xs) after

@@ -16,3 +16,8 @@ mod StoreScans
 mod SignObservations
 mod AccountUpdates
 mod StepTotals
+mod MoreBegun
+mod LocalEvents
+mod LocalRuns
+mod LifeAfterSteps
+mod LocalInvariants

@@ -25,10 +25,10 @@ use Rattle.run_tracker.proofs.EventCounts.{passed-few}
 use Rattle.run_tracker.proofs.StepsStayOpen.{open-after}
 
 module _ (life : Inside) (stands : LifeInv life) where
-  hart_count : length (world_of (course_of life)).harts ≡ length (program_in life.machine)
+  pub hart_count : length (world_of (course_of life)).harts ≡ length (program_in life.machine)
   hart_count = omega (arith, stands.machine.standing.count, life.machine.sized, life.machine.harts.ok.0)
 
-  steps_count : length (steps_in (course_of life)).harts ≡ length (program_in life.machine)
+  pub steps_count : length (steps_in (course_of life)).harts ≡ length (program_in life.machine)
   steps_count = stands.account.count ∙ stands.harts
 
   few_counts : (counts : List ℕ) (done : ℕ → ℕ) → AreCounts counts (length (program_in life.machine)) done → ((h : ℕ) → done h ≤ length life.journal.events) →
@@ -99,6 +99,7 @@ module _ (life : Inside) (stands : LifeInv life) where
           (subst IsWellFormedWorld (sym world_is) (queues_stand (program_in life.machine) (world_of (course_of life)) event (sym hart_count) stands.sound).0);
       events = omega (arith, events, stands.events, longer);
       tables = subst (λ (p : List (List Slot)). AreTables life.tables.items p (map (λ a. a.items) life.addresses.items)) (sym same) stands.tables;
+      marked = stands.marked ∙ ap length (sym same);
       account = moved (λ (x : Course). AccountInv account (steps_in x)) (subst (AccountInv account) (sym steps_are) steps);
       harts =
           sym steps.count ∙ harts-after (map (λ a. a.items) life.addresses.items) (program_in life.machine) (world_of (course_of life)) event

@@ -16,6 +16,7 @@ use Rattle.rv64_isa.specs.Rows.{Effect, row}
 use Rattle.rv64_isa.specs.Programs.{fetched, code_of, code_start}
 use Rattle.rv64_isa.specs.Machine.{Hart, World, reply_to, happens, stepped, phase_step, executed}
 use Rattle.rv64_isa.specs.Schedule.{completes, completing, effect_at, has_moved, is_fence, is_point_store, is_running, passes_mark, is_mark}
+use Rattle.hart_core.specs.LocalSteps.{PlacedCode, placed_code, fetched_in}
 use Rattle.run_tracker.specs.declared.signs.Sign.{Sign}
 use Rattle.run_tracker.specs.declared.signs.SignTable.{SignTable}
 use Rattle.run_tracker.specs.links.SignTables.{is_fence_slot, is_store_slot, is_word_at, sign_at, sign_in, IsTableOf}
@@ -59,44 +60,59 @@ in_length (y ∷ ys) zero x e = omega arith
 in_length (y ∷ ys) (suc k) x e = let rest = in_length ys k x e in omega arith
 
 -- where a word of the code stands
-module _ (program : List (List Slot)) (h pc : ℕ) (slot : Slot) (there : fetched program h pc ≡ Some slot) where
-  pub fetched_place : (code_start program h ≤ pc) × (pc % 4 ≡ 0) × (slice_get (code_of program h) ((pc - code_start program h) / 4) ≡ Some slot)
-  fetched_place = by_test (nat_le (code_start program h) pc && (pc % 4 == 0)) refl
+module _ (code : PlacedCode) (pc : ℕ) (slot : Slot) (there : fetched_in code pc ≡ Some slot) where
+  pub word_place : (code.start ≤ pc) × (pc % 4 ≡ 0) × (slice_get code.slots ((pc - code.start) / 4) ≡ Some slot)
+  word_place = by_test (nat_le code.start pc && (pc % 4 == 0)) refl
     where
-      fetched_if : (t : Bool) → (nat_le (code_start program h) pc && (pc % 4 == 0)) ≡ t →
-          fetched program h pc ≡ (if t then slice_get (code_of program h) ((pc - code_start program h) / 4) else None)
-      fetched_if t e = ap (λ (b : Bool). if b then slice_get (code_of program h) ((pc - code_start program h) / 4) else None) e
+      fetched_if : (t : Bool) → (nat_le code.start pc && (pc % 4 == 0)) ≡ t →
+          fetched_in code pc ≡ (if t then slice_get code.slots ((pc - code.start) / 4) else None)
+      fetched_if t e = ap (λ (b : Bool). if b then slice_get code.slots ((pc - code.start) / 4) else None) e
 
-      by_test : (t : Bool) → (nat_le (code_start program h) pc && (pc % 4 == 0)) ≡ t →
-          (code_start program h ≤ pc) × (pc % 4 ≡ 0) × (slice_get (code_of program h) ((pc - code_start program h) / 4) ≡ Some slot)
+      by_test : (t : Bool) → (nat_le code.start pc && (pc % 4 == 0)) ≡ t →
+          (code.start ≤ pc) × (pc % 4 ≡ 0) × (slice_get code.slots ((pc - code.start) / 4) ≡ Some slot)
       by_test false e =
-          let none : fetched program h pc ≡ None = fetched_if false e in
+          let none : fetched_in code pc ≡ None = fetched_if false e in
           cc
       by_test true e =
-          let parts = and_parts (nat_le (code_start program h) pc) (pc % 4 == 0) e in
-          (leb-true (code_start program h) pc parts.0, eqb-true (pc % 4) 0 parts.1, sym (fetched_if true e) ∙ there)
+          let parts = and_parts (nat_le code.start pc) (pc % 4 == 0) e in
+          (leb-true code.start pc parts.0, eqb-true (pc % 4) 0 parts.1, sym (fetched_if true e) ∙ there)
 
-  module _ (table : SignTable) (addresses : List ℕ) (is : IsTableOf table (code_start program h) (code_of program h) addresses) where
+  module _ (table : SignTable) (addresses : List ℕ) (is : IsTableOf table code.start code.slots addresses) where
     -- the word has a sign
-    pub has_sign : (table.start ≤ pc) × ((pc - table.start) / 4 < length table.signs.items)
-    has_sign =
-        let within = in_length (code_of program h) ((pc - code_start program h) / 4) slot fetched_place.2 in
-        (rw is.starts fetched_place.0, rw (is.starts, is.size) within)
+    pub word_signed : (table.start ≤ pc) × ((pc - table.start) / 4 < length table.signs.items)
+    word_signed =
+        let within = in_length code.slots ((pc - code.start) / 4) slot word_place.2 in
+        (rw is.starts word_place.0, rw (is.starts, is.size) within)
 
-    sign_is : sign_at table pc ≡ sign_in table.signs.items ((pc - code_start program h) / 4)
+    sign_is : sign_at table pc ≡ sign_in table.signs.items ((pc - code.start) / 4)
     sign_is = ap (λ (start : ℕ). sign_in table.signs.items ((pc - start) / 4)) is.starts
 
-    pub mark_tells : (sign_at table pc).mark ≡ list_any (λ m. m == pc) addresses
-    mark_tells =
-        ap (λ (x : Sign). x.mark) sign_is ∙ is.marks _ (in_length (code_of program h) _ slot fetched_place.2)
-        ∙ any_same (is_word_at (code_start program h) ((pc - code_start program h) / 4)) (λ m. m == pc) addresses
-        (λ m. same_word (code_start program h) pc m fetched_place.0 fetched_place.1)
+    pub word_mark : (sign_at table pc).mark ≡ list_any (λ m. m == pc) addresses
+    word_mark =
+        ap (λ (x : Sign). x.mark) sign_is ∙ is.marks _ (in_length code.slots _ slot word_place.2)
+        ∙ any_same (is_word_at code.start ((pc - code.start) / 4)) (λ m. m == pc) addresses
+        (λ m. same_word code.start pc m word_place.0 word_place.1)
 
-    pub fence_tells : (sign_at table pc).fence ≡ is_fence_slot slot
-    fence_tells = ap (λ (x : Sign). x.fence) sign_is ∙ is.fences _ slot fetched_place.2
+    word_fence : (sign_at table pc).fence ≡ is_fence_slot slot
+    word_fence = ap (λ (x : Sign). x.fence) sign_is ∙ is.fences _ slot word_place.2
 
-    pub store_tells : (sign_at table pc).store ≡ is_store_slot slot
-    store_tells = ap (λ (x : Sign). x.store) sign_is ∙ is.stores _ slot fetched_place.2
+    word_store : (sign_at table pc).store ≡ is_store_slot slot
+    word_store = ap (λ (x : Sign). x.store) sign_is ∙ is.stores _ slot word_place.2
+
+-- where a word of a thread's code stands
+module _ (program : List (List Slot)) (h pc : ℕ) (slot : Slot) (there : fetched program h pc ≡ Some slot) (table : SignTable) (addresses : List ℕ)
+    (is : IsTableOf table (code_start program h) (code_of program h) addresses) where
+  pub has_sign : (table.start ≤ pc) × ((pc - table.start) / 4 < length table.signs.items)
+  has_sign = word_signed (placed_code program h) pc slot there table addresses is
+
+  pub mark_tells : (sign_at table pc).mark ≡ list_any (λ m. m == pc) addresses
+  mark_tells = word_mark (placed_code program h) pc slot there table addresses is
+
+  pub fence_tells : (sign_at table pc).fence ≡ is_fence_slot slot
+  fence_tells = word_fence (placed_code program h) pc slot there table addresses is
+
+  pub store_tells : (sign_at table pc).store ≡ is_store_slot slot
+  store_tells = word_store (placed_code program h) pc slot there table addresses is
 
 -- ---- A hart that goes on has an instruction
 

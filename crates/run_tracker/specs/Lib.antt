@@ -1,2 +1,3 @@
 pub mod ObjectLives
+pub mod LocalRuns
 pub mod links

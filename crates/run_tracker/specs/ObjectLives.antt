@@ -10,6 +10,7 @@ use Rattle.rv64_isa.specs.declared.object.Slot.{Slot}
 use Rattle.rv64_isa.specs.declared.phase.Phase.{Phase}
 use Rattle.rv64_isa.specs.declared.phase.Phase.TheVariants.{Take, Wait, Resume, Run, Done, Ended}
 use Rattle.rv64_isa.specs.Programs.{program_of}
+use Rattle.rv64_isa.specs.Executables.{node_marks}
 use Rattle.rv64_isa.specs.Machine.{World, after_event, after_events, reply_to, machine_start, machine_from}
 use Rattle.rv64_isa.specs.Schedule.{Steps, stores_point, finishes_fence, first_steps, steps_along}
 
@@ -38,15 +39,11 @@ world_of life = after_events life.program life.opening life.journal
 abbrev pub steps_in : Course → Steps
 steps_in life = steps_along life.marks life.program life.opening life.journal (first_steps (length life.program) life.kept_before)
 
--- of each thread the addresses of its marks
-abbrev pub addresses_of : Marks → List (List ℕ)
-addresses_of marks = map (λ t. t.nodes.items) marks.threads.items
-
 -- the life of an object before any event, which begins at this world with this schedule kept
 abbrev pub life_at : Object → Marks → World → (kept : List ℕ) → (cap : ℕ) → Course
 life_at object marks world kept cap = record {
   program = program_of object;
-  marks = addresses_of marks;
+  marks = node_marks marks.threads.items;
   variable_words = length object.initial.items / 8;
   kept_before = kept;
   opening = world;

@@ -3,3 +3,4 @@ pub mod LifeRepresentation
 pub mod Journals
 pub mod SignTables
 pub mod LifeParts
+pub mod LocalRepresentation

@@ -4,6 +4,7 @@ ghost use Rattle.std.specs.Vec.{vec_capacity, vec_len};
 ghost use Rattle.ido_base.specs.Words.{Word, word_at};
 ghost use Rattle.rv64_isa.specs.Schedule.{Steps, first_steps, no_steps, with_begun, with_bound, with_kept, durable_steps};
 ghost use Rattle.run_tracker.specs.links.AccountRepresentation.{AccountInv, IsAscending, open_at, bound_in, bound_at, total, point_word, without_open};
+ghost use Rattle.run_tracker.specs.links.LocalRepresentation.{with_more_begun};
 
 use ido_base::memory::OutOfMemory;
 use std::alloc::Global;
@@ -111,6 +112,17 @@ impl Account {
         if mark {
             self.harts[hart as usize].free += 1;
         }
+    }
+
+    /// So many steps are begun.
+    pub fn begin_more(&mut self, hart: u32, count: u32)
+        requires exists { hart < length self.old.harts.items }
+        requires room { (open_at self.old hart).free + count < 2 ^ 64 }
+        ensures stands { (s : Steps) → AccountInv self.old s → AccountInv self.new (with_more_begun hart count s) }
+        ensures stores { self.new.stores ≡ self.old.stores }
+        ensures capacity { vec_capacity self.new.kept ≡ vec_capacity self.old.kept }
+    {
+        self.harts[hart as usize].free += u64::from(count);
     }
 
     /// The point is stored at this position: the steps begun before are bound to it.

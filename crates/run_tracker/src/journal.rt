@@ -122,6 +122,21 @@ impl Journal {
         self.steps += 1;
     }
 
+    /// Adds so many steps of a hart, by one entry at most.
+    pub fn push_steps(&mut self, hart: u32, count: u32)
+        requires room { length self.old.events + count ≤ self.old.room }
+        ensures { self.new ≡ record self.old { events = self.old.events ++ replicate count (Step hart) } }
+    {
+        if hart == self.hart && self.steps <= u32::MAX - count {
+            self.steps += count;
+            return;
+        }
+        close(&mut self.entries, self.hart, self.steps);
+        self.closed += u64::from(self.steps);
+        self.hart = hart;
+        self.steps = count;
+    }
+
     /// Adds an entry of one event.
     fn add_entry(&mut self, entry: Entry)
         requires room { length self.old.events < self.old.room }

@@ -6,5 +6,6 @@ mod account;
 mod counts;
 mod journal;
 pub mod life;
+pub mod local;
 mod signs;
 mod stepping;

@@ -1,25 +1,29 @@
 //! A life: a machine that runs a compiled object, with the journal of its events and the kept schedule.
-ghost use Rattle.std.specs.Prelude.{◌≡◌, [], ◌+◌, ◌-◌, ◌*◌, ◌/◌, ◌<◌, ◌≤◌, ◌^◌, ◌++◌, ℕ, length, map, not, IfOk};
+ghost use Rattle.std.specs.Prelude.{◌≡◌, [], ◌+◌, ◌-◌, ◌*◌, ◌/◌, ◌<◌, ◌≤◌, ◌^◌, ◌++◌, ℕ, Some, length, map, not, slice_get, if◌then◌else◌, IfOk, IsTrue, ◌↔◌};
+ghost use Rattle.std.specs.Bool.{OnTrue};
 ghost use Rattle.std.specs.Vec.{vec_capacity, vec_len};
 ghost use Rattle.ido_base.specs.declared.limits.TheConstants.{LOG_WORDS};
 ghost use Rattle.ido_base.specs.Words.{word_at, live_value, durable_value};
 ghost use Rattle.ido_base.specs.Layout.{line_count};
-ghost use Rattle.ido_base.specs.Cores.{point_stores, finished_fences};
-ghost use Rattle.rv64_isa.specs.Machine.{World, IsValidEvent, reply_to, numbers_from};
+ghost use Rattle.ido_base.specs.Cores.{point_stores, finished_fences, least_enabled, EachMoves};
+ghost use Rattle.rv64_isa.specs.Machine.{Hart, World, IsValidEvent, reply_to, numbers_from};
 ghost use Rattle.ido_machine.specs.Machines.{RepresentsMachine, program_in, events_of};
 ghost use Rattle.rv64_isa.specs.Programs.{program_of};
 ghost use Rattle.rv64_isa.specs.Frames.{IsWellFormedWorld};
 ghost use Rattle.rv64_isa.specs.Schedule.{is_settled, is_settled_hart};
 ghost use Rattle.hart_core.specs.Objects.{IsWithinLimits};
 ghost use Rattle.run_tracker.specs.ObjectLives.{Course, new_life, life_at, life_from, with_event, world_of, steps_in, left_words};
-ghost use Rattle.run_tracker.specs.ObjectLives.{is_stopped, is_stopped_phase, living, opening_of};
+ghost use Rattle.run_tracker.specs.ObjectLives.{LifeConfig, is_stopped, is_stopped_phase, living, opening_of};
+ghost use Rattle.run_tracker.specs.LocalRuns.{IsLocalOf, IsAtBeginning, local_at, with_steps};
 ghost use Rattle.run_tracker.specs.links.LifeRepresentation.{opening_by};
 
 use crate::account::Account;
 use crate::counts::Counts;
 use crate::journal::Journal;
+use crate::local::LocalRun;
 use crate::signs::{SignTable, nodes_of, tables_of};
 use crate::stepping::make;
+use hart_core::local::ThreadCode;
 use ido_base::event::{Event, Reply};
 use ido_base::limits::{LOG_LINES, LOG_WORDS, POINT_LINE, VARIABLE_WORDS};
 use ido_base::machine::Core;
@@ -72,6 +76,13 @@ fn is_stopped_phase(phase: Phase) -> bool
     matches!(phase, Phase::Done | Phase::Ended)
 }
 
+/// The phase is the other one.
+fn is_phase(phase: Phase, other: Phase) -> bool
+    ensures { IsTrue result ↔ (other ≡ phase) }
+{
+    phase == other
+}
+
 /// The hart holds nothing, and its live and durable points are 0.
 fn is_settled_hart(machine: &Machine, hart: u32) -> bool
     requires { hart < length (program_in machine.now) }
@@ -91,6 +102,19 @@ fn are_settled(machine: &Machine) -> bool
         }
     }
     true
+}
+
+/// The least hart whose next step would neither wait nor find that the hart is done or has ended.
+fn least_enabled(machine: &Machine) -> Option<u32>
+    ensures { (m : LifeConfig) → m.program ≡ program_in machine.now → RepresentsMachine machine.now m.world →
+        result ≡ least_enabled living m (length m.program) }
+{
+    for hart in 0..machine.harts() {
+        if machine.is_enabled(hart) {
+            return Some(hart);
+        }
+    }
+    None
 }
 
 /// Adds the durable values of so many words from this one on.
@@ -275,6 +299,66 @@ impl Life {
         )
     }
 
+    /// The least hart whose next step would be replied to neither by `Waits` nor by `Barrier` nor by `Still`.
+    pub fn can_step(&self) -> Option<u32>
+        ensures { result ≡ least_enabled living (record (opening_of self.now) { world = world_of self.now }) (length self.now.program) }
+    {
+        least_enabled(&self.machine)
+    }
+
+    /// What runs ahead of a hart, begun at the hart as it is now.
+    pub fn local(&self, alloc: Global, hart: u32) -> Result<LocalRun, OutOfMemory>
+        requires { hart < length self.now.program }
+        ensures hart { IfOk result (λ local. (it : Hart) → slice_get (world_of self.now).harts hart ≡ Some it → local ≡ local_at self.now hart it) }
+        ensures own { IfOk result (λ local. IsLocalOf (opening_of self.now) hart local × (local.made ≡ 0)) }
+    {
+        Ok(LocalRun::new(
+            ThreadCode::of(alloc, self.machine.program(), hart)?,
+            self.addresses[hart as usize].to_vec(alloc)?,
+            self.tables[hart as usize].copy(alloc)?,
+            self.machine.phase(hart),
+            self.machine.local_state(hart),
+        ))
+    }
+
+    /// Begins what runs ahead of a hart again, at the hart as it is now. It takes no memory.
+    pub fn refresh(&self, hart: u32, local: &mut LocalRun)
+        requires exists { hart < length self.now.program }
+        requires own { IsLocalOf (opening_of self.now) hart local.old }
+        ensures hart { (it : Hart) → slice_get (world_of self.now).harts hart ≡ Some it → local.new ≡ local_at self.now hart it }
+        ensures own { IsLocalOf (opening_of self.now) hart local.new × (local.new.made ≡ 0) }
+    {
+        local.begin(self.machine.phase(hart), self.machine.local_state(hart));
+    }
+
+    /// The hart has the registers, the pc and the phase of the local's beginning.
+    fn is_at(&self, hart: u32, local: &LocalRun) -> bool
+        requires { hart < length self.now.program }
+        ensures { (it : Hart) → slice_get (world_of self.now).harts hart ≡ Some it → IsTrue result ↔ IsAtBeginning local.now it }
+    {
+        is_phase(self.machine.phase(hart), local.phase()) && self.machine.is_at(hart, local.first())
+    }
+
+    /// Makes the steps by which a local is ahead: true exactly where the hart has still the registers, the pc and the phase of the
+    /// local's beginning, else nothing changes. It takes constant time, however many steps they are.
+    pub fn adopt(&mut self, hart: u32, local: &LocalRun) -> bool
+        requires exists { hart < length self.old.program }
+        requires own { IsLocalOf (opening_of self.old) hart local.now }
+        requires room { local.now.made ≤ self.old.cap - length self.old.journal }
+        ensures result { (it : Hart) → slice_get (world_of self.old).harts hart ≡ Some it → IsTrue result ↔ IsAtBeginning local.now it }
+        ensures life { self.new ≡ (if result then with_steps self.old hart local.now.made else self.old) }
+        ensures moves { OnTrue result (EachMoves living (opening_of self.old) self.old.journal hart local.now.made) }
+    {
+        if !self.is_at(hart, local) {
+            return false;
+        }
+        let made = local.made();
+        self.journal.push_steps(hart, made);
+        self.machine.go_to(hart, local.state(), made);
+        self.account.begin_more(hart, local.passed());
+        true
+    }
+
     /// The hart has ended, or its recovery is done.
     pub fn stopped(&self, hart: u32) -> bool
         requires { hart < length self.now.program }
@@ -304,6 +388,7 @@ impl Core for Life {
     ghost use Rattle.std.specs.Prelude.{◌-◌, length};
     ghost use Rattle.rv64_isa.specs.Machine.{IsEviction};
     ghost use Rattle.run_tracker.specs.ObjectLives.{LifeConfig, living, opening_of};
+    ghost use Rattle.run_tracker.specs.LocalRuns.{IsLocalOf};
 
     ghost Meaning = { LifeConfig };
 
@@ -318,6 +403,10 @@ impl Core for Life {
     ghost space = { λ life. life.cap - length life.journal };
 
     ghost evictable = { λ life. IsEviction (length life.program) };
+
+    ghost is_local = { IsLocalOf };
+
+    ghost ahead_by = { λ local. local.made };
 
     fn harts(&self) -> u32 {
         Life::harts(self)
@@ -346,5 +435,28 @@ impl Core for Life {
 
     fn fences(&self, hart: u32) -> u64 {
         Life::fences(self, hart)
+    }
+
+    fn can_step(&self) -> Option<u32> {
+        Life::can_step(self)
+    }
+
+    type Local = LocalRun;
+
+    fn local(&self, alloc: Global, hart: u32) -> Result<LocalRun, OutOfMemory> {
+        Life::local(self, alloc, hart)
+    }
+
+    fn refresh(&self, hart: u32, local: &mut LocalRun) {
+        Life::refresh(self, hart, local)
+    }
+
+    #[inline(always)]
+    fn ahead(local: &mut LocalRun) -> bool {
+        local.ahead()
+    }
+
+    fn adopt(&mut self, hart: u32, local: &LocalRun) -> bool {
+        Life::adopt(self, hart, local)
     }
 }

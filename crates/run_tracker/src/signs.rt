@@ -106,6 +106,16 @@ impl SignTable {
         Ok(SignTable { start, signs })
     }
 
+    /// Another table with the same signs.
+    pub fn copy(&self, alloc: Global) -> Result<SignTable, OutOfMemory>
+        ensures { IfOk result (λ table. (table.start ≡ self.now.start) × (table.signs.items ≡ self.now.signs.items)) }
+    {
+        Ok(SignTable {
+            start: self.start,
+            signs: self.signs.to_vec(alloc)?,
+        })
+    }
+
     /// The sign of the code word at this address.
     #[inline(always)]
     pub fn sign_at(&self, pc: u64) -> Sign

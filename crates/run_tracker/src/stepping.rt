@@ -35,7 +35,7 @@ pub(crate) struct Observation {
 
 /// The hart executes instructions.
 #[inline(always)]
-fn is_running(phase: Phase) -> bool
+pub(crate) fn is_running(phase: Phase) -> bool
     ensures { result ≡ is_running phase }
 {
     matches!(phase, Phase::Run)

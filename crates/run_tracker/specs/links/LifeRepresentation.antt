@@ -41,6 +41,7 @@ pub record LifeInv (life : Inside) : Type 0 where
   pub events : events_of life.machine ≡ length life.journal.events
   pub tables : AreTables life.tables.items (program_in life.machine) (map (λ a. a.items) life.addresses.items)
   pub account : AccountInv life.account (steps_in (course_of life))
+  pub marked : length life.addresses.items ≡ length (program_in life.machine)
   pub harts : length life.account.harts.items ≡ length (program_in life.machine)
   pub ordered : AreOrdered (world_of (course_of life)).words (steps_in (course_of life))
   pub are_open : AreOpen (world_of (course_of life)).words (steps_in (course_of life))

@@ -1,8 +1,8 @@
 use Rattle.std.proofs.Common.{◌≡◌, ℕ, zero, suc, ◌+◌, ◌≤◌, List, length, replicate, get_or, map, ap, sym, subst, ◌∙◌, refl, arith, rules}
-use Rattle.std.proofs.lemmas.List.{length-replicate}
+use Rattle.std.proofs.lemmas.List.{length-map, length-replicate}
 use Rattle.rv64_isa.specs.declared.object.Slot.{Slot}
 use Rattle.rv64_isa.specs.Frames.{IsWellFormedWorld}
-use Rattle.rv64_isa.specs.Programs.{program_of}
+use Rattle.rv64_isa.specs.Programs.{program_of, slot_of}
 use Rattle.rv64_isa.specs.Machine.{World}
 use Rattle.rv64_isa.specs.Schedule.{first_steps, no_steps}
 use Rattle.ido_base.specs.Cores.{point_stores, finished_fences}
@@ -54,6 +54,10 @@ invariant_of-result c =
     let same_bytes : c.in_ok-to_vec.field-0.items ≡ object.initial.items = search rules in
     let counts = c.in_ok-new-3.field-0 in
     let points = c.in_ok-new-3.ensures.points in
+    let marked : length c.in_ok-nodes_of.field-0.items ≡ length (program_in machine) =
+    sym (length-map c.in_ok-nodes_of.field-0.items (λ a. a.items)) ∙ ap length c.in_ok-nodes_of.ensures
+    ∙ length-map marks.threads.items (λ t. t.nodes.items) ∙ c.requires.marks
+    ∙ sym (length-map object.code.items (λ code. map slot_of code.items)) ∙ ap length (sym program_is) in
     let fences = c.in_ok-new-3.ensures.fences in
     record {
       machine = subst (λ (x : Course). RepresentsMachine machine (world_of x)) is c.requires.stands;
@@ -62,6 +66,7 @@ invariant_of-result c =
       tables =
           subst (λ (p : List (List Slot)). AreTables c.in_ok-tables_of.field-0.items p (map (λ a. a.items) c.in_ok-nodes_of.field-0.items)) (sym program_is)
           (subst (AreTables c.in_ok-tables_of.field-0.items (program_of object)) (sym c.in_ok-nodes_of.ensures) c.in_ok-tables_of.ensures);
+      marked = marked;
       account = subst (λ (x : Course). AccountInv account (steps_in x)) is stands;
       harts = sym stands.count ∙ length-replicate (length (program_of object)) no_steps ∙ ap length (sym program_is);
       ordered =

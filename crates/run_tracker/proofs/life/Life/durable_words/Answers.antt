@@ -1,4 +1,5 @@
 use Rattle.std.proofs.Common.{◌≡◌, ℕ, ◌+◌, ◌*◌, ◌/◌, ◌++◌, List, length, ap, subst, ◌∙◌, arith, rules}
+use Rattle.ido_base.specs.declared.limits.TheConstants.{LOG_WORDS, VARIABLE_WORDS}
 use Rattle.rv64_isa.specs.Machine.{World}
 use Rattle.run_tracker.specs.ObjectLives.{Course, world_of, left_words}
 use Rattle.run_tracker.specs.links.LifeRepresentation.{course_of}
@@ -11,13 +12,13 @@ returns c =
     let stands = c.self.invariant in
     let w : World = world_of (course_of life) in
     let variables = length life.initial.items / 8 in
-    let logs = 128 * c.harts-logs.result in
+    let logs = LOG_WORDS * c.harts-logs.result in
     let count : c.len.result ≡ length life.initial.items = search rules in
-    let long : 8192 + logs ≡ length w.words = omega (arith, stands.machine.words.size, life.machine.logged, c.harts-logs.ensures) in
+    let long : VARIABLE_WORDS + logs ≡ length w.words = omega (arith, stands.machine.words.size, life.machine.logged, c.harts-logs.ensures) in
     let first : c.push_durable.new.words.items ≡ durable_from w.words 0 variables =
     c.push_durable.ensures.items w stands.machine ∙ ap (λ (xs : List ℕ). xs ++ durable_from w.words 0 (c.len.result / 8)) c.in_ok-words.ensures.items
     ∙ ap (λ (n : ℕ). durable_from w.words 0 (n / 8)) count in
-    let all : c.push_durable-2.new.words.items ≡ durable_from w.words 0 variables ++ durable_from w.words 8192 logs =
-    c.push_durable-2.ensures.items w stands.machine ∙ ap (λ (xs : List ℕ). xs ++ durable_from w.words 8192 logs) first in
+    let all : c.push_durable-2.new.words.items ≡ durable_from w.words 0 variables ++ durable_from w.words VARIABLE_WORDS logs =
+    c.push_durable-2.ensures.items w stands.machine ∙ ap (λ (xs : List ℕ). xs ++ durable_from w.words VARIABLE_WORDS logs) first in
     subst (λ (x : Course). c.push_durable-2.new.words.items ≡ left_words x.variable_words (world_of x).words) c.self.view_is
     (all ∙ left_is w.words variables logs (omega (arith, stands.bytes, long)) long)

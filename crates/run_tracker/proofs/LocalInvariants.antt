@@ -1,0 +1,88 @@
+-- What stands of a local run as it goes ahead, and where a life adopts it.
+use Rattle.std.proofs.Common.{◌≡◌, ℕ, suc, ◌+◌, ◌≤◌, List, length, Option}
+use Rattle.std.proofs.Common.{Some, None, Bool, true, false, cond, ◌==◌, refl, ap, sym, ◌∙◌, arith}
+use Rattle.std.specs.List.{list_any}
+use Rattle.rv64_isa.specs.declared.object.Slot.{Slot}
+use Rattle.rv64_isa.specs.declared.phase.Phase.{Phase}
+use Rattle.rv64_isa.specs.declared.phase.Phase.TheVariants.{Take, Wait, Resume, Run, Done, Ended}
+use Rattle.rv64_isa.specs.Machine.{Hart}
+use Rattle.rv64_isa.specs.Schedule.{is_running}
+use Rattle.hart_core.specs.declared.local.LocalState.{LocalState}
+use Rattle.hart_core.specs.LocalSteps.{PlacedCode, executed_locally, fetched_in, local_run, local_step, then_locally}
+use Rattle.ido_machine.specs.Harts.{local_state_of}
+use Rattle.run_tracker.specs.declared.local.LocalRun.TheInside.{Inside}
+use Rattle.run_tracker.specs.declared.signs.Sign.{Sign}
+use Rattle.run_tracker.specs.declared.signs.SignTable.{SignTable}
+use Rattle.run_tracker.specs.LocalRuns.{LocalCourse, IsAtBeginning, state_in}
+use Rattle.run_tracker.specs.links.LocalRepresentation.{LocalInv, marks_at, marks_passed}
+use Rattle.run_tracker.specs.links.SignTables.{IsTableOf, sign_at, sign_in}
+use Rattle.run_tracker.proofs.SignObservations.{word_mark}
+
+pub running_phase : (phase : Phase) → is_running phase ≡ true → phase ≡ Run
+running_phase Run e = refl
+running_phase Take e = cc
+running_phase Wait e = cc
+running_phase Resume e = cc
+running_phase Done e = cc
+running_phase Ended e = cc
+
+-- a local instruction stands somewhere
+some_slot : (code : PlacedCode) (s t : LocalState) → local_step code s ≡ Some t → (slot : Slot) × (fetched_in code s.pc ≡ Some slot)
+some_slot code s t e = by_slot (fetched_in code s.pc) refl e
+  where
+    by_slot : (found : Option Slot) → fetched_in code s.pc ≡ found → executed_locally found s ≡ Some t → (slot : Slot) × (fetched_in code s.pc ≡ Some slot)
+    by_slot None is e = cc
+    by_slot (Some slot) is e = (slot, is)
+
+-- one instruction more, which passes a mark or not
+pub goes_on : (run : Inside) (state : LocalState) (mark : Bool) (passed : ℕ) → LocalInv run → local_step run.code run.state ≡ Some state →
+    mark ≡ (sign_at run.table run.state.pc).mark → passed ≡ run.passed + cond mark 1 0 → is_running run.phase ≡ true →
+    LocalInv (record run { state = state; made = run.made + 1; passed = passed })
+goes_on run state mark passed stands step mark_is passed_is running =
+    let marks : List ℕ = run.addresses.items in
+    let one : run.made + 1 ≡ suc run.made = omega arith in
+    let slot = some_slot run.code run.state state step in
+    let tells : mark ≡ list_any (λ m. m == run.state.pc) marks =
+    mark_is ∙ word_mark run.code run.state.pc slot.0 slot.1 run.table marks stands.table in
+    record {
+      table = stands.table;
+      state = ap (local_run run.code run.first) one ∙ ap (then_locally run.code) stands.state ∙ step;
+      passed =
+          passed_is ∙ ap (λ (b : Bool). run.passed + cond b 1 0) tells
+          ∙ ap (λ (n : ℕ). n + marks_at marks (Some run.state)) stands.passed
+          ∙ ap (λ (found : Option LocalState). marks_passed marks run.code run.first run.made + marks_at marks found) (sym stands.state)
+          ∙ ap (marks_passed marks run.code run.first) (sym one);
+      few = few mark passed_is;
+      running = λ _. running_phase run.phase running;
+    }
+  where
+    few : (b : Bool) → passed ≡ run.passed + cond b 1 0 → passed ≤ run.made + 1
+    few true e = omega (arith, e, stands.few)
+    few false e = omega (arith, e, stands.few)
+
+-- a table with the same signs
+pub copied : (old new : SignTable) (start : ℕ) (code : List Slot) (addresses : List ℕ) → new.start ≡ old.start → new.signs.items ≡ old.signs.items →
+    IsTableOf old start code addresses → IsTableOf new start code addresses
+copied old new start code addresses starts signs is = record {
+  starts = starts ∙ is.starts;
+  size = ap length signs ∙ is.size;
+  marks = λ k below. ap (λ (xs : List Sign). (sign_in xs k).mark) signs ∙ is.marks k below;
+  fences = λ k slot there. ap (λ (xs : List Sign). (sign_in xs k).fence) signs ∙ is.fences k slot there;
+  stores = λ k slot there. ap (λ (xs : List Sign). (sign_in xs k).store) signs ∙ is.stores k slot there;
+}
+
+-- ---- A run whose hart is still as it was at its beginning
+
+module _ (code : PlacedCode) (run : LocalCourse) (hart : Hart) (begins : IsAtBeginning run hart) (same : run.code ≡ code) where
+  pub adopted_state : (made : ℕ) (s : LocalState) → made ≡ run.made → state_in run ≡ Some s → local_run code (local_state_of hart) made ≡ Some s
+  adopted_state made s made_is e =
+      ap (local_run code (local_state_of hart)) made_is ∙ ap (λ (c : PlacedCode). local_run c (local_state_of hart) run.made) (sym same)
+      ∙ ap (λ (first : LocalState). local_run run.code first run.made) (sym begins.1) ∙ e
+
+  pub adopted_marks : (marks : List ℕ) (made passed : ℕ) → made ≡ run.made → run.marks ≡ marks →
+      passed ≡ marks_passed run.marks run.code run.first run.made → passed ≡ marks_passed marks code (local_state_of hart) made
+  adopted_marks marks made passed made_is marks_are e =
+      e ∙ ap (λ (ms : List ℕ). marks_passed ms run.code run.first run.made) marks_are
+      ∙ ap (λ (c : PlacedCode). marks_passed marks c run.first run.made) same
+      ∙ ap (λ (first : LocalState). marks_passed marks code first run.made) begins.1
+      ∙ ap (marks_passed marks code (local_state_of hart)) (sym made_is)
