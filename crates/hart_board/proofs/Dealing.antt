@@ -1,0 +1,87 @@
+-- Seats that are dealt, one after another.
+use Rattle.std.proofs.Common.{◌≡◌, ℕ, zero, suc, ◌+◌, ◌<◌, List, [], ◌∷◌, ◌++◌, length, None, Option, sym, refl, ap, ◌∙◌, subst, arith, get_or, ◌⊎◌, ⊎_elim}
+use Rattle.std.specs.Prelude.{All}
+use Rattle.std.proofs.lemmas.List.{map-append, length-map}
+use Rattle.std.proofs.lemmas.List.Elements.{All-push}
+use Rattle.ido_base.specs.declared.event.Event.{Event}
+use Rattle.hart_board.specs.declared.board.Board.{Board}
+use Rattle.hart_board.specs.declared.core_turn.Ahead.{Ahead}
+use Rattle.hart_board.specs.declared.seat.Seat.{Seat}
+use Rattle.hart_board.specs.declared.views.View.TheVariants.{Seated}
+use Rattle.hart_board.specs.BoardRule.{numbers_from, dealt}
+use Rattle.hart_board.specs.Seats.{opening_core, IsSeatOf, IsInReach, turns_of, ceiling_of, seats_of, seen, seen_in, numbers_of, number, HasTicket}
+use Rattle.hart_board.proofs.FirstState.{count_from}
+
+step : (at count : ℕ) → at + suc count ≡ (at + 1) + count
+step at count = omega arith
+
+pub numbers_more : (at count : ℕ) → numbers_from at count ++ (at + count) ∷ [] ≡ numbers_from at (suc count)
+numbers_more at zero = let same : at + 0 ≡ at = omega arith in ap (λ (n : ℕ). n ∷ []) same
+numbers_more at (suc count) =
+    ap (λ (ns : List ℕ). at ∷ ns) (ap (λ (n : ℕ). numbers_from (at + 1) count ++ n ∷ []) (step at count) ∙ numbers_more (at + 1) count)
+
+module _ {C L : Type 0} (history : C → List Event) (space : C → ℕ) (runs : C → ℕ → Option (Ahead L) → Type 0) (board : Board C L) where
+  abbrev IsNew : Seat C L → Type 0
+  IsNew s = IsSeatOf history space runs board s × (seen s ≡ [])
+
+  -- a seat that has just its number is one of the board
+  pub new_seat : (s : Seat C L) (n : ℕ) → s.place.table_id ≡ board.table.shared.table_id → s.place.me ≡ (Seated (dealt board.table.shared.key (n ∷ [])), []) →
+      s.number ≡ n → s.turns ≡ turns_of board → s.ceiling ≡ ceiling_of board
+      → s.made ≡ 0 → s.ticket ≡ None → n < seats_of board → IsInReach history space board.table.shared.key →
+      runs (opening_core board) s.number s.local → IsNew s
+  new_seat s n table me is turns ceiling made none inside reach ahead = (
+    record {
+      seat = record {
+        known = dealt board.table.shared.key (n ∷ []);
+        table = table;
+        represents = record {
+          me = me;
+          out = refl;
+          numbers = ap (λ (m : ℕ). m ∷ []) (sym is);
+          turns_are = turns;
+          ceiling_is = ceiling;
+          made_is = made;
+          within = omega (arith, made);
+          ticket_is = ticketless s none;
+        };
+        terms_are = refl;
+        inside = omega (arith, inside, is);
+      };
+      reach = reach;
+      ahead = ahead;
+    },
+    ap (λ (m : _). seen_in m.0) me,
+  )
+    where
+      ticketless : (s : Seat C L) → s.ticket ≡ None → HasTicket s.ticket (dealt board.table.shared.key (n ∷ []))
+      ticketless s none = subst (λ (z : Option ℕ). HasTicket z (dealt board.table.shared.key (n ∷ []))) (sym none) (refl, refl)
+
+  -- one seat more in the row
+  pub row_more : (xs ys : List (Seat C L)) (s : Seat C L) (n : ℕ) → ys ≡ xs ++ s ∷ [] → numbers_of xs ≡ numbers_from 0 n → All IsNew xs → s.number ≡ n →
+      IsNew s → (numbers_of ys ≡ numbers_from 0 (n + 1)) × All IsNew ys
+  row_more xs ys s n is numbers each same new = (
+    ap numbers_of is ∙ (map-append number xs (s ∷ []) ∙ ((λ i. numbers i ++ same i ∷ []) ∙ next)),
+    subst (All IsNew) (sym is) (All-push IsNew xs s each new),
+  )
+    where
+      next : numbers_from 0 n ++ n ∷ [] ≡ numbers_from 0 (n + 1)
+      next = let zeroth : n ≡ 0 + n = omega arith in let one : suc n ≡ n + 1 = omega arith in
+          ap (λ (m : ℕ). numbers_from 0 n ++ m ∷ []) zeroth ∙ (numbers_more 0 n ∙ ap (numbers_from 0) one)
+
+pub row_length : {C L : Type 0} (xs : List (Seat C L)) (n : ℕ) → numbers_of xs ≡ numbers_from 0 n → length xs ≡ n
+row_length xs n numbers = sym (length-map xs number) ∙ (ap length numbers ∙ count_from 0 n)
+
+-- what holds of each place holds of a list with an element more
+pub grows : {A : Type 0} (P : ℕ → A → Type 0) (d : A) (xs : List A) (a : A) → ((n : ℕ) → P n d) → ((n : ℕ) → P n (get_or xs n d)) → P (length xs) a → (n : ℕ) →
+    P n (get_or (xs ++ a ∷ []) n d)
+grows P d [] a none each last zero = last
+grows P d [] a none each last (suc n) = none (suc n)
+grows P d (x ∷ xs) a none each last zero = each zero
+grows P d (x ∷ xs) a none each last (suc n) = grows (λ m. P (suc m)) d xs a (λ m. none (suc m)) (λ m. each (suc m)) last n
+
+-- and of one from which something was taken
+pub taken_all : {A : Type 0} (P : ℕ → Option A → Type 0) → ((n : ℕ) → P n None) → (xs ys : List (Option A)) → ((n : ℕ) → P n (get_or xs n None)) →
+    ((n : ℕ) → (get_or ys n None ≡ get_or xs n None) ⊎ (get_or ys n None ≡ None)) → (n : ℕ) → P n (get_or ys n None)
+taken_all P none xs ys each others n =
+    ⊎_elim (λ (e : get_or ys n None ≡ get_or xs n None). subst (P n) (sym e) (each n))
+    (λ (e : get_or ys n None ≡ None). subst (P n) (sym e) (none n)) (others n)

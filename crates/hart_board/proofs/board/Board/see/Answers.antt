@@ -1,0 +1,13 @@
+use Rattle.std.proofs.Common.{arith}
+use Rattle.hart_board.proofs.StepsKeepInv.{sees}
+use Rattle.hart_board.specs.BoardRule.{play_of, IsPlayOf}
+use Rattle.hart_board.proofs.board.Board.see.Goals as goal
+
+pub load-requires : goal.load-requires
+load-requires g c = let k = c.requires.seated in let sized = c.args.self.now.sized in let terms = c.args.self.now.table.shared.key in (
+  c.requires.table,
+  omega (arith, sized.0),
+  sees (play_of g.C.Core.behaviour g.C.Core.opening g.C.Core.history g.C.Core.hart_count)
+      (IsPlayOf g.C.Core.opening g.C.Core.history g.C.Core.hart_count g.C.Core.space g.C.Core.evictable)
+      terms c.args.self.now.table.shared.table_id.slots c.args.place.now.id c.args.place.now.me k.0 k.1 k.2,
+)
