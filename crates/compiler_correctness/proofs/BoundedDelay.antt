@@ -9,6 +9,7 @@ use Rattle.ido_base.specs.declared.event.Event.TheVariants.{Step, Evict, Crash}
 use Rattle.rv64_isa.specs.declared.object.Slot.{Slot}
 use Rattle.rv64_isa.specs.declared.phase.Phase.{Phase}
 use Rattle.rv64_isa.specs.declared.phase.Phase.TheVariants.{Take, Wait, Resume, Run, Done, Ended}
+use Rattle.rv64_isa.specs.Executables.{first_world}
 use Rattle.rv64_isa.specs.Programs.{code_of}
 use Rattle.rv64_isa.specs.Machine.{Hart, World, after_event, after_events, reply_to, durable_point, phase_after_crash}
 use Rattle.rv64_isa.specs.Frames.{IsWellFormedWorld}
@@ -22,12 +23,12 @@ use Rattle.flow_graph.specs.Nodes.{Graph}
 use Rattle.flow_graph.proofs.Public.{get_cases}
 use Rattle.hart_runs.specs.Calls.{IsInPhase}
 use Rattle.recovered_threads.specs.RecordDescriptions.{Code}
-use Rattle.crash_simulation.specs.Systems.{System, IsSystem, flat_of, thread_count, start_world}
+use Rattle.crash_simulation.specs.Systems.{System, IsSystem, flat_of, thread_count}
 use Rattle.crash_simulation.specs.SimulationRelation.{Simulates}
 use Rattle.crash_simulation.specs.Laws.{EventsStand}
 use Rattle.crash_simulation.specs.InstructionSteps.{FragmentsStep, CoresStep}
 use Rattle.crash_simulation.proofs.Public.{start_simulates}
-use Rattle.compiler_correctness.specs.Translations.{HaveNoCrash, world, steps, first_world}
+use Rattle.compiler_correctness.specs.Translations.{HaveNoCrash, world, steps}
 use Rattle.compiler_correctness.specs.Compilation.{has_stopped}
 use Rattle.compiler_correctness.specs.Delays as delays
 use Rattle.compiler_correctness.specs.Delays.{active_steps, is_active_step, has_waited, begun_by, IsStopped, delay}
@@ -81,66 +82,68 @@ module _ (marks : MarksPass) (law : FragmentsGoOn) (counts : ForwardCounts) (sta
   abbrev NearMost : World → Type 0
   NearMost w = Near y s h below w (most y s h below)
 
-  resumes : (w : World) → Simulates y s w → IsInPhase w h Resume → IsNear y s h below (after_event y.program w (Step n)) (most y s h below)
+  resumes : (w : World) → Simulates y s w → IsInPhase w h Resume → IsNear y s h below (after_event y.runs.program w (Step n)) (most y s h below)
   resumes w stands i = on_leg (entries.resumes y s h below w stands i)
 
   nearer : (w : World) (event : Event) (left : ℕ) → event ≢ Crash → Near y s h below w left →
-      nearing.GetsNearer y.marks y.program n (Near y s h below) w event left
+      nearing.GetsNearer y.runs.marks y.runs.program n (Near y s h below) w event left
   nearer = falling.falls y s h below fragments_step cores_step marks law counts stand resumes
 
   -- ---- At each moment so many steps are left at most
 
   -- a hart that executes no instructions passes no mark
-  passes_none : (w : World) → ((hart : Hart) → slice_get w.harts n ≡ Some hart → is_running hart.phase ≡ false) → passes_mark y.marks y.program w n ≡ false
+  passes_none : (w : World) → ((hart : Hart) → slice_get w.harts n ≡ Some hart → is_running hart.phase ≡ false) →
+      passes_mark y.runs.marks y.runs.program w n ≡ false
   passes_none w off = elim (get_cases w.harts n) [
     | inl missing ↦ ap of missing
-    | inr there ↦ ap of there.1 ∙ ap (λ (b : Bool). to (if b && has_moved (reply_to y.program w (Step n)) then Some there.0 else None)) (off there.0 there.1)
+    | inr there ↦ ap of there.1 ∙ ap (λ (b : Bool). to (if b && has_moved (reply_to y.runs.program w (Step n)) then Some there.0 else None))
+        (off there.0 there.1)
   ]
     where
       to : Option Hart → Bool
       to o = elim o [
-        | Some hart ↦ is_mark y.marks n hart.pc
+        | Some hart ↦ is_mark y.runs.marks n hart.pc
         | None ↦ false
       ]
 
       of : Option Hart → Bool
       of o = to (elim o [
-        | Some hart ↦ if is_running hart.phase && has_moved (reply_to y.program w (Step n)) then Some hart else None
+        | Some hart ↦ if is_running hart.phase && has_moved (reply_to y.runs.program w (Step n)) then Some hart else None
         | None ↦ None
       ])
 
-  begun_at : (w : World) → Simulates y s w → passes_mark y.marks y.program w n ≡ true → IsInPhase w h Run →
-      IsNear y s h below (after_event y.program w (Step n)) (most y s h below)
+  begun_at : (w : World) → Simulates y s w → passes_mark y.runs.marks y.runs.program w n ≡ true → IsInPhase w h Run →
+      IsNear y s h below (after_event y.runs.program w (Step n)) (most y s h below)
   begun_at w stands passes i =
       let p = falling.where_it_is y s h below fragments_step cores_step marks law counts stand resumes w stands i in
       on_leg (begins_anew y s h below marks law w p.stands passes p.held p.ready)
 
-  begins_next : (w : World) (left : ℕ) → Simulates y s w → passes_mark y.marks y.program w n ≡ true → IsNear y s h below w left →
-      IsNear y s h below (after_event y.program w (Step n)) (most y s h below)
+  begins_next : (w : World) (left : ℕ) → Simulates y s w → passes_mark y.runs.marks y.runs.program w n ≡ true → IsNear y s h below w left →
+      IsNear y s h below (after_event y.runs.program w (Step n)) (most y s h below)
   begins_next w left stands passes (on_leg g) = begun_at w stands passes (falling.goes_running y s h below fragments_step cores_step w left g)
   begins_next w left stands passes (at_mark m) = begun_at w stands passes (falling.mark_running y s h below fragments_step cores_step w left m)
   begins_next w left stands passes (rests none long) = absurd (true≢false (sym passes ∙ passes_none w none))
 
-  after : (w : World) (event : Event) → NearMost w → nearing.GetsNearer y.marks y.program n (Near y s h below) w event (most y s h below) →
-      IsNear y s h below (after_event y.program w event) (most y s h below)
+  after : (w : World) (event : Event) → NearMost w → nearing.GetsNearer y.runs.marks y.runs.program n (Near y s h below) w event (most y s h below) →
+      IsNear y s h below (after_event y.runs.program w event) (most y s h below)
   after w event near (nearing.idles idle next) = next.near
   after w event near (nearing.nears less is next) =
       falling.fewer y s h below fragments_step cores_step marks law counts stand resumes _ less (most y s h below) (omega (arith, is)) next.near
   after w event near (nearing.begins is passes) =
-      subst (λ (x : Event). IsNear y s h below (after_event y.program w x) (most y s h below)) (sym is)
+      subst (λ (x : Event). IsNear y s h below (after_event y.runs.program w x) (most y s h below)) (sym is)
       (begins_next w (most y s h below) near.stands passes near.near)
   after w event near (nearing.stops stopped) =
       rests (λ hart here. ap (λ (x : Hart). is_running x.phase) (same_Some hart stopped.hart (sym here ∙ stopped.here))
       ∙ stopped_off stopped.hart.phase stopped.stopped) (omega arith)
 
-  crashed : (w : World) → IsNear y s h below (after_event y.program w Crash) (most y s h below)
+  crashed : (w : World) → IsNear y s h below (after_event y.runs.program w Crash) (most y s h below)
   crashed w = rests (λ hart here.
       let count = s.count in
       let number : n ≡ h = s.codes.number h below in
-      let there = (crashes_step y.program w).harts n (omega (arith, below, count, number)) in
+      let there = (crashes_step y.runs.program w).harts n (omega (arith, below, count, number)) in
       ap (λ (x : Hart). is_running x.phase) (same_Some hart _ (sym here ∙ there)) ∙ crashed_off (durable_point w.words n)) (omega arith)
 
-  stays_near : (w : World) (event : Event) → NearMost w → NearMost (after_event y.program w event)
+  stays_near : (w : World) (event : Event) → NearMost w → NearMost (after_event y.runs.program w event)
   stays_near w (Step g) near =
       record { stands = stand y s w (Step g) near.stands; near = after w (Step g) near (nearer w (Step g) (most y s h below) (λ e. cc) near) }
   stays_near w (Evict line mask) near = record {
@@ -149,11 +152,11 @@ module _ (marks : MarksPass) (law : FragmentsGoOn) (counts : ForwardCounts) (sta
   }
   stays_near w Crash near = record { stands = stand y s w Crash near.stands; near = crashed w }
 
-  near_along : (events : List Event) (w : World) → NearMost w → NearMost (after_events y.program w events)
+  near_along : (events : List Event) (w : World) → NearMost w → NearMost (after_events y.runs.program w events)
   near_along [] w near = near
-  near_along (event ∷ events) w near = near_along events (after_event y.program w event) (stays_near w event near)
+  near_along (event ∷ events) w near = near_along events (after_event y.runs.program w event) (stays_near w event near)
 
-  near_first : NearMost (start_world y)
+  near_first : NearMost (first_world y.runs)
   near_first =
       let stands = start_simulates y s in
       let there = part_begins (flat_of y) n code.thread.part
@@ -163,12 +166,14 @@ module _ (marks : MarksPass) (law : FragmentsGoOn) (counts : ForwardCounts) (sta
         near = on_leg (entries.starts y s h below stands.before_commit.count (record { from_first = omega arith; below_end = there }));
       }
 
-  own_delay : (events more : List Event) → HaveNoCrash more → delay (translation_of y) n ≤ active_steps y.program (world (translation_of y) events) more n →
-      nearing.GetsOn y.marks y.program n (world (translation_of y) events) (steps (translation_of y) events) more
+  own_delay : (events more : List Event) → HaveNoCrash more →
+      delay (translation_of y) n ≤ active_steps y.runs.program (world (translation_of y) events) more n →
+      nearing.GetsOn y.runs.marks y.runs.program n (world (translation_of y) events) (steps (translation_of y) events) more
   own_delay events more none many =
-      let near = near_along events (start_world y) near_first in
-      let words : length code.program.code ≡ length (code_of y.program n) = ap (λ (p : Program). length p.code) (s.own h below).program in
-      nearing.gets_on y.marks y.program n (Near y s h below) nearer more (world (translation_of y) events) (steps (translation_of y) events) (most y s h below)
+      let near = near_along events (first_world y.runs) near_first in
+      let words : length code.program.code ≡ length (code_of y.runs.program n) = ap (λ (p : Program). length p.code) (s.own h below).program in
+      nearing.gets_on y.runs.marks y.runs.program n (Near y s h below) nearer more (world (translation_of y) events) (steps (translation_of y) events)
+      (most y s h below)
       (s.count ∙ sym near.stands.before_commit.count) near.stands.before_commit.sound none near (omega (arith, many, words))
 
 -- ---- A hart that isn't there
@@ -184,16 +189,16 @@ module _ (y : System) (s : IsSystem y) (h : ℕ) (above : thread_count y ≤ h) 
     | inr there ↦ absurd (let inside = slice_get_within w.harts h there.0 there.1 in omega (arith, above, count, inside))
   ]
 
-  stays_absent : (w : World) (event : Event) (left : ℕ) → IsAbsent w left → IsAbsent (after_event y.program w event) left
+  stays_absent : (w : World) (event : Event) (left : ℕ) → IsAbsent w left → IsAbsent (after_event y.runs.program w event) left
   stays_absent w event left a =
-      let next = queues_stand y.program w event (s.count ∙ sym a.count) a.sound in
+      let next = queues_stand y.runs.program w event (s.count ∙ sym a.count) a.sound in
       record { count = next.1 ∙ a.count; sound = next.0 }
 
-  absent : (w : World) (event : Event) (left : ℕ) → event ≢ Crash → IsAbsent w left → nearing.GetsNearer y.marks y.program h IsAbsent w event left
+  absent : (w : World) (event : Event) (left : ℕ) → event ≢ Crash → IsAbsent w left → nearing.GetsNearer y.runs.marks y.runs.program h IsAbsent w event left
   absent w (Step g) left other a =
       nearing.idles (ap (λ (o : Option Hart). (g == h) && elim o [
         | None ↦ false
-        | Some x ↦ is_running x.phase && not (has_waited (reply_to y.program w (Step h)))
+        | Some x ↦ is_running x.phase && not (has_waited (reply_to y.runs.program w (Step h)))
       ]) (missing w a.count) ∙ never (g == h)) (stays_absent w (Step g) left a)
     where
       never : (b : Bool) → (b && false) ≡ false
@@ -206,25 +211,26 @@ module _ (y : System) (s : IsSystem y) (h : ℕ) (above : thread_count y ≤ h) 
 
 -- in the words of the law
 told : (y : System) (events more : List Event) (h : ℕ) →
-    nearing.GetsOn y.marks y.program h (world (translation_of y) events) (steps (translation_of y) events) more → delays.GetsOn (translation_of y) events more h
+    nearing.GetsOn y.runs.marks y.runs.program h (world (translation_of y) events) (steps (translation_of y) events) more →
+    delays.GetsOn (translation_of y) events more h
 told y events more h (inl more_begun) =
     let c = translation_of y in
     inl (subst (λ (z : Steps). begun_by (steps c events) h < begun_by z h)
-    (sym (steps_join y.marks y.program events more (first_world c) (first_steps (length y.program) []))) more_begun)
+    (sym (steps_join y.runs.marks y.runs.program events more (first_world y.runs) (first_steps (length y.runs.program) []))) more_begun)
 told y events more h (inr stopped) =
-    inr (subst (λ (w : World). IsStopped w h) (sym (worlds_join y.program events more (start_world y))) stopped)
+    inr (subst (λ (w : World). IsStopped w h) (sym (worlds_join y.runs.program events more (first_world y.runs))) stopped)
 
 pub delays_are_bounded : MarksPass → FragmentsGoOn → ForwardCounts → EventsStand → FragmentsStep → CoresStep → DelaysAreBounded
 delays_are_bounded marks law counts stand fragments_step cores_step y s events more h none many = elim (cases_lt h (thread_count y)) [
   | inl below ↦
       let number = s.codes.number h below in
-      subst (λ (k : ℕ). delay (translation_of y) k ≤ active_steps y.program (world (translation_of y) events) more k →
+      subst (λ (k : ℕ). delay (translation_of y) k ≤ active_steps y.runs.program (world (translation_of y) events) more k →
       delays.GetsOn (translation_of y) events more k) number
       (λ enough. told y events more _ (own_delay marks law counts stand fragments_step cores_step y s h below events more none enough)) many
   | inr above ↦
-      let stands = stands_along stand y s events (start_world y) (start_simulates y s) in
+      let stands = stands_along stand y s events (first_world y.runs) (start_simulates y s) in
       told y events more h
-      (nearing.gets_on y.marks y.program h (IsAbsent y s h above) (absent y s h above) more (world (translation_of y) events)
+      (nearing.gets_on y.runs.marks y.runs.program h (IsAbsent y s h above) (absent y s h above) more (world (translation_of y) events)
       (steps (translation_of y) events) 0 (s.count ∙ sym stands.before_commit.count) stands.before_commit.sound none
       (record { count = stands.before_commit.count; sound = stands.before_commit.sound }) (omega (arith, many)))
 ]

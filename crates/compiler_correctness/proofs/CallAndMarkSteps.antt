@@ -80,18 +80,18 @@ module _ (y : System) (s : IsSystem y) (h : ℕ) (below : h < thread_count y) wh
   Goes w left = soon.GoesToMark y s h below w left
 
   abbrev AtMark : World → ℕ → Type 0
-  AtMark w left = legs.AtMark y.plan code.thread code.program code.is y.program y.marks n w left
+  AtMark w left = legs.AtMark y.plan code.thread code.program code.is y.runs.program y.runs.marks n w left
 
   abbrev OnLeg : World → MarkedEnvironment → ℕ → Type 0
-  OnLeg w z left = legs.OnLeg y.plan code.thread code.program code.is y.program y.marks n w z left
+  OnLeg w z left = legs.OnLeg y.plan code.thread code.program code.is y.runs.program y.runs.marks n w z left
 
   -- what the hart's own step does, where so many are left
   pub data CallStep (w : World) (left : ℕ) : Type 0 where
-    waits : is_active_step y.program w (Step n) n ≡ false → after_event y.program w (Step n) ≡ w → CallStep w left
-    goes : (less : ℕ) → left ≡ suc less → Goes (after_event y.program w (Step n)) less → CallStep w left
-    stays : (less : ℕ) → left ≡ suc less → AtMark (after_event y.program w (Step n)) less → CallStep w left
-    begins : passes_mark y.marks y.program w n ≡ true → CallStep w left
-    stops : IsStopped (after_event y.program w (Step n)) n → CallStep w left
+    waits : is_active_step y.runs.program w (Step n) n ≡ false → after_event y.runs.program w (Step n) ≡ w → CallStep w left
+    goes : (less : ℕ) → left ≡ suc less → Goes (after_event y.runs.program w (Step n)) less → CallStep w left
+    stays : (less : ℕ) → left ≡ suc less → AtMark (after_event y.runs.program w (Step n)) less → CallStep w left
+    begins : passes_mark y.runs.marks y.runs.program w n ≡ true → CallStep w left
+    stops : IsStopped (after_event y.runs.program w (Step n)) n → CallStep w left
 
   chosen_weighs : (node : ℕ) (is : Node) → NodeAt y.plan.graph node is → IsChosen y.plan.graph y.plan.boundaries node →
       (weight is.action (c.words node) ≡ 2 * c.words node) × (legs.call_weight is.action (c.words node) ≡ 0)
@@ -118,26 +118,26 @@ module _ (y : System) (s : IsSystem y) (h : ℕ) (below : h < thread_count y) wh
     z = bare y s w h below
 
     abbrev after : World
-    after = after_event y.program w (Step n)
+    after = after_event y.runs.program w (Step n)
 
     abbrev placed_here : IsPlaced y.plan code.thread c (length w.harts)
     placed_here = placed y s w h below stands.before_commit.count
 
     -- ---- A lock's call
 
-    waits_idle : (mutex holder : ℕ) → happens y.program w (Step n) ≡ (w, Waits mutex holder) → is_active_step y.program w (Step n) n ≡ false
+    waits_idle : (mutex holder : ℕ) → happens y.runs.program w (Step n) ≡ (w, Waits mutex holder) → is_active_step y.runs.program w (Step n) n ≡ false
     waits_idle mutex holder does = idle (n == n) (slice_get w.harts n)
       where
-        reply : has_waited (reply_to y.program w (Step n)) ≡ true
+        reply : has_waited (reply_to y.runs.program w (Step n)) ≡ true
         reply = ap (λ (o : Outcome). has_waited o.1) does
 
-        by : (runs : Bool) → (runs && not (has_waited (reply_to y.program w (Step n)))) ≡ false
+        by : (runs : Bool) → (runs && not (has_waited (reply_to y.runs.program w (Step n)))) ≡ false
         by true = ap not reply
         by false = refl
 
         idle : (own : Bool) (o : Option Hart) → (own && elim o [
           | None ↦ false
-          | Some x ↦ is_running x.phase && not (has_waited (reply_to y.program w (Step n)))
+          | Some x ↦ is_running x.phase && not (has_waited (reply_to y.runs.program w (Step n)))
         ]) ≡ false
         idle false o = refl
         idle true None = refl
@@ -146,11 +146,11 @@ module _ (y : System) (s : IsSystem y) (h : ℕ) (below : h < thread_count y) wh
     module _ (left mutex next : ℕ) (o : OnFragmentNow y s w h stands below) (zero_left : o.steps ≡ 0) (exit_is : o.exit ≡ Asks mutex next) where
       by_holder : (x : Option ℕ) → slice_get w.holders mutex ≡ Some x → CallStep w left
       by_holder None is_free =
-          begins ((locks_take calls_count y.plan code.thread y.program code.program code.is w n z graph_thread.at mutex next seen_now o.bank [] placed_here
-          (bare_reads y s w h below) (fragment y s w h stands below held (Asks mutex next) o zero_left exit_is) is_free).mark y.marks
+          begins ((locks_take calls_count y.plan code.thread y.runs.program code.program code.is w n z graph_thread.at mutex next seen_now o.bank [] placed_here
+          (bare_reads y s w h below) (fragment y s w h stands below held (Asks mutex next) o zero_left exit_is) is_free).mark y.runs.marks
           (marks_are y s h below z (bare_meets y s w h below)))
       by_holder (Some holder) has =
-          let does = (locks_wait calls_count y.plan code.thread y.program code.program code.is w n z graph_thread.at mutex next seen_now o.bank [] holder
+          let does = (locks_wait calls_count y.plan code.thread y.runs.program code.program code.is w n z graph_thread.at mutex next seen_now o.bank [] holder
           (fragment y s w h stands below held (Asks mutex next) o zero_left exit_is) has).0 in
           waits (waits_idle mutex holder does) (ap (λ (x : Outcome). x.0) does)
 
@@ -169,7 +169,7 @@ module _ (y : System) (s : IsSystem y) (h : ℕ) (below : h < thread_count y) wh
     ends_step : (left : ℕ) (o : OnFragmentNow y s w h stands below) → o.steps ≡ 0 → o.exit ≡ Ends → CallStep w left
     ends_step left o zero_left exit_is =
         let there = fragment y s w h stands below held Ends o zero_left exit_is in
-        let does = (ends_end calls_count y.plan code.thread y.program code.program code.is w n z graph_thread.at seen_now o.bank [] there
+        let does = (ends_end calls_count y.plan code.thread y.runs.program code.program code.is w n z graph_thread.at seen_now o.bank [] there
         (none_from n 0 w.holders (none_here y s w h stands below held o zero_left exit_is))).0 in
         stops (record {
           hart = record (gone_on there.on.hart) { phase = Ended };
@@ -181,15 +181,15 @@ module _ (y : System) (s : IsSystem y) (h : ℕ) (below : h < thread_count y) wh
 
     module _ (left : ℕ) (m : AtMark w left) where
       on_run_step : RunsOn y w n → CallStep w left
-      on_run_step r = ⊎_elim forward drains (steps_go_on y.program w n r.run r.agrees)
+      on_run_step r = ⊎_elim forward drains (steps_go_on y.runs.program w n r.run r.agrees)
         where
           same : r.run.on.hart ≡ m.hart
           same = same_there (slice_get w.harts n) r.run.on.hart m.hart r.run.on.here m.here
 
-          forward : GoesForward y.program w n r.run → CallStep w left
-          forward f = begins ((counts y.program w n r.run f).0 y.marks ∙ (ap (λ (x : Hart). is_mark y.marks n x.pc) same ∙ m.mark))
+          forward : GoesForward y.runs.program w n r.run → CallStep w left
+          forward f = begins ((counts y.runs.program w n r.run f).0 y.runs.marks ∙ (ap (λ (x : Hart). is_mark y.runs.marks n x.pc) same ∙ m.mark))
 
-          drains : Drains y.program w n r.run → CallStep w left
+          drains : Drains y.runs.program w n r.run → CallStep w left
           drains d =
               let pc : d.on.hart.pc ≡ m.hart.pc = ap (λ (x : Hart). x.pc) d.same ∙ ap (λ (x : Hart). x.pc) same in
               let whole : length m.hart.queue ≡ suc (length d.rest) =
@@ -201,7 +201,7 @@ module _ (y : System) (s : IsSystem y) (h : ℕ) (below : h < thread_count y) wh
                 hart = d.on.hart;
                 here = d.on.here;
                 runs = d.on.runs;
-                mark = ap (λ (x : ℕ). is_mark y.marks n x) pc ∙ m.mark;
+                mark = ap (λ (x : ℕ). is_mark y.runs.marks n x) pc ∙ m.mark;
                 soon = one.2;
               })
 
@@ -209,7 +209,7 @@ module _ (y : System) (s : IsSystem y) (h : ℕ) (below : h < thread_count y) wh
       not_plain pc plain is =
           let nodes = marks_are y s h below z (bare_meets y s w h below) ∙ (bare_meets y s w h below).marks in
           let any : list_any (λ mark. mark == pc) c.program.nodes ≡ true =
-          ap (λ (ms : List ℕ). list_any (λ mark. mark == pc) ms) (sym nodes) ∙ (ap (λ (x : ℕ). is_mark y.marks n x) (sym is) ∙ m.mark) in
+          ap (λ (ms : List ℕ). list_any (λ mark. mark == pc) ms) (sym nodes) ∙ (ap (λ (x : ℕ). is_mark y.runs.marks n x) (sym is) ∙ m.mark) in
           absurd (mark_or_none (sym (ap (λ (t : Bool). cond t (Mark ∷ []) []) any) ∙ plain))
 
       gives_none : (from mutex : ℕ) (o : OnFragmentNow y s w h stands below) → o.steps ≡ 0 → o.exit ≡ Gives from mutex → CallStep w left
@@ -236,18 +236,18 @@ module _ (y : System) (s : IsSystem y) (h : ℕ) (below : h < thread_count y) wh
     -- ---- At the call at the end of a leg
 
     -- a run doesn't begin at a call
-    not_on_run : (hart : Hart) → slice_get w.harts n ≡ Some hart → instr_at y.program n hart.pc ≡ Some Ecall → RunsOn y w n → ⊥
+    not_on_run : (hart : Hart) → slice_get w.harts n ≡ Some hart → instr_at y.runs.program n hart.pc ≡ Some Ecall → RunsOn y w n → ⊥
     not_on_run hart here calls r =
         let on = r.run.on in
         let same : on.hart ≡ hart = same_there (slice_get w.harts n) on.hart hart on.here here in
         let passes = on.walks.3 in
-        let fetched : instr_at y.program n on.hart.pc ≡ Some passes.instr = r.agrees.fetches on.hart.pc passes.instr passes.stands in
-        let is : instr_at y.program n on.hart.pc ≡ Some Ecall = ap (λ (x : Hart). instr_at y.program n x.pc) same ∙ calls in
+        let fetched : instr_at y.runs.program n on.hart.pc ≡ Some passes.instr = r.agrees.fetches on.hart.pc passes.instr passes.stands in
+        let is : instr_at y.runs.program n on.hart.pc ≡ Some Ecall = ap (λ (x : Hart). instr_at y.runs.program n x.pc) same ∙ calls in
         no_pass r.run.environment.around (config on.hart.registers on.hart.pc) on.walks.0 passes.instr
         (same_Some passes.instr Ecall (sym fetched ∙ is)) passes.does
 
     module _ (left : ℕ) (environment : MarkedEnvironment) (exit : ExitPoint) (node : ℕ) (seen : Seen) (bank : ℕ) (effects : List Effect)
-        (mine : IsOnFragment y.plan code.thread c (on_machine y.program w n environment) (record { exit = exit; node = node; seen = seen; bank = bank })
+        (mine : IsOnFragment y.plan code.thread c (on_machine y.runs.program w n environment) (record { exit = exit; node = node; seen = seen; bank = bank })
         0 effects) where
       registers_same : (hart : Hart) (registers : List ℕ) (pc : ℕ) → slice_get w.harts n ≡ Some hart → config hart.registers hart.pc ≡ config registers pc →
           mine.registers ≡ registers
@@ -256,12 +256,12 @@ module _ (y : System) (s : IsSystem y) (h : ℕ) (below : h < thread_count y) wh
           ∙ (ap (λ (x : Hart). x.registers) (same_there (slice_get w.harts n) mine.on.hart hart mine.on.here here) ∙ ap (λ (m : LocalConfig). m.registers) is)
 
       calls_here : IsInstructionAt c.program.start c.program.code (end_of y.plan code.thread c exit node) Ecall →
-          instr_at y.program n mine.on.hart.pc ≡ Some Ecall
+          instr_at y.runs.program n mine.on.hart.pc ≡ Some Ecall
       calls_here there =
-          ap (λ (m : LocalConfig). instr_at y.program n m.pc) mine.on.walks.0 ∙ mine.agrees.fetches _ Ecall (mine.meets.fetches _ Ecall there)
+          ap (λ (m : LocalConfig). instr_at y.runs.program n m.pc) mine.on.walks.0 ∙ mine.agrees.fetches _ Ecall (mine.meets.fetches _ Ecall there)
 
     module _ (left : ℕ) (environment : MarkedEnvironment) (node mutex next : ℕ) (seen : Seen) (bank : ℕ) (effects : List Effect)
-        (mine : IsOnFragment y.plan code.thread c (on_machine y.program w n environment)
+        (mine : IsOnFragment y.plan code.thread c (on_machine y.runs.program w n environment)
         (record { exit = Asks mutex next; node = node; seen = seen; bank = bank })
         0 effects) where
       asks_calls : IsCalling y.plan code.thread c (Lock mutex next) node
@@ -286,7 +286,7 @@ module _ (y : System) (s : IsSystem y) (h : ℕ) (below : h < thread_count y) wh
       asks_where (at_call o zero_left calling) = asks_by_call o.exit o zero_left calling refl
 
     module _ (left : ℕ) (environment : MarkedEnvironment) (node : ℕ) (seen : Seen) (bank : ℕ) (effects : List Effect)
-        (mine : IsOnFragment y.plan code.thread c (on_machine y.program w n environment) (record { exit = Ends; node = node; seen = seen; bank = bank })
+        (mine : IsOnFragment y.plan code.thread c (on_machine y.runs.program w n environment) (record { exit = Ends; node = node; seen = seen; bank = bank })
         0 effects) where
       ends_calls : IsCalling y.plan code.thread c End node
       ends_calls =
@@ -309,7 +309,7 @@ module _ (y : System) (s : IsSystem y) (h : ℕ) (below : h < thread_count y) wh
       ends_where (at_call o zero_left calling) = ends_by_call o.exit o zero_left calling refl
 
     module _ (left : ℕ) (environment : MarkedEnvironment) (from mutex node : ℕ) (seen : Seen) (bank : ℕ) (effects : List Effect)
-        (mine : IsOnFragment y.plan code.thread c (on_machine y.program w n environment)
+        (mine : IsOnFragment y.plan code.thread c (on_machine y.runs.program w n environment)
         (record { exit = Gives from mutex; node = node; seen = seen; bank = bank }) 0 effects)
         (fit : length mine.on.hart.queue + suc (c.words from + ahead y.plan c node) ≤ left) where
       gives_calls : IsCalling y.plan code.thread c (Unlock mutex node) from
@@ -324,20 +324,22 @@ module _ (y : System) (s : IsSystem y) (h : ℕ) (below : h < thread_count y) wh
         abbrev new : Hart
         new = record (gone_on mine.on.hart) { phase = phase_after w n left_holders }
 
-        given : GivesMutex y.plan code.thread c (on_machine y.program w n environment) from mutex
+        given : GivesMutex y.plan code.thread c (on_machine y.runs.program w n environment) from mutex
             (record { exit = Gives from mutex; node = node; seen = seen; bank = bank }) mine.on.hart mine.registers
         given =
-            unlocks_give calls_count y.plan code.thread y.program code.program code.is w n environment from mutex node seen bank effects placed_here mine owned
+            unlocks_give calls_count y.plan code.thread y.runs.program code.program code.is w n environment from mutex node seen bank effects
+            placed_here mine owned
 
         new_here : slice_get after.harts n ≡ Some new
         new_here = ap (λ (x : Outcome). slice_get x.0.harts n) given.does ∙ get-set_same w.harts n new mine.on.hart mine.on.here
 
         placed_after : IsPlaced y.plan code.thread c (length after.harts)
-        placed_after = placed y s after h below ((steps_touch y.program w n stands.before_commit.sound).count ∙ stands.before_commit.count)
+        placed_after = placed y s after h below ((steps_touch y.runs.program w n stands.before_commit.sound).count ∙ stands.before_commit.count)
 
         runs_on : phase_after w n left_holders ≡ Run → CallStep w left
         runs_on run =
-            let some = unlocks_go_on y.plan code.thread from mutex node mine.of_graph y.program code.program code.is after n (bare y s after h below) seen bank
+            let some = unlocks_go_on y.plan code.thread from mutex node mine.of_graph y.runs.program code.program code.is after n
+            (bare y s after h below) seen bank
             mine.registers placed_after (bare_meets y s after h below) (bare_agrees y s after h below) (given.at run) given.enters in
             let short = some.short in
             let queue : length some.on.on.hart.queue ≡ length mine.on.hart.queue =
@@ -382,10 +384,11 @@ module _ (y : System) (s : IsSystem y) (h : ℕ) (below : h < thread_count y) wh
 
     module _ (left : ℕ) (g : Goes w left) where
       call_by : (exit : ExitPoint) (node : ℕ) (seen : Seen) (bank steps : ℕ) (effects : List Effect)
-          (mine : IsOnFragment y.plan code.thread c (on_machine y.program w n g.environment) (record { exit = exit; node = node; seen = seen; bank = bank })
+          (mine : IsOnFragment y.plan code.thread c (on_machine y.runs.program w n g.environment)
+          (record { exit = exit; node = node; seen = seen; bank = bank })
           steps effects) →
-          left_of y.plan code.thread c mine + legs.beyond y.plan code.thread code.program code.is y.program y.marks n exit node ≤ left → steps ≡ 0 →
-          legs.IsCall y.plan code.thread code.program code.is y.program y.marks n exit → CallStep w left
+          left_of y.plan code.thread c mine + legs.beyond y.plan code.thread code.program code.is y.runs.program y.runs.marks n exit node ≤ left → steps ≡ 0 →
+          legs.IsCall y.plan code.thread code.program code.is y.runs.program y.runs.marks n exit → CallStep w left
       call_by exit node seen bank (suc steps) effects mine soon none call = absurd (let k : suc steps ≡ 0 = none in omega (arith, k))
       call_by Arrives node seen bank zero effects mine soon none call = absurd call
       call_by Keeps node seen bank zero effects mine soon none call = absurd call
@@ -395,9 +398,10 @@ module _ (y : System) (s : IsSystem y) (h : ℕ) (below : h < thread_count y) wh
           gives_where left g.environment from mutex node seen bank effects mine (omega (arith, soon)) place
       call_by Ends node seen bank zero effects mine soon none call = ends_where left g.environment node seen bank effects mine place
 
-      set_step : legs.IsSet y.plan code.thread code.program code.is y.program y.marks n w g.environment left → CallStep w left
+      set_step : legs.IsSet y.plan code.thread code.program code.is y.runs.program y.runs.marks n w g.environment left → CallStep w left
       set_step (legs.goes o steps is) =
-          let next = legs.goes_on y.plan code.thread code.program code.is y.program y.marks n law w g.environment left stands.before_commit.sound o steps is in
+          let next = legs.goes_on y.plan code.thread code.program code.is y.runs.program y.runs.marks n law w g.environment left
+          stands.before_commit.sound o steps is in
           goes next.less next.is (record {
             environment = g.environment;
             reads = g.reads;
@@ -411,7 +415,7 @@ module _ (y : System) (s : IsSystem y) (h : ℕ) (below : h < thread_count y) wh
       pub leg_step : CallStep w left
       leg_step =
           let fragment_on = g.leg.fragment in
-          set_step (legs.settled y.plan code.thread code.program code.is y.program y.marks n w g.environment
+          set_step (legs.settled y.plan code.thread code.program code.is y.runs.program y.runs.marks n w g.environment
           (marks_are y s h below g.environment fragment_on.meets) placed_here g.reads fragment_on.meets fragment_on.agrees (own_node y s h below)
           (chosen_or_not y)
           chosen_weighs left

@@ -1,35 +1,44 @@
 -- Compiled code has its form.
-use Rattle.std.proofs.Common.{◌≡◌, ◌≢◌, refl, ℕ, suc, ◌+◌, ◌-◌, ◌*◌, ◌<◌, ◌≤◌, List, [], ◌∷◌, length, sym, ◌∙◌, ap, subst, arith}
+use Rattle.std.proofs.Common.{◌≡◌, ◌≢◌, ◌↔◌, refl, ℕ, ℤ, suc, ◌+◌, ◌-◌, ◌*◌, ◌^◌, ◌<◌, ◌≤◌, List, [], ◌∷◌, length, map, sym, ◌∙◌, ap, subst, arith}
 use Rattle.std.proofs.Common.{true, false, Option, Some, None}
-use Rattle.std.specs.Prelude.{slice_get, slice_index, slice_index_or}
+use Rattle.std.specs.Prelude.{slice_get, slice_index, slice_index_or, Contains}
 use Rattle.std.specs.List.Sorted.{IsStrictlyIncreasing}
-use Rattle.std.proofs.lemmas.Option.{slice_get_within, get_or_from_slice_get}
+use Rattle.std.proofs.lemmas.Option.{none-some, slice_get_within, get_or_from_slice_get}
+use Rattle.ido_ints.specs.declared.kinds.Kind.{Kind}
 use Rattle.std.proofs.lemmas.List.Sums.{sum_by-cons}
 use Rattle.c_tree.specs.Flats as f
 use Rattle.c_tree.specs.LockDiscipline.{Held}
 use Rattle.c_tree.specs.Prices.{thread_price}
+use Rattle.memory_layout.specs.declared.roles.TheConstants.{LOCALS}
 use Rattle.lock_discipline.specs.Masks.{mask_of}
 use Rattle.lock_discipline.specs.HeldSetsByStep.{AreSetsOf}
 use Rattle.flow_graph.specs.declared.graph.Part.{Part}
-use Rattle.flow_graph.specs.Nodes.{Action, Eval, Store, Test, Lock, Unlock, End, Node, Graph}
-use Rattle.flow_graph.specs.Liveness.{NodeAt}
+use Rattle.flow_graph.specs.Actions.{Seen, Gives, effect_of}
+use Rattle.flow_graph.specs.Nodes.{Action, Eval, Store, Test, Lock, Unlock, End, Node, Graph, successors}
+use Rattle.flow_graph.specs.Liveness.{NodeAt, IsLive, AreRegisters, HasNoClash}
 use Rattle.flow_graph.specs.Lowering.{lowered, thread_count, thread_nodes, parts}
-use Rattle.flow_graph.specs.IdempotentCuts.{IsLock, locks, IsUnlock, unlocks, IsChosen, AreCuts, AreAtWrites}
+use Rattle.flow_graph.specs.IdempotentCuts.{IsLock, locks, IsUnlock, unlocks, IsStoreNode, IsChosen, AreCuts, AreAtWrites}
 use Rattle.flow_graph.proofs.Public.{length-thread_nodes, found_in}
 use Rattle.region_cutter.specs.LocksAtBoundaries.{ChosenAreLocked}
-use Rattle.code_runs.specs.CodeTraces.{Program}
+use Rattle.code_runs.specs.CodeTraces.{Program, MarkedEnvironment, Meets, Mark, Observation}
 use Rattle.rv64_link.specs.LinkedCode.{AreInstructions, IsInstructionAt}
 use Rattle.rv64_isa.specs.declared.instr.Instr.TheVariants.{Ecall}
 use Rattle.rv64_isa.specs.Programs.{code_of, code_start}
 use Rattle.hart_runs.specs.Laws.{program_at}
-use Rattle.thread_code.specs.Plans.{Plan, Thread, IsThread, IsNodeOf}
+use Rattle.thread_code.specs.Plans as plans
+use Rattle.thread_code.specs.Plans.{Plan, Thread, IsThread, IsNodeOf, IsKept}
+use Rattle.thread_code.specs.NodeCodeEffects.{Entrance}
+use Rattle.thread_code.specs.RegistersAtNodes.{Enters, IsAnswered, IsPendingIn, source_of}
 use Rattle.thread_code.specs.Programs as c
 use Rattle.thread_code.specs.Programs.{IsOn, IsThreadCode, IsCallWithin, IsCalling, boundary_count, mark_of}
 use Rattle.rv64_codegen.proofs.Public.{price_of, prices, price_thread, IsStoring, threads_are, chosen_stores, end_is, node_in, node_exists, held_there}
 use Rattle.rv64_codegen.proofs.Public.{held_sets}
+use Rattle.log_states.proofs.Public.{contains_first}
+use Rattle.thread_runs.proofs.Public.{plans_are_placed as placed}
 use Rattle.crash_simulation.specs.Systems.{System, IsSystem, flat_of, thread_count as threads_of}
 use Rattle.compiler_correctness.specs.Translations.{marks_of}
 use Rattle.compiler_correctness.specs.Forms.{Sites, IsAmong, CallsAt, HasNodeForm, holds_some, IsResume, at_chosen, past_lock, past_unlock, HasThreadForm}
+use Rattle.compiler_correctness.specs.Forms.{HasBoundaries, HoldLocals, IsLiveRegister, of_local, of_address, of_value, registers_of, StandsBoundary}
 use Rattle.compiler_correctness.specs.Laws.{translation_of, CompiledCodeHasForm}
 
 -- ---- Sets and their masks
@@ -74,10 +83,11 @@ paid (n ∷ ns) first entry words each =
 -- ---- The thread's own program
 
 abbrev program_in : System → (number : ℕ) → Program
-program_in y number = program_at y.program number (slice_index_or y.marks number []) (slice_index_or y.resumes number [])
+program_in y number = program_at y.runs.program number (slice_index_or y.runs.marks number []) (slice_index_or y.runs.resumes number [])
 
 module _ (locked : ChosenAreLocked) (y : System) (s : IsSystem y) (t : Thread) (of : IsThread y.plan t)
-    (code : IsThreadCode y.plan t (program_in y t.number)) where
+    (code : IsThreadCode y.plan t (program_in y t.number))
+    (room : (program_in y t.number).start + 4 * length (program_in y t.number).code < 2 ^ 64) where
   abbrev p : Plan
   p = y.plan
 
@@ -130,7 +140,7 @@ module _ (locked : ChosenAreLocked) (y : System) (s : IsSystem y) (t : Thread) (
   -- ---- Calls
 
   abbrev stands : (address : ℕ) → Type 0
-  stands address = IsInstructionAt (code_start y.program t.number) (code_of y.program t.number) address Ecall
+  stands address = IsInstructionAt (code_start y.runs.program t.number) (code_of y.runs.program t.number) address Ecall
 
   stood : (address : ℕ) → IsInstructionAt code.places.program.start code.places.program.code address Ecall → stands address
   stood address there = subst (λ (q : Program). IsInstructionAt q.start q.code address Ecall) code.of_program there
@@ -237,6 +247,145 @@ module _ (locked : ChosenAreLocked) (y : System) (s : IsSystem y) (t : Thread) (
   in_code address (past_unlock node mutex next x among at is some) =
       c.past_unlock node mutex next x (own_of node among) (node_at node x at) is (has_mask (slice_index_or held (next - t.part.first) []) some)
 
+  -- ---- Boundaries
+
+  abbrev Live : (node register : ℕ) → Type 0
+  Live = IsLiveRegister (translation_of y) t.number of.text t.part held t.registers
+
+  kind_is : (local : ℕ) → slice_get of.text.locals local ≡ slice_get t.kinds local
+  kind_is local = ap (λ (ks : List Kind). slice_get ks local) (sym of.kinds)
+
+  live_there : (local node : ℕ) → IsLive (lowered p.flat) local node → IsLive p.graph local node
+  live_there local node live = subst (λ (g : Graph). IsLive g local node) (sym graph_is) live
+
+  live_kept : (node register : ℕ) → IsKept p t node register → Live node register
+  live_kept node register (plans.of_local local k there live) =
+      of_local local k (kind_is local ∙ there) (subst (λ (g : Graph). IsLive g local node) graph_is live)
+  live_kept node register (plans.of_address stores) = of_address (subst (λ (g : Graph). IsStoreNode g node) graph_is stores)
+  live_kept node register (plans.of_value stores) = of_value (subst (λ (g : Graph). IsStoreNode g node) graph_is stores)
+
+  kept_live : (node register : ℕ) → Live node register → IsKept p t node register
+  kept_live node register (of_local local k there live) = plans.of_local local k (sym (kind_is local) ∙ there) (live_there local node live)
+  kept_live node register (of_address stores) = plans.of_address (subst (λ (g : Graph). IsStoreNode g node) (sym graph_is) stores)
+  kept_live node register (of_value stores) = plans.of_value (subst (λ (g : Graph). IsStoreNode g node) (sym graph_is) stores)
+
+  are_live : (node : ℕ) → IsNodeOf t node → (register : ℕ) → Contains (code.places.live node) register ↔ Live node register
+  are_live node own register =
+      (λ has. live_kept node register ((code.kept node own register).0 has), λ live. (code.kept node own register).1 (kept_live node register live))
+
+  nothing_owed : (action : Action) (seen : Seen) (x : List ℕ) → seen.pending ≡ None → IsPendingIn p action seen x
+  nothing_owed (Eval target value next) seen x none = tt
+  nothing_owed (Store variable kind next) seen x none = λ store h. absurd (none-some store (sym none ∙ h))
+  nothing_owed (Test condition holds fails) seen x none = tt
+  nothing_owed (Lock mutex next) seen x none = tt
+  nothing_owed (Unlock mutex next) seen x none = tt
+  nothing_owed End seen x none = tt
+
+  abbrev seeing : List ℤ → Seen
+  seeing locals = record { locals = locals; pending = None; variables = [] }
+
+  enters : (node bank : ℕ) (locals : List ℤ) (x : List ℕ) →
+      HoldLocals (translation_of y) t.number of.text t.part held t.registers node bank locals x → Enters p t node (seeing locals) bank x
+  enters node bank locals x has = record {
+    at_bank = has.at_bank;
+    count = has.count ∙ ap (λ (ks : List Kind). length ks) (sym of.kinds);
+    locals = λ local k there live.
+        has.live local k (kind_is local ∙ there) (subst (λ (g : Graph). IsLive g local node) graph_is live);
+    pending = λ is at. nothing_owed is.action (seeing locals) x refl;
+  }
+
+  abbrev entrance : MarkedEnvironment → (node bank : ℕ) (locals : List ℤ) (x : List ℕ) → Entrance
+  entrance z node bank locals x = record { environment = z; node = node; seen = seeing locals; bank = bank; registers = x }
+
+  met : (z : MarkedEnvironment) → Meets (program_in y t.number) z → Meets code.places.program z
+  met z meets = subst (λ (q : Program). Meets q z) (sym code.of_program) meets
+
+  own_next : (node : ℕ) (x : Node) (next : ℕ) → IsNodeOf t node → NodeAt p.graph node x → Contains (successors x.action) next → IsNodeOf t next
+  own_next node x next own at goes =
+      let within = subst (λ (q : Program). q.start + 4 * length q.code < 2 ^ 64) (sym code.of_program) room in
+      (placed p t code.places (t.number + 1) s.plan of code.kept (omega arith) within).closed node next x own at goes
+
+  abbrev Stands : (entered node from to resume : ℕ) → List Observation → Type 0
+  Stands = StandsBoundary (translation_of y) t.number of.text t.part held t.registers
+
+  chosen_stands : (node : ℕ) → IsNodeOf t node → IsChosen p.graph p.boundaries node →
+      Stands node node (code.places.entry node) (code.places.core node) (code.places.core node) []
+  chosen_stands node own chosen =
+      let there = node_exists p s.plan t of node own in
+      let it = code.code node there.0 own there.1 in
+      record {
+        live = code.places.live node;
+        are_live = are_live node own;
+        leads = λ z meets bank locals x has.
+            let goes = it.chosen chosen (entrance z node bank locals x) refl
+            (record { meets = met z meets; own = own; enters = enters node bank locals x has }) in
+            (goes.steps, goes.registers, goes.walks);
+      }
+
+  lock_stands : (node : ℕ) → IsNodeOf t node → (is : Node) (mutex next : ℕ) → NodeAt p.graph node is → is.action ≡ Lock mutex next →
+      Stands next next (code.places.call node + 4) (code.places.after node) (code.places.after node) []
+  lock_stands node own is mutex next at does =
+      let calls = subst (λ (a : Action). IsCalling p t code.places a node) does (code.code node is own at).calls in
+      let own_it = own_next node is next own at (subst (λ (a : Action). Contains (successors a) next) (sym does) (contains_first next [])) in
+      record {
+        live = code.places.live next;
+        are_live = are_live next own_it;
+        leads = λ z meets bank locals x has.
+            let goes = calls.2 (entrance z node bank locals x) (met z meets) refl (enters next bank locals x has) in
+            (goes.steps, goes.registers, goes.walks);
+      }
+
+  unlock_stands : (node : ℕ) → IsNodeOf t node → (is : Node) (mutex next : ℕ) → NodeAt p.graph node is → is.action ≡ Unlock mutex next →
+      Stands node next (code.places.core node) (code.places.call node) (code.places.after node) (Mark ∷ [])
+  unlock_stands node own is mutex next at does =
+      let it = code.code node is own at in
+      let own_it = own_next node is next own at (subst (λ (a : Action). Contains (successors a) next) (sym does) (contains_first next [])) in
+      record {
+        live = code.places.live next;
+        are_live = are_live next own_it;
+        leads = λ z meets bank locals x has.
+            let m = entrance z node bank locals x in
+            let goes = it.performs m (Gives mutex next) refl (record { meets = met z meets; own = own; enters = enters node bank locals x has })
+            (subst (λ (a : Action). IsAnswered (source_of p t m.seen) z.around.loads a) (sym does) tt) (ap (λ (a : Action). effect_of a m.seen) does) in
+            (goes.steps, goes.registers, goes.walks);
+      }
+
+  mark_at_core : (a : Action) (node : ℕ) (x : Node) → NodeAt p.graph node x → x.action ≡ a → ¬ (IsLock (lowered p.flat) node) →
+      mark_of code.places a node ≡ code.places.core node
+  mark_at_core (Eval target value next) node x at is other = refl
+  mark_at_core (Store variable kind next) node x at is other = refl
+  mark_at_core (Test condition holds fails) node x at is other = refl
+  mark_at_core (Lock mutex next) node x at is other =
+      absurd (other (locks x mutex next (subst (λ (g : Graph). NodeAt g node x) graph_is at) is))
+  mark_at_core (Unlock mutex next) node x at is other = refl
+  mark_at_core End node x at is other = refl
+
+  boundaries_at : (node : ℕ) → IsNodeOf t node → HasBoundaries (translation_of y) t.number of.text t.part held t.registers sites node
+  boundaries_at node own =
+      let there = node_exists p s.plan t of node own in
+      let it = code.code node there.0 own there.1 in
+      record {
+        chosen = λ chosen.
+            let here = subst (λ (g : Graph). IsChosen g p.boundaries node) (sym graph_is) chosen in
+            subst (λ (m : ℕ). Stands node node (code.places.entry node) m m []) (sym (chosen_mark node own here)) (chosen_stands node own here);
+        plain = λ none other.
+            it.plain (λ chosen. none (subst (λ (g : Graph). IsChosen g p.boundaries node) graph_is chosen))
+            ∙ sym (mark_is node there.0 there.1 ∙ mark_at_core there.0.action node there.0 there.1 refl other);
+        past_lock = λ is mutex next at does.
+            let own_at = node_at node is at in
+            let mark : sites.mark node ≡ code.places.call node = mark_is node is own_at ∙ ap (λ (a : Action). mark_of code.places a node) does in
+            subst (λ (m : ℕ). Stands next next (m + 4) (code.places.after node) (code.places.after node) []) (sym mark)
+            (lock_stands node own is mutex next own_at does);
+        before_unlock = λ is mutex next call at does after.
+            let own_at = node_at node is at in
+            let mark : sites.mark node ≡ code.places.core node = mark_is node is own_at ∙ ap (λ (a : Action). mark_of code.places a node) does in
+            let calls = subst (λ (a : Action). IsCalling p t code.places a node) does (code.code node is own own_at).calls in
+            let same : code.places.call node ≡ call = omega (arith, after, calls.2) in
+            subst (λ (m : ℕ). Stands node next m call (code.places.after node) (Mark ∷ [])) (sym mark)
+            (subst (λ (k : ℕ). Stands node next (code.places.core node) k (code.places.after node) (Mark ∷ [])) same
+            (unlock_stands node own is mutex next own_at does));
+      }
+
   -- ---- The thread
 
   ended : t.part.end ≡ t.part.first + thread_count of.text
@@ -264,7 +413,7 @@ module _ (locked : ChosenAreLocked) (y : System) (s : IsSystem y) (t : Thread) (
           get_or_from_slice_get (marks_of (translation_of y) t.number) i (sites.mark node) 0
           (subst (λ (n : ℕ). slice_get (marks_of (translation_of y) t.number) n ≡ Some (sites.mark node)) same found)
 
-  price : length (code_of y.program t.number) ≤ thread_price of.text
+  price : length (code_of y.runs.program t.number) ≤ thread_price of.text
   price =
       let ns = thread_nodes of.text t.part.first in
       let total = paid ns t.part.first code.places.entry code.places.words (λ i node n is there.
@@ -307,7 +456,12 @@ module _ (locked : ChosenAreLocked) (y : System) (s : IsSystem y) (t : Thread) (
       }) in
       ap holds_some (get_or_from_slice_get held step before.0 [] before.1) ∙ some_held before.0 here.some
 
-  pub formed : HasThreadForm (translation_of y) t.number of.text
+  registers_are : t.registers ≡ registers_of p.colours t.number
+  registers_are =
+      of.registers
+      ∙ ap (λ (cs : List ℕ). map (λ (colour : ℕ). slice_index LOCALS colour) cs) (sym (get_or_from_slice_get p.colours t.number of.colours [] of.of_colours))
+
+  pub formed : HasThreadForm (translation_of y) y.plan.colours t.number of.text
   formed = record {
     part = t.part;
     nodes = subst (λ (g : Graph). slice_get g.threads t.number ≡ Some t.part) graph_is of.nodes;
@@ -319,6 +473,9 @@ module _ (locked : ChosenAreLocked) (y : System) (s : IsSystem y) (t : Thread) (
     begins = code.begins;
     ends = code.ends;
     each = λ node among. has_form node (own_of node among);
+    boundaries = λ node among.
+        subst (λ (rs : List ℕ). HasBoundaries (translation_of y) t.number of.text t.part held rs sites node) registers_are
+        (boundaries_at node (own_of node among));
     marks_count = code.marks_count;
     marks_ascend = marks_ascend;
     resumes = λ address. (λ has. in_form address ((code.resumes address).0 has), λ is. (code.resumes address).1 (in_code address is));
@@ -334,18 +491,19 @@ length_parts (t ∷ ts) first = ap suc (length_parts ts (first + thread_count t)
 
 -- the thread of a code has the form of the text of its number
 form_of : ChosenAreLocked → (y : System) → (s : IsSystem y) → (n : ℕ) (below : n < threads_of y) (text : f.Thread) →
-    slice_get (flat_of y).threads n ≡ Some text → HasThreadForm (translation_of y) n text
+    slice_get (flat_of y).threads n ≡ Some text → HasThreadForm (translation_of y) y.plan.colours n text
 form_of locked y s n below text there =
     let code = s.codes.each n below in
     let own = s.own n below in
     let number : code.thread.number ≡ n = s.codes.number n below in
-    let form = formed locked y s code.thread code.of (subst (λ (q : Program). IsThreadCode y.plan code.thread q) own.program code.is) in
+    let form = formed locked y s code.thread code.of (subst (λ (q : Program). IsThreadCode y.plan code.thread q) own.program code.is)
+    (subst (λ (q : Program). q.start + 4 * length q.code < 2 ^ 64) own.program own.room) in
     let found : slice_get (flat_of y).threads n ≡ Some code.of.text =
     subst (λ (k : ℕ). slice_get (flat_of y).threads k ≡ Some code.of.text) number code.of.of_text in
     let both : Some code.of.text ≡ Some text = sym found ∙ there in
     let same : code.of.text ≡ text = cc in
-    subst (λ (x : f.Thread). HasThreadForm (translation_of y) n x) same
-    (subst (λ (k : ℕ). HasThreadForm (translation_of y) k code.of.text) number form)
+    subst (λ (x : f.Thread). HasThreadForm (translation_of y) y.plan.colours n x) same
+    (subst (λ (k : ℕ). HasThreadForm (translation_of y) y.plan.colours k code.of.text) number form)
 
 pub compiled_code_has_form : ChosenAreLocked → CompiledCodeHasForm
 compiled_code_has_form locked y s minimal =
@@ -353,8 +511,11 @@ compiled_code_has_form locked y s minimal =
     ap (λ (xs : List Part). length xs) (threads_are y.plan s.plan) ∙ length_parts (flat_of y).threads 0 in
     record {
       initial = s.initial;
-      mutexes = refl;
+      mutexes = s.mutexes;
       count = s.count ∙ many;
+      colours = y.plan.colours;
+      registers = subst (λ (g : Graph). AreRegisters g y.plan.colours) s.plan.lowered s.plan.registers;
+      apart = subst (λ (g : Graph). HasNoClash g y.plan.colours) s.plan.lowered s.plan.apart;
       threads = λ n text there.
           let within = slice_get_within (flat_of y).threads n text there in
           form_of locked y s n (omega (arith, within, many)) text there;

@@ -52,7 +52,7 @@ module _ (y : System) (s : IsSystem y) (h : ℕ) (below : h < thread_count y) wh
   Goes w left = soon.GoesToMark y s h below w left
 
   abbrev AtMark : World → ℕ → Type 0
-  AtMark w left = legs.AtMark y.plan code.thread code.program code.is y.program y.marks n w left
+  AtMark w left = legs.AtMark y.plan code.thread code.program code.is y.runs.program y.runs.marks n w left
 
   -- at most so many steps of the hart are left, up to its next mark
   pub data IsNear (w : World) (left : ℕ) : Type 0 where
@@ -80,12 +80,12 @@ module _ (y : System) (s : IsSystem y) (h : ℕ) (below : h < thread_count y) wh
 
     module _ (w : World) (left : ℕ) (stands : Simulates y s w) (g : ℕ) (other : g ≢ n) where
       abbrev after : World
-      after = after_event y.program w (Step g)
+      after = after_event y.runs.program w (Step g)
 
-      agrees_on : (goes : Goes w left) → Agrees y.program after n goes.environment
+      agrees_on : (goes : Goes w left) → Agrees y.runs.program after n goes.environment
       agrees_on goes = elim (get_cases w.harts g) [
         | inl missing ↦
-            subst (λ (v : World). Agrees y.program v n goes.environment) (sym (none_there y w g missing)) goes.leg.fragment.agrees
+            subst (λ (v : World). Agrees y.runs.program v n goes.environment) (sym (none_there y w g missing)) goes.leg.fragment.agrees
         | inr there ↦
             let held = held_in w stands (goes_running w left goes) in
             let b = stands.before_commit.abstract in
@@ -99,38 +99,40 @@ module _ (y : System) (s : IsSystem y) (h : ℕ) (below : h < thread_count y) wh
         environment = goes.environment;
         reads = goes.reads;
         answers = answers_in y s n w after goes.environment (λ lock has. locks_stay y s n w g lock stands.before_commit.sound other has) goes.answers;
-        leg = legs.others_keep y.plan code.thread code.program code.is y.program y.marks n w goes.environment left (Step g)
+        leg = legs.others_keep y.plan code.thread code.program code.is y.runs.program y.runs.marks n w goes.environment left (Step g)
             stands.before_commit.sound other (agrees_on goes)
             goes.leg;
       }
 
     here_still : (w : World) (stands : Simulates y s w) (event : Event) → IsOfOthers n event →
-        slice_get (after_event y.program w event).harts n ≡ slice_get w.harts n
-    here_still w stands event of_others = (others_leave y.program w n event stands.before_commit.sound of_others).0
+        slice_get (after_event y.runs.program w event).harts n ≡ slice_get w.harts n
+    here_still w stands event of_others = (others_leave y.runs.program w n event stands.before_commit.sound of_others).0
 
     mark_still : (w : World) (left : ℕ) (stands : Simulates y s w) (event : Event) → IsOfOthers n event → AtMark w left →
-        AtMark (after_event y.program w event) left
+        AtMark (after_event y.runs.program w event) left
     mark_still w left stands event of_others m =
         record { hart = m.hart; here = here_still w stands event of_others ∙ m.here; runs = m.runs; mark = m.mark; soon = m.soon }
 
     rests_still : (w : World) (stands : Simulates y s w) (event : Event) → IsOfOthers n event →
         ((hart : Hart) → slice_get w.harts n ≡ Some hart → is_running hart.phase ≡ false) →
-        (hart : Hart) → slice_get (after_event y.program w event).harts n ≡ Some hart → is_running hart.phase ≡ false
+        (hart : Hart) → slice_get (after_event y.runs.program w event).harts n ≡ Some hart → is_running hart.phase ≡ false
     rests_still w stands event of_others none hart here = none hart (sym (here_still w stands event of_others) ∙ here)
 
-    other_near : (w : World) (left : ℕ) (stands : Simulates y s w) (g : ℕ) → g ≢ n → IsNear w left → IsNear (after_event y.program w (Step g)) left
+    other_near : (w : World) (left : ℕ) (stands : Simulates y s w) (g : ℕ) → g ≢ n → IsNear w left → IsNear (after_event y.runs.program w (Step g)) left
     other_near w left stands g other (on_leg goes) = on_leg (goes_still w left stands g other goes)
     other_near w left stands g other (at_mark m) = at_mark (mark_still w left stands (Step g) other m)
     other_near w left stands g other (rests none long) = rests (rests_still w stands (Step g) other none) long
 
-    evicted_near : (w : World) (left line mask : ℕ) (stands : Simulates y s w) → IsNear w left → IsNear (after_event y.program w (Evict line mask)) left
+    evicted_near : (w : World) (left line mask : ℕ) (stands : Simulates y s w) → IsNear w left → IsNear (after_event y.runs.program w (Evict line mask)) left
     unfolding happens
     evicted_near w left line mask stands (on_leg goes) = on_leg (record {
       environment = goes.environment;
       reads = goes.reads;
-      answers = answers_in y s n w (after_event y.program w (Evict line mask)) goes.environment (λ lock has. has) goes.answers;
-      leg = legs.others_keep y.plan code.thread code.program code.is y.program y.marks n w goes.environment left (Evict line mask) stands.before_commit.sound tt
-          (evictions_agree y.program w line mask n goes.environment goes.leg.fragment.agrees) goes.leg;
+      answers = answers_in y s n w (after_event y.runs.program w (Evict line mask)) goes.environment (λ lock has. has) goes.answers;
+      leg =
+          legs.others_keep y.plan code.thread code.program code.is y.runs.program y.runs.marks n w goes.environment left (Evict line mask)
+          stands.before_commit.sound tt
+          (evictions_agree y.runs.program w line mask n goes.environment goes.leg.fragment.agrees) goes.leg;
     })
     evicted_near w left line mask stands (at_mark m) = at_mark (mark_still w left stands (Evict line mask) tt m)
     evicted_near w left line mask stands (rests none long) = rests (rests_still w stands (Evict line mask) tt none) long
@@ -138,9 +140,9 @@ module _ (y : System) (s : IsSystem y) (h : ℕ) (below : h < thread_count y) wh
     -- ---- The hart's own step
 
     module _ (marks : MarksPass) (law : FragmentsGoOn) (counts : ForwardCounts) (stand : EventsStand)
-        (resumes : (w : World) → Simulates y s w → IsInPhase w h Resume → IsNear (after_event y.program w (Step n)) (most y s h below)) where
+        (resumes : (w : World) → Simulates y s w → IsInPhase w h Resume → IsNear (after_event y.runs.program w (Step n)) (most y s h below)) where
       abbrev GetsNearer : World → Event → ℕ → Type 0
-      GetsNearer w event left = nearing.GetsNearer y.marks y.program n Near w event left
+      GetsNearer w event left = nearing.GetsNearer y.runs.marks y.runs.program n Near w event left
 
       prop : IsProp (h < thread_count y)
       prop = hlevel props
@@ -172,20 +174,20 @@ module _ (y : System) (s : IsSystem y) (h : ℕ) (below : h < thread_count y) wh
       -- ---- Where it executes no instructions
 
       still_idle : (w : World) (hart : Hart) → slice_get w.harts n ≡ Some hart → is_running hart.phase ≡ false →
-          is_active_step y.program w (Step n) n ≡ false
+          is_active_step y.runs.program w (Step n) n ≡ false
       still_idle w hart here off = ap (λ (o : Option Hart). (n == n) && elim o [
         | None ↦ false
-        | Some x ↦ is_running x.phase && not (has_waited (reply_to y.program w (Step n)))
-      ]) here ∙ (ap (λ (b : Bool). (n == n) && (b && not (has_waited (reply_to y.program w (Step n))))) off ∙ never (n == n))
+        | Some x ↦ is_running x.phase && not (has_waited (reply_to y.runs.program w (Step n)))
+      ]) here ∙ (ap (λ (b : Bool). (n == n) && (b && not (has_waited (reply_to y.runs.program w (Step n))))) off ∙ never (n == n))
         where
           never : (b : Bool) → (b && false) ≡ false
           never true = refl
           never false = refl
 
-      absent_idle : (w : World) → slice_get w.harts n ≡ None → is_active_step y.program w (Step n) n ≡ false
+      absent_idle : (w : World) → slice_get w.harts n ≡ None → is_active_step y.runs.program w (Step n) n ≡ false
       absent_idle w missing = ap (λ (o : Option Hart). (n == n) && elim o [
         | None ↦ false
-        | Some x ↦ is_running x.phase && not (has_waited (reply_to y.program w (Step n)))
+        | Some x ↦ is_running x.phase && not (has_waited (reply_to y.runs.program w (Step n)))
       ]) missing ∙ never (n == n)
         where
           never : (b : Bool) → (b && false) ≡ false
@@ -193,46 +195,46 @@ module _ (y : System) (s : IsSystem y) (h : ℕ) (below : h < thread_count y) wh
           never false = refl
 
       -- the step moves it, and it still executes none
-      moved_off : (w v : World) (old new : Hart) → slice_get v.harts n ≡ Some old → happens y.program w (Step n) ≡ moved v n new →
+      moved_off : (w v : World) (old new : Hart) → slice_get v.harts n ≡ Some old → happens y.runs.program w (Step n) ≡ moved v n new →
           is_running new.phase ≡ false →
-          (hart : Hart) → slice_get (after_event y.program w (Step n)).harts n ≡ Some hart → is_running hart.phase ≡ false
+          (hart : Hart) → slice_get (after_event y.runs.program w (Step n)).harts n ≡ Some hart → is_running hart.phase ≡ false
       moved_off w v old new there does off hart here =
           let is = ap (λ (x : Outcome). slice_get x.0.harts n) does ∙ get-set_same v.harts n new old there in
           ap (λ (x : Hart). is_running x.phase) (same_Some hart new (sym here ∙ is)) ∙ off
 
-      stayed_off : (w : World) (old : Hart) → slice_get w.harts n ≡ Some old → is_running old.phase ≡ false → after_event y.program w (Step n) ≡ w →
-          (hart : Hart) → slice_get (after_event y.program w (Step n)).harts n ≡ Some hart → is_running hart.phase ≡ false
+      stayed_off : (w : World) (old : Hart) → slice_get w.harts n ≡ Some old → is_running old.phase ≡ false → after_event y.runs.program w (Step n) ≡ w →
+          (hart : Hart) → slice_get (after_event y.runs.program w (Step n)).harts n ≡ Some hart → is_running hart.phase ≡ false
       stayed_off w old there off still hart here =
           let is = ap (λ (v : World). slice_get v.harts n) still ∙ there in
           ap (λ (x : Hart). is_running x.phase) (same_Some hart old (sym here ∙ is)) ∙ off
 
       off_by : (w : World) (hart : Hart) (here : slice_get w.harts n ≡ Some hart) (phase : Phase) → hart.phase ≡ phase → is_running phase ≡ false →
-          (other : Hart) → slice_get (after_event y.program w (Step n)).harts n ≡ Some other → (phase ≢ Resume) → is_running other.phase ≡ false
+          (other : Hart) → slice_get (after_event y.runs.program w (Step n)).harts n ≡ Some other → (phase ≢ Resume) → is_running other.phase ≡ false
       off_by w hart here Run is off other there not_resume = absurd (true≢false off)
       off_by w hart here Take is off other there not_resume =
-          by (takes_step y.program w n (record { hart = hart; here = here; phase_is = is }))
+          by (takes_step y.runs.program w n (record { hart = hart; here = here; phase_is = is }))
         where
           old_off : is_running hart.phase ≡ false
           old_off = ap is_running is
 
-          by : TakesLocks y.program w n hart → is_running other.phase ≡ false
+          by : TakesLocks y.runs.program w n hart → is_running other.phase ≡ false
           by (has_all all does) = moved_off w w hart (record hart { phase = Wait }) here does refl other there
           by (takes_one lock recorded does) = moved_off w (with_holder w lock (Some n)) hart hart here does old_off other there
           by (is_kept_from lock g recorded differs does) =
               stayed_off w hart here old_off (ap (λ (x : Outcome). x.0) does) other there
       off_by w hart here Wait is off other there not_resume =
-          by (waits_step y.program w n (record { hart = hart; here = here; phase_is = is }))
+          by (waits_step y.runs.program w n (record { hart = hart; here = here; phase_is = is }))
         where
-          by : AwaitsOthers y.program w n hart → is_running other.phase ≡ false
+          by : AwaitsOthers y.runs.program w n hart → is_running other.phase ≡ false
           by (all_have none does) = moved_off w w hart (record hart { phase = Resume }) here does refl other there
           by (one_takes g one does) = stayed_off w hart here (ap is_running is) (ap (λ (x : Outcome). x.0) does) other there
       off_by w hart here Resume is off other there not_resume = absurd (not_resume refl)
       off_by w hart here Done is off other there not_resume =
           stayed_off w hart here (ap is_running is) (ap (λ (x : Outcome). x.0)
-          (stopped_stay y.program w n Done (inl refl) (record { hart = hart; here = here; phase_is = is }))) other there
+          (stopped_stay y.runs.program w n Done (inl refl) (record { hart = hart; here = here; phase_is = is }))) other there
       off_by w hart here Ended is off other there not_resume =
           stayed_off w hart here (ap is_running is) (ap (λ (x : Outcome). x.0)
-          (stopped_stay y.program w n Ended (inr refl) (record { hart = hart; here = here; phase_is = is }))) other there
+          (stopped_stay y.runs.program w n Ended (inr refl) (record { hart = hart; here = here; phase_is = is }))) other there
 
       -- fewer steps are no more
       pub fewer : (w : World) (few many : ℕ) → few ≤ many → IsNear w few → IsNear w many
@@ -251,7 +253,7 @@ module _ (y : System) (s : IsSystem y) (h : ℕ) (below : h < thread_count y) wh
       fewer w few many less (rests none long) = rests none (omega (arith, less, long))
 
       rest_near : (w : World) (left : ℕ) → Simulates y s w → (hart : Hart) (here : slice_get w.harts n ≡ Some hart) (phase : Phase) → hart.phase ≡ phase →
-          is_running phase ≡ false → most y s h below ≤ left → IsNear (after_event y.program w (Step n)) left
+          is_running phase ≡ false → most y s h below ≤ left → IsNear (after_event y.runs.program w (Step n)) left
       rest_near w left stands hart here Resume is off long =
           fewer _ (most y s h below) left long
           (resumes w stands (record { hart = hart; here = ap (λ (k : ℕ). slice_get w.harts k) (sym same) ∙ here; phase_is = is }))
@@ -290,7 +292,7 @@ module _ (y : System) (s : IsSystem y) (h : ℕ) (below : h < thread_count y) wh
         | inr other ↦
             nearing.idles (ap (λ (b : Bool). b && elim (slice_get w.harts n) [
               | None ↦ false
-              | Some x ↦ is_running x.phase && not (has_waited (reply_to y.program w (Step n)))
+              | Some x ↦ is_running x.phase && not (has_waited (reply_to y.runs.program w (Step n)))
             ]) (not_same g n other)) (record {
               stands = stand y s w (Step g) near.stands;
               near = other_near w left near.stands g other near.near;

@@ -60,11 +60,11 @@ module _ (y : System) (s : IsSystem y) (n : ℕ) where
 
   -- what another hart does leaves the locks of this one
   pub locks_stay : (w : World) (g lock : ℕ) → IsWellFormedWorld w → g ≢ n → slice_get w.holders lock ≡ Some (Some n) →
-      slice_get (after_event y.program w (Step g)).holders lock ≡ Some (Some n)
-  locks_stay w g lock sound other held = by ((steps_touch y.program w g sound).holders lock)
+      slice_get (after_event y.runs.program w (Step g)).holders lock ≡ Some (Some n)
+  locks_stay w g lock sound other held = by ((steps_touch y.runs.program w g sound).holders lock)
     where
-      by : IsHeldOn g (slice_get w.holders lock) (slice_get (after_event y.program w (Step g)).holders lock) →
-          slice_get (after_event y.program w (Step g)).holders lock ≡ Some (Some n)
+      by : IsHeldOn g (slice_get w.holders lock) (slice_get (after_event y.runs.program w (Step g)).holders lock) →
+          slice_get (after_event y.runs.program w (Step g)).holders lock ≡ Some (Some n)
       by (Stays same) = same ∙ held
       by (Takes free taken) = absurd (none-some n (same_Some None (Some n) (sym free ∙ held)))
       by (Gives own free) = absurd (other (same_Some g n (same_Some (Some g) (Some n) (sym own ∙ held))))
@@ -86,11 +86,12 @@ module _ (y : System) (s : IsSystem y) (n : ℕ) where
 
   -- ---- A step of another hart
 
-  module _ (w : World) (h : ℕ) (b : AbstractRun y) (stores_own : (hart : Hart) (effect : Effect) → IsNext y.program w h hart effect → MayStore y b h effect)
+  module _ (w : World) (h : ℕ) (b : AbstractRun y)
+      (stores_own : (hart : Hart) (effect : Effect) → IsNext y.runs.program w h hart effect → MayStore y b h effect)
       (other : h ≢ n) (z : MarkedEnvironment) (answers : AnswersHeld w z)
       (owns : (lock : ℕ) → slice_get (now b.config).holders lock ≡ Some (Some h) → slice_get w.holders lock ≡ Some (Some h)) where
     abbrev after : World
-    after = after_event y.program w (Step h)
+    after = after_event y.runs.program w (Step h)
 
     room : HaveRoom (map shape_of (flat_of y).variables)
     room = (well_formed_placed (flat_of y) s.plan.formed).room
@@ -143,29 +144,29 @@ module _ (y : System) (s : IsSystem y) (n : ℕ) where
                 (guards_apart variable g.variable guards g.holds));
           }
 
-    module _ (sound : IsWellFormedWorld w) (agrees : Agrees y.program w n z) where
+    module _ (sound : IsWellFormedWorld w) (agrees : Agrees y.runs.program w n z) where
       count : length after.harts ≡ length w.harts
-      count = (others_leave y.program w n (Step h) sound other).1
+      count = (others_leave y.runs.program w n (Step h) sound other).1
 
-      persisted_on : ArePersisted w.words after.words → Agrees y.program after n z
-      persisted_on persisted = persisted_agrees y.program w after n z count persisted agrees
+      persisted_on : ArePersisted w.words after.words → Agrees y.runs.program after n z
+      persisted_on persisted = persisted_agrees y.runs.program w after n z count persisted agrees
 
-      same_on : after.words ≡ w.words → Agrees y.program after n z
+      same_on : after.words ≡ w.words → Agrees y.runs.program after n z
       same_on same = persisted_on (subst (λ (ws : List Word). ArePersisted w.words ws) (sym same) (are_persisted_refl w.words))
 
-      worked_on : (hart : Hart) (queue : List Entry) → slice_get w.harts h ≡ Some hart → IsWork y.program w h after.words hart.queue queue →
-          Agrees y.program after n z
+      worked_on : (hart : Hart) (queue : List Entry) → slice_get w.harts h ≡ Some hart → IsWork y.runs.program w h after.words hart.queue queue →
+          Agrees y.runs.program after n z
       worked_on hart queue here (Rests same q) = same_on same
       worked_on hart queue here (Queues line same q) = same_on same
       worked_on hart queue here (WritesBack e is q) =
           let entries : AreEntries w.words (e ∷ queue) = subst (λ (es : List Entry). AreEntries w.words es) q (sound.queues h hart here) in
           persisted_on (subst (λ (ws : List Word). ArePersisted w.words ws) (sym is) (write_backs_raise w.words e entries.0))
       worked_on hart queue here (Makes address bytes value st is q) =
-          let may = stores_own st.executes.hart (Stores address bytes value) (next_store y.program w h address bytes value st) in
+          let may = stores_own st.executes.hart (Stores address bytes value) (next_store y.runs.program w h address bytes value st) in
           let all = abstract_all address bytes value (Stores address bytes value) refl may in
-          beside_agrees y.program w after n z address bytes value count is
+          beside_agrees y.runs.program w after n z address bytes value count is
           (and_from (is_width bytes) _ all.width (and_from _ _ st.inside st.is_aligned)) all.apart agrees
 
       -- memory goes on to agree
-      pub agrees_still : (hart : Hart) → slice_get w.harts h ≡ Some hart → Agrees y.program after n z
-      agrees_still hart here = let does = steps_work y.program w h hart here in worked_on hart does.after.queue here does.work
+      pub agrees_still : (hart : Hart) → slice_get w.harts h ≡ Some hart → Agrees y.runs.program after n z
+      agrees_still hart here = let does = steps_work y.runs.program w h hart here in worked_on hart does.after.queue here does.work

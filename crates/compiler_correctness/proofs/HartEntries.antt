@@ -11,6 +11,7 @@ use Rattle.operator_code.specs.ComputingCode.{Carries}
 use Rattle.operator_code.proofs.Public.{zero_form}
 use Rattle.rv64_isa.specs.declared.phase.Phase.{Phase}
 use Rattle.rv64_isa.specs.declared.phase.Phase.TheVariants.{Run, Resume}
+use Rattle.rv64_isa.specs.Executables.{first_world}
 use Rattle.rv64_isa.specs.Programs.{code_start}
 use Rattle.rv64_isa.specs.Machine.{Hart, World, after_event, fresh_hart, numbers_from, start_of, bank_of, resume_of}
 use Rattle.rv64_isa.proofs.Public.{steps_touch}
@@ -31,7 +32,7 @@ use Rattle.thread_runs.proofs.Public.{locks_go_on, unlocks_go_on, threads_start}
 use Rattle.recovered_threads.specs.RecordDescriptions.{Code, ResumesAt, at_chosen, past_lock, past_unlock, Describes}
 use Rattle.recovered_threads.specs.RecoveryStates.{Gathers, HasGathered, AreGathered, IsRecoveredHart, ResumesThread}
 use Rattle.recovered_threads.proofs.Public.{harts_go_on}
-use Rattle.crash_simulation.specs.Systems.{System, IsSystem, flat_of, thread_count, start_world}
+use Rattle.crash_simulation.specs.Systems.{System, IsSystem, thread_count}
 use Rattle.crash_simulation.specs.AbstractRuns.{AbstractRun, kept_of}
 use Rattle.crash_simulation.specs.ThreadGhosts.{ThreadGhost, Rests}
 use Rattle.crash_simulation.specs.SimulationRelation.{AreLocked, gathering, gathered, records_of, Simulates}
@@ -116,8 +117,8 @@ module _ (y : System) (s : IsSystem y) (h : ℕ) (below : h < thread_count y) wh
     abbrev placed_here : IsPlaced y.plan code.thread c (length w.harts)
     placed_here = placed y s w h below count
 
-    on_fragment : (stage : _) (steps : ℕ) (fragment : IsOnFragment y.plan code.thread c (on_machine y.program w n z) stage steps []) →
-        steps + 16 + legs.beyond y.plan code.thread code.program code.is y.program y.marks n stage.exit stage.node ≤ most y s h below →
+    on_fragment : (stage : _) (steps : ℕ) (fragment : IsOnFragment y.plan code.thread c (on_machine y.runs.program w n z) stage steps []) →
+        steps + 16 + legs.beyond y.plan code.thread code.program code.is y.runs.program y.runs.marks n stage.exit stage.node ≤ most y s h below →
         soon.GoesToMark y s h below w (most y s h below)
     on_fragment stage steps fragment fit =
         let queue = short fragment.on.hart fragment.on.here in
@@ -149,7 +150,8 @@ module _ (y : System) (s : IsSystem y) (h : ℕ) (below : h < thread_count y) wh
 
     -- at the entry of one
     at_entry : (node : ℕ) (seen : Seen) (bank : ℕ)
-        (fragment : IsOnFragment y.plan code.thread c (on_machine y.program w n z) (record { exit = Arrives; node = node; seen = seen; bank = bank }) 0 []) →
+        (fragment : IsOnFragment y.plan code.thread c (on_machine y.runs.program w n z)
+        (record { exit = Arrives; node = node; seen = seen; bank = bank }) 0 []) →
         soon.GoesToMark y s h below w (most y s h below)
     at_entry node seen bank fragment =
         let few = ahead_few (c.words node) (slice_get y.plan.graph.nodes node) in
@@ -158,7 +160,7 @@ module _ (y : System) (s : IsSystem y) (h : ℕ) (below : h < thread_count y) wh
 
     -- in the fragment from a lock or an unlock to the next node
     from_call : (from node : ℕ) (seen : Seen) (bank : ℕ) → 2 * c.words from + ahead y.plan c node + 4 ≤ 2 * length code.program.code →
-        IsOnSomeFragment y.plan code.thread c (on_machine y.program w n z) (record { exit = Arrives; node = node; seen = seen; bank = bank })
+        IsOnSomeFragment y.plan code.thread c (on_machine y.runs.program w n z) (record { exit = Arrives; node = node; seen = seen; bank = bank })
         (c.words from) [] →
         soon.GoesToMark y s h below w (most y s h below)
     from_call from node seen bank fit some =
@@ -172,13 +174,14 @@ module _ (y : System) (s : IsSystem y) (h : ℕ) (below : h < thread_count y) wh
         let there = own_node y s h below node own in
         from_call from node seen bank
         (fits_by y s h below from is from_own found node there.0 own there.1 (Lock mutex node) locks (zero, omega arith, refl) (λ e. cc))
-        (locks_go_on y.plan code.thread from mutex node (record { own = from_own; is = is; at = found; locks = locks }) y.program code.program code.is w n z
+        (locks_go_on y.plan code.thread from mutex node (record { own = from_own; is = is; at = found; locks = locks }) y.runs.program
+        code.program code.is w n z
         seen bank registers placed_here (bare_meets y s w h below) (bare_agrees y s w h below) at enters)
     resumed_at node seen bank registers own _ (past_unlock from mutex is from_own found unlocks holds) at enters =
         let there = own_node y s h below node own in
         from_call from node seen bank
         (fits_by y s h below from is from_own found node there.0 own there.1 (Unlock mutex node) unlocks (zero, omega arith, refl) (λ e. cc))
-        (unlocks_go_on y.plan code.thread from mutex node (record { own = from_own; is = is; at = found; unlocks = unlocks }) y.program
+        (unlocks_go_on y.plan code.thread from mutex node (record { own = from_own; is = is; at = found; unlocks = unlocks }) y.runs.program
         code.program code.is w n z
         seen bank registers placed_here (bare_meets y s w h below) (bare_agrees y s w h below) at enters)
 
@@ -199,39 +202,40 @@ module _ (y : System) (s : IsSystem y) (h : ℕ) (below : h < thread_count y) wh
         subst (λ (done : Bool). Describes y.plan code (kept_of y b) (if done then ghost.new else ghost.old)) rests.committed
         (stands.before_commit.each h below).describes
 
-    go : ResumesThread y.program code (kept_of y b) w i.hart ghost.new
+    go : ResumesThread y.runs.program code (kept_of y b) w i.hart ghost.new
     go =
         let ready : IsRecoveredHart w h ghost.new = subst (λ (p : Phase). HasGathered w h ghost.new p) i.phase_is (ag.each h i.hart i.here) in
-        harts_go_on y.program y.plan code (kept_of y b) w ghost.new describes (subst (λ (k : ℕ). IsRecoveredHart w k ghost.new) (sym same) ready)
+        harts_go_on y.runs.program y.plan code (kept_of y b) w ghost.new describes (subst (λ (k : ℕ). IsRecoveredHart w k ghost.new) (sym same) ready)
         (record { hart = i.hart; here = ap (slice_get w.harts) same ∙ i.here; phase_is = i.phase_is })
 
-    goes_on : soon.GoesToMark y s h below (after_event y.program w (Step n)) (most y s h below)
+    goes_on : soon.GoesToMark y s h below (after_event y.runs.program w (Step n)) (most y s h below)
     goes_on =
-        resumed_at (after_event y.program w (Step n)) ((steps_touch y.program w n stands.before_commit.sound).count ∙ stands.before_commit.count)
-        (λ hart here. queues_stay_short y.program w (Step n) stands.before_commit.short n hart here)
+        resumed_at (after_event y.runs.program w (Step n)) ((steps_touch y.runs.program w n stands.before_commit.sound).count ∙ stands.before_commit.count)
+        (λ hart here. queues_stay_short y.runs.program w (Step n) stands.before_commit.short n hart here)
         go.told.graph_thread.at (seen_by (kept_of y b) go.told.graph_thread) (bank_of ghost.new.point) go.after.registers go.told.own
         (resume_of ghost.new.point)
         go.told.resumes
-        (subst (λ (pc : ℕ). IsRunningAt (after_event y.program w (Step n)) n (config go.after.registers pc)) go.pc go.begins) go.enters
+        (subst (λ (pc : ℕ). IsRunningAt (after_event y.runs.program w (Step n)) n (config go.after.registers pc)) go.pc go.begins) go.enters
 
   resumes_by : (w : World) (stands : Simulates y s w) → IsInPhase w h Resume → AreLocked y w stands.before_commit.abstract stands.before_commit.ghosts →
-      soon.GoesToMark y s h below (after_event y.program w (Step n)) (most y s h below)
+      soon.GoesToMark y s h below (after_event y.runs.program w (Step n)) (most y s h below)
   resumes_by w stands i (gathering none gathers) =
       absurd (subst (λ (p : Phase). Gathers w h (records_of stands.before_commit.ghosts h) p) i.phase_is (gathers.each h i.hart i.here))
   resumes_by w stands i (gathered ag held) = goes_on w stands i ag
 
   pub resumes : (w : World) (stands : Simulates y s w) → IsInPhase w h Resume →
-      soon.GoesToMark y s h below (after_event y.program w (Step n)) (most y s h below)
+      soon.GoesToMark y s h below (after_event y.runs.program w (Step n)) (most y s h below)
   resumes w stands i = resumes_by w stands i stands.before_commit.locks
 
   -- ---- At the start
 
   abbrev first : World
-  first = start_world y
+  first = first_world y.runs
 
-  fresh : n < length y.program → slice_get first.harts n ≡ Some (fresh_hart y.program Run n)
+  fresh : n < length y.runs.program → slice_get first.harts n ≡ Some (fresh_hart y.runs.program Run n)
   unfolding start_of
-  fresh inside = row_of (fresh_hart y.program Run) 0 (length y.program) n inside ∙ ap (λ (k : ℕ). Some (fresh_hart y.program Run k)) (omega arith)
+  fresh inside =
+      row_of (fresh_hart y.runs.program Run) 0 (length y.runs.program) n inside ∙ ap (λ (k : ℕ). Some (fresh_hart y.runs.program Run k)) (omega arith)
 
   abbrev nothing_seen : Seen
   nothing_seen = record { variables = []; locals = replicate code.thread.part.locals (pos 0); pending = None }
@@ -258,10 +262,10 @@ module _ (y : System) (s : IsSystem y) (h : ℕ) (below : h < thread_count y) wh
   pub starts : length first.harts ≡ thread_count y → IsNodeOf code.thread code.thread.part.first → soon.GoesToMark y s h below first (most y s h below)
   starts count first_own =
       let programs = s.count in
-      let inside : n < length y.program = omega (arith, below, programs, same) in
-      let start : code_start y.program n ≡ code.program.start = ap (λ (p : Program). p.start) (sym (s.own h below).program) in
-      at_entry first count (λ hart here. starts_are_short y.program (length (flat_of y).mutexes) y.initial n hart here) code.thread.part.first nothing_seen 0
-      (threads_start y.plan code.thread y.program code.program code.is first n (bare y s first h below) nothing_seen 0 (replicate 32 0)
+      let inside : n < length y.runs.program = omega (arith, below, programs, same) in
+      let start : code_start y.runs.program n ≡ code.program.start = ap (λ (p : Program). p.start) (sym (s.own h below).program) in
+      at_entry first count (λ hart here. starts_are_short y.runs.program y.runs.mutexes y.runs.initial n hart here) code.thread.part.first nothing_seen 0
+      (threads_start y.plan code.thread y.runs.program code.program code.is first n (bare y s first h below) nothing_seen 0 (replicate 32 0)
       (bare_meets y s first h below) (bare_agrees y s first h below) first_own
-      (record { hart = fresh_hart y.program Run n; here = fresh inside; runs = refl; is = ap (config (replicate 32 0)) start })
+      (record { hart = fresh_hart y.runs.program Run n; here = fresh inside; runs = refl; is = ap (config (replicate 32 0)) start })
       enters)

@@ -3,10 +3,12 @@ use Rattle.std.proofs.Common.{◌≡◌, refl, ℕ, zero, suc, ◌+◌, ◌-◌,
 use Rattle.std.proofs.Common.{ap, ap₂, arith, sym, ◌∙◌, subst}
 use Rattle.std.proofs.Math.Seq.{take-append_seam, drop-append_seam}
 use Rattle.std.proofs.lemmas.List.{take-append-drop, drop-drop, get_or-drop, get_or-map, length-map, length-drop, length-take-le, length-append, append_assoc}
+use Rattle.ido_base.specs.declared.limits.TheConstants.{LOG_WORDS, VARIABLE_WORDS}
 use Rattle.ido_base.specs.declared.event.Event.{Event}
 use Rattle.ido_base.specs.Words.{Word, word_of, durable_value}
 use Rattle.ido_base.specs.Layout.{spread_words}
-use Rattle.crash_simulation.specs.Systems.{System, IsSystem, start_world}
+use Rattle.rv64_isa.specs.Executables.{first_world}
+use Rattle.crash_simulation.specs.Systems.{System, IsSystem}
 use Rattle.crash_simulation.specs.Laws.{EventsStand}
 use Rattle.crash_simulation.proofs.Public.{start_simulates}
 use Rattle.compiler_correctness.specs.Translations.{world}
@@ -23,26 +25,26 @@ zeros_are (suc count) [] there each = absurd (omega (arith, there))
 zeros_are (suc count) (x ∷ xs) there each =
     ap₂ (λ (z : ℕ) (zs : List ℕ). z ∷ zs) (each 0 (omega arith)) (zeros_are count xs (omega (arith, there)) (λ i below. each (suc i) (omega (arith, below))))
 
--- the first words and those from 8192 on make up all words, where those between are 0
-spread : (n : ℕ) (ws : List ℕ) → n ≤ 8192 → 8192 ≤ length ws → ((i : ℕ) → n ≤ i → i < 8192 → get_or ws i 0 ≡ 0) →
-    spread_words n (take n ws ++ drop 8192 ws) ≡ ws
+-- the first words and those from VARIABLE_WORDS on make up all words, where those between are 0
+spread : (n : ℕ) (ws : List ℕ) → n ≤ VARIABLE_WORDS → VARIABLE_WORDS ≤ length ws → ((i : ℕ) → n ≤ i → i < VARIABLE_WORDS → get_or ws i 0 ≡ 0) →
+    spread_words n (take n ws ++ drop VARIABLE_WORDS ws) ≡ ws
 unfolding spread_words
 spread n ws few many between =
     let prefix : length (take n ws) ≡ n = length-take-le n ws (omega (arith, few, many)) in
     let rest = length-drop n ws in
-    let sum : n + (8192 - n) ≡ 8192 = omega (arith, few) in
-    let after : drop (8192 - n) (drop n ws) ≡ drop 8192 ws = drop-drop (8192 - n) n ws ∙ ap (λ (k : ℕ). drop k ws) sum in
-    let zeros : take (8192 - n) (drop n ws) ≡ replicate (8192 - n) 0 =
-    zeros_are (8192 - n) (drop n ws) (omega (arith, rest, many)) (λ i below.
+    let sum : n + (VARIABLE_WORDS - n) ≡ VARIABLE_WORDS = omega (arith, few) in
+    let after : drop (VARIABLE_WORDS - n) (drop n ws) ≡ drop VARIABLE_WORDS ws = drop-drop (VARIABLE_WORDS - n) n ws ∙ ap (λ (k : ℕ). drop k ws) sum in
+    let zeros : take (VARIABLE_WORDS - n) (drop n ws) ≡ replicate (VARIABLE_WORDS - n) 0 =
+    zeros_are (VARIABLE_WORDS - n) (drop n ws) (omega (arith, rest, many)) (λ i below.
     get_or-drop n ws i 0 ∙ between (n + i) (omega arith) (omega (arith, below))) in
-    let own : take n (take n ws ++ drop 8192 ws) ≡ take n ws =
-    ap (λ (k : ℕ). take k (take n ws ++ drop 8192 ws)) (sym prefix) ∙ take-append_seam (take n ws) (drop 8192 ws) in
-    let logs : drop n (take n ws ++ drop 8192 ws) ≡ drop 8192 ws =
-    ap (λ (k : ℕ). drop k (take n ws ++ drop 8192 ws)) (sym prefix) ∙ drop-append_seam (take n ws) (drop 8192 ws) in
-    ap₂ (λ (us vs : List ℕ). us ++ replicate (8192 - n) 0 ++ vs) own logs
+    let own : take n (take n ws ++ drop VARIABLE_WORDS ws) ≡ take n ws =
+    ap (λ (k : ℕ). take k (take n ws ++ drop VARIABLE_WORDS ws)) (sym prefix) ∙ take-append_seam (take n ws) (drop VARIABLE_WORDS ws) in
+    let logs : drop n (take n ws ++ drop VARIABLE_WORDS ws) ≡ drop VARIABLE_WORDS ws =
+    ap (λ (k : ℕ). drop k (take n ws ++ drop VARIABLE_WORDS ws)) (sym prefix) ∙ drop-append_seam (take n ws) (drop VARIABLE_WORDS ws) in
+    ap₂ (λ (us vs : List ℕ). us ++ replicate (VARIABLE_WORDS - n) 0 ++ vs) own logs
     ∙ (ap₂ (λ (us vs : List ℕ). take n ws ++ us ++ vs) (sym zeros) (sym after)
-    ∙ (append_assoc (take n ws) (take (8192 - n) (drop n ws)) (drop (8192 - n) (drop n ws))
-    ∙ ap (λ (us : List ℕ). take n ws ++ us) (take-append-drop (8192 - n) (drop n ws)) ∙ take-append-drop n ws))
+    ∙ (append_assoc (take n ws) (take (VARIABLE_WORDS - n) (drop n ws)) (drop (VARIABLE_WORDS - n) (drop n ws))
+    ∙ ap (λ (us : List ℕ). take n ws ++ us) (take-append-drop (VARIABLE_WORDS - n) (drop n ws)) ∙ take-append-drop n ws))
 
 -- ---- Images
 
@@ -56,19 +58,19 @@ module _ (stand : EventsStand) (stay : WordsBetweenStay) (y : System) (s : IsSys
   abbrev n : ℕ
   n = variable_words (translation_of y)
 
-  few : n ≤ 8192
+  few : n ≤ VARIABLE_WORDS
   few = let most = holds_no_more y s in omega (arith, most)
 
-  size : length image.words ≡ 8192 + 128 * length y.program
+  size : length image.words ≡ VARIABLE_WORDS + LOG_WORDS * length y.runs.program
   size =
-      let stands = stands_along stand y s events (start_world y) (start_simulates y s) in
+      let stands = stands_along stand y s events (first_world y.runs) (start_simulates y s) in
       let all = stands.before_commit.sound.size in
       let count = stands.before_commit.count in
       let programs = s.count in
       let mapped = length-map words durable_value in
       omega (arith, all, count, programs, mapped)
 
-  between : (i : ℕ) → n ≤ i → i < 8192 → get_or image.words i 0 ≡ 0
+  between : (i : ℕ) → n ≤ i → i < VARIABLE_WORDS → get_or image.words i 0 ≡ 0
   between i from below =
       let all = size in
       let mapped = length-map words durable_value in
@@ -79,8 +81,8 @@ module _ (stand : EventsStand) (stay : WordsBetweenStay) (y : System) (s : IsSys
       let all = size in
       let inside = few in
       let prefix = length-take-le n image.words (omega (arith, all, inside)) in
-      let logs = length-drop 8192 image.words in
-      let both = length-append (take n image.words) (drop 8192 image.words) in
+      let logs = length-drop VARIABLE_WORDS image.words in
+      let both = length-append (take n image.words) (drop VARIABLE_WORDS image.words) in
       record {
         size = omega (arith, prefix, logs, both, all);
         is_all =

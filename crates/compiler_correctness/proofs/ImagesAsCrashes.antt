@@ -8,13 +8,14 @@ use Rattle.ido_base.specs.Words.{Word, word_at, last_position, durable_value}
 use Rattle.ido_base.specs.Layout.{word_number, point_at}
 use Rattle.c_tree.specs.Source.{is_between}
 use Rattle.rv64_isa.specs.declared.object.Slot.{Slot}
+use Rattle.rv64_isa.specs.Executables.{first_world}
 use Rattle.rv64_isa.specs.Machine.{World, start_of, after_crash_of, happens, after_event, after_events}
 use Rattle.rv64_isa.specs.Schedule.{Steps, HartSteps, no_steps, passes_mark, stores_point, with_begun, with_bound, with_kept, with_all_kept, with_step}
 use Rattle.rv64_isa.specs.Schedule.{steps_after, steps_along, first_steps, is_settled}
 use Rattle.rv64_isa.specs.Frames.{IsWellFormedWorld}
 use Rattle.rv64_isa.proofs.Public.{steps_touch, evictions_touch, queues_stand, starts_simulate}
 use Rattle.variable_words.specs.Variables.{durable_variables}
-use Rattle.compiler_correctness.specs.Translations.{Translation, first_world, world, steps, source, IsRunnable}
+use Rattle.compiler_correctness.specs.Translations.{Translation, world, steps, source, IsRunnable}
 use Rattle.compiler_correctness.specs.Images.{image_of, first_from, world_from, steps_from, IsCrashed}
 use Rattle.compiler_correctness.specs.Laws.{translation_of, SettledMachinesAreKept, KeptStepsGrow, ImagesAreCrashes, ImagesAreResumed}
 
@@ -138,19 +139,19 @@ module _ (marks : List (List ℕ)) (program : List (List Slot)) where
 -- ---- The crash
 
 module _ (c : Translation) (before : List Event) where
-  has : HasLocks c.program c.mutexes (world c before)
-  has = along c.program c.mutexes before (first_world c) (at_start c.program c.mutexes c.initial)
+  has : HasLocks c.runs.program c.runs.mutexes (world c before)
+  has = along c.runs.program c.runs.mutexes before (first_world c.runs) (at_start c.runs.program c.runs.mutexes c.runs.initial)
 
-  crash_is : after_event c.program (world c before) Crash ≡ first_from c (image_of c before)
+  crash_is : after_event c.runs.program (world c before) Crash ≡ first_from c (image_of c before)
   unfolding happens
-  crash_is = ap (λ (locks : ℕ). after_crash_of c.program locks (map durable_value (world c before).words)) has.holders
+  crash_is = ap (λ (locks : ℕ). after_crash_of c.runs.program locks (map durable_value (world c before).words)) has.holders
 
-  dropped_is : steps_after c.marks c.program (world c before) Crash (steps c before) ≡
-      ahead (steps c before).begun (first_steps (length c.program) (steps c before).kept)
+  dropped_is : steps_after c.runs.marks c.runs.program (world c before) Crash (steps c before) ≡
+      ahead (steps c before).begun (first_steps (length c.runs.program) (steps c before).kept)
   unfolding steps_after
   dropped_is =
-      let many = along_many c.marks c.program before (first_world c) (first_steps (length c.program) [])
-      ∙ length-replicate (length c.program) no_steps in
+      let many = along_many c.runs.marks c.runs.program before (first_world c.runs) (first_steps (length c.runs.program) [])
+      ∙ length-replicate (length c.runs.program) no_steps in
       ap₂ (λ (begun : List ℕ) (harts : List HartSteps). record (steps c before) { begun = begun; pending = []; harts = harts })
       (sym (nil_after (steps c before).begun)) (ap (λ (n : ℕ). replicate n no_steps) many)
     where
@@ -161,16 +162,16 @@ module _ (c : Translation) (before : List Event) where
   module _ (events : List Event) where
     world_same : world_from c (image_of c before) events ≡ world c (before ++ Crash ∷ events)
     world_same =
-        sym (world_on c.marks c.program before (Crash ∷ events) (first_world c)
-        ∙ ap (λ (w : World). after_events c.program w events) crash_is)
+        sym (world_on c.runs.marks c.runs.program before (Crash ∷ events) (first_world c.runs)
+        ∙ ap (λ (w : World). after_events c.runs.program w events) crash_is)
 
     steps_same : ahead (steps c before).begun (steps_from c (image_of c before) events) ≡ steps c (before ++ Crash ∷ events)
     steps_same =
         let prefix = (steps c before).begun in
-        let first = first_steps (length c.program) (steps c before).kept in
-        sym (steps_on c.marks c.program before (Crash ∷ events) (first_world c) (first_steps (length c.program) [])
-        ∙ (ap₂ (λ (w : World) (s : Steps). steps_along c.marks c.program w events s) crash_is dropped_is
-        ∙ along_ahead prefix c.marks c.program events (first_from c (image_of c before)) first))
+        let first = first_steps (length c.runs.program) (steps c before).kept in
+        sym (steps_on c.runs.marks c.runs.program before (Crash ∷ events) (first_world c.runs) (first_steps (length c.runs.program) [])
+        ∙ (ap₂ (λ (w : World) (s : Steps). steps_along c.runs.marks c.runs.program w events s) crash_is dropped_is
+        ∙ along_ahead prefix c.runs.marks c.runs.program events (first_from c (image_of c before)) first))
 
     crashed : IsCrashed c before events
     crashed = record {

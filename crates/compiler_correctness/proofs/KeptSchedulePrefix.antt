@@ -5,10 +5,10 @@ use Rattle.ido_base.specs.declared.event.Event.{Event}
 use Rattle.ido_base.specs.declared.event.Event.TheVariants.{Step, Evict, Crash}
 use Rattle.ido_base.specs.Words.{Word}
 use Rattle.rv64_isa.specs.declared.object.Slot.{Slot}
+use Rattle.rv64_isa.specs.Executables.{first_world}
 use Rattle.rv64_isa.specs.Machine.{World, after_event}
 use Rattle.rv64_isa.specs.Schedule.{Steps, steps_along, steps_after, with_all_kept, with_step, passes_mark, stores_point, first_steps}
 use Rattle.crash_simulation.proofs.Public.{kept_same}
-use Rattle.compiler_correctness.specs.Translations.{first_world}
 use Rattle.compiler_correctness.specs.Compilation.{BeginsWith}
 use Rattle.compiler_correctness.specs.Laws.{KeptStepsGrow}
 
@@ -55,4 +55,4 @@ grows marks program [] more w s = along_grows marks program more w s
 grows marks program (event ∷ events) more w s = grows marks program events more (after_event program w event) (steps_after marks program w event s)
 
 pub kept_steps_grow : KeptStepsGrow
-kept_steps_grow c events more = grows c.marks c.program events more (first_world c) (first_steps (length c.program) [])
+kept_steps_grow c events more = grows c.runs.marks c.runs.program events more (first_world c.runs) (first_steps (length c.runs.program) [])

@@ -64,7 +64,7 @@ module _ (y : System) (s : IsSystem y) (h : ℕ) (below : h < thread_count y) wh
   most = 2 * L + 17
 
   abbrev pub OnLeg : World → MarkedEnvironment → (left : ℕ) → Type 0
-  OnLeg w z left = legs.OnLeg y.plan code.thread code.program code.is y.program y.marks n w z left
+  OnLeg w z left = legs.OnLeg y.plan code.thread code.program code.is y.runs.program y.runs.marks n w z left
 
   -- on a leg, in an environment that answers what is guarded by mutexes that the hart holds
   pub record GoesToMark (w : World) (left : ℕ) : Type 0 where
@@ -141,7 +141,7 @@ module _ (y : System) (s : IsSystem y) (h : ℕ) (below : h < thread_count y) wh
   is_giving a.Ends = false
 
   abbrev beyond : ExitPoint → (node : ℕ) → ℕ
-  beyond exit node = legs.beyond y.plan code.thread code.program code.is y.program y.marks n exit node
+  beyond exit node = legs.beyond y.plan code.thread code.program code.is y.runs.program y.runs.marks n exit node
 
   -- what is left of the fragment and what is ahead after it fit into the code
   soon_by : (node : ℕ) (seen : Seen) (bank : ℕ) (e : a.Effect) (left : ℕ) → IsNodeOf code.thread (stage_after y.plan code.thread c node seen bank e).node →
@@ -170,10 +170,10 @@ module _ (y : System) (s : IsSystem y) (h : ℕ) (below : h < thread_count y) wh
 
   module _ (w : World) (stands : Simulates y s w) (z : MarkedEnvironment) (node : ℕ) (seen : Seen) (bank : ℕ) (registers : List ℕ) (is : Node) (e : a.Effect)
       (of : IsNodeOf code.thread node) (at : NodeAt y.plan.graph node is) (does : effect_of is.action seen ≡ Some e)
-      (m : IsAtSomeMark y.plan code.thread c (on_machine y.program w n z) node seen bank registers e)
-      (p : PassesMark y.plan code.thread c (on_machine y.program w n z) e (stage_after y.plan code.thread c node seen bank e) m.steps m.effects m.at) where
+      (m : IsAtSomeMark y.plan code.thread c (on_machine y.runs.program w n z) node seen bank registers e)
+      (p : PassesMark y.plan code.thread c (on_machine y.runs.program w n z) e (stage_after y.plan code.thread c node seen bank e) m.steps m.effects m.at) where
     abbrev after : World
-    after = after_event y.program w (Step n)
+    after = after_event y.runs.program w (Step n)
 
     fits_next : (next : ℕ) → IsNodeOf code.thread next → next_by e ≡ Some next → 2 * c.words node + ahead y.plan c next + 4 ≤ 2 * L
     fits_next next next_of by =
@@ -182,7 +182,7 @@ module _ (y : System) (s : IsSystem y) (h : ℕ) (below : h < thread_count y) wh
 
     left_few : left_of y.plan code.thread c p.on ≤ 2 * c.words node + 15
     left_few =
-        let few = marks_are_bounded y.plan code.thread c y.program w n z e (stage_after y.plan code.thread c node seen bank e) m.steps m.effects
+        let few = marks_are_bounded y.plan code.thread c y.runs.program w n z e (stage_after y.plan code.thread c node seen bank e) m.steps m.effects
         stands.before_commit.short m.at in
         let short = m.short in
         let less = p.less in
@@ -215,12 +215,12 @@ module _ (y : System) (s : IsSystem y) (h : ℕ) (below : h < thread_count y) wh
       };
     }
 
-  pub marks_are : (z : MarkedEnvironment) → Meets c.program z → AreMarksOf y.marks n z
+  pub marks_are : (z : MarkedEnvironment) → Meets c.program z → AreMarksOf y.runs.marks n z
   marks_are z meets = sym (meets.marks ∙ ap (λ (p : Program). p.nodes) (code.is.of_program ∙ (s.own h below).program))
 
   -- ---- A step that passes a mark
 
-  module _ (marks : MarksPass) (law : FragmentsGoOn) (w : World) (stands : Simulates y s w) (passes : passes_mark y.marks y.program w n ≡ true) where
+  module _ (marks : MarksPass) (law : FragmentsGoOn) (w : World) (stands : Simulates y s w) (passes : passes_mark y.runs.marks y.runs.program w n ≡ true) where
     abbrev b : AbstractRun y
     b = stands.before_commit.abstract
 
@@ -233,31 +233,32 @@ module _ (y : System) (s : IsSystem y) (h : ℕ) (below : h < thread_count y) wh
     abbrev seen_now : Seen
     seen_now = seen_by (now_of y b) graph_thread
 
-    none_passed : passes_mark y.marks y.program w n ≡ false → GoesToMark (after_event y.program w (Step n)) most
+    none_passed : passes_mark y.runs.marks y.runs.program w n ≡ false → GoesToMark (after_event y.runs.program w (Step n)) most
     none_passed none = absurd (true≢false (sym passes ∙ none))
 
-    on_fragment : (o : OnFragmentNow y s w h stands below) (steps : ℕ) → o.steps ≡ suc steps → GoesToMark (after_event y.program w (Step n)) most
+    on_fragment : (o : OnFragmentNow y s w h stands below) (steps : ℕ) → o.steps ≡ suc steps → GoesToMark (after_event y.runs.program w (Step n)) most
     on_fragment o steps is =
         let stage : Stage = record { exit = o.exit; node = graph_thread.at; seen = seen_now; bank = o.bank } in
         let effects : List Effect = (stands.before_commit.ghosts h).cleans ++ (stands.before_commit.ghosts h).rest in
-        let one = subst (λ (k : ℕ). IsOnFragment y.plan code.thread c (on_machine y.program w n o.environment) stage k effects) is o.fragment in
-        none_passed ((law y.plan code.thread c y.program w n o.environment stage steps effects stands.before_commit.sound one).1 y.marks
+        let one = subst (λ (k : ℕ). IsOnFragment y.plan code.thread c (on_machine y.runs.program w n o.environment) stage k effects) is o.fragment in
+        none_passed ((law y.plan code.thread c y.runs.program w n o.environment stage steps effects stands.before_commit.sound one).1 y.runs.marks
         (marks_are o.environment one.meets))
 
     -- at a mark it passes that, and is in the fragment after it
     module _ (z : MarkedEnvironment) (bank : ℕ) (registers : List ℕ) (e : a.Effect) (is : Node) (at : NodeAt y.plan.graph graph_thread.at is)
         (of : IsNodeOf code.thread graph_thread.at) (does : effect_of is.action seen_now ≡ Some e) (reads : ReadsVariables z) (answers : AnswersHeld y s n w z)
-        (m : IsAtSomeMark y.plan code.thread c (on_machine y.program w n z) graph_thread.at seen_now bank registers e) where
-      goes_by : (PassesMark y.plan code.thread c (on_machine y.program w n z) e (stage_after y.plan code.thread c graph_thread.at seen_now bank e) m.steps
+        (m : IsAtSomeMark y.plan code.thread c (on_machine y.runs.program w n z) graph_thread.at seen_now bank registers e) where
+      goes_by : (PassesMark y.plan code.thread c (on_machine y.runs.program w n z) e (stage_after y.plan code.thread c graph_thread.at seen_now bank e) m.steps
           m.effects m.at) ⊎
-          (Stays y.plan code.thread c (on_machine y.program w n z) e (stage_after y.plan code.thread c graph_thread.at seen_now bank e) m.steps
+          (Stays y.plan code.thread c (on_machine y.runs.program w n z) e (stage_after y.plan code.thread c graph_thread.at seen_now bank e) m.steps
           m.effects m.at) →
-          GoesToMark (after_event y.program w (Step n)) most
+          GoesToMark (after_event y.runs.program w (Step n)) most
       goes_by (inl p) = goes_on_after w stands z graph_thread.at seen_now bank registers is e of at does m p reads answers
-      goes_by (inr stays) = none_passed (stays.no_mark y.marks)
+      goes_by (inr stays) = none_passed (stays.no_mark y.runs.marks)
 
-      goes_after : GoesToMark (after_event y.program w (Step n)) most
-      goes_after = goes_by (marks y.plan code.thread c y.program w n z e (stage_after y.plan code.thread c graph_thread.at seen_now bank e) m.steps m.effects
+      goes_after : GoesToMark (after_event y.runs.program w (Step n)) most
+      goes_after =
+          goes_by (marks y.plan code.thread c y.runs.program w n z e (stage_after y.plan code.thread c graph_thread.at seen_now bank e) m.steps m.effects
           stands.before_commit.sound m.at)
 
     module _ (held : AreHeld w stands.before_commit.ghosts (now_of y b)) where
@@ -285,7 +286,7 @@ module _ (y : System) (s : IsSystem y) (h : ℕ) (below : h < thread_count y) wh
         found_at = subst (λ (g : Graph). NodeAt g graph_thread.at found.0) (sym s.plan.lowered) found.1
 
         quiet_goes : (z : Action) → found.0.action ≡ z → (effect : a.Effect) → effect_of z seen_now ≡ Some effect → is_quiet effect ≡ true →
-            GoesToMark (after_event y.program w (Step n)) most
+            GoesToMark (after_event y.runs.program w (Step n)) most
         quiet_goes z is effect does quiet =
             let does_it = ap (λ (x : Action). effect_of x seen_now) is ∙ does in
             let mark = quietly_mark y s w h stands below core marks found.0 found.1 effect does_it quiet in
@@ -299,7 +300,7 @@ module _ (y : System) (s : IsSystem y) (h : ℕ) (below : h < thread_count y) wh
             found.0 found.1)))
             mark
 
-        by_action : (z : Action) → found.0.action ≡ z → GoesToMark (after_event y.program w (Step n)) most
+        by_action : (z : Action) → found.0.action ≡ z → GoesToMark (after_event y.runs.program w (Step n)) most
         by_action (Eval (e.ToLocal local kind) value next) is = quiet_goes _ is _ refl refl
         by_action (Eval (e.ToVariable place variable kind) value next) is = quiet_goes _ is _ refl refl
         by_action (Eval (e.ToElement place variable kind index) value next) is = quiet_goes _ is _ refl refl
@@ -342,16 +343,17 @@ module _ (y : System) (s : IsSystem y) (h : ℕ) (below : h < thread_count y) wh
         abbrev it : IsLockOf y.plan code.thread graph_thread.at mutex next
         it = lock y s w h stands below held mutex next o zero_left exit_is
 
-        takes : slice_get w.holders mutex ≡ Some None → GoesToMark (after_event y.program w (Step n)) most
+        takes : slice_get w.holders mutex ≡ Some None → GoesToMark (after_event y.runs.program w (Step n)) most
         takes is_free =
-            let take = locks_take calls_count y.plan code.thread y.program code.program code.is w n z graph_thread.at mutex next seen_now o.bank [] placed_here
+            let take = locks_take calls_count y.plan code.thread y.runs.program code.program code.is w n z graph_thread.at mutex next seen_now
+            o.bank [] placed_here
             (bare_reads y s w h below) (fragment y s w h stands below held (Asks mutex next) o zero_left exit_is) is_free in
             let registers = (fragment y s w h stands below held (Asks mutex next) o zero_left exit_is).registers in
             let some = take.on in
             let short = some.short in
             let few = few_cleans (keeping y.plan code.thread c next) (1 - o.bank) (c.after graph_thread.at) registers in
             let queue : length some.on.on.hart.queue ≤ 16 =
-            queues_stay_short y.program w (Step n) stands.before_commit.short n some.on.on.hart some.on.on.here in
+            queues_stay_short y.runs.program w (Step n) stands.before_commit.short n some.on.on.hart some.on.on.here in
             let there = own_node next some.on.own in
             let fit = fits_by graph_thread.at it.is it.own it.at next there.0 some.on.own there.1 (Lock mutex next) it.locks
             (zero, omega arith, refl) (λ e. cc) in
@@ -362,16 +364,17 @@ module _ (y : System) (s : IsSystem y) (h : ℕ) (below : h < thread_count y) wh
               leg = record { stage = _; steps = some.steps; effects = _; fragment = some.on; soon = omega (arith, short, few, queue, fit) };
             }
 
-        waits : (holder : ℕ) → slice_get w.holders mutex ≡ Some (Some holder) → GoesToMark (after_event y.program w (Step n)) most
+        waits : (holder : ℕ) → slice_get w.holders mutex ≡ Some (Some holder) → GoesToMark (after_event y.runs.program w (Step n)) most
         waits holder has =
-            none_passed ((locks_wait calls_count y.plan code.thread y.program code.program code.is w n z graph_thread.at mutex next seen_now o.bank [] holder
-            (fragment y s w h stands below held (Asks mutex next) o zero_left exit_is) has).1 y.marks)
+            none_passed
+            ((locks_wait calls_count y.plan code.thread y.runs.program code.program code.is w n z graph_thread.at mutex next seen_now o.bank [] holder
+            (fragment y s w h stands below held (Asks mutex next) o zero_left exit_is) has).1 y.runs.marks)
 
-        by_holder : (x : Option ℕ) → slice_get w.holders mutex ≡ Some x → GoesToMark (after_event y.program w (Step n)) most
+        by_holder : (x : Option ℕ) → slice_get w.holders mutex ≡ Some x → GoesToMark (after_event y.runs.program w (Step n)) most
         by_holder None is_free = takes is_free
         by_holder (Some holder) has = waits holder has
 
-        asks_goes : GoesToMark (after_event y.program w (Step n)) most
+        asks_goes : GoesToMark (after_event y.runs.program w (Step n)) most
         asks_goes = elim (get_cases w.holders mutex) [
           | inl missing ↦
               let long = no_more w.holders mutex missing in
@@ -382,21 +385,21 @@ module _ (y : System) (s : IsSystem y) (h : ℕ) (below : h < thread_count y) wh
         ]
 
       by_call : (exit : ExitPoint) (o : OnFragmentNow y s w h stands below) → o.steps ≡ 0 → moving.IsCalling y s w h stands below exit → o.exit ≡ exit →
-          GoesToMark (after_event y.program w (Step n)) most
+          GoesToMark (after_event y.runs.program w (Step n)) most
       by_call _ o zero_left (moving.asks mutex next) exit_is = asks_goes mutex next o zero_left exit_is
       by_call _ o zero_left (moving.gives from mutex) exit_is =
           none_passed
-          ((unlocks_give calls_count y.plan code.thread y.program code.program code.is w n z from mutex graph_thread.at seen_now o.bank [] placed_here
+          ((unlocks_give calls_count y.plan code.thread y.runs.program code.program code.is w n z from mutex graph_thread.at seen_now o.bank [] placed_here
           (fragment y s w h stands below held (Gives from mutex) o zero_left exit_is) (owns y s w h stands below held from mutex o zero_left exit_is)).no_mark
-          y.marks
+          y.runs.marks
           (marks_are z (bare_meets y s w h below)))
       by_call _ o zero_left moving.ends exit_is =
-          none_passed ((ends_end calls_count y.plan code.thread y.program code.program code.is w n z graph_thread.at seen_now o.bank []
+          none_passed ((ends_end calls_count y.plan code.thread y.runs.program code.program code.is w n z graph_thread.at seen_now o.bank []
           (fragment y s w h stands below held Ends o zero_left exit_is) (none_from n 0 w.holders (none_here y s w h stands below held o zero_left exit_is))).1
-          y.marks
+          y.runs.marks
           (marks_are z (bare_meets y s w h below)))
 
-      pub begins_anew : moving.IsReadyToStep y s w h stands below → GoesToMark (after_event y.program w (Step n)) most
+      pub begins_anew : moving.IsReadyToStep y s w h stands below → GoesToMark (after_event y.runs.program w (Step n)) most
       begins_anew (moving.on_fragment o steps is) = on_fragment o steps is
       begins_anew (moving.calls o zero_left calling) = by_call o.exit o zero_left calling refl
       begins_anew (moving.at_core core free) = by_action core free (found core free).0.action refl

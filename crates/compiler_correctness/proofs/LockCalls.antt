@@ -31,23 +31,23 @@ no_pass : (around : _) (m to : LocalConfig) (instr : Instr) → instr ≡ Ecall 
 unfolding row
 no_pass around m to instr is does = none-some to (sym (ap (λ (x : Instr). passed around m (row x m.registers m.pc)) is) ∙ does)
 
-no_call : (y : System) (w : World) (h number : ℕ) → RunsOn y w h → IsAtCall y.program w h number → ⊥
+no_call : (y : System) (w : World) (h number : ℕ) → RunsOn y w h → IsAtCall y.runs.program w h number → ⊥
 no_call y w h number r a =
     let on = r.run.on in
     let same : on.hart ≡ a.hart = same_there (slice_get w.harts h) on.hart a.hart on.here a.here in
     let passes = on.walks.3 in
-    let fetched : instr_at y.program h on.hart.pc ≡ Some passes.instr = r.agrees.fetches on.hart.pc passes.instr passes.stands in
-    let calls : instr_at y.program h on.hart.pc ≡ Some Ecall = ap (λ (x : Hart). instr_at y.program h x.pc) same ∙ a.calls in
+    let fetched : instr_at y.runs.program h on.hart.pc ≡ Some passes.instr = r.agrees.fetches on.hart.pc passes.instr passes.stands in
+    let calls : instr_at y.runs.program h on.hart.pc ≡ Some Ecall = ap (λ (x : Hart). instr_at y.runs.program h x.pc) same ∙ a.calls in
     no_pass r.run.environment.around (config on.hart.registers on.hart.pc) on.walks.0 passes.instr
     (same_Some passes.instr Ecall (sym fetched ∙ calls)) passes.does
 
 -- the thread stands at the lock, and has all that the hart holds
-pub record TakesAs (y : System) (w : World) (b : AbstractRun y) (h : ℕ) (a : IsAtCall y.program w h 1) : Type 0 where
+pub record TakesAs (y : System) (w : World) (b : AbstractRun y) (h : ℕ) (a : IsAtCall y.runs.program w h 1) : Type 0 where
   pub locks_it : locks (now b.config) h ≡ Some (lock_asked a.hart)
   pub holds_only : (lock : ℕ) → slice_get w.holders lock ≡ Some (Some h) → slice_get (now_of y b).holders lock ≡ Some (Some h)
 
 abbrev Takes : (y : System) → World → AbstractRun y → (h : ℕ) → Type 0
-Takes y w b h = (a : IsAtCall y.program w h 1) → TakesAs y w b h a
+Takes y w b h = (a : IsAtCall y.runs.program w h 1) → TakesAs y w b h a
 
 module _ (y : System) (s : IsSystem y) (w : World) (h : ℕ) (stands : Simulates y s w) (below : h < thread_count y)
     (held : AreHeld w stands.before_commit.ghosts (now_of y stands.before_commit.abstract)) where
@@ -68,7 +68,8 @@ module _ (y : System) (s : IsSystem y) (w : World) (h : ℕ) (stands : Simulates
 
   -- ---- At the end of a fragment
 
-  module _ (exit : ExitPoint) (o : OnFragmentNow y s w h stands below) (zero_left : o.steps ≡ 0) (exit_is : o.exit ≡ exit) (a : IsAtCall y.program w n 1) where
+  module _ (exit : ExitPoint) (o : OnFragmentNow y s w h stands below) (zero_left : o.steps ≡ 0) (exit_is : o.exit ≡ exit)
+      (a : IsAtCall y.runs.program w n 1) where
     registers_are : a.hart.registers ≡ (fragment y s w h stands below held exit o zero_left exit_is).registers
     registers_are =
         let there = fragment y s w h stands below held exit o zero_left exit_is in

@@ -29,7 +29,7 @@ use Rattle.compiler_correctness.proofs.RunOrCall.{IsWhere, on_run, at_call, is_w
 
 -- the hart's next step isn't stuck
 abbrev pub IsFree : (y : System) → World → (h : ℕ) → Type 0
-IsFree y w h = (cause : Cause) → reply_to y.program w (Step h) ≢ Stuck cause
+IsFree y w h = (cause : Cause) → reply_to y.runs.program w (Step h) ≢ Stuck cause
 
 module _ (none : NoneIsStuck) (y : System) (s : IsSystem y) (w : World) (h : ℕ) (stands : Simulates y s w) (below : h < thread_count y) where
   abbrev b : AbstractRun y
@@ -63,18 +63,18 @@ module _ (none : NoneIsStuck) (y : System) (s : IsSystem y) (w : World) (h : ℕ
           let within = mutex_there y s b code graph_thread thread.walks mutex next (lock y s w h stands below held mutex next o zero_left exit_is) in
           absurd (omega (arith, long, count, within))
       | inr found ↦
-          locks_are_well none y.plan code.thread y.program code.program code.is w n (bare y s w h below) graph_thread.at mutex next seen o.bank _ found.0
+          locks_are_well none y.plan code.thread y.runs.program code.program code.is w n (bare y s w h below) graph_thread.at mutex next seen o.bank _ found.0
           (fragment y s w h stands below held (Asks mutex next) o zero_left exit_is) found.1
     ]
     by_call _ o zero_left (moving.gives from mutex) exit_is =
-        unlocks_are_well none y.plan code.thread y.program code.program code.is w n (bare y s w h below) from mutex graph_thread.at seen o.bank _
+        unlocks_are_well none y.plan code.thread y.runs.program code.program code.is w n (bare y s w h below) from mutex graph_thread.at seen o.bank _
         (fragment y s w h stands below held (Gives from mutex) o zero_left exit_is) (owns y s w h stands below held from mutex o zero_left exit_is)
     by_call _ o zero_left moving.ends exit_is =
-        ends_are_well none y.plan code.thread y.program code.program code.is w n (bare y s w h below) graph_thread.at seen o.bank _
+        ends_are_well none y.plan code.thread y.runs.program code.program code.is w n (bare y s w h below) graph_thread.at seen o.bank _
         (fragment y s w h stands below held Ends o zero_left exit_is) (none_from n 0 w.holders (none_here y s w h stands below held o zero_left exit_is))
 
   where_free : IsInPhase w h Run → IsWhere y s w h stands below → IsFree y w n
-  where_free i (on_run r) = none y.program w n (IsWell.on_run r.run r.agrees)
+  where_free i (on_run r) = none y.runs.program w n (IsWell.on_run r.run r.agrees)
   where_free i (at_call o zero_left calling) =
       by_call (runs_held y s w b stands.before_commit.ghosts h stands.before_commit.sound i stands.before_commit.locks).1 o.exit o zero_left calling refl
 
@@ -96,15 +96,15 @@ by_phase none marks y s w h stands hart there Run is =
     let i : IsInPhase w h Run = record { hart = hart; here = there; phase_is = is } in
     let r = runs_ready y s w h stands i in
     runs_free none y s w h r.stands r.below marks i r.ready
-by_phase none marks y s w h stands hart there Take is = none y.program w h (apart Take refl (record { hart = hart; here = there; phase_is = is }))
-by_phase none marks y s w h stands hart there Wait is = none y.program w h (apart Wait refl (record { hart = hart; here = there; phase_is = is }))
-by_phase none marks y s w h stands hart there Resume is = none y.program w h (apart Resume refl (record { hart = hart; here = there; phase_is = is }))
-by_phase none marks y s w h stands hart there Done is = none y.program w h (apart Done refl (record { hart = hart; here = there; phase_is = is }))
-by_phase none marks y s w h stands hart there Ended is = none y.program w h (apart Ended refl (record { hart = hart; here = there; phase_is = is }))
+by_phase none marks y s w h stands hart there Take is = none y.runs.program w h (apart Take refl (record { hart = hart; here = there; phase_is = is }))
+by_phase none marks y s w h stands hart there Wait is = none y.runs.program w h (apart Wait refl (record { hart = hart; here = there; phase_is = is }))
+by_phase none marks y s w h stands hart there Resume is = none y.runs.program w h (apart Resume refl (record { hart = hart; here = there; phase_is = is }))
+by_phase none marks y s w h stands hart there Done is = none y.runs.program w h (apart Done refl (record { hart = hart; here = there; phase_is = is }))
+by_phase none marks y s w h stands hart there Ended is = none y.runs.program w h (apart Ended refl (record { hart = hart; here = there; phase_is = is }))
 
 each_free : NoneIsStuck → MarksPass → (y : System) (s : IsSystem y) (w : World) (h : ℕ) → Simulates y s w → IsFree y w h
 each_free none marks y s w h stands = elim (get_cases w.harts h) [
-  | inl missing ↦ λ cause is. not_still cause (sym (none_there y.program w h missing) ∙ is)
+  | inl missing ↦ λ cause is. not_still cause (sym (none_there y.runs.program w h missing) ∙ is)
   | inr found ↦ by_phase none marks y s w h stands found.0 found.1 found.0.phase refl
 ]
 

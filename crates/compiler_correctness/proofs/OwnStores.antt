@@ -20,14 +20,14 @@ use Rattle.crash_simulation.specs.InstructionSteps.{MayStore, OwnStep, Fragments
 use Rattle.crash_simulation.proofs.Public.{calls_step, runs_ready}
 
 -- a hart that isn't there stays away
-pub none_there : (y : System) (w : World) (g : ℕ) → slice_get w.harts g ≡ None → after_event y.program w (Step g) ≡ w
+pub none_there : (y : System) (w : World) (g : ℕ) → slice_get w.harts g ≡ None → after_event y.runs.program w (Step g) ≡ w
 unfolding happens
-none_there y w g missing = ap (λ (o : Option Hart). (stepped y.program w g o).0) missing
+none_there y w g missing = ap (λ (o : Option Hart). (stepped y.runs.program w g o).0) missing
 
 pub stands_along : EventsStand → (y : System) (s : IsSystem y) (events : List Event) (w : World) → Simulates y s w →
-    Simulates y s (after_events y.program w events)
+    Simulates y s (after_events y.runs.program w events)
 stands_along stand y s [] w stands = stands
-stands_along stand y s (event ∷ events) w stands = stands_along stand y s events (after_event y.program w event) (stand y s w event stands)
+stands_along stand y s (event ∷ events) w stands = stands_along stand y s events (after_event y.runs.program w event) (stand y s w event stands)
 
 is_run : (phase : Phase) → is_running phase ≡ true → phase ≡ Run
 is_run Run e = refl
@@ -44,7 +44,7 @@ module _ (fragments_step : FragmentsStep) (cores_step : CoresStep) (y : System) 
   own_step stands there i (moving.at_core core free) = cores_step y s w g stands there i core free
 
   -- a hart stores what its thread may
-  pub stores_own : (stands : Simulates y s w) (hart : Hart) (effect : Effect) → IsNext y.program w g hart effect →
+  pub stores_own : (stands : Simulates y s w) (hart : Hart) (effect : Effect) → IsNext y.runs.program w g hart effect →
       MayStore y stands.before_commit.abstract g effect
   stores_own stands hart effect is =
       let i : IsInPhase w g Run = record { hart = hart; here = is.here; phase_is = is_run hart.phase is.runs } in

@@ -4,6 +4,7 @@ use Rattle.std.proofs.Common.{ap, ap₂, arith, sym, ◌∙◌, subst, Some}
 use Rattle.std.specs.Prelude.{slice_get}
 use Rattle.std.proofs.lemmas.Bool.{true≢false, cases_lt}
 use Rattle.std.proofs.lemmas.List.{get_or-map, get_or_past, length-map, length-drop, get_or_append_left}
+use Rattle.ido_base.specs.declared.limits.TheConstants.{LOG_WORDS, MOST_VARIABLE_BYTES, VARIABLE_WORDS}
 use Rattle.ido_base.specs.declared.event.Event.{Event}
 use Rattle.ido_base.specs.declared.event.Event.TheVariants.{Step, Evict, Crash}
 use Rattle.ido_base.specs.Words.{Word, Entry, word_of, word_at, durable_value, last_position}
@@ -15,13 +16,14 @@ use Rattle.c_tree.specs.WellFormed.{elements_in, shape_of}
 use Rattle.memory_layout.specs.Variables.{HaveRoom}
 use Rattle.variable_words.proofs.Public.{some_bytes, well_formed_placed, within_end, next_element, number_is, steps_work}
 use Rattle.variable_words.specs.MemoryEffects.{IsWork, Rests, Queues, WritesBack, Makes}
+use Rattle.rv64_isa.specs.Executables.{first_world}
 use Rattle.rv64_isa.specs.Rows.{Effect, Stores}
 use Rattle.rv64_isa.specs.Machine.{Hart, World, after_event, after_events, happens, start_of}
 use Rattle.flow_graph.proofs.Public.{get_cases}
 use Rattle.log_states.specs.Stages.{is_store}
 use Rattle.log_states.proofs.Public.{address_of, word_of_point}
 use Rattle.hart_runs.proofs.Public.{crashes_step}
-use Rattle.crash_simulation.specs.Systems.{System, IsSystem, flat_of, shapes_of, start_world}
+use Rattle.crash_simulation.specs.Systems.{System, IsSystem, flat_of, shapes_of}
 use Rattle.crash_simulation.specs.AbstractRuns.{AbstractRun}
 use Rattle.crash_simulation.specs.SimulationRelation.{Simulates}
 use Rattle.crash_simulation.specs.Laws.{EventsStand}
@@ -57,13 +59,15 @@ length-words : (bytes : List ℕ) (count : ℕ) → length (words_of_bytes bytes
 length-words bytes zero = refl
 length-words bytes (suc count) = let more = length-words (drop 8 bytes) count in omega (arith, more)
 
-initial_zero : (threads : ℕ) (bytes : List ℕ) (j : ℕ) → length bytes ≤ 8 * j → j < 8192 → get_or (initial_words threads bytes) j 0 ≡ 0
+initial_zero : (threads : ℕ) (bytes : List ℕ) (j : ℕ) → length bytes ≤ 8 * j → j < VARIABLE_WORDS → get_or (initial_words threads bytes) j 0 ≡ 0
 unfolding initial_words
 initial_zero threads bytes j after below =
-    let many = length-words bytes 8192 in
-    get_or_append_left (words_of_bytes bytes 8192) (replicate (128 * threads) 0) 0 j (omega (arith, many, below)) ∙ zero_after bytes 8192 j after
+    let many = length-words bytes VARIABLE_WORDS in
+    get_or_append_left (words_of_bytes bytes VARIABLE_WORDS) (replicate (LOG_WORDS * threads) 0) 0 j (omega (arith, many, below))
+    ∙ zero_after bytes VARIABLE_WORDS j after
 
-word_zero : (threads : ℕ) (bytes : List ℕ) (j : ℕ) → length bytes ≤ 8 * j → j < 8192 → word_at (map word_of (initial_words threads bytes)) j ≡ word_of 0
+word_zero : (threads : ℕ) (bytes : List ℕ) (j : ℕ) → length bytes ≤ 8 * j → j < VARIABLE_WORDS →
+    word_at (map word_of (initial_words threads bytes)) j ≡ word_of 0
 word_zero threads bytes j after below = elim (cases_lt j (length (initial_words threads bytes))) [
   | inl inside ↦
       get_or-map word_of (initial_words threads bytes) j 0 (word_of 0) inside ∙ ap word_of (initial_zero threads bytes j after below)
@@ -75,19 +79,19 @@ module _ (y : System) (s : IsSystem y) where
   room = (well_formed_placed (flat_of y) s.plan.formed).room
 
   -- the initial bytes are whole words, and hold all variables
-  pub whole_words : 8 * (length y.initial / 8) ≡ length y.initial
+  pub whole_words : 8 * (length y.runs.initial / 8) ≡ length y.runs.initial
   whole_words = let size = s.initial.size in omega (arith, size)
 
-  pub holds_variables : end_from 0 (shapes_of y) ≤ length y.initial
+  pub holds_variables : end_from 0 (shapes_of y) ≤ length y.runs.initial
   holds_variables = let size = s.initial.size in omega (arith, size)
 
-  pub holds_no_more : length y.initial ≤ 65536
+  pub holds_no_more : length y.runs.initial ≤ MOST_VARIABLE_BYTES
   holds_no_more = let size = s.initial.size in let most = room in omega (arith, size, most)
 
   -- ---- What a hart stores
 
   module _ (fragments_step : FragmentsStep) (cores_step : CoresStep) where
-    module _ (j : ℕ) (from : length y.initial / 8 ≤ j) (below : j < 8192) where
+    module _ (j : ℕ) (from : length y.runs.initial / 8 ≤ j) (below : j < VARIABLE_WORDS) where
       -- a hart stores to the variables and to logs alone
       elsewhere : (b : AbstractRun y) (g address bytes value : ℕ) (effect : Effect) → effect ≡ Stores address bytes value → MayStore y b g effect →
           j ≢ byte_number address / 8
@@ -112,7 +116,7 @@ module _ (y : System) (s : IsSystem y) where
       -- ---- At each event
 
       worked : (w : World) (g : ℕ) (hart : Hart) (queue : List Entry) → Simulates y s w → slice_get w.harts g ≡ Some hart →
-          IsWork y.program w g (after_event y.program w (Step g)).words hart.queue queue → IsZero w → IsZero (after_event y.program w (Step g))
+          IsWork y.runs.program w g (after_event y.runs.program w (Step g)).words hart.queue queue → IsZero w → IsZero (after_event y.runs.program w (Step g))
       worked w g hart queue stands here (Rests same q) z = ap (λ (ws : List Word). word_at ws j) same ∙ z
       worked w g hart queue stands here (Queues line same q) z = ap (λ (ws : List Word). word_at ws j) same ∙ z
       worked w g hart queue stands here (WritesBack e is q) z =
@@ -121,32 +125,32 @@ module _ (y : System) (s : IsSystem y) where
       worked w g hart queue stands here (Makes address bytes value st is q) z =
           let may =
           stores_own fragments_step cores_step y s w g stands st.executes.hart (Stores address bytes value)
-          (next_store y.program w g address bytes value st) in
+          (next_store y.runs.program w g address bytes value st) in
           ap (λ (ws : List Word). word_at ws j) is
           ∙ (word_other w.words (byte_number address / 8) j _
           (elsewhere stands.before_commit.abstract g address bytes value (Stores address bytes value) refl may) ∙ z)
 
-      stays_zero : (w : World) (event : Event) → Simulates y s w → IsZero w → IsZero (after_event y.program w event)
+      stays_zero : (w : World) (event : Event) → Simulates y s w → IsZero w → IsZero (after_event y.runs.program w event)
       unfolding happens
       stays_zero w (Step g) stands z = elim (get_cases w.harts g) [
         | inl missing ↦ ap (λ (v : World). word_at v.words j) (none_there y w g missing) ∙ z
         | inr there ↦
-            let does = steps_work y.program w g there.0 there.1 in
+            let does = steps_work y.runs.program w g there.0 there.1 in
             worked w g there.0 does.after.queue stands there.1 does.work z
       ]
       stays_zero w (Evict line mask) stands z = are_persisted_zero w.words _ j (evictions_raise w.words line mask) z
-      stays_zero w Crash stands z = (crashes_step y.program w).words j ∙ ap (λ (u : Word). word_of (durable_value u)) z
+      stays_zero w Crash stands z = (crashes_step y.runs.program w).words j ∙ ap (λ (u : Word). word_of (durable_value u)) z
 
-      zero_along : EventsStand → (events : List Event) (w : World) → Simulates y s w → IsZero w → IsZero (after_events y.program w events)
+      zero_along : EventsStand → (events : List Event) (w : World) → Simulates y s w → IsZero w → IsZero (after_events y.runs.program w events)
       zero_along stand [] w stands z = z
       zero_along stand (event ∷ events) w stands z =
-          zero_along stand events (after_event y.program w event) (stand y s w event stands) (stays_zero w event stands z)
+          zero_along stand events (after_event y.runs.program w event) (stand y s w event stands) (stays_zero w event stands z)
 
-      zero_first : IsZero (start_world y)
+      zero_first : IsZero (first_world y.runs)
       unfolding start_of
-      zero_first = let whole = whole_words in word_zero (length y.program) y.initial j (omega (arith, whole, from)) below
+      zero_first = let whole = whole_words in word_zero (length y.runs.program) y.runs.initial j (omega (arith, whole, from)) below
 
 pub words_between_stay : EventsStand → FragmentsStep → CoresStep → WordsBetweenStay
 words_between_stay stand fragments_step cores_step y s events word from below =
-    zero_along y s fragments_step cores_step word from below stand events (start_world y) (start_simulates y s)
+    zero_along y s fragments_step cores_step word from below stand events (first_world y.runs) (start_simulates y s)
     (zero_first y s fragments_step cores_step word from below)

@@ -99,22 +99,22 @@ module _ (y : System) (s : IsSystem y) (w : World) (stands : Simulates y s w) (n
 
   -- ---- Points name addresses at which recovery may resume
 
-  resumes_are : code.program.resumes ≡ slice_index_or y.resumes n []
+  resumes_are : code.program.resumes ≡ slice_index_or y.runs.resumes n []
   resumes_are =
-      ap (λ (program : Program). program.resumes) (s.own n below).program ∙ ap (λ (k : ℕ). slice_index_or y.resumes k []) (s.codes.number n below)
+      ap (λ (program : Program). program.resumes) (s.own n below).program ∙ ap (λ (k : ℕ). slice_index_or y.runs.resumes k []) (s.codes.number n below)
 
   Names : ℕ → Type 0
-  Names point = point ≢ 0 → Contains (slice_index_or y.resumes n []) (resume_of point)
+  Names point = point ≢ 0 → Contains (slice_index_or y.runs.resumes n []) (resume_of point)
 
   names : (state : FlowState) (r : Record) → Describes y.plan code state r → Names r.point
   unfolding Names
   names state r describes some =
       subst (λ (addresses : List ℕ). Contains addresses (resume_of r.point)) resumes_are (points_name y.plan code state r describes some)
 
-  pub live_names : live_at w.words (point_at n) ≢ 0 → Contains (slice_index_or y.resumes n []) (resume_of (live_at w.words (point_at n)))
+  pub live_names : live_at w.words (point_at n) ≢ 0 → Contains (slice_index_or y.runs.resumes n []) (resume_of (live_at w.words (point_at n)))
   unfolding Names
   live_names = of_live Names (names kept) (names present)
 
-  pub durable_names : durable_point w.words n ≢ 0 → Contains (slice_index_or y.resumes n []) (resume_of (durable_point w.words n))
+  pub durable_names : durable_point w.words n ≢ 0 → Contains (slice_index_or y.runs.resumes n []) (resume_of (durable_point w.words n))
   unfolding Names
   durable_names = of_durable Names (names kept) (names present)

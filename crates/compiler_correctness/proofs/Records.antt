@@ -1,5 +1,5 @@
 -- The records of threads are the locks that they hold after the kept steps.
-use Rattle.std.proofs.Common.{◌≡◌, ◌≢◌, ◌⊎◌, inl, inr, ◌↔◌, ℕ, ◌<◌, List, length, ap, arith, sym, ◌∙◌, subst, true, false, Option, Some, None}
+use Rattle.std.proofs.Common.{◌≡◌, ◌≢◌, ◌⊎◌, inl, inr, ◌↔◌, ℕ, ◌<◌, List, ◌++◌, length, ap, ap₂, arith, sym, ◌∙◌, subst, true, false, Option, Some}
 use Rattle.std.specs.Prelude.{slice_get}
 use Rattle.std.proofs.lemmas.Bool.{cases_Bool}
 use Rattle.std.proofs.lemmas.Option.{slice_get_within}
@@ -11,6 +11,7 @@ use Rattle.rv64_isa.specs.declared.phase.Phase.{Phase}
 use Rattle.rv64_isa.specs.declared.phase.Phase.TheVariants.{Take}
 use Rattle.rv64_isa.specs.Machine.{Hart, World, reply_to, record_of}
 use Rattle.recovery_semantics.specs.Configs.{now}
+use Rattle.recovery_semantics.specs.Laws.{LastUnlocks}
 use Rattle.rv64_isa.specs.Schedule.{Steps}
 use Rattle.source_machine.specs.Mutexes.{locks}
 use Rattle.thread_runs.specs.Laws.{MarksPass}
@@ -18,13 +19,13 @@ use Rattle.recovered_threads.specs.RecoveryStates.{Gathers, HasGathered}
 use Rattle.recovered_threads.specs.RecordDescriptions.{locks_of}
 use Rattle.recovered_threads.specs.Laws.{AreRecordsApart}
 use Rattle.recovered_threads.proofs.Public.{logs_have_locks, takes_never_wait, locks_are_held, records_are_apart}
-use Rattle.crash_simulation.specs.Systems.{System, IsSystem, thread_count}
+use Rattle.crash_simulation.specs.Systems.{System, IsSystem, flat_of, thread_count}
 use Rattle.crash_simulation.specs.AbstractRuns.{AbstractRun, kept_of, now_of}
 use Rattle.crash_simulation.specs.SimulationRelation.{IsGiving, AreHeld, AreLocked, gathering, gathered, records_of, Simulates}
 use Rattle.crash_simulation.specs.AccountRelation.{SimulatesCounted, MachinesResume}
-use Rattle.crash_simulation.proofs.Public.{orderly, all_describe, left, left_describes, log_of}
+use Rattle.crash_simulation.proofs.Public.{orderly, all_describe, left, left_describes, log_of, unlocked_last}
 use Rattle.compiler_correctness.specs.Translations.{source}
-use Rattle.compiler_correctness.specs.Compilation.{ThreadHolds, HoldsAsThread, IsOn}
+use Rattle.compiler_correctness.specs.Compilation.{ThreadHolds, HasJustUnlocked, HoldsAsThread, IsOn}
 use Rattle.compiler_correctness.specs.Laws.{translation_of, MachinesRecord}
 use Rattle.compiler_correctness.proofs.SettledMachines.{kept_runs}
 use Rattle.compiler_correctness.proofs.AbstractRunAccount.{as_source, now_runs, now_is, kept_holders}
@@ -63,12 +64,12 @@ module _ (y : System) (s : IsSystem y) (w : World) (stands : Simulates y s w) wh
   -- ---- Recovery
 
   module _ (h : ℕ) (hart : Hart) (there : slice_get w.harts h ≡ Some hart) where
-    takes_by : hart.phase ≡ Take → AreLocked y w b stands.before_commit.ghosts → reply_to y.program w (Step h) ≡ Moved
+    takes_by : hart.phase ≡ Take → AreLocked y w b stands.before_commit.ghosts → reply_to y.runs.program w (Step h) ≡ Moved
     takes_by is (gathering none gathers) =
         let records = records_of stands.before_commit.ghosts in
         let apart : AreRecordsApart (length w.harts) records = subst (λ (n : ℕ). AreRecordsApart n records) (sym stands.before_commit.count)
         (records_are_apart y.plan s.codes (kept_of y b) records s.plan (orderly y s b) (all_describe y s w h stands none gathers)) in
-        (takes_never_wait y.program w records h gathers apart (record { hart = hart; here = there; phase_is = is })).0
+        (takes_never_wait y.runs.program w records h gathers apart (record { hart = hart; here = there; phase_is = is })).0
     takes_by is (gathered ag held) = absurd (subst (λ (p : Phase). HasGathered w h (records_of stands.before_commit.ghosts h) p) is (ag.each h hart there))
 
     -- ---- Locks of a hart that executes instructions
@@ -96,22 +97,40 @@ module _ (y : System) (s : IsSystem y) (w : World) (steps : Steps) (resumes : Si
     holders : (now_of y stands.before_commit.abstract).holders ≡ (source (translation_of y) schedule).holders
     holders = (as_source y s stands.before_commit.abstract).now_matches.holders ∙ ap (λ (z : m.State). z.holders) (sym is)
 
-    free_or_held : (lock : ℕ) →
+    -- what the thread has still to give back its last step of that schedule has unlocked
+    abbrev IsLastUnlocked : Type 0
+    IsLastUnlocked = (mutex : ℕ) → (stands.before_commit.ghosts h).giving ≡ Some mutex → LastUnlocks (m.start (flat_of y)) schedule h mutex
+
+    held_or_unlocked : IsLastUnlocked → (lock : ℕ) →
         (slice_get (now_of y stands.before_commit.abstract).holders lock ≡ Some (Some h))
         ⊎ IsGiving stands.before_commit.ghosts (now_of y stands.before_commit.abstract) lock h →
-        ThreadHolds (source (translation_of y) schedule) h lock ⊎ (slice_get (source (translation_of y) schedule).holders lock ≡ Some None)
-    free_or_held lock (inl has) = inl (ap (λ (hs : List (Option ℕ)). slice_get hs lock) (sym holders) ∙ has)
-    free_or_held lock (inr gives) = inr (ap (λ (hs : List (Option ℕ)). slice_get hs lock) (sym holders) ∙ gives.free)
+        ThreadHolds (source (translation_of y) schedule) h lock ⊎ HasJustUnlocked (translation_of y) schedule h lock
+    held_or_unlocked last lock (inl has) = inl (ap (λ (hs : List (Option ℕ)). slice_get hs lock) (sym holders) ∙ has)
+    held_or_unlocked last lock (inr gives) = inr (record {
+      last = last lock gives.gives;
+      free = ap (λ (hs : List (Option ℕ)). slice_get hs lock) (sym holders) ∙ gives.free;
+    })
 
-    pub agree : MarksPass → IsOn hart → HoldsAsThread (translation_of y) w schedule h
-    agree marks on =
+    pub agree : MarksPass → IsLastUnlocked → IsOn hart → HoldsAsThread (translation_of y) w schedule h
+    agree marks last on =
         let held = are_held y s w stands h hart there on in
         record {
           held = λ lock has. held.holds lock h (ap (λ (hs : List (Option ℕ)). slice_get hs lock) holders ∙ has);
-          holds = λ lock has. free_or_held lock (held.held lock h has);
+          holds = λ lock has. held_or_unlocked last lock (held.held lock h has);
           taking = λ a. ap (λ (z : m.State). locks z h) is ∙ (takes_as marks y s w h stands a).locks_it;
           holds_only = λ a lock has. ap (λ (hs : List (Option ℕ)). slice_get hs lock) (sym holders) ∙ (takes_as marks y s w h stands a).holds_only lock has;
         }
+
+  -- by the account's schedule
+  last_unlocked : (mutex : ℕ) → (stands.before_commit.ghosts h).giving ≡ Some mutex →
+      LastUnlocks (m.start (flat_of y)) (steps.kept ++ steps.pending) h mutex
+  last_unlocked mutex gives =
+      let b = stands.before_commit.abstract in
+      let code = s.codes.each h below in
+      let lists : b.schedule ++ b.config.uncommitted ≡ steps.kept ++ steps.pending = ap₂ ◌++◌ (sym resumes.counted.kept) (sym resumes.counted.pending) in
+      subst (λ (us : List ℕ). LastUnlocks (m.start (flat_of y)) us h mutex) lists
+      (subst (λ (n : ℕ). LastUnlocks (m.start (flat_of y)) (b.schedule ++ b.config.uncommitted) n mutex) (s.codes.number h below)
+      (unlocked_last y s w b code (stands.before_commit.ghosts h) (stands.before_commit.each h below) mutex gives))
 
   record_is : (lock : ℕ) → (has_lock (record_of w.words h) lock ≡ true) ↔ ThreadHolds (source (translation_of y) steps.kept) h lock
   record_is lock =
@@ -127,7 +146,7 @@ machines_record marks machines y s events =
       each = λ h hart there.
           let under = below y s _ _ resumes h hart there in
           record {
-            locks_agree = agree y s _ _ resumes h hart there _ (now_is y s _ _ resumes) marks;
+            locks_agree = agree y s _ _ resumes h hart there _ (now_is y s _ _ resumes) marks (last_unlocked y s _ _ resumes h hart there);
             record_is = record_is y s _ _ resumes h hart there;
             apart = λ g lock gb other. records_apart y s _ resumes.stands g h lock (omega (arith, gb, s.count)) under other;
             takes = λ is. takes_by y s _ resumes.stands h hart there is resumes.stands.before_commit.locks;

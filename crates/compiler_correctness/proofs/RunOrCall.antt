@@ -26,7 +26,7 @@ use Rattle.crash_simulation.proofs.Public.{local_node_steps_mark as quietly_mark
 -- hart h stands on a run, before its end
 pub record RunsOn (y : System) (w : World) (h : ℕ) : Type 0 where
   pub run : OnRun w h
-  pub agrees : Agrees y.program w h run.environment
+  pub agrees : Agrees y.runs.program w h run.environment
 
 module _ (y : System) (s : IsSystem y) (w : World) (h : ℕ) (stands : Simulates y s w) (below : h < thread_count y) where
   abbrev b : AbstractRun y
@@ -53,7 +53,7 @@ module _ (y : System) (s : IsSystem y) (w : World) (h : ℕ) (stands : Simulates
   -- in a fragment
   fragments : (o : OnFragmentNow y s w h stands below) (steps : ℕ) → o.steps ≡ suc steps → RunsOn y w n
   fragments o steps is =
-      let fragment = subst (λ (k : ℕ). IsOnFragment y.plan code.thread code.is.places (on_machine y.program w n o.environment)
+      let fragment = subst (λ (k : ℕ). IsOnFragment y.plan code.thread code.is.places (on_machine y.runs.program w n o.environment)
       (record { exit = o.exit; node = graph_thread.at; seen = seen; bank = o.bank }) k (ghost.cleans ++ ghost.rest)) is o.fragment in
       record { run = run_of y.plan code.thread code.is.places fragment; agrees = fragment.agrees }
 

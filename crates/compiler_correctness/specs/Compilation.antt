@@ -11,11 +11,13 @@ use Rattle.c_tree.specs.Source.{is_between}
 use Rattle.source_machine.specs.Mutexes.{locks}
 use Rattle.rv64_isa.specs.declared.phase.Phase.{Phase}
 use Rattle.rv64_isa.specs.declared.phase.Phase.TheVariants.{Take, Wait, Resume, Run, Done, Ended}
+use Rattle.rv64_isa.specs.Executables.{first_world}
 use Rattle.rv64_isa.specs.Machine.{World, Hart, reply_to, live_at, durable_point, resume_of, record_of}
 use Rattle.rv64_isa.specs.Schedule.{is_settled, released_count}
 use Rattle.hart_runs.specs.Calls.{IsAtCall, lock_asked}
+use Rattle.recovery_semantics.specs.Laws.{LastUnlocks}
 use Rattle.variable_words.specs.Variables.{live_variables, durable_variables}
-use Rattle.compiler_correctness.specs.Translations.{Translation, first_world, world, steps, now, source, IsRunnable, resumes_of}
+use Rattle.compiler_correctness.specs.Translations.{Translation, world, steps, now, source, IsRunnable, resumes_of}
 
 -- ---- Settled machines
 
@@ -44,7 +46,7 @@ abbrev pub sections_kept : Translation → List Event → (thread : ℕ) → ℕ
 sections_kept c events thread = m.ended_from (m.start c.flat) (steps c events).kept thread
 
 abbrev pub sections_released : Translation → List Event → (hart : ℕ) → ℕ
-sections_released c events hart = released_count c.program (first_world c) events hart
+sections_released c events hart = released_count c.runs.program (first_world c.runs) events hart
 
 -- each section that a hart has left is kept, and at most one more of its thread
 pub record AreSectionsKept (c : Translation) (events : List Event) : Type 0 where
@@ -60,13 +62,19 @@ ThreadHolds s thread mutex = slice_get s.holders mutex ≡ Some (Some thread)
 abbrev pub HartHolds : World → (hart lock : ℕ) → Type 0
 HartHolds w hart lock = slice_get w.holders lock ≡ Some (Some hart)
 
--- hart h holds what its thread holds after the schedule, and beside that no more than mutexes that are free then, as one is whose release is under way
+-- the thread's last step of the schedule has unlocked the mutex, which is free then
+pub record HasJustUnlocked (c : Translation) (schedule : List ℕ) (thread mutex : ℕ) : Type 0 where
+  pub last : LastUnlocks (m.start c.flat) schedule thread mutex
+  pub free : slice_get (source c schedule).holders mutex ≡ Some None
+
+-- hart h holds what its thread holds after the schedule, and beside that at most the mutex of an unlock that is the thread's last step, whose release is
+-- under way
 pub record HoldsAsThread (c : Translation) (w : World) (schedule : List ℕ) (h : ℕ) : Type 0 where
   pub held : (lock : ℕ) → ThreadHolds (source c schedule) h lock → HartHolds w h lock
-  pub holds : (lock : ℕ) → HartHolds w h lock → ThreadHolds (source c schedule) h lock ⊎ (slice_get (source c schedule).holders lock ≡ Some None)
+  pub holds : (lock : ℕ) → HartHolds w h lock → ThreadHolds (source c schedule) h lock ⊎ HasJustUnlocked c schedule h lock
   -- at a call that takes a lock or waits for it, its thread stands at that lock, and it holds nothing else than its thread does
-  pub taking : (a : IsAtCall c.program w h 1) → locks (source c schedule) h ≡ Some (lock_asked a.hart)
-  pub holds_only : IsAtCall c.program w h 1 → (lock : ℕ) → HartHolds w h lock → ThreadHolds (source c schedule) h lock
+  pub taking : (a : IsAtCall c.runs.program w h 1) → locks (source c schedule) h ≡ Some (lock_asked a.hart)
+  pub holds_only : IsAtCall c.runs.program w h 1 → (lock : ℕ) → HartHolds w h lock → ThreadHolds (source c schedule) h lock
 
 -- the hart executes instructions, or has ended
 abbrev pub IsOn : Hart → Type 0
@@ -94,10 +102,10 @@ pub record IsRecorded (c : Translation) (events : List Event) (h : ℕ) (hart : 
   -- the hart's record is the set that its thread holds by the kept schedule
   pub record_is : (lock : ℕ) → (has_lock (record_of (world c events).words h) lock ≡ true) ↔ ThreadHolds (source c (steps c events).kept) h lock
   -- the hart's record shares no lock with another's
-  pub apart : (g lock : ℕ) → g < length c.program → g ≢ h → has_lock (record_of (world c events).words h) lock ≡ true →
+  pub apart : (g lock : ℕ) → g < length c.runs.program → g ≢ h → has_lock (record_of (world c events).words h) lock ≡ true →
       has_lock (record_of (world c events).words g) lock ≡ false
   -- in recovery a hart takes its locks and never waits for one
-  pub takes : hart.phase ≡ Take → reply_to c.program (world c events) (Step h) ≡ Moved
+  pub takes : hart.phase ≡ Take → reply_to c.runs.program (world c events) (Step h) ≡ Moved
   -- the hart's points, the live and the durable one, name resume addresses
   pub live_point : NamesResume c h (live_at (world c events).words (point_at h))
   pub durable_point_names : NamesResume c h (durable_point (world c events).words h)
@@ -111,7 +119,7 @@ pub record AreRecords (c : Translation) (events : List Event) : Type 0 where
 -- ---- No hart is ever stuck
 
 abbrev pub NeverStuck : Translation → List Event → Type 0
-NeverStuck c events = (h : ℕ) (cause : Cause) → reply_to c.program (world c events) (Step h) ≢ Stuck cause
+NeverStuck c events = (h : ℕ) (cause : Cause) → reply_to c.runs.program (world c events) (Step h) ≢ Stuck cause
 
 -- ---- Whole sections
 

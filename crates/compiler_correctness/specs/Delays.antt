@@ -52,9 +52,9 @@ GetsOn c events more h = (begun_by (steps c events) h < begun_by (steps c (event
 
 -- the steps within which a hart begins a step more: twice the words of its code, and 18
 abbrev pub delay : Translation → (h : ℕ) → ℕ
-delay c h = 2 * length (code_of c.program h) + 18
+delay c h = 2 * length (code_of c.runs.program h) + 18
 
 -- delays are bounded whatever other harts do, and whatever is evicted, as long as power stays on
 abbrev pub AreDelaysBounded : Translation → List Event → Type 0
-AreDelaysBounded c events = (more : List Event) (h : ℕ) → HaveNoCrash more → delay c h ≤ active_steps c.program (world c events) more h →
+AreDelaysBounded c events = (more : List Event) (h : ℕ) → HaveNoCrash more → delay c h ≤ active_steps c.runs.program (world c events) more h →
     GetsOn c events more h

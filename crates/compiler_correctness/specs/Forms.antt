@@ -1,7 +1,10 @@
 -- The form of compiled code: the code of each thread is that of its nodes, one after another, and boundaries stand where the graph is cut.
-use Rattle.std.specs.Prelude.{◌≡◌, ◌↔◌, ℕ, ◌+◌, ◌-◌, ◌*◌, ◌<◌, ◌≤◌, List, [], length, slice_get, slice_index_or, Contains, Some, Bool, true, map}
+use Rattle.std.specs.Prelude.{◌≡◌, ◌↔◌, ℕ, ℤ, pos, ◌+◌, ◌-◌, ◌*◌, ◌<◌, ◌≤◌, List, [], ◌∷◌, ◌++◌, length, slice_get, slice_index, slice_index_or, Contains}
+use Rattle.std.specs.Prelude.{Some, Bool, true, map}
 use Rattle.std.specs.List.{list_any}
 use Rattle.std.specs.List.Sorted.{IsStrictlyIncreasing}
+use Rattle.ido_ints.specs.declared.kinds.Kind.{Kind}
+use Rattle.ido_ints.specs.TypedNumbers.{typed}
 use Rattle.c_tree.specs.Flats as f
 use Rattle.c_tree.specs.LockDiscipline.{Held}
 use Rattle.c_tree.specs.Prices.{thread_price}
@@ -9,13 +12,22 @@ use Rattle.rv64_isa.specs.declared.instr.Instr.TheVariants.{Ecall}
 use Rattle.rv64_isa.specs.Programs.{code_of, code_start}
 use Rattle.rv64_link.specs.LinkedCode.{IsInstructionAt, AreInstructions}
 use Rattle.c_tree.specs.WellFormed.{shape_of, initial_numbers}
+use Rattle.memory_layout.specs.declared.roles.TheConstants.{LOCALS}
+use Rattle.memory_layout.specs.Roles.{pending_address, pending_value}
 use Rattle.memory_layout.specs.Variables.{AreInitial}
+use Rattle.operator_code.specs.ComputingCode.{Carries}
+use Rattle.boundary_code.specs.Boundaries.{AtBank}
+use Rattle.node_code.specs.Pieces.{boundary_observations}
+use Rattle.code_runs.specs.ComputingRuns.{config}
+use Rattle.code_runs.specs.CodeTraces.{MarkedEnvironment, Meets, Mark, Observation, Trace}
+use Rattle.lock_discipline.specs.Masks.{mask_of}
 use Rattle.lock_discipline.specs.HeldSetsByStep.{AreSetsOf}
 use Rattle.flow_graph.specs.declared.graph.Part.{Part}
-use Rattle.flow_graph.specs.Nodes.{Unlock, Node}
-use Rattle.flow_graph.specs.Liveness.{NodeAt}
+use Rattle.flow_graph.specs.Nodes.{Lock, Unlock, Node}
+use Rattle.flow_graph.specs.Liveness.{NodeAt, IsLive, Colouring, AreRegisters, HasNoClash}
 use Rattle.flow_graph.specs.Lowering.{lowered}
-use Rattle.flow_graph.specs.IdempotentCuts.{IsLock, IsUnlock, IsChosen, AreCuts, IsMinimal, AreAtWrites}
+use Rattle.flow_graph.specs.IdempotentCuts.{IsLock, IsUnlock, IsStoreNode, IsChosen, AreCuts, IsMinimal, AreAtWrites}
+use Rattle.hart_runs.specs.Laws.{program_at}
 use Rattle.thread_code.specs.Programs.{boundary_count, IsOn}
 use Rattle.compiler_correctness.specs.Translations.{Translation, marks_of, resumes_of}
 
@@ -38,14 +50,14 @@ pub record IsAmong (part : Part) (node : ℕ) : Type 0 where
 module _ (c : Translation) (thread : ℕ) (part : Part) (s : Sites) where
   -- an ECALL stands at the address, in the node's code after its mark or at it
   pub record CallsAt (node address : ℕ) : Type 0 where
-    pub stands : IsInstructionAt (code_start c.program thread) (code_of c.program thread) address Ecall
+    pub stands : IsInstructionAt (code_start c.runs.program thread) (code_of c.runs.program thread) address Ecall
     pub from_mark : IsOn (s.mark node) address
     pub to_end : IsOn (address + 4) (s.start (node + 1))
 
   -- the code of a node of the thread
   pub record HasNodeForm (node : ℕ) : Type 0 where
     -- all words of a node are instructions; each boundary has two FENCEs, and no other FENCE is there
-    pub words : AreInstructions (code_start c.program thread) (code_of c.program thread) (s.start node) (s.start (node + 1))
+    pub words : AreInstructions (code_start c.runs.program thread) (code_of c.runs.program thread) (s.start node) (s.start (node + 1))
         (2 * boundary_count c.boundaries node)
     -- the node's one mark is the address of one of its words
     pub from_start : IsOn (s.start node) (s.mark node)
@@ -56,6 +68,48 @@ module _ (c : Translation) (thread : ℕ) (part : Part) (s : Sites) where
     pub goes_on : IsLock (lowered c.flat) node → IsOn (s.mark node + 4) (s.after node) × IsOn (s.after node) (s.start (node + 1))
     -- where a mutex has been given back, the thread goes on
     pub gives : IsUnlock (lowered c.flat) node → (call : ℕ) × CallsAt node call × (s.after node ≡ call + 4)
+
+-- ---- What boundaries store
+
+module _ (c : Translation) (thread : ℕ) (text : f.Thread) (part : Part) (held : List Held) (registers : List ℕ) where
+  -- a register that is live at the entry of a node: a live local's, or before a store one of the two that have its address and its number
+  pub data IsLiveRegister (node : ℕ) : (register : ℕ) → Type 0 where
+    of_local : (local : ℕ) (k : Kind) → slice_get text.locals local ≡ Some k → IsLive (lowered c.flat) local node →
+        IsLiveRegister node (slice_index registers local)
+    of_address : IsStoreNode (lowered c.flat) node → IsLiveRegister node pending_address
+    of_value : IsStoreNode (lowered c.flat) node → IsLiveRegister node pending_value
+
+  -- what registers hold at the entry of a node, where the thread's locals have these numbers and its point names this bank
+  pub record HoldLocals (node bank : ℕ) (locals : List ℤ) (values : List ℕ) : Type 0 where
+    pub at_bank : AtBank bank values
+    pub count : length locals ≡ length text.locals
+    pub live : (local : ℕ) (k : Kind) → slice_get text.locals local ≡ Some k → IsLive (lowered c.flat) local node →
+        Carries values (slice_index registers local) (typed k (slice_index_or locals local (pos 0)))
+
+  -- From the one address to the other stands the boundary after which the thread is at a node, where it may be resumed at an address. Whatever its locals are,
+  -- the code leads from the one to the other, and what is seen of that is the boundary: the bank that the point doesn't name gets the mutexes held before the
+  -- node and the live registers, all is cleaned, a FENCE, the point gets the address and the number of that bank and is cleaned, a FENCE. Where no mutex is
+  -- held the point gets 0, and no bank anything.
+  pub record StandsBoundary (entered node from to resume : ℕ) (first : List Observation) : Type 0 where
+    pub live : List ℕ
+    pub are_live : (register : ℕ) → Contains live register ↔ IsLiveRegister node register
+    pub leads : (s : MarkedEnvironment) → Meets (program_at c.runs.program thread (marks_of c thread) (resumes_of c thread)) s →
+        (bank : ℕ) (locals : List ℤ) (x : List ℕ) → HoldLocals entered bank locals x →
+        (steps : ℕ) × (y : List ℕ) × Trace s steps (config x from) (first ++ boundary_observations
+        (record { thread = thread; mask = mask_of (slice_index_or held (node - part.first) []); live = live; resume = pos 0 }) bank resume x) (config y to)
+
+  -- the boundaries of a node
+  pub record HasBoundaries (s : Sites) (node : ℕ) : Type 0 where
+    -- one that is chosen stands before the node's mark, and there the thread may be resumed
+    pub chosen : IsChosen (lowered c.flat) c.boundaries node → StandsBoundary node node (s.start node) (s.mark node) (s.mark node) []
+    -- where none is chosen the code begins with the mark, but for what asks for a mutex
+    pub plain : ¬ (IsChosen (lowered c.flat) c.boundaries node) → ¬ (IsLock (lowered c.flat) node) → s.start node ≡ s.mark node
+    -- that of a lock stands after its call, which is its mark
+    pub past_lock : (is : Node) (mutex next : ℕ) → NodeAt (lowered c.flat) node is → is.action ≡ Lock mutex next →
+        StandsBoundary next next (s.mark node + 4) (s.after node) (s.after node) []
+    -- that of an unlock stands from its mark to its call
+    pub before_unlock : (is : Node) (mutex next call : ℕ) → NodeAt (lowered c.flat) node is → is.action ≡ Unlock mutex next → s.after node ≡ call + 4 →
+        StandsBoundary node next (s.mark node) call (s.after node) (Mark ∷ [])
 
 -- ---- Where threads may be resumed
 
@@ -72,19 +126,25 @@ pub data IsResume (c : Translation) (part : Part) (held : List Held) (s : Sites)
 
 -- ---- Threads
 
-pub record HasThreadForm (c : Translation) (thread : ℕ) (text : f.Thread) : Type 0 where
+-- of each local of a thread its register, by its number among those of locals
+abbrev pub registers_of : Colouring → (thread : ℕ) → List ℕ
+registers_of colours thread = map (λ (colour : ℕ). slice_index LOCALS colour) (slice_index_or colours thread [])
+
+pub record HasThreadForm (c : Translation) (colours : Colouring) (thread : ℕ) (text : f.Thread) : Type 0 where
   -- the thread's nodes, and the mutexes that are held before each
   pub part : Part
   pub nodes : slice_get (lowered c.flat).threads thread ≡ Some part
   pub held : List Held
   pub sets : AreSetsOf c.flat text held
   -- no more words than its price
-  pub price : length (code_of c.program thread) ≤ thread_price text
+  pub price : length (code_of c.runs.program thread) ≤ thread_price text
   -- the thread's code is that of its nodes, in their order
   pub sites : Sites
-  pub begins : sites.start part.first ≡ code_start c.program thread
-  pub ends : sites.start part.end ≡ code_start c.program thread + 4 * length (code_of c.program thread)
+  pub begins : sites.start part.first ≡ code_start c.runs.program thread
+  pub ends : sites.start part.end ≡ code_start c.runs.program thread + 4 * length (code_of c.runs.program thread)
   pub each : (node : ℕ) → IsAmong part node → HasNodeForm c thread part sites node
+  -- where boundaries stand, and what they store
+  pub boundaries : (node : ℕ) → IsAmong part node → HasBoundaries c thread text part held (registers_of colours thread) sites node
   -- each node has one mark, and so they ascend
   pub marks_count : length (marks_of c thread) ≡ part.end - part.first
   pub marks_ascend : IsStrictlyIncreasing (marks_of c thread)
@@ -99,10 +159,14 @@ pub record HasThreadForm (c : Translation) (thread : ℕ) (text : f.Thread) : Ty
 
 pub record HasForm (c : Translation) : Type 0 where
   -- the initial bytes are the source's, and there is a lock for each mutex
-  pub initial : AreInitial (map shape_of c.flat.variables) (map initial_numbers c.flat.variables) c.initial
-  pub mutexes : c.mutexes ≡ length c.flat.mutexes
-  pub count : length c.program ≡ length c.flat.threads
-  pub threads : (thread : ℕ) (text : f.Thread) → slice_get c.flat.threads thread ≡ Some text → HasThreadForm c thread text
+  pub initial : AreInitial (map shape_of c.flat.variables) (map initial_numbers c.flat.variables) c.runs.initial
+  pub mutexes : c.runs.mutexes ≡ length c.flat.mutexes
+  pub count : length c.runs.program ≡ length c.flat.threads
+  -- each local has a register, and two whose intervals share a node have different ones
+  pub colours : Colouring
+  pub registers : AreRegisters (lowered c.flat) colours
+  pub apart : HasNoClash (lowered c.flat) colours
+  pub threads : (thread : ℕ) (text : f.Thread) → slice_get c.flat.threads thread ≡ Some text → HasThreadForm c colours thread text
   -- boundaries are a cut set: they stand after locks, before unlocks, and by choice before stores; with any of those by choice taken away
   -- a region could not be run again
   pub cuts : AreCuts (lowered c.flat) c.boundaries

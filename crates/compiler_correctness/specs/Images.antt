@@ -24,15 +24,15 @@ image_of c events = record { words = map durable_value (world c events).words; k
 module _ (c : Translation) (image : Image) where
   -- power returns over its words: no lock is held, nothing is queued, and each hart that has a point is about to take its locks
   abbrev pub first_from : World
-  first_from = after_crash_of c.program c.mutexes image.words
+  first_from = after_crash_of c.runs.program c.runs.mutexes image.words
 
   -- the machine after the events
   abbrev pub world_from : List Event → World
-  world_from events = after_events c.program first_from events
+  world_from events = after_events c.runs.program first_from events
 
   -- the account of its steps goes on after those that were kept
   abbrev pub steps_from : List Event → Steps
-  steps_from events = steps_along c.marks c.program first_from events (first_steps (length c.program) image.kept)
+  steps_from events = steps_along c.runs.marks c.runs.program first_from events (first_steps (length c.runs.program) image.kept)
 
 -- the run from the image that the machine would leave is the one in which power is lost then
 pub record IsCrashed (c : Translation) (before events : List Event) : Type 0 where
@@ -55,7 +55,7 @@ pub record IsResumedAsKept (c : Translation) (image : Image) (events : List Even
 
 -- how many words the variables have
 abbrev pub variable_words : Translation → ℕ
-variable_words c = length c.initial / 8
+variable_words c = length c.runs.initial / 8
 
 -- a file has those of an image, and after them the words of the logs
 abbrev pub file_of : Translation → Image → Image
@@ -71,5 +71,5 @@ StayBetween c events = (word : ℕ) → variable_words c ≤ word → word < 8 *
 
 -- the image's file has the words of the variables and a log for each thread, and is all of the image
 pub record IsInFile (c : Translation) (image : Image) : Type 0 where
-  pub size : length (file_of c image).words ≡ variable_words c + 8 * log_lines * length c.program
+  pub size : length (file_of c image).words ≡ variable_words c + 8 * log_lines * length c.runs.program
   pub is_all : image_in c (file_of c image) ≡ image

@@ -1,5 +1,5 @@
 -- Laws of compiled programs, in the words of their readers.
-use Rattle.std.specs.Prelude.{List, length}
+use Rattle.std.specs.Prelude.{List}
 use Rattle.ido_base.specs.declared.event.Event.{Event}
 use Rattle.flow_graph.specs.Lowering.{lowered}
 use Rattle.flow_graph.specs.IdempotentCuts.{IsMinimal}
@@ -13,15 +13,7 @@ use Rattle.compiler_correctness.specs.Compilations.{IsCompilation}
 
 -- what a system is to its readers
 abbrev pub translation_of : System → Translation
-translation_of y = record {
-  flat = flat_of y;
-  program = y.program;
-  mutexes = length (flat_of y).mutexes;
-  initial = y.initial;
-  marks = y.marks;
-  resumes = y.resumes;
-  boundaries = y.plan.boundaries;
-}
+translation_of y = record { flat = flat_of y; runs = y.runs; boundaries = y.plan.boundaries }
 
 -- whatever has happened, where all harts stand between sections, durable variables are what the source leaves by the kept steps
 abbrev pub SettledMachinesAreKept : Type 0

@@ -32,8 +32,8 @@ pub fn sections_are_kept()
 }
 
 /// The source can be stepped by all kept steps, and after them by those begun since. A hart's record is the set of locks that its thread holds after the
-/// kept steps, which it takes in recovery without waiting; one that executes instructions holds what its thread holds now, and maybe the one that it gives
-/// back; and all points name addresses at which recovery may resume.
+/// kept steps, which it takes in recovery without waiting; one that executes instructions holds what its thread holds now, and beside that at most the
+/// lock of an unlock that is its thread's last begun step; and all points name addresses at which recovery may resume.
 pub fn machines_record()
     ensures { MachinesRecord }
 {
@@ -71,7 +71,7 @@ pub fn delays_are_bounded()
 }
 
 /// As long as power stays on, the source can be stepped by all steps that have begun, memory has the variables that it has then, and a hart holds what its
-/// thread does.
+/// thread does, and beside that at most the lock of an unlock that is its thread's last step.
 pub fn machines_keep_step()
     ensures { MachinesKeepStep }
 {

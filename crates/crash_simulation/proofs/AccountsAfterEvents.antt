@@ -1,5 +1,5 @@
 -- The machine simulates an abstract run after all events, and its account is that run's.
-use Rattle.std.proofs.Common.{◌≡◌, ◌⊎◌, inl, inr, refl, ℕ, zero, suc, ◌+◌, ◌<◌, ◌≤◌, Bool, arith, List, [], ◌∷◌, ◌++◌, length, sym, ◌∙◌}
+use Rattle.std.proofs.Common.{◌≡◌, ◌≢◌, ◌⊎◌, inl, inr, refl, ℕ, zero, suc, ◌+◌, ◌<◌, ◌≤◌, Bool, arith, List, [], ◌∷◌, ◌++◌, length, sym, ◌∙◌}
 use Rattle.std.proofs.Common.{ap, subst, true, false, Option, Some, None}
 use Rattle.std.specs.Prelude.{slice_get}
 use Rattle.std.proofs.lemmas.Bool.{true≢false}
@@ -8,9 +8,11 @@ use Rattle.ido_base.specs.declared.event.Event.TheVariants.{Step, Evict, Crash}
 use Rattle.ido_base.specs.Words.{last_position}
 use Rattle.rv64_isa.specs.declared.phase.Phase.{Phase}
 use Rattle.rv64_isa.specs.declared.phase.Phase.TheVariants.{Take, Wait, Resume, Run, Done, Ended}
+use Rattle.rv64_isa.specs.Executables.{first_world}
 use Rattle.rv64_isa.specs.Machine.{Hart, World, stepped, happens, after_event, after_events}
 use Rattle.rv64_isa.specs.Schedule.{Steps, hart_steps, is_running, passes_mark, stores_point, with_step, with_all_kept, steps_after, steps_along}
 use Rattle.rv64_isa.specs.Schedule.{releases_last, released_count}
+use Rattle.recovery_semantics.specs.Configs.{now}
 use Rattle.recovery_semantics.specs.Events.{steps_begun}
 use Rattle.log_states.specs.Logs.{point_in}
 use Rattle.code_runs.specs.CodeTraces.{Program}
@@ -19,11 +21,11 @@ use Rattle.thread_runs.specs.CodeFragments.{ExitPoint, Stage, IsOnFragment, on_m
 use Rattle.thread_runs.specs.Laws.{AreMarksOf, FragmentsGoOn}
 use Rattle.flow_graph.specs.Actions.{seen_by}
 use Rattle.recovered_threads.specs.RecordDescriptions.{Code}
-use Rattle.crash_simulation.specs.Systems.{System, IsSystem, flat_of, thread_count, start_world}
+use Rattle.crash_simulation.specs.Systems.{System, IsSystem, flat_of, thread_count}
 use Rattle.crash_simulation.specs.AbstractRuns.{AbstractRun, now_of}
 use Rattle.crash_simulation.specs.ThreadGhosts.{ThreadGhost, ExitInv, ThreadInv}
 use Rattle.crash_simulation.specs.SimulationRelation.{SimulatesBeforeCommit, Simulates}
-use Rattle.crash_simulation.specs.InstructionSteps.{is_bound, is_leaving, OnFragmentNow, IsCalling, asks, gives, ends}
+use Rattle.crash_simulation.specs.InstructionSteps.{is_bound, is_leaving, begins, IsUnlocked, was_unlocked, OnFragmentNow, IsCalling, asks, gives, ends}
 use Rattle.crash_simulation.specs.InstructionSteps.{IsReadyToStep, on_fragment, calls, at_core, OwnStep, SimulatesReady}
 use Rattle.crash_simulation.specs.InstructionSteps.{RunsReady, FragmentsStep, CoresStep, CallsStep}
 use Rattle.crash_simulation.specs.AccountRelation.{IsCountedOf, AreCounted, SimulatesCounted, MachinesResume}
@@ -47,7 +49,8 @@ use Rattle.crash_simulation.proofs.StepSimulation.{simulates_after, evicted_simu
 use Rattle.crash_simulation.proofs.LongestAttempts.{AreFurthest, led_furthest}
 use Rattle.crash_simulation.proofs.CommitSimulation.{commit_stutters, commits_count}
 use Rattle.crash_simulation.proofs.AccountUpdates.{count_same}
-use Rattle.crash_simulation.proofs.PointPositions.{none_there_counted, none_running_counted}
+use Rattle.crash_simulation.proofs.LocksAfterStep.{own_ghost, other_ghost}
+use Rattle.crash_simulation.proofs.PointPositions.{none_there_counted, none_running_counted, none_there_begins, none_running_begins}
 use Rattle.crash_simulation.proofs.AccountsBeforeCommit.{none_bound, start_carried, crash_counted, still_are_counted, evicted_counted, own_step_counted}
 
 -- ---- Where steps are bound, no step is begun
@@ -66,7 +69,7 @@ module _ (law : FragmentsGoOn) (y : System) (s : IsSystem y) (w : World) (h : �
   t = stands.before_commit.each h below
 
   abbrev PassesNone : Type 0
-  PassesNone = is_bound c ≡ true → passes_mark y.marks y.program w h ≡ false
+  PassesNone = is_bound c ≡ true → passes_mark y.runs.marks y.runs.program w h ≡ false
 
   never_bound : c.committed ≡ true → PassesNone
   never_bound committed bound = absurd (true≢false (sym bound ∙ none_bound c committed))
@@ -76,13 +79,14 @@ module _ (law : FragmentsGoOn) (y : System) (s : IsSystem y) (w : World) (h : �
       let number : code.thread.number ≡ h = s.codes.number h below in
       let stage : Stage = record { exit = o.exit; node = t.graph_thread.at; seen = seen_by (now_of y b) t.graph_thread; bank = o.bank } in
       let fragment =
-      subst (λ (n : ℕ). IsOnFragment y.plan code.thread code.is.places (on_machine y.program w code.thread.number o.environment) stage n (c.cleans ++ c.rest))
+      subst (λ (n : ℕ). IsOnFragment y.plan code.thread code.is.places (on_machine y.runs.program w code.thread.number o.environment) stage n
+      (c.cleans ++ c.rest))
       is o.fragment in
-      let marks : AreMarksOf y.marks code.thread.number o.environment =
+      let marks : AreMarksOf y.runs.marks code.thread.number o.environment =
       sym (o.fragment.meets.marks ∙ ap (λ (p : Program). p.nodes) (code.is.of_program ∙ (s.own h below).program)) in
-      subst (λ (n : ℕ). passes_mark y.marks y.program w n ≡ false) number
-      ((law y.plan code.thread code.is.places y.program w code.thread.number o.environment stage steps (c.cleans ++ c.rest) stands.before_commit.sound
-      fragment).1 y.marks
+      subst (λ (n : ℕ). passes_mark y.runs.marks y.runs.program w n ≡ false) number
+      ((law y.plan code.thread code.is.places y.runs.program w code.thread.number o.environment stage steps (c.cleans ++ c.rest) stands.before_commit.sound
+      fragment).1 y.runs.marks
       marks)
 
   call_passes_none : (exit : ExitPoint) → IsCalling y s w h stands below exit → ExitInv y b code c t.graph_thread exit → c.rest ≡ [] → PassesNone
@@ -95,7 +99,8 @@ module _ (law : FragmentsGoOn) (y : System) (s : IsSystem y) (w : World) (h : �
   passes_none (calls o none is) =
       let stage : Stage = record { exit = o.exit; node = t.graph_thread.at; seen = seen_by (now_of y b) t.graph_thread; bank = o.bank } in
       let fragment =
-      subst (λ (n : ℕ). IsOnFragment y.plan code.thread code.is.places (on_machine y.program w code.thread.number o.environment) stage n (c.cleans ++ c.rest))
+      subst (λ (n : ℕ). IsOnFragment y.plan code.thread code.is.places (on_machine y.runs.program w code.thread.number o.environment) stage n
+      (c.cleans ++ c.rest))
       none o.fragment in
       call_passes_none o.exit is o.fits (right_empty c.cleans c.rest (none_ahead y s w h below o.environment _ (c.cleans ++ c.rest) fragment))
   passes_none (at_core o free) = never_bound o.goes.goes.committed
@@ -127,9 +132,9 @@ module _ (y : System) (s : IsSystem y) (w : World) (h : ℕ) (old : Simulates y 
 
 -- ---- Whatever happens
 
-not_there : (y : System) (w : World) (h : ℕ) → slice_get w.harts h ≡ None → w ≡ after_event y.program w (Step h)
+not_there : (y : System) (w : World) (h : ℕ) → slice_get w.harts h ≡ None → w ≡ after_event y.runs.program w (Step h)
 unfolding happens
-not_there y w h none = sym (ap (λ (o : Option Hart). (stepped y.program w h o).0) none)
+not_there y w h none = sym (ap (λ (o : Option Hart). (stepped y.runs.program w h o).0) none)
 
 module _ (ready : RunsReady) (fragments_step : FragmentsStep) (cores_step : CoresStep) (calls_step : CallsStep) where
   own_by : (y : System) (s : IsSystem y) (w : World) (h : ℕ) (stands : Simulates y s w) (below : h < thread_count y) → IsInPhase w h Run →
@@ -146,16 +151,16 @@ module _ (ready : RunsReady) (fragments_step : FragmentsStep) (cores_step : Core
       simulates_after y s w h r.stands i (own_by y s w h r.stands r.below i r.ready)
 
   in_phase_stands : (y : System) (s : IsSystem y) (w : World) (h : ℕ) (stands : Simulates y s w) (phase : Phase) → IsInPhase w h phase →
-      Simulates y s (after_event y.program w (Step h))
+      Simulates y s (after_event y.runs.program w (Step h))
   in_phase_stands y s w h stands Take i = (takes_still y s w h stands i).stands
   in_phase_stands y s w h stands Wait i = (waits_still y s w h stands i).stands
   in_phase_stands y s w h stands Resume i = (resumes_still y s w h stands i).stands
-  in_phase_stands y s w h stands Run i = commit_stutters y s (after_event y.program w (Step h)) (runs_simulate y s w h stands i)
+  in_phase_stands y s w h stands Run i = commit_stutters y s (after_event y.runs.program w (Step h)) (runs_simulate y s w h stands i)
   in_phase_stands y s w h stands Done i = (stopped_still y s w h Done stands (inl refl) i).stands
   in_phase_stands y s w h stands Ended i = (stopped_still y s w h Ended stands (inr refl) i).stands
 
   step_stands : (y : System) (s : IsSystem y) (w : World) (h : ℕ) (stands : Simulates y s w) (o : Option Hart) → slice_get w.harts h ≡ o →
-      Simulates y s (after_event y.program w (Step h))
+      Simulates y s (after_event y.runs.program w (Step h))
   step_stands y s w h stands None none = subst (λ (v : World). Simulates y s v) (not_there y w h none) stands
   step_stands y s w h stands (Some hart) here =
       in_phase_stands y s w h stands hart.phase (record { hart = hart; here = here; phase_is = refl })
@@ -163,7 +168,7 @@ module _ (ready : RunsReady) (fragments_step : FragmentsStep) (cores_step : Core
   pub events_stand : EventsStand
   events_stand y s w (Step h) stands = step_stands y s w h stands (slice_get w.harts h) refl
   events_stand y s w (Evict line mask) stands =
-      commit_stutters y s (after_event y.program w (Evict line mask)) (evicted_simulates y s w line mask stands)
+      commit_stutters y s (after_event y.runs.program w (Evict line mask)) (evicted_simulates y s w line mask stands)
   events_stand y s w Crash stands = crash_simulates y s w stands
 
   -- ---- Its steps are counted
@@ -174,10 +179,10 @@ module _ (ready : RunsReady) (fragments_step : FragmentsStep) (cores_step : Core
       is = carried.resumed
 
       abbrev after : World
-      after = after_event y.program w (Step h)
+      after = after_event y.runs.program w (Step h)
 
       abbrev then_released : ℕ → ℕ
-      then_released = released_by y.program w (Step h) r
+      then_released = released_by y.runs.program w (Step h) r
 
       -- a simulation before commit that is counted with these steps, after these releases
       pub record SimulatesWith (counts : Steps) : Type 0 where
@@ -185,17 +190,25 @@ module _ (ready : RunsReady) (fragments_step : FragmentsStep) (cores_step : Core
         pub counted : AreCounted y s after before_commit counts
         pub released : AreReleased y s after before_commit then_released
         pub tried : AreFurthest is.stands.before_commit.abstract.config → AreFurthest before_commit.abstract.config
+        -- what the hart's thread has still to give back, and that each other has the same
+        pub unlocked : (mutex : ℕ) → (before_commit.ghosts h).giving ≡ Some mutex →
+            IsUnlocked (now is.stands.before_commit.abstract.config) h (passes_mark y.runs.marks y.runs.program w h)
+            (is.stands.before_commit.ghosts h).giving mutex
+        pub others : (n : ℕ) → n ≢ h → (before_commit.ghosts n).giving ≡ (is.stands.before_commit.ghosts n).giving
 
       abbrev then_steps : Steps
-      then_steps = with_step y.marks y.program w h steps
+      then_steps = with_step y.runs.marks y.runs.program w h steps
 
-      still_with : SimulatesStill y s w after is.stands → then_steps ≡ steps → releases_last y.program w (Step h) h ≡ false → SimulatesWith then_steps
-      still_with still none releases =
+      still_with : SimulatesStill y s w after is.stands → then_steps ≡ steps → passes_mark y.runs.marks y.runs.program w h ≡ false →
+          releases_last y.runs.program w (Step h) h ≡ false → SimulatesWith then_steps
+      still_with still none unmarked releases =
           subst SimulatesWith (sym none) (record {
             before_commit = still.stands.before_commit;
             counted = still_are_counted y s w after is.stands still steps is.counted;
             released = still_released y s w h is.stands still releases r carried.released;
             tried = subst (λ (b : AbstractRun y). AreFurthest b.config) (sym still.abstract);
+            unlocked = λ mutex gives. was_unlocked unmarked (ap (λ (c : ThreadGhost). c.giving) (sym (still.ghosts h)) ∙ gives);
+            others = λ n other. ap (λ (c : ThreadGhost). c.giving) (still.ghosts n);
           })
 
       runs_with : IsInPhase w h Run → SimulatesWith then_steps
@@ -209,43 +222,61 @@ module _ (ready : RunsReady) (fragments_step : FragmentsStep) (cores_step : Core
             released = own_step_released y s w h ready_then.stands i o r (ready_released y s w h is.stands ready_then r carried.released);
             tried = λ furthest. led_furthest y ready_then.stands.before_commit.abstract h o.next o.led
                 (subst (λ (b : AbstractRun y). AreFurthest b.config) (sym ready_then.abstract) furthest);
+            unlocked = λ mutex gives.
+                let ghosts = ready_then.stands.before_commit.ghosts in
+                let unlocked = o.counted.unlocked mutex (ap (λ (c : ThreadGhost). c.giving) (sym (own_ghost ghosts h o.ghost)) ∙ gives) in
+                let marks : begins o.led ≡ passes_mark y.runs.marks y.runs.program w h = sym o.counted.marks in
+                coe 0 1 (i. IsUnlocked (now (ready_then.abstract i).config) h (marks i) (ready_then.giving h i) mutex) unlocked;
+            others = λ n other.
+                ap (λ (c : ThreadGhost). c.giving) (other_ghost ready_then.stands.before_commit.ghosts h o.ghost n other) ∙ ready_then.giving n;
           }
 
       stops : (phase : Phase) → is_running phase ≡ false → IsInPhase w h phase → then_steps ≡ steps
-      stops phase none i = none_running_counted y.marks y.program w h steps i.hart phase i.here i.phase_is none
+      stops phase none i = none_running_counted y.runs.marks y.runs.program w h steps i.hart phase i.here i.phase_is none
+
+      unmarked : (phase : Phase) → is_running phase ≡ false → IsInPhase w h phase → passes_mark y.runs.marks y.runs.program w h ≡ false
+      unmarked phase none i = none_running_begins y.runs.marks y.runs.program w h i.hart phase i.here i.phase_is none
 
       in_phase_with : (phase : Phase) → IsInPhase w h phase → SimulatesWith then_steps
-      in_phase_with Take i = still_with (takes_still y s w h is.stands i) (stops Take refl i) (phase_releases y.program w h Take refl i)
-      in_phase_with Wait i = still_with (waits_still y s w h is.stands i) (stops Wait refl i) (phase_releases y.program w h Wait refl i)
-      in_phase_with Resume i = still_with (resumes_still y s w h is.stands i) (stops Resume refl i) (phase_releases y.program w h Resume refl i)
+      in_phase_with Take i = still_with (takes_still y s w h is.stands i) (stops Take refl i) (unmarked Take refl i)
+          (phase_releases y.runs.program w h Take refl i)
+      in_phase_with Wait i = still_with (waits_still y s w h is.stands i) (stops Wait refl i) (unmarked Wait refl i)
+          (phase_releases y.runs.program w h Wait refl i)
+      in_phase_with Resume i =
+          still_with (resumes_still y s w h is.stands i) (stops Resume refl i) (unmarked Resume refl i) (phase_releases y.runs.program w h Resume refl i)
       in_phase_with Run i = runs_with i
-      in_phase_with Done i = still_with (stopped_still y s w h Done is.stands (inl refl) i) (stops Done refl i) (phase_releases y.program w h Done refl i)
-      in_phase_with Ended i = still_with (stopped_still y s w h Ended is.stands (inr refl) i) (stops Ended refl i) (phase_releases y.program w h Ended refl i)
+      in_phase_with Done i =
+          still_with (stopped_still y s w h Done is.stands (inl refl) i) (stops Done refl i) (unmarked Done refl i)
+          (phase_releases y.runs.program w h Done refl i)
+      in_phase_with Ended i =
+          still_with (stopped_still y s w h Ended is.stands (inr refl) i) (stops Ended refl i) (unmarked Ended refl i)
+          (phase_releases y.runs.program w h Ended refl i)
 
       pub step_with : (o : Option Hart) → slice_get w.harts h ≡ o → SimulatesWith then_steps
       step_with None none =
           still_with (subst (λ (v : World). SimulatesStill y s w v is.stands) (not_there y w h none)
           (record { stands = is.stands; abstract = refl; ghosts = λ n. refl; words = refl }))
-          (none_there_counted y.marks y.program w h steps none)
-          (holders_stay_none y.program w h (ap (λ (v : World). v.holders) (sym (not_there y w h none))))
+          (none_there_counted y.runs.marks y.runs.program w h steps none) (none_there_begins y.runs.marks y.runs.program w h none)
+          (holders_stay_none y.runs.program w h (ap (λ (v : World). v.holders) (sym (not_there y w h none))))
       step_with (Some hart) here = in_phase_with hart.phase (record { hart = hart; here = here; phase_is = refl })
 
-      step_carried : IsCarried y s after (steps_after y.marks y.program w (Step h) steps) then_released
+      step_carried : IsCarried y s after (steps_after y.runs.marks y.runs.program w (Step h) steps) then_released
       unfolding steps_after
       step_carried =
           let t = step_with (slice_get w.harts h) refl in
           let count : length then_steps.harts ≡ length steps.harts =
-          count_same (passes_mark y.marks y.program w h) (stores_point y.program w (Step h) h) h (last_position (point_in after.words h)) steps in
+          count_same (passes_mark y.runs.marks y.runs.program w h) (stores_point y.runs.program w (Step h) h) h
+          (last_position (point_in after.words h)) steps in
           subst (λ (n : ℕ). IsCarried y s after (with_all_kept after.words n then_steps) then_released) count
           (commits_count y s after t.before_commit then_steps then_released t.counted t.released)
 
     event_carried : (y : System) (s : IsSystem y) (w : World) (event : Event) (steps : Steps) (r : ℕ → ℕ) → IsCarried y s w steps r →
-        IsCarried y s (after_event y.program w event) (steps_after y.marks y.program w event steps) (released_by y.program w event r)
+        IsCarried y s (after_event y.runs.program w event) (steps_after y.runs.marks y.runs.program w event steps) (released_by y.runs.program w event r)
     unfolding steps_after
     event_carried y s w (Step h) steps r is = step_carried y s w h steps r is
     event_carried y s w (Evict line mask) steps r is =
-        commits_count y s (after_event y.program w (Evict line mask)) (evicted_simulates y s w line mask is.resumed.stands) steps
-        (released_by y.program w (Evict line mask) r) (evicted_counted y s w line mask is.resumed.stands steps is.resumed.counted)
+        commits_count y s (after_event y.runs.program w (Evict line mask)) (evicted_simulates y s w line mask is.resumed.stands) steps
+        (released_by y.runs.program w (Evict line mask) r) (evicted_counted y s w line mask is.resumed.stands steps is.resumed.counted)
         (evicted_released y s w line mask is.resumed.stands r is.released)
     event_carried y s w Crash steps r is =
         record {
@@ -259,12 +290,14 @@ module _ (ready : RunsReady) (fragments_step : FragmentsStep) (cores_step : Core
     all_released program w event events r n = omega arith
 
     events_carried : (y : System) (s : IsSystem y) (events : List Event) (w : World) (steps : Steps) (r : ℕ → ℕ) → IsCarried y s w steps r →
-        IsCarried y s (after_events y.program w events) (steps_along y.marks y.program w events steps) (λ n. r n + released_count y.program w events n)
+        IsCarried y s (after_events y.runs.program w events) (steps_along y.runs.marks y.runs.program w events steps)
+        (λ n. r n + released_count y.runs.program w events n)
     events_carried y s [] w steps r is = subst (IsCarried y s w steps) (λ i n. none_more (r n) i) is
     events_carried y s (event ∷ events) w steps r is =
-        subst (IsCarried y s (after_events y.program w (event ∷ events)) (steps_along y.marks y.program w (event ∷ events) steps))
-        (λ i n. all_released y.program w event events r n i)
-        (events_carried y s events (after_event y.program w event) (steps_after y.marks y.program w event steps) (released_by y.program w event r)
+        subst (IsCarried y s (after_events y.runs.program w (event ∷ events)) (steps_along y.runs.marks y.runs.program w (event ∷ events) steps))
+        (λ i n. all_released y.runs.program w event events r n i)
+        (events_carried y s events (after_event y.runs.program w event) (steps_after y.runs.marks y.runs.program w event steps)
+        (released_by y.runs.program w event r)
         (event_carried y s w event steps r is))
 
     pub machines_resume : MachinesResume
@@ -305,7 +338,7 @@ module _ (ready : RunsReady) (fragments_step : FragmentsStep) (cores_step : Core
     sections_are_kept y s events h =
         let z = events_carried y s events _ _ (λ n. 0) (start_carried y s) in
         let t = z.resumed.stands.before_commit in
-        let w : World = after_events y.program (start_world y) events in
+        let w : World = after_events y.runs.program (first_world y.runs) events in
         let near : IsNear (ended_in_machine y events h) (sections_kept y t.abstract h) = elim (below_or_not h (thread_count y)) [
           | inl below ↦ near_of y w t.abstract h (t.ghosts h) (ended_in_machine y events h) (z.released.each h below)
           | inr outside ↦ near_beyond (ended_in_machine y events h) (sections_kept y t.abstract h) (z.released.beyond h outside)

@@ -8,6 +8,7 @@ use Rattle.std.proofs.lemmas.List.{append-nil, length-replicate}
 use Rattle.ido_base.specs.declared.event.Event.TheVariants.{Step, Evict, Crash}
 use Rattle.ido_base.specs.Words.{Word, last_position}
 use Rattle.rv64_isa.specs.declared.phase.Phase.TheVariants.{Run}
+use Rattle.rv64_isa.specs.Executables.{first_world}
 use Rattle.rv64_isa.specs.Machine.{World, after_event}
 use Rattle.rv64_isa.specs.Schedule.{HartSteps, Steps, no_steps, hart_steps, first_steps, passes_mark, stores_point, with_step, steps_after}
 use Rattle.hart_runs.specs.Calls.{IsInPhase}
@@ -17,7 +18,7 @@ use Rattle.recovery_semantics.proofs.Public.{counted_own, counted_other}
 use Rattle.log_states.specs.Logs.{point_in}
 use Rattle.log_states.specs.Stages.{is_store}
 use Rattle.recovered_threads.proofs.Public.{same_or_other}
-use Rattle.crash_simulation.specs.Systems.{System, IsSystem, thread_count, start_world}
+use Rattle.crash_simulation.specs.Systems.{System, IsSystem, thread_count}
 use Rattle.crash_simulation.specs.AbstractRuns.{AbstractRun}
 use Rattle.crash_simulation.specs.ThreadGhosts.{ThreadGhost}
 use Rattle.crash_simulation.specs.SimulationRelation.{Simulates}
@@ -50,28 +51,30 @@ none_counted y w b n c one committed begun none = record {
   bound = λ e. absurd (true≢false (sym e ∙ none_bound c committed));
 }
 
-pub start_counted : (y : System) (s : IsSystem y) → AreCounted y s (start_world y) (starting.stands y s).before_commit (first_steps (length y.program) [])
+pub start_counted : (y : System) (s : IsSystem y) →
+    AreCounted y s (first_world y.runs) (starting.stands y s).before_commit (first_steps (length y.runs.program) [])
 start_counted y s = record {
   kept = refl;
   pending = refl;
-  count = length-replicate (length y.program) no_steps ∙ s.count;
-  each = λ n below. none_counted y (start_world y) _ n _ _ refl refl (nothing_counted (length y.program) n);
+  count = length-replicate (length y.runs.program) no_steps ∙ s.count;
+  each = λ n below. none_counted y (first_world y.runs) _ n _ _ refl refl (nothing_counted (length y.runs.program) n);
 }
 
-abbrev pub start_carried : (y : System) (s : IsSystem y) → IsCarried y s (start_world y) (first_steps (length y.program) []) (λ n. 0)
+abbrev pub start_carried : (y : System) (s : IsSystem y) → IsCarried y s (first_world y.runs) (first_steps (length y.runs.program) []) (λ n. 0)
 start_carried y s = record {
   resumed = record { stands = starting.stands y s; counted = start_counted y s };
   released = record { each = λ n below. in_step refl; beyond = λ n outside. refl };
 }
 
 pub crash_counted : (y : System) (s : IsSystem y) (w : World) (stands : Simulates y s w) (steps : Steps) → AreCounted y s w stands.before_commit steps →
-    AreCounted y s (after_event y.program w Crash) (crashing.stands_after y s w stands).before_commit (steps_after y.marks y.program w Crash steps)
+    AreCounted y s (after_event y.runs.program w Crash) (crashing.stands_after y s w stands).before_commit
+    (steps_after y.runs.marks y.runs.program w Crash steps)
 unfolding steps_after
 crash_counted y s w stands steps counted = record {
   kept = counted.kept ∙ sym (append-nil stands.before_commit.abstract.schedule);
   pending = refl;
   count = length-replicate (length steps.harts) no_steps ∙ counted.count;
-  each = λ n below. none_counted y (after_event y.program w Crash) _ n _ _ refl refl (nothing_counted (length steps.harts) n);
+  each = λ n below. none_counted y (after_event y.runs.program w Crash) _ n _ _ refl refl (nothing_counted (length steps.harts) n);
 }
 
 -- ---- Where the machine simulates the same abstract run
@@ -93,14 +96,15 @@ module _ (y : System) (s : IsSystem y) (w v : World) (old : Simulates y s w) (st
 -- ---- An eviction
 
 pub evicted_counted : (y : System) (s : IsSystem y) (w : World) (line mask : ℕ) (stands : Simulates y s w) (steps : Steps) →
-    AreCounted y s w stands.before_commit steps → AreCounted y s (after_event y.program w (Evict line mask)) (evicted_simulates y s w line mask stands) steps
+    AreCounted y s w stands.before_commit steps →
+    AreCounted y s (after_event y.runs.program w (Evict line mask)) (evicted_simulates y s w line mask stands) steps
 evicted_counted y s w line mask stands steps counted = record {
   kept = counted.kept;
   pending = counted.pending;
   count = counted.count;
   each = λ n below.
-      still_counted y w (after_event y.program w (Evict line mask)) stands.before_commit.abstract (evicted_simulates y s w line mask stands).abstract n
-      (stands.before_commit.ghosts n) (hart_steps steps n) (counted.each n below) refl (λ e. evicted_last_stays y.program w line mask n);
+      still_counted y w (after_event y.runs.program w (Evict line mask)) stands.before_commit.abstract (evicted_simulates y s w line mask stands).abstract n
+      (stands.before_commit.ghosts n) (hart_steps steps n) (counted.each n below) refl (λ e. evicted_last_stays y.runs.program w line mask n);
 }
 
 -- ---- What happens to the source by a thread
@@ -137,12 +141,12 @@ same_other m next thread n false differs e = ap (λ (p : List ℕ). steps_begun 
 
 module _ (y : System) (s : IsSystem y) (w : World) (h : ℕ) (stands : Simulates y s w) (i : IsInPhase w h Run) (o : OwnStep y s w h stands) (steps : Steps)
     (counted : AreCounted y s w stands.before_commit steps)
-    (none : is_bound (stands.before_commit.ghosts h) ≡ true → passes_mark y.marks y.program w h ≡ false) where
+    (none : is_bound (stands.before_commit.ghosts h) ≡ true → passes_mark y.runs.marks y.runs.program w h ≡ false) where
   abbrev b : AbstractRun y
   b = stands.before_commit.abstract
 
   abbrev after : World
-  after = after_event y.program w (Step h)
+  after = after_event y.runs.program w (Step h)
 
   abbrev old : ThreadGhost
   old = stands.before_commit.ghosts h
@@ -151,13 +155,13 @@ module _ (y : System) (s : IsSystem y) (w : World) (h : ℕ) (stands : Simulates
   position = last_position (point_in after.words h)
 
   abbrev begun : Bool
-  begun = passes_mark y.marks y.program w h
+  begun = passes_mark y.runs.marks y.runs.program w h
 
   abbrev points : Bool
-  points = stores_point y.program w (Step h) h
+  points = stores_point y.runs.program w (Step h) h
 
   abbrev then_steps : Steps
-  then_steps = with_step y.marks y.program w h steps
+  then_steps = with_step y.runs.marks y.runs.program w h steps
 
   pending : o.next.config.uncommitted ≡ begun_by begun h b.config.uncommitted
   pending = led_pending y b h o.next o.led ∙ ap (λ (x : Bool). begun_by x h b.config.uncommitted) (sym o.counted.marks)
@@ -168,7 +172,7 @@ module _ (y : System) (s : IsSystem y) (w : World) (h : ℕ) (stands : Simulates
   -- the hart's point is the last that it stored
   own_stays : is_bound old ≡ true → last_position (point_in after.words h) ≡ last_position (point_in w.words h)
   own_stays e =
-      own_last_stays y.program w h i.hart stands.before_commit.sound i.here (o.counted.points ∙ ap (λ (x : Bool). not x && is_bound o.ghost) e)
+      own_last_stays y.runs.program w h i.hart stands.before_commit.sound i.here (o.counted.points ∙ ap (λ (x : Bool). not x && is_bound o.ghost) e)
 
   own : IsCountedOf y after o.next h o.ghost (hart_steps then_steps h)
   own =
@@ -182,7 +186,7 @@ module _ (y : System) (s : IsSystem y) (w : World) (h : ℕ) (stands : Simulates
       subst (λ (one : HartSteps). IsCountedOf y after o.next n (stands.before_commit.ghosts n) one) (sym (other_is begun points h position n steps differs))
       (still_counted y w after b o.next n (stands.before_commit.ghosts n) (hart_steps steps n) (counted.each n below)
       (same_other b.config o.next.config h n begun differs pending)
-      (λ e. other_last_stays y.program w h n i.hart stands.before_commit.sound i.here
+      (λ e. other_last_stays y.runs.program w h n i.hart stands.before_commit.sound i.here
       (elsewhere y s w h b o.stores_own n (λ same. differs (sym same)))))
 
   IsCountedAt : ℕ → Type 0

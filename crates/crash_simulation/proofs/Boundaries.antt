@@ -21,7 +21,7 @@ use Rattle.rv64_isa.specs.declared.instr.Instr.{Instr}
 use Rattle.rv64_isa.specs.Rows.{read}
 use Rattle.rv64_isa.specs.declared.object.Slot.{Slot}
 use Rattle.rv64_isa.specs.Machine.{World}
-use Rattle.rv64_isa.specs.Programs.{code_start, code_of}
+use Rattle.rv64_isa.specs.Programs.{code_base, code_start, code_of}
 use Rattle.rv64_link.specs.LinkedCode.{IsInstructionAt}
 use Rattle.operator_code.specs.ComputingCode.{Carries}
 use Rattle.boundary_code.specs.Boundaries.{Boundary}
@@ -65,8 +65,8 @@ module _ (y : System) (s : IsSystem y) (n : ℕ) (below : n < thread_count y) wh
   -- a word of it, or its end
   pub in_code : (i : ℕ) → i ≤ length c.program.code → IsAddress (c.program.start + 4 * i)
   in_code i within =
-      let words : ℕ = sum_by length (take code.thread.number y.program) in
-      let begins : c.program.start ≡ 65536 + 4 * words = ap (λ (p : Program). p.start) (code.is.of_program ∙ (s.own n below).program) in
+      let words : ℕ = sum_by length (take code.thread.number y.runs.program) in
+      let begins : c.program.start ≡ code_base + 4 * words = ap (λ (p : Program). p.start) (code.is.of_program ∙ (s.own n below).program) in
       let room : c.program.start + 4 * length c.program.code < 2 ^ 64 =
       subst (λ (p : Program). p.start + 4 * length p.code < 2 ^ 64) (sym code.is.of_program) (s.own n below).room in
       record { aligned = omega (arith, begins); somewhere = omega (arith, begins); below = omega (arith, within, room) }
@@ -130,29 +130,30 @@ module _ (y : System) (s : IsSystem y) (n : ℕ) (below : n < thread_count y) wh
 
   -- ---- Where an instruction is fetched
 
-  fetched_in : (address : ℕ) (instr : Instr) → instr_at y.program code.thread.number address ≡ Some instr → IsAddress address
+  fetched_in : (address : ℕ) (instr : Instr) → instr_at y.runs.program code.thread.number address ≡ Some instr → IsAddress address
   fetched_in address instr h =
-      by (nat_le (code_start y.program code.thread.number) address && (address % 4 == 0)) refl h
+      by (nat_le (code_start y.runs.program code.thread.number) address && (address % 4 == 0)) refl h
     where
       slot_of : (o : Option Slot) → instr_of o ≡ Some instr → (slot : Slot) × (o ≡ Some slot)
       slot_of None e = absurd (none-some instr e)
       slot_of (Some slot) e = (slot, refl)
 
-      by : (test : Bool) → (nat_le (code_start y.program code.thread.number) address && (address % 4 == 0)) ≡ test →
-          instr_of (if test then slice_get (code_of y.program code.thread.number) ((address - code_start y.program code.thread.number) / 4) else None)
+      by : (test : Bool) → (nat_le (code_start y.runs.program code.thread.number) address && (address % 4 == 0)) ≡ test →
+          instr_of (if test then slice_get (code_of y.runs.program code.thread.number) ((address - code_start y.runs.program code.thread.number) / 4) else None)
           ≡ Some instr →
           IsAddress address
       by false e there = absurd (none-some instr there)
       by true e there =
           let slot = slot_of _ there in
-          let within = slice_get_within (code_of y.program code.thread.number) ((address - code_start y.program code.thread.number) / 4) slot.0 slot.1 in
-          let parts = and_parts (nat_le (code_start y.program code.thread.number) address) (address % 4 == 0) e in
-          let from = leb-true (code_start y.program code.thread.number) address parts.0 in
+          let within = slice_get_within (code_of y.runs.program code.thread.number) ((address - code_start y.runs.program code.thread.number) / 4)
+          slot.0 slot.1 in
+          let parts = and_parts (nat_le (code_start y.runs.program code.thread.number) address) (address % 4 == 0) e in
+          let from = leb-true (code_start y.runs.program code.thread.number) address parts.0 in
           let four = eqb-true (address % 4) 0 parts.1 in
-          let words : ℕ = sum_by length (take code.thread.number y.program) in
-          let begins : c.program.start ≡ 65536 + 4 * words = ap (λ (p : Program). p.start) (code.is.of_program ∙ (s.own n below).program) in
-          let same : c.program.start ≡ code_start y.program code.thread.number = begins in
-          let size : length c.program.code ≡ length (code_of y.program code.thread.number) =
+          let words : ℕ = sum_by length (take code.thread.number y.runs.program) in
+          let begins : c.program.start ≡ code_base + 4 * words = ap (λ (p : Program). p.start) (code.is.of_program ∙ (s.own n below).program) in
+          let same : c.program.start ≡ code_start y.runs.program code.thread.number = begins in
+          let size : length c.program.code ≡ length (code_of y.runs.program code.thread.number) =
           ap (λ (p : Program). length p.code) (code.is.of_program ∙ (s.own n below).program) in
           let i : ℕ = (address - c.program.start) / 4 in
           let at : c.program.start + 4 * i ≡ address = omega (arith, from, four, begins, same) in
@@ -160,7 +161,7 @@ module _ (y : System) (s : IsSystem y) (n : ℕ) (below : n < thread_count y) wh
 
   -- where a thread is resumed after a lock: the code leads from there to the entry of the next node
   pub after_lock_in : (w : World) (environment : MarkedEnvironment) (bank : ℕ) (seen : Seen) (x : List ℕ) (from mutex next : ℕ) → Meets c.program environment →
-      Agrees y.program w code.thread.number environment → IsLockOf y.plan code.thread from mutex next → IsNodeOf code.thread next →
+      Agrees y.runs.program w code.thread.number environment → IsLockOf y.plan code.thread from mutex next → IsNodeOf code.thread next →
       Enters y.plan code.thread next seen bank x → IsAddress (c.after from)
   after_lock_in w environment bank seen x from mutex next meets agrees l own enters =
       let calls = subst (λ (a : Action). IsCalling y.plan code.thread c a from) l.locks (code.is.code from l.is l.own l.at).calls in

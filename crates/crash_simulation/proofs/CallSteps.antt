@@ -39,7 +39,8 @@ use Rattle.crash_simulation.specs.ThreadGhosts as courses
 use Rattle.crash_simulation.specs.ThreadGhosts.{ThreadGhost, InFragment, on_fragment, InPhase, IsFlushed, ThreadInv}
 use Rattle.crash_simulation.specs.SimulationRelation.{AreHeld, IsGiving, Simulates}
 use Rattle.crash_simulation.specs.InstructionSteps as moving
-use Rattle.crash_simulation.specs.InstructionSteps.{stays, is_bound, is_leaving, Releases, nothing_released, last_released, OnFragmentNow, thread_of, CallsStep}
+use Rattle.crash_simulation.specs.InstructionSteps.{stays, is_bound, is_leaving, was_unlocked, Releases, nothing_released, last_released}
+use Rattle.crash_simulation.specs.InstructionSteps.{OnFragmentNow, thread_of, CallsStep}
 use Rattle.crash_simulation.proofs.LastReleases.{holds_some, no_release, holders_stay_none, is_release, none_leaving, describes_test}
 use Rattle.crash_simulation.proofs.StatesMatchSource.{kept_matches}
 use Rattle.crash_simulation.proofs.UnchangedMemory.{phase_moves}
@@ -71,7 +72,7 @@ module _ (y : System) (s : IsSystem y) (w : World) (h : ℕ) (stands : Simulates
   places = code.is.places
 
   abbrev after : World
-  after = after_event y.program w (Step thread)
+  after = after_event y.runs.program w (Step thread)
 
   abbrev t : ThreadInv y w b code c
   t = thread_of y s w h stands below
@@ -82,7 +83,7 @@ module _ (y : System) (s : IsSystem y) (w : World) (h : ℕ) (stands : Simulates
   -- ---- An unlock
 
   module _ (from mutex : ℕ) (o : OnFragmentNow y s w h stands below) (zero_left : o.steps ≡ 0) (exit_is : o.exit ≡ Gives from mutex) where
-    abbrev pub giving : IsOnFragment y.plan code.thread places (on_machine y.program w thread (bare y s w h below))
+    abbrev pub giving : IsOnFragment y.plan code.thread places (on_machine y.runs.program w thread (bare y s w h below))
         (record { exit = Gives from mutex; node = t.graph_thread.at; seen = seen_by (now_of y b) t.graph_thread; bank = o.bank }) 0 []
     giving = fragment y s w h stands below held (Gives from mutex) o zero_left exit_is
 
@@ -96,8 +97,9 @@ module _ (y : System) (s : IsSystem y) (w : World) (h : ℕ) (stands : Simulates
     unlock_calls =
         subst (λ (a : Action). IsCalling y.plan code.thread places a from) unlock.unlocks (code.is.code from unlock.is unlock.own unlock.at).calls
 
-    at_unlock : IsAtCall y.program w thread gives
-    at_unlock = call_there y.program places w thread (bare y s w h below) giving.meets giving.agrees from gives unlock_calls.0 giving.registers giving.on.hart
+    at_unlock : IsAtCall y.runs.program w thread gives
+    at_unlock =
+        call_there y.runs.program places w thread (bare y s w h below) giving.meets giving.agrees from gives unlock_calls.0 giving.registers giving.on.hart
         giving.on.here giving.on.runs giving.on.walks.0 giving.has.call
 
     is_committed : c.committed ≡ true
@@ -118,10 +120,10 @@ module _ (y : System) (s : IsSystem y) (w : World) (h : ℕ) (stands : Simulates
     pub owns : slice_get w.holders mutex ≡ Some (Some thread)
     owns = held.giving mutex thread (exists_now y s w h stands below held) gives_it
 
-    given : GivesMutex y.plan code.thread places (on_machine y.program w thread (bare y s w h below)) from mutex
+    given : GivesMutex y.plan code.thread places (on_machine y.runs.program w thread (bare y s w h below)) from mutex
         (record { exit = Gives from mutex; node = t.graph_thread.at; seen = seen_by (now_of y b) t.graph_thread; bank = o.bank }) giving.on.hart
         giving.registers
-    given = unlocks_give calls_count y.plan code.thread y.program code.program code.is w thread (bare y s w h below) from mutex t.graph_thread.at
+    given = unlocks_give calls_count y.plan code.thread y.runs.program code.program code.is w thread (bare y s w h below) from mutex t.graph_thread.at
         (seen_by (now_of y b) t.graph_thread) o.bank [] (placed_here y s w h stands below held) giving owns
 
     abbrev left_holders : List (Option ℕ)
@@ -172,7 +174,7 @@ module _ (y : System) (s : IsSystem y) (w : World) (h : ℕ) (stands : Simulates
 
     goes_on_running : phase_after w thread left_holders ≡ Run → InFragment y after b code given_ghost given_hart t.graph_thread
     goes_on_running run =
-        let on = unlocks_go_on y.plan code.thread from mutex t.graph_thread.at unlock y.program code.program code.is after thread (bare y s w h below)
+        let on = unlocks_go_on y.plan code.thread from mutex t.graph_thread.at unlock y.runs.program code.program code.is after thread (bare y s w h below)
         (seen_by (now_of y b) t.graph_thread) o.bank giving.registers
         (placed y s after h below (count_after y s w h stands below held (Gives from mutex) o zero_left exit_is (with_holder w mutex None) given_hart
         given.does refl refl))
@@ -184,7 +186,7 @@ module _ (y : System) (s : IsSystem y) (w : World) (h : ℕ) (stands : Simulates
           bank = o.bank;
           at_bank = o.at_bank;
           steps = on.steps;
-          fragment = subst (λ (es : List Effect). IsOnFragment y.plan code.thread places (on_machine y.program after thread (bare y s w h below))
+          fragment = subst (λ (es : List Effect). IsOnFragment y.plan code.thread places (on_machine y.runs.program after thread (bare y s w h below))
               (record { exit = Arrives; node = t.graph_thread.at; seen = seen_by (now_of y b) t.graph_thread; bank = o.bank }) on.steps es)
               (sym none_left) on.on;
           fits = (
@@ -240,6 +242,7 @@ module _ (y : System) (s : IsSystem y) (w : World) (h : ℕ) (stands : Simulates
           ap (λ (ws : List Word). stages.is_committed thread (record { words = ws; queue = given_hart.queue; rest = c.rest })) given_words ∙ t.no_sooner yes;
       describes = t.describes;
       will_describe = t.will_describe;
+      unlocked = λ lock gives over. absurd (none-some lock gives);
       cleans = t.cleans;
       graph_thread = t.graph_thread;
       walks = t.walks;
@@ -291,10 +294,10 @@ module _ (y : System) (s : IsSystem y) (w : World) (h : ℕ) (stands : Simulates
     given_released : Releases y w thread c given_ghost
     given_released = elim (cases_Bool (holds_none left_holders thread)) [
       | inl none ↦
-          last_released (is_release y.program w thread (holds_some thread w.holders mutex owns)
+          last_released (is_release y.runs.program w thread (holds_some thread w.holders mutex owns)
           (ap (λ (hs : List (Option ℕ)). holds_none hs thread) given_holders ∙ none)) (leaving_is ∙ kept_none none) (none_leaving given_ghost refl)
       | inr some ↦
-          nothing_released (no_release y.program w thread (λ none. absurd (true≢false (sym none
+          nothing_released (no_release y.runs.program w thread (λ none. absurd (true≢false (sym none
           ∙ (ap (λ (hs : List (Option ℕ)). holds_none hs thread) given_holders ∙ some)))))
           (none_leaving given_ghost refl ∙ sym (leaving_is ∙ kept_some some))
     ]
@@ -314,7 +317,8 @@ module _ (y : System) (s : IsSystem y) (w : World) (h : ℕ) (stands : Simulates
           gives_it refl held;
       mutexes = mutexes_after y s w h stands below held (Gives from mutex) o zero_left exit_is;
       counted = record {
-        marks = given.no_mark y.marks refl;
+        marks = given.no_mark y.runs.marks refl;
+        unlocked = λ lock gives. absurd (none-some lock gives);
         points = given.counts.0 ∙ not_twice (is_bound c);
         bound = λ e. e;
       };
@@ -324,7 +328,7 @@ module _ (y : System) (s : IsSystem y) (w : World) (h : ℕ) (stands : Simulates
   -- ---- The end
 
   module _ (o : OnFragmentNow y s w h stands below) (zero_left : o.steps ≡ 0) (exit_is : o.exit ≡ Ends) where
-    abbrev pub ending : IsOnFragment y.plan code.thread places (on_machine y.program w thread (bare y s w h below))
+    abbrev pub ending : IsOnFragment y.plan code.thread places (on_machine y.runs.program w thread (bare y s w h below))
         (record { exit = Ends; node = t.graph_thread.at; seen = seen_by (now_of y b) t.graph_thread; bank = o.bank }) 0 []
     ending = fragment y s w h stands below held Ends o zero_left exit_is
 
@@ -339,9 +343,10 @@ module _ (y : System) (s : IsSystem y) (w : World) (h : ℕ) (stands : Simulates
         subst (λ (a : Action). IsCalling y.plan code.thread places a t.graph_thread.at) last.ends
         (code.is.code t.graph_thread.at last.is last.own last.at).calls
 
-    at_end : IsAtCall y.program w thread ends
+    at_end : IsAtCall y.runs.program w thread ends
     at_end =
-        call_there y.program places w thread (bare y s w h below) ending.meets ending.agrees t.graph_thread.at ends end_calls.0 ending.registers ending.on.hart
+        call_there y.runs.program places w thread (bare y s w h below) ending.meets ending.agrees t.graph_thread.at ends end_calls.0
+        ending.registers ending.on.hart
         ending.on.here ending.on.runs ending.on.walks.0 ending.has
 
     none_now : (lock : ℕ) → slice_get (now_of y b).holders lock ≢ Some (Some thread)
@@ -352,9 +357,9 @@ module _ (y : System) (s : IsSystem y) (w : World) (h : ℕ) (stands : Simulates
         ⊎_elim (λ has. none_now lock has) (λ gives. none-some lock (sym (own_giving y s w h stands below held ∙ ends_clean.goes.giving) ∙ gives.gives))
         (held.held lock thread there)
 
-    ended : (happens y.program w (Step thread) ≡ moved w thread (record (gone_on ending.on.hart) { phase = Ended })) ×
-        ((marks : List (List ℕ)) → runs.AreMarksOf marks thread (bare y s w h below) → passes_mark marks y.program w thread ≡ false)
-    ended = ends_end calls_count y.plan code.thread y.program code.program code.is w thread (bare y s w h below) t.graph_thread.at
+    ended : (happens y.runs.program w (Step thread) ≡ moved w thread (record (gone_on ending.on.hart) { phase = Ended })) ×
+        ((marks : List (List ℕ)) → runs.AreMarksOf marks thread (bare y s w h below) → passes_mark marks y.runs.program w thread ≡ false)
+    ended = ends_end calls_count y.plan code.thread y.runs.program code.program code.is w thread (bare y s w h below) t.graph_thread.at
         (seen_by (now_of y b) t.graph_thread) o.bank [] ending (none_from thread 0 w.holders none_here)
 
     abbrev ended_hart : Hart
@@ -385,12 +390,13 @@ module _ (y : System) (s : IsSystem y) (w : World) (h : ℕ) (stands : Simulates
           (sym (own_giving y s w h stands below held)) held;
       mutexes = mutexes_after y s w h stands below held Ends o zero_left exit_is;
       counted = record {
-        marks = ended.1 y.marks refl;
+        marks = ended.1 y.runs.marks refl;
+        unlocked = λ lock gives. was_unlocked refl gives;
         points = points_none y s w h stands below held Ends o zero_left exit_is ends at_end ∙ not_twice (is_bound c);
         bound = λ e. e;
       };
       released =
-          nothing_released (holders_stay_none y.program w thread
+          nothing_released (holders_stay_none y.runs.program w thread
           (holders_after y s w h stands below held Ends o zero_left exit_is w ended_hart ended.0 refl refl)) refl;
     }
 
@@ -414,8 +420,8 @@ calls_step y s w h stands below i o zero_left calls =
     let held = (runs_held y s w b all h stands.before_commit.sound i stands.before_commit.locks).1 in
     let x = one_call y s w h stands below held o zero_left calls in
     let number : (s.codes.each h below).thread.number ≡ h = s.codes.number h below in
-    let here : slice_get (after_event y.program w (Step h)).harts h ≡ Some x.own.log.hart =
-    ap (slice_get (after_event y.program w (Step h)).harts) (sym number) ∙ x.own.log.here in
+    let here : slice_get (after_event y.runs.program w (Step h)).harts h ≡ Some x.own.log.hart =
+    ap (slice_get (after_event y.runs.program w (Step h)).harts) (sym number) ∙ x.own.log.here in
     record {
       below = below;
       next = x.next;

@@ -6,6 +6,7 @@ use Rattle.std.specs.Option.{option_map}
 use Rattle.std.proofs.lemmas.Bool.{true≢false, cond-true, cond-false}
 use Rattle.c_tree.specs.Flats as f
 use Rattle.c_tree.specs.Source as m
+use Rattle.c_tree.specs.Source.{start}
 use Rattle.rv64_isa.specs.declared.phase.Phase.{Phase}
 use Rattle.rv64_isa.specs.declared.phase.Phase.TheVariants.{Take, Wait, Resume, Run, Done, Ended}
 use Rattle.ido_base.specs.Words.{last_position}
@@ -17,7 +18,7 @@ use Rattle.recovery_semantics.specs.ElementHistories.{IsStable, history_at, numb
 use Rattle.recovery_semantics.specs.Attempts.{Writes, no_attempt}
 use Rattle.recovery_semantics.specs.Configs.{now, attempt_of}
 use Rattle.recovery_semantics.specs.Events.{IsSettled, steps_begun}
-use Rattle.recovery_semantics.specs.Laws.{HasLocked, HasUnlocked}
+use Rattle.recovery_semantics.specs.Laws.{HasLocked, HasUnlocked, LastUnlocks}
 use Rattle.recovery_semantics.proofs.Public.{equal_self, unequal_of, since_settles}
 use Rattle.region_attempts.specs.GraphStates.{flow_solo}
 use Rattle.region_attempts.specs.AttemptsInRegion.{HasCome, IsBeforeBoundary, SettlesThere}
@@ -44,7 +45,7 @@ use Rattle.crash_simulation.proofs.AccountsAtCommit.{not_kept, kept_is, pending_
 use Rattle.crash_simulation.proofs.StatesMatchSource.{resumed}
 use Rattle.crash_simulation.proofs.ThreadCommits.{is_emptied, invariant, kept_by, none_describes, committed_run}
 use Rattle.crash_simulation.proofs.ThreadCommits.{now_same, source_same, own_begun, own_done, own_describes}
-use Rattle.crash_simulation.proofs.ThreadCommits.{begun_same}
+use Rattle.crash_simulation.proofs.ThreadCommits.{begun_same, unlock_kept}
 use Rattle.crash_simulation.proofs.LongestAttempts.{AreFurthest, settled_furthest}
 use Rattle.crash_simulation.proofs.LastReleases.{uncommitted_leaving}
 use Rattle.crash_simulation.proofs.Sections.{leaves, kept_more, kept_others}
@@ -191,6 +192,7 @@ module _ (y : System) (s : IsSystem y) (w : World) where
     others : (n : ℕ) → n ≢ thread → HasCommitted before_commit n → HasCommitted after n
     source : now after.abstract.config ≡ now before_commit.abstract.config
     tried : AreFurthest before_commit.abstract.config → AreFurthest after.abstract.config
+    giving : (n : ℕ) → (after.ghosts n).giving ≡ (before_commit.ghosts n).giving
     -- as the machine's account has it
     counted : (steps : Steps) → AreCounted y s w before_commit steps → AreCounted y s w after (with_kept w.words thread steps)
     released : (r : ℕ → ℕ) → AreReleased y s w before_commit r → AreReleased y s w after r
@@ -224,7 +226,8 @@ module _ (y : System) (s : IsSystem y) (w : World) where
             let number : code.thread.number ≡ k = s.codes.number k below in
             let begun : steps_begun b.config code.thread.number ≡ 0 = subst (λ (n : ℕ). steps_begun b.config n ≡ 0) (sym number) none in
             own_stands y w b b code c true refl refl (before_commit.each k below) refl (sooner_at below) not_yet begun
-            (subst (λ (n : ℕ). (attempt_of b.config n).done ≡ 0) (sym number) done) (none_describes y s b code c.new begun);
+            (subst (λ (n : ℕ). (attempt_of b.config n).done ≡ 0) (sym number) done) (none_describes y s b code c.new begun)
+            (λ mutex u. absurd (let one = u.begun in omega (arith, one, begun)));
         others = λ n below apart is same.
             subst (λ (z : Bool). ThreadInv y w b (s.codes.each n below) (taken (before_commit.ghosts n) z)) (sym same) (before_commit.each n below);
       }
@@ -250,7 +253,9 @@ module _ (y : System) (s : IsSystem y) (w : World) where
                 (before_commit.each k below) refl (sooner_at below) not_yet
                 (subst (λ (n : ℕ). steps_begun next.config n ≡ 0) (sym number) (own_begun y s b k attempts m.settled m.there))
                 (subst (λ (n : ℕ). (attempt_of next.config n).done ≡ 0) (sym number) (own_done y s b k attempts m.settled m.there))
-                (own_describes y s b k attempts m.settled m.there code c.new number);
+                (own_describes y s b k attempts m.settled m.there code c.new number)
+                (subst (λ (n : ℕ). (mutex : ℕ) → HasUnlocked b.config n mutex → LastUnlocks (start (flat_of y)) next.schedule n mutex) (sym number)
+                (unlock_kept y s b k attempts m.settled m.there));
             others = λ n below apart is same.
                 let number : (s.codes.each n below).thread.number ≡ n = s.codes.number n below in
                 other_stands y s b k attempts m.settled m.there w (s.codes.each n below) (λ e. apart (sym number ∙ e)) (before_commit.ghosts n) is same
@@ -409,6 +414,7 @@ module _ (y : System) (s : IsSystem y) (w : World) where
         others = λ n apart caught. caught ∙ sym (other_taken n apart);
         source = one.source;
         tried = one.tried;
+        giving = λ n. refl;
         counted = λ steps counted. counted_after below steps counted bound reached;
         released = λ r released. released_after below not_yet r released;
       }
@@ -426,6 +432,7 @@ module _ (y : System) (s : IsSystem y) (w : World) where
       others = λ n apart other. other;
       source = refl;
       tried = λ furthest. furthest;
+      giving = λ n. refl;
       counted = λ steps counted.
           subst (AreCounted y s w before_commit) (sym (not_kept y w b k c steps (counted.each k below) bound)) counted;
       released = λ r released. released;
@@ -467,6 +474,7 @@ module _ (y : System) (s : IsSystem y) (w : World) where
       caught : (n : ℕ) → n < count → HasCommitted before_commit n
       source : now before_commit.abstract.config ≡ now first.abstract.config
       tried : AreFurthest first.abstract.config → AreFurthest before_commit.abstract.config
+      giving : (n : ℕ) → (before_commit.ghosts n).giving ≡ (first.ghosts n).giving
       counted : (steps : Steps) → AreCounted y s w first steps → AreCounted y s w before_commit (with_all_kept w.words count steps)
       released : (r : ℕ → ℕ) → AreReleased y s w first r → AreReleased y s w before_commit r
 
@@ -480,6 +488,7 @@ module _ (y : System) (s : IsSystem y) (w : World) where
       caught = λ n below. absurd (omega (arith, below));
       source = refl;
       tried = λ furthest. furthest;
+      giving = λ n. refl;
       counted = λ steps counted. counted;
       released = λ r released. released;
     }
@@ -491,6 +500,7 @@ module _ (y : System) (s : IsSystem y) (w : World) where
           caught = λ n below. caught_by k n below h one (same_or_other n k);
           source = one.source ∙ h.source;
           tried = λ furthest. one.tried (h.tried furthest);
+          giving = λ n. one.giving n ∙ h.giving n;
           counted = λ steps counted. one.counted (with_all_kept w.words k steps) (h.counted steps counted);
           released = λ r released. one.released r (h.released r released);
         }
@@ -515,6 +525,10 @@ module _ (y : System) (s : IsSystem y) (w : World) where
     unfolding stands
     stands_furthest = all_have.tried
 
+    stands_giving : (n : ℕ) → (stands.before_commit.ghosts n).giving ≡ (first.ghosts n).giving
+    unfolding stands
+    stands_giving = all_have.giving
+
     -- the machine has kept the steps that are bound to durable points
     resumed_by : (steps : Steps) (r : ℕ → ℕ) → AreCounted y s w first steps → AreReleased y s w first r →
         IsCarried y s w (with_all_kept w.words (length steps.harts) steps) r
@@ -536,11 +550,12 @@ pub commits_count : (y : System) (s : IsSystem y) (w : World) (before_commit : S
     AreReleased y s w before_commit r → IsCarried y s w (with_all_kept w.words (length steps.harts) steps) r
 commits_count y s w before_commit steps r counted released = resumed_by y s w before_commit steps r counted released
 
--- the state now is the same then, and where each attempt has come as far as any before, so it has
+-- the state now is the same then, and what each thread has still to give back; and where each attempt has come as far as any before, so it has
 pub record CatchesUpNow (y : System) (s : IsSystem y) (w : World) (before_commit : SimulatesBeforeCommit y s w) (steps : Steps) (r : ℕ → ℕ) : Type 0 where
   pub carried : IsCarried y s w (with_all_kept w.words (length steps.harts) steps) r
   pub source : now carried.resumed.stands.before_commit.abstract.config ≡ now before_commit.abstract.config
   pub tried : AreFurthest before_commit.abstract.config → AreFurthest carried.resumed.stands.before_commit.abstract.config
+  pub giving : (n : ℕ) → (carried.resumed.stands.before_commit.ghosts n).giving ≡ (before_commit.ghosts n).giving
 
 pub commits_go_on : (y : System) (s : IsSystem y) (w : World) (before_commit : SimulatesBeforeCommit y s w) (steps : Steps) (r : ℕ → ℕ) →
     AreCounted y s w before_commit steps →
@@ -550,4 +565,5 @@ commits_go_on y s w before_commit steps r counted released = record {
   carried = resumed_by y s w before_commit steps r counted released;
   source = stands_now y s w before_commit;
   tried = stands_furthest y s w before_commit;
+  giving = stands_giving y s w before_commit;
 }

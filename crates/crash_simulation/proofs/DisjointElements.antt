@@ -2,6 +2,7 @@
 use Rattle.std.proofs.Common.{◌≡◌, ◌≢◌, ◌⊎◌, inl, inr, ℕ, ◌+◌, ◌-◌, ◌/◌, ◌<◌, ◌≤◌, List, map, sym, arith, Some, ⊎_elim}
 use Rattle.std.specs.Prelude.{slice_get, nat_lt}
 use Rattle.std.proofs.lemmas.Bool.{cond_both, ltb-false}
+use Rattle.ido_base.specs.declared.limits.TheConstants.{MOST_VARIABLE_BYTES, VARIABLE_WORDS}
 use Rattle.ido_base.specs.Layout.{variables_base, logs_base, variable_at, byte_number}
 use Rattle.ido_ints.specs.Kinds.{bytes_of}
 use Rattle.c_tree.specs.Programs.{Variable}
@@ -13,7 +14,7 @@ use Rattle.log_states.proofs.Public.{word_of_point}
 
 -- where variables end
 abbrev pub variables_end : ℕ
-variables_end = variables_base + 65536
+variables_end = variables_base + MOST_VARIABLE_BYTES
 
 module _ (vs : List Variable) (room : HaveRoom (map shape_of vs)) where
   pub element_ends : (v e : ℕ) (is : Variable) → slice_get vs v ≡ Some is → e < elements_in is.length →
@@ -37,12 +38,12 @@ module _ (vs : List Variable) (room : HaveRoom (map shape_of vs)) where
       ⊎_elim
       (λ l. inr (omega (arith, l, first, second, from, to)))
       (λ l. inl (omega (arith, l, first, second, from, to)))
-      ((variables_apart vs 8192 room (omega arith)).apart v e i j is.kind other.kind _ _ one.at two.at (λ same equal. differs (sym same)))
+      ((variables_apart vs VARIABLE_WORDS room (omega arith)).apart v e i j is.kind other.kind _ _ one.at two.at (λ same equal. differs (sym same)))
 
 -- a byte of a log stands after the variables
 pub log_after : (address thread i : ℕ) → byte_number address / 8 ≡ log_word thread i → variables_end ≤ address
 log_after address thread i word =
-    cond_both (nat_lt address logs_base) (address - variables_base) (65536 + (address - logs_base))
+    cond_both (nat_lt address logs_base) (address - variables_base) (MOST_VARIABLE_BYTES + (address - logs_base))
     (λ (r : ℕ). r / 8 ≡ log_word thread i → variables_end ≤ address)
     (λ yes e. omega (arith, e, word_of_point thread))
     (λ no e. omega (arith, ltb-false address logs_base no))

@@ -65,9 +65,9 @@ next_store program w h address bytes value st =
     }
 
 module _ (y : System) (s : IsSystem y) (w : World) (h : ℕ) (b : AbstractRun y)
-    (stores_own : (hart : Hart) (effect : Effect) → IsNext y.program w h hart effect → MayStore y b h effect) where
+    (stores_own : (hart : Hart) (effect : Effect) → IsNext y.runs.program w h hart effect → MayStore y b h effect) where
   abbrev after : World
-  after = after_event y.program w (Step h)
+  after = after_event y.runs.program w (Step h)
 
   room : HaveRoom (map shape_of (flat_of y).variables)
   room = (well_formed_placed (flat_of y) s.plan.formed).room
@@ -85,7 +85,7 @@ module _ (y : System) (s : IsSystem y) (w : World) (h : ℕ) (b : AbstractRun y)
         (variables_are_apart n (variable_at (shapes_of y) variable number) i (element_below (flat_of y).variables room variable number is there within))
 
   -- the step stores nothing to another thread's log
-  pub elsewhere : (n : ℕ) → h ≢ n → IsElsewhere y.program w h n
+  pub elsewhere : (n : ℕ) → h ≢ n → IsElsewhere y.runs.program w h n
   elsewhere n other hart address bytes value next i below =
       not_in_log n other address bytes value i below (Stores address bytes value) refl (stores_own hart (Stores address bytes value) next)
 
@@ -142,29 +142,29 @@ module _ (y : System) (s : IsSystem y) (w : World) (h : ℕ) (b : AbstractRun y)
                 (guards_apart variable g.variable guards g.guards));
           }
 
-    module _ (sound : IsWellFormedWorld w) (agrees : Agrees y.program w n z) where
+    module _ (sound : IsWellFormedWorld w) (agrees : Agrees y.runs.program w n z) where
       count : length after.harts ≡ length w.harts
-      count = (others_leave y.program w n (Step h) sound other).1
+      count = (others_leave y.runs.program w n (Step h) sound other).1
 
-      persisted_on : ArePersisted w.words after.words → Agrees y.program after n z
-      persisted_on persisted = persisted_agrees y.program w after n z count persisted agrees
+      persisted_on : ArePersisted w.words after.words → Agrees y.runs.program after n z
+      persisted_on persisted = persisted_agrees y.runs.program w after n z count persisted agrees
 
-      same_on : after.words ≡ w.words → Agrees y.program after n z
+      same_on : after.words ≡ w.words → Agrees y.runs.program after n z
       same_on same = persisted_on (subst (λ (ws : List Word). ArePersisted w.words ws) (sym same) (are_persisted_refl w.words))
 
-      worked_on : (hart : Hart) (queue : List Entry) → slice_get w.harts h ≡ Some hart → IsWork y.program w h after.words hart.queue queue →
-          Agrees y.program after n z
+      worked_on : (hart : Hart) (queue : List Entry) → slice_get w.harts h ≡ Some hart → IsWork y.runs.program w h after.words hart.queue queue →
+          Agrees y.runs.program after n z
       worked_on hart queue here (Rests same q) = same_on same
       worked_on hart queue here (Queues line same q) = same_on same
       worked_on hart queue here (WritesBack e is q) =
           let entries : AreEntries w.words (e ∷ queue) = subst (λ (es : List Entry). AreEntries w.words es) q (sound.queues h hart here) in
           persisted_on (subst (λ (ws : List Word). ArePersisted w.words ws) (sym is) (write_backs_raise w.words e entries.0))
       worked_on hart queue here (Makes address bytes value st is q) =
-          let may = stores_own st.executes.hart (Stores address bytes value) (next_store y.program w h address bytes value st) in
+          let may = stores_own st.executes.hart (Stores address bytes value) (next_store y.runs.program w h address bytes value st) in
           let all = abstract_all address bytes value (Stores address bytes value) refl may in
-          beside_agrees y.program w after n z address bytes value count is
+          beside_agrees y.runs.program w after n z address bytes value count is
           (and_from (is_width bytes) _ all.width (and_from _ _ st.inside st.is_aligned)) all.apart agrees
 
       -- memory goes on to agree with what the thread reads
-      pub agrees_after : (hart : Hart) → slice_get w.harts h ≡ Some hart → Agrees y.program after n z
-      agrees_after hart here = let does = steps_work y.program w h hart here in worked_on hart does.after.queue here does.work
+      pub agrees_after : (hart : Hart) → slice_get w.harts h ≡ Some hart → Agrees y.runs.program after n z
+      agrees_after hart here = let does = steps_work y.runs.program w h hart here in worked_on hart does.after.queue here does.work

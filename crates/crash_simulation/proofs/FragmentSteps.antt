@@ -54,7 +54,7 @@ use Rattle.crash_simulation.specs.ThreadGhosts as courses
 use Rattle.crash_simulation.specs.ThreadGhosts.{ThreadGhost, IsGuarded, AnswersGuarded, ExitInv, InFragment, IsRunningThread}
 use Rattle.crash_simulation.specs.ThreadGhosts.{on_fragment, InPhase, IsComing, is_reached, is_ahead, IsFlushed, ThreadInv}
 use Rattle.crash_simulation.specs.InstructionSteps.{StepsOrStutters, goes, abstract_next, MayStore, nothing, in_log, begins, is_bound, is_leaving}
-use Rattle.crash_simulation.specs.InstructionSteps.{IsCounted, nothing_released, thread_of, FragmentsStep}
+use Rattle.crash_simulation.specs.InstructionSteps.{IsCounted, was_unlocked, nothing_released, thread_of, FragmentsStep}
 use Rattle.crash_simulation.proofs.LastReleases.{holders_stay_none}
 use Rattle.crash_simulation.proofs.UncommittedSteps.{leads_on}
 use Rattle.crash_simulation.proofs.StatesMatchSource.{cuts, resumed}
@@ -194,6 +194,7 @@ module _ (y : System) (s : IsSystem y) (w : World) (b : AbstractRun y) (memory_i
       no_sooner = λ is. stays_committed number c.old c.new (config_of w t.log.hart c.rest) (config_of after hart rest) t.log.log moves (t.no_sooner is);
       describes = t.describes;
       will_describe = t.will_describe;
+      unlocked = t.unlocked;
       cleans = all_cleans;
       graph_thread = t.graph_thread;
       walks = t.walks;
@@ -270,16 +271,16 @@ not_twice false = refl
 pub record Stepped (y : System) (w : World) (b : AbstractRun y) (code : Code y.plan) (c : ThreadGhost) (h : ℕ) : Type 0 where
   pub next : AbstractRun y
   pub led : StepsOrStutters y b h next
-  pub memory : memory_in (places_of y) (after_event y.program w (Step h)).words ≡ next.config.memory
-  pub stores_own : (hart : Hart) (effect : Effect) → IsNext y.program w h hart effect → MayStore y b h effect
+  pub memory : memory_in (places_of y) (after_event y.runs.program w (Step h)).words ≡ next.config.memory
+  pub stores_own : (hart : Hart) (effect : Effect) → IsNext y.runs.program w h hart effect → MayStore y b h effect
   pub ghost : ThreadGhost
-  pub own : ThreadInv y (after_event y.program w (Step h)) next code ghost
+  pub own : ThreadInv y (after_event y.runs.program w (Step h)) next code ghost
   pub runs : own.log.hart.phase ≡ Run
-  pub holders : (after_event y.program w (Step h)).holders ≡ w.holders
+  pub holders : (after_event y.runs.program w (Step h)).holders ≡ w.holders
   pub now : now_of y next ≡ now_of y b
   pub giving : ghost.giving ≡ c.giving
   pub leaving : is_leaving ghost ≡ is_leaving c
-  pub counted : IsCounted y w h (begins led) c ghost
+  pub counted : IsCounted y w b h (begins led) c ghost
 
 module _ (y : System) (s : IsSystem y) (w : World) (b : AbstractRun y) (memory_is : memory_in (places_of y) w.words ≡ b.config.memory)
     (sound : IsWellFormedWorld w)
@@ -290,14 +291,15 @@ module _ (y : System) (s : IsSystem y) (w : World) (b : AbstractRun y) (memory_i
   thread = code.thread.number
 
   abbrev after : World
-  after = after_event y.program w (Step thread)
+  after = after_event y.runs.program w (Step thread)
 
   abbrev stage : Stage
   stage = record { exit = o.exit; node = t.graph_thread.at; seen = seen_by (now_of y b) t.graph_thread; bank = o.bank }
 
-  fragment : IsOnFragment y.plan code.thread code.is.places (on_machine y.program w thread o.environment) stage (suc left) (c.cleans ++ c.rest)
+  fragment : IsOnFragment y.plan code.thread code.is.places (on_machine y.runs.program w thread o.environment) stage (suc left) (c.cleans ++ c.rest)
   fragment =
-      subst (λ (n : ℕ). IsOnFragment y.plan code.thread code.is.places (on_machine y.program w thread o.environment) stage n (c.cleans ++ c.rest)) is o.fragment
+      subst (λ (n : ℕ). IsOnFragment y.plan code.thread code.is.places (on_machine y.runs.program w thread o.environment) stage n (c.cleans ++ c.rest)) is
+      o.fragment
 
   abbrev run : OnRun w thread
   run = run_of y.plan code.thread code.is.places fragment
@@ -305,16 +307,16 @@ module _ (y : System) (s : IsSystem y) (w : World) (b : AbstractRun y) (memory_i
   hart_is : t.log.hart ≡ fragment.on.hart
   hart_is = same_there (slice_get w.harts thread) t.log.hart fragment.on.hart t.log.here fragment.on.here
 
-  marks_of : runs.AreMarksOf y.marks thread o.environment
+  marks_of : runs.AreMarksOf y.runs.marks thread o.environment
   marks_of = sym (fragment.meets.marks ∙ ap (λ (p : Program). p.nodes) (code.is.of_program ∙ own_code.program))
 
-  no_mark : passes_mark y.marks y.program w thread ≡ false
-  no_mark = (law y.plan code.thread code.is.places y.program w thread o.environment stage left (c.cleans ++ c.rest) sound fragment).1 y.marks marks_of
+  no_mark : passes_mark y.runs.marks y.runs.program w thread ≡ false
+  no_mark = (law y.plan code.thread code.is.places y.runs.program w thread o.environment stage left (c.cleans ++ c.rest) sound fragment).1 y.runs.marks marks_of
 
   -- ---- Whatever it makes
 
   module _ (persisted : ArePersisted (memory_in (places_of y) w.words) (memory_in (places_of y) after.words)) (rest cleans : List Effect) (more : ℕ)
-      (on : IsOnFragment y.plan code.thread code.is.places (on_machine y.program after thread o.environment) stage more (cleans ++ rest))
+      (on : IsOnFragment y.plan code.thread code.is.places (on_machine y.runs.program after thread o.environment) stage more (cleans ++ rest))
       (move : MovesTo thread w fragment.on.hart c.rest after rest)
       (reach : (j position : ℕ) → PersistsThrough w.words fragment.on.hart.queue j position → PersistsThrough after.words on.on.hart.queue j position)
       (ahead : (address : ℕ) → Contains c.cleans (Cleans address) → Contains cleans (Cleans address) ⊎ ((k : ℕ) → k < 8 →
@@ -323,9 +325,9 @@ module _ (y : System) (s : IsSystem y) (w : World) (b : AbstractRun y) (memory_i
       (less_rest : c.rest ≡ [] → rest ≡ []) (less_cleans : c.cleans ≡ [] → cleans ≡ [])
       (settled : (v e : ℕ) → c.committed ≡ false → fences_ahead rest < 2 → (f : IsFlushed y w b code c t.log.hart v e) →
       f.position ≤ (history_at (memory_in (places_of y) after.words) v e).durable)
-      (may : (hart : Hart) (effect : Effect) → IsNext y.program w thread hart effect → MayStore y b thread effect)
+      (may : (hart : Hart) (effect : Effect) → IsNext y.runs.program w thread hart effect → MayStore y b thread effect)
       (same_holders : after.holders ≡ w.holders)
-      (points : stores_point y.program w (Step thread) thread ≡ (not (is_bound c) && is_bound (record c { rest = rest; cleans = cleans })))
+      (points : stores_point y.runs.program w (Step thread) thread ≡ (not (is_bound c) && is_bound (record c { rest = rest; cleans = cleans })))
       (bound : is_bound c ≡ true → is_bound (record c { rest = rest; cleans = cleans }) ≡ true) where
     abbrev then_abstract : AbstractRun y
     then_abstract = abstract_persisting y s w b memory_is code c t after persisted
@@ -401,7 +403,7 @@ module _ (y : System) (s : IsSystem y) (w : World) (b : AbstractRun y) (memory_i
       now = refl;
       giving = refl;
       leaving = refl;
-      counted = record { marks = no_mark; points = points; bound = bound };
+      counted = record { marks = no_mark; unlocked = λ mutex gives. was_unlocked refl gives; points = points; bound = bound };
     }
 
   -- ---- Memory
@@ -420,16 +422,16 @@ module _ (y : System) (s : IsSystem y) (w : World) (b : AbstractRun y) (memory_i
       subst (λ (m : Memory). f.position ≤ (history_at m v e).durable) (sym memory_is) d in
       omega (arith, old, up)
 
-  next_is : (effect : Effect) → effect_at y.program thread fragment.on.hart ≡ Some effect → IsNext y.program w thread fragment.on.hart effect
+  next_is : (effect : Effect) → effect_at y.runs.program thread fragment.on.hart ≡ Some effect → IsNext y.runs.program w thread fragment.on.hart effect
   next_is effect at = record { here = fragment.on.here; runs = ap is_running fragment.on.runs; is = at }
 
-  may_by : (effect : Effect) → IsNext y.program w thread fragment.on.hart effect → MayStore y b thread effect → (hart : Hart) (other : Effect) →
-      IsNext y.program w thread hart other → MayStore y b thread other
-  may_by effect one m hart other two = subst (MayStore y b thread) (one_effect y.program w thread fragment.on.hart hart effect other one two) m
+  may_by : (effect : Effect) → IsNext y.runs.program w thread fragment.on.hart effect → MayStore y b thread effect → (hart : Hart) (other : Effect) →
+      IsNext y.runs.program w thread hart other → MayStore y b thread other
+  may_by effect one m hart other two = subst (MayStore y b thread) (one_effect y.runs.program w thread fragment.on.hart hart effect other one two) m
 
   -- ---- A step that is held up
 
-  held_up : IsHeldUp y.plan code.thread code.is.places (on_machine y.program w thread o.environment) stage left (c.cleans ++ c.rest) fragment →
+  held_up : IsHeldUp y.plan code.thread code.is.places (on_machine y.runs.program w thread o.environment) stage left (c.cleans ++ c.rest) fragment →
       Stepped y w b code c thread
   held_up u =
       let d = u.drains in
@@ -441,9 +443,10 @@ module _ (y : System) (s : IsSystem y) (w : World) (b : AbstractRun y) (memory_i
       memory_persisted (places_of y) w.words after.words
       (subst (λ (ws : List Word). growth.ArePersisted w.words ws) (sym words) (write_backs_raise w.words d.entry entries.0)) in
       step_made persisted c.rest c.cleans (suc left) u.on
-      (steps_move y.program w thread thread fragment.on.hart c.rest sound fragment.on.here
-      (stores_nothing y.program w thread thread fragment.on.hart d.effect (next_is d.effect d.effect_is) none))
-      (λ j position r. subst (λ (x : Hart). PersistsThrough after.words x.queue j position) (sym u.same) (drains_reach y.program w thread run d j position r))
+      (steps_move y.runs.program w thread thread fragment.on.hart c.rest sound fragment.on.here
+      (stores_nothing y.runs.program w thread thread fragment.on.hart d.effect (next_is d.effect d.effect_is) none))
+      (λ j position r. subst (λ (x : Hart). PersistsThrough after.words x.queue j position) (sym u.same)
+      (drains_reach y.runs.program w thread run d j position r))
       (λ address found. inl found) t.cleans (λ e. e) (λ e. e) (settled_still persisted c.rest refl)
       (may_by d.effect (next_is d.effect d.effect_is) (nothing d.effect none))
       (ap (λ (z : World). z.holders) d.world)
@@ -451,7 +454,7 @@ module _ (y : System) (s : IsSystem y) (w : World) (b : AbstractRun y) (memory_i
 
   -- ---- A step that goes on
 
-  module _ (g : runs.CompletesInstruction y.plan code.thread code.is.places (on_machine y.program w thread o.environment) stage left
+  module _ (g : runs.CompletesInstruction y.plan code.thread code.is.places (on_machine y.runs.program w thread o.environment) stage left
       (c.cleans ++ c.rest) fragment) where
     abbrev effect : Effect
     effect = g.forward.effect
@@ -459,7 +462,7 @@ module _ (y : System) (s : IsSystem y) (w : World) (b : AbstractRun y) (memory_i
     abbrev old : Contents
     old = record { words = w.words; queue = fragment.on.hart.queue }
 
-    one : IsNext y.program w thread fragment.on.hart effect
+    one : IsNext y.runs.program w thread fragment.on.hart effect
     one = next_is effect g.forward.effect_is
 
     words_are : after.words ≡ g.forward.contents.words
@@ -470,10 +473,10 @@ module _ (y : System) (s : IsSystem y) (w : World) (b : AbstractRun y) (memory_i
 
     forward_on : (j position : ℕ) → PersistsThrough w.words fragment.on.hart.queue j position → PersistsThrough after.words g.on.on.hart.queue j position
     forward_on j position r =
-        subst (λ (x : Hart). PersistsThrough after.words x.queue j position) (sym g.same) (forward_reaches y.program w thread run g.forward j position r)
+        subst (λ (x : Hart). PersistsThrough after.words x.queue j position) (sym g.same) (forward_reaches y.runs.program w thread run g.forward j position r)
 
     abbrev fragment_with : (es : List Effect) → g.later ≡ es →
-        IsOnFragment y.plan code.thread code.is.places (on_machine y.program after thread o.environment) stage left es
+        IsOnFragment y.plan code.thread code.is.places (on_machine y.runs.program after thread o.environment) stage left es
     fragment_with es same = record {
       meets = g.on.meets;
       agrees = g.on.agrees;
@@ -491,8 +494,8 @@ module _ (y : System) (s : IsSystem y) (w : World) (b : AbstractRun y) (memory_i
     makes_nothing none later =
         let words : after.words ≡ w.words = words_are ∙ words_same effect old g.forward.contents none g.forward.changes in
         step_made (same_persisted words) c.rest c.cleans left (fragment_with (c.cleans ++ c.rest) later)
-        (steps_move y.program w thread thread fragment.on.hart c.rest sound fragment.on.here
-        (stores_nothing y.program w thread thread fragment.on.hart effect one none))
+        (steps_move y.runs.program w thread thread fragment.on.hart c.rest sound fragment.on.here
+        (stores_nothing y.runs.program w thread thread fragment.on.hart effect one none))
         forward_on (λ address found. inl found) t.cleans (λ e. e) (λ e. e) (settled_still (same_persisted words) c.rest refl)
         (may_by effect one (nothing effect none)) holders_are (g.point ∙ no_point thread effect none ∙ not_twice (is_bound c)) (λ e. e)
 
@@ -503,8 +506,8 @@ module _ (y : System) (s : IsSystem y) (w : World) (b : AbstractRun y) (memory_i
         let none : is_store effect ≡ false = ap is_store is_that in
         let words : after.words ≡ w.words = words_are ∙ words_same effect old g.forward.contents none g.forward.changes in
         step_made (same_persisted words) c.rest others left (fragment_with (others ++ c.rest) later)
-        (steps_move y.program w thread thread fragment.on.hart c.rest sound fragment.on.here
-        (stores_nothing y.program w thread thread fragment.on.hart effect one none))
+        (steps_move y.runs.program w thread thread fragment.on.hart c.rest sound fragment.on.here
+        (stores_nothing y.runs.program w thread thread fragment.on.hart effect one none))
         forward_on (λ place found. ahead place (subst (λ (es : List Effect). Contains es (Cleans place)) cleans found))
         (λ e found. t.cleans e (subst (λ (es : List Effect). Contains es e) (sym cleans) (contains_later (Cleans address) others e found)))
         (λ e. e) (λ e. absurd (not_done (Cleans address) others (sym e ∙ cleans))) (settled_still (same_persisted words) c.rest refl)
@@ -516,7 +519,7 @@ module _ (y : System) (s : IsSystem y) (w : World) (b : AbstractRun y) (memory_i
         now k l =
             subst (λ (x : Hart). PersistsThrough after.words x.queue (8 * (byte_number address / 64) + k)
             (last_position (word_at w.words (8 * (byte_number address / 64) + k)))) (sym g.same)
-            (cleans_reach_now y.program w thread run sound g.forward address k is_that l)
+            (cleans_reach_now y.runs.program w thread run sound g.forward address k is_that l)
 
         ahead : (place : ℕ) → Contains (Cleans address ∷ others) (Cleans place) → Contains others (Cleans place) ⊎ ((k : ℕ) → k < 8 →
             PersistsThrough after.words g.on.on.hart.queue (8 * (byte_number place / 64) + k)
@@ -537,7 +540,7 @@ module _ (y : System) (s : IsSystem y) (w : World) (b : AbstractRun y) (memory_i
 
       moves_log : MovesTo thread w fragment.on.hart c.rest after g.later
       moves_log =
-          let m = own_steps_move y.program w thread fragment.on.hart effect g.later one inside.1 in
+          let m = own_steps_move y.runs.program w thread fragment.on.hart effect g.later one inside.1 in
           subst (λ (es : List Effect). MovesTo thread w fragment.on.hart es after g.later) (sym rest)
           (subst (λ (r : Reply). MovesTo thread w fragment.on.hart (effect ∷ g.later) after (if has_moved r then g.later else effect ∷ g.later))
           g.forward.reply m)
@@ -579,7 +582,7 @@ module _ (y : System) (s : IsSystem y) (w : World) (b : AbstractRun y) (memory_i
           by (is_reached r) =
               position_durable y s w.words after.words v e f.position
               (subst (λ (m : Memory). f.position < length (history_at m v e).values) (sym memory_is) f.since.there)
-              (fences_settle y.program w thread run g.forward is_fence (word_of_element y s v e) f.position
+              (fences_settle y.runs.program w thread run g.forward is_fence (word_of_element y s v e) f.position
               (subst (λ (x : Hart). PersistsThrough w.words x.queue (word_of_element y s v e) f.position) hart_is r))
           by (is_ahead variable element found line) =
               absurd (contains_none (Cleans (variable_at (shapes_of y) variable element))
@@ -592,7 +595,7 @@ module _ (y : System) (s : IsSystem y) (w : World) (b : AbstractRun y) (memory_i
       makes_bound : (persisted : ArePersisted (memory_in (places_of y) w.words) (memory_in (places_of y) after.words)) →
           ((v e : ℕ) → c.committed ≡ false → fences_ahead g.later < 2 → (f : IsFlushed y w b code c t.log.hart v e) →
           f.position ≤ (history_at (memory_in (places_of y) after.words) v e).durable) →
-          MayStore y b thread effect → stores_point y.program w (Step thread) thread ≡ (not (is_bound c) && is_bound then_bound) →
+          MayStore y b thread effect → stores_point y.runs.program w (Step thread) thread ≡ (not (is_bound c) && is_bound then_bound) →
           (is_bound c ≡ true → is_bound then_bound ≡ true) → Stepped y w b code c thread
       makes_bound persisted settled may points bound =
           step_made persisted g.later c.cleans left (fragment_with (c.cleans ++ g.later) later_is) moves_log forward_on (λ address found. inl found) t.cleans
@@ -663,7 +666,7 @@ module _ (y : System) (s : IsSystem y) (w : World) (b : AbstractRun y) (memory_i
             (λ no. no)
             (cases_Bool c.committed)
 
-        points_are : stores_point y.program w (Step thread) thread ≡ (not (is_bound c) && is_bound then_bound)
+        points_are : stores_point y.runs.program w (Step thread) thread ≡ (not (is_bound c) && is_bound then_bound)
         points_are =
             g.point ∙ ap (is_point_store thread) same
             ∙ point_store_is_last thread c.old c.new (config_of w t.log.hart c.rest) place 8 value g.later t.log.log rest_is
@@ -692,7 +695,7 @@ module _ (y : System) (s : IsSystem y) (w : World) (b : AbstractRun y) (memory_i
 
   pub one_step : Stepped y w b code c thread
   one_step = ⊎_elim goes_forward held_up
-      (law y.plan code.thread code.is.places y.program w thread o.environment stage left (c.cleans ++ c.rest) sound fragment).0
+      (law y.plan code.thread code.is.places y.runs.program w thread o.environment stage left (c.cleans ++ c.rest) sound fragment).0
 
 -- ---- In the machine
 
@@ -705,8 +708,8 @@ fragments_step law y s w h stands below i o left is =
     let x : Stepped y w b code c h =
     subst (Stepped y w b code c) same
     (one_step y s w b stands.before_commit.memory stands.before_commit.sound code (s.own h below) c (thread_of y s w h stands below) o left is law) in
-    let here : slice_get (after_event y.program w (Step h)).harts h ≡ Some x.own.log.hart =
-    ap (slice_get (after_event y.program w (Step h)).harts) (sym same) ∙ x.own.log.here in
+    let here : slice_get (after_event y.runs.program w (Step h)).harts h ≡ Some x.own.log.hart =
+    ap (slice_get (after_event y.runs.program w (Step h)).harts) (sym same) ∙ x.own.log.here in
     record {
       below = below;
       next = x.next;
@@ -717,8 +720,8 @@ fragments_step law y s w h stands below i o left is =
       own = x.own;
       locks = locked_after y s w b stands.before_commit.ghosts h stands.before_commit.sound i x.next x.ghost x.own.log.hart here
           (subst (λ (p : Phase). GoneOn p) (sym x.runs) tt) x.stores_own stands.before_commit.locks
-          (held_same w (after_event y.program w (Step h)) stands.before_commit.ghosts h x.ghost (now_of y b) (now_of y x.next) x.holders x.now x.giving);
+          (held_same w (after_event y.runs.program w (Step h)) stands.before_commit.ghosts h x.ghost (now_of y b) (now_of y x.next) x.holders x.now x.giving);
       mutexes = ap length x.holders;
       counted = x.counted;
-      released = nothing_released (holders_stay_none y.program w h x.holders) x.leaving;
+      released = nothing_released (holders_stay_none y.runs.program w h x.holders) x.leaving;
     }

@@ -43,6 +43,7 @@ mod StepSimulation
 mod ThreadCommits
 mod Sections
 mod ThreadsAtCommit
+mod PendingUnlocks
 mod LongestAttempts
 mod AccountsAtCommit
 mod CommitSimulation

@@ -25,17 +25,19 @@ module _ (y : System) (s : IsSystem y) (w : World) (n : ℕ) (below : n < thread
   code = s.codes.each n below
 
   abbrev pub bare : MarkedEnvironment
-  bare = environment_of y.program (slice_index_or y.marks code.thread.number []) (λ address bytes. false) w code.thread.number
+  bare = environment_of y.runs.program (slice_index_or y.runs.marks code.thread.number []) (λ address bytes. false) w code.thread.number
 
-  pub bare_agrees : Agrees y.program w code.thread.number bare
+  pub bare_agrees : Agrees y.runs.program w code.thread.number bare
   bare_agrees = record { fetches = λ address instr e. e; loads = λ address bytes value e. absurd (none-some value e) }
 
   pub bare_meets : Meets code.is.places.program bare
   bare_meets =
-      let is : program_at y.program code.thread.number (slice_index_or y.marks code.thread.number []) (slice_index_or y.resumes code.thread.number []) ≡
+      let is : program_at y.runs.program code.thread.number (slice_index_or y.runs.marks code.thread.number [])
+      (slice_index_or y.runs.resumes code.thread.number []) ≡
       code.is.places.program = sym (code.is.of_program ∙ (s.own n below).program) in
       subst (λ (p : Program). Meets p bare) is
-      (environments_meet y.program (slice_index_or y.marks code.thread.number []) (slice_index_or y.resumes code.thread.number []) (λ address bytes. false) w
+      (environments_meet y.runs.program (slice_index_or y.runs.marks code.thread.number []) (slice_index_or y.runs.resumes code.thread.number [])
+      (λ address bytes. false) w
       code.thread.number)
 
   pub bare_answers : (b : AbstractRun y) (c : ThreadGhost) → AnswersGuarded y b code c bare
@@ -51,12 +53,12 @@ module _ (y : System) (s : IsSystem y) (w : World) (n : ℕ) (below : n < thread
       (subst (λ (p : Program). p.start + 4 * length p.code < 2 ^ 64) (sym code.is.of_program) (s.own n below).room)
 
   module _ (environment : MarkedEnvironment) (stage : Stage) (effects : List Effect)
-      (fragment : IsOnFragment y.plan code.thread code.is.places (on_machine y.program w code.thread.number environment) stage 0 effects) where
+      (fragment : IsOnFragment y.plan code.thread code.is.places (on_machine y.runs.program w code.thread.number environment) stage 0 effects) where
     -- no effects are ahead
     pub none_ahead : effects ≡ []
     none_ahead = none_seen effects fragment.on.walks.1
 
-    pub resettled : IsOnFragment y.plan code.thread code.is.places (on_machine y.program w code.thread.number bare) stage 0 []
+    pub resettled : IsOnFragment y.plan code.thread code.is.places (on_machine y.runs.program w code.thread.number bare) stage 0 []
     resettled = record {
       meets = bare_meets;
       agrees = bare_agrees;

@@ -91,7 +91,7 @@ module _ (y : System) (s : IsSystem y) (w : World) (h : ℕ) (stands : Simulates
   walks : slice_get (now_of y b).graph_threads n ≡ Some graph_thread
   walks = (thread_of y s w h stands below).walks
 
-  pub mark : IsAtSomeMark y.plan (code y s w h stands below).thread (code y s w h stands below).is.places (on_machine y.program w n here)
+  pub mark : IsAtSomeMark y.plan (code y s w h stands below).thread (code y s w h stands below).is.places (on_machine y.runs.program w n here)
       graph_thread.at seen core.bank
       core.registers e
   mark =
@@ -143,7 +143,7 @@ module _ (y : System) (s : IsSystem y) (w : World) (h : ℕ) (stands : Simulates
 
   -- ---- The mark is passed
 
-  module _ (p : laws.PassesMark y.plan (code y s w h stands below).thread (code y s w h stands below).is.places (on_machine y.program w n here) e
+  module _ (p : laws.PassesMark y.plan (code y s w h stands below).thread (code y s w h stands below).is.places (on_machine y.runs.program w n here) e
       (stage_after y.plan (code y s w h stands below).thread (code y s w h stands below).is.places graph_thread.at seen core.bank e) mark.steps mark.effects
       mark.at) where
     nothing_seen : IsUnseen n p.forward.effect p.later
@@ -152,11 +152,11 @@ module _ (y : System) (s : IsSystem y) (w : World) (h : ℕ) (stands : Simulates
         mark.effects quiet
         mark.seen_are) p.effects_are
 
-    is_next : IsNext y.program w n mark.at.on.hart p.forward.effect
+    is_next : IsNext y.runs.program w n mark.at.on.hart p.forward.effect
     is_next = record { here = mark.at.on.here; runs = ap is_running mark.at.on.runs; is = p.forward.effect_is }
 
-    elsewhere : IsElsewhere y.program w n n
-    elsewhere = stores_nothing y.program w n n mark.at.on.hart p.forward.effect is_next nothing_seen.no_store
+    elsewhere : IsElsewhere y.runs.program w n n
+    elsewhere = stores_nothing y.runs.program w n n mark.at.on.hart p.forward.effect is_next nothing_seen.no_store
 
     words_stay : v.words ≡ w.words
     words_stay = ap (λ (z : World). z.words) p.forward.world ∙ nothing_seen.same _ p.forward.contents p.forward.changes
@@ -196,7 +196,8 @@ module _ (y : System) (s : IsSystem y) (w : World) (h : ℕ) (stands : Simulates
             b.config.memory (one_longer b.config n) (leads_on y b _ happened refl minded).0 (leads_on y b _ happened refl minded).1
             (going (ghost y s w h stands below) []) other
             (λ j position r. subst (λ (x : Hart). PersistsThrough v.words x.queue j position) (sym p.same ∙ is)
-            (forward_reaches y.program w n (run_at y.plan (code y s w h stands below).thread (code y s w h stands below).is.places mark.at) p.forward j position
+            (forward_reaches y.runs.program w n (run_at y.plan (code y s w h stands below).thread (code y s w h stands below).is.places mark.at)
+            p.forward j position
             (subst (λ (x : Hart). PersistsThrough w.words x.queue j position) (sym old_is) r)))
             (omega (arith, longer)) (omega (arith, longer)) (λ now line cleaned. absurd (none_written _ _ cleaned.stores)) u i
             (λ position since. since) (t.flushed u i old) (λ un. absurd (true≢false un))
@@ -211,14 +212,14 @@ module _ (y : System) (s : IsSystem y) (w : World) (h : ℕ) (stands : Simulates
         flushed
 
   pub quiet_step : StepOf y s w h stands below n
-  quiet_step = by (marks y.plan (code y s w h stands below).thread (code y s w h stands below).is.places y.program w n here e
+  quiet_step = by (marks y.plan (code y s w h stands below).thread (code y s w h stands below).is.places y.runs.program w n here e
       (stage_after y.plan (code y s w h stands below).thread (code y s w h stands below).is.places graph_thread.at seen core.bank e) mark.steps mark.effects
       stands.before_commit.sound mark.at)
     where
-      by : laws.PassesMark y.plan (code y s w h stands below).thread (code y s w h stands below).is.places (on_machine y.program w n here) e
+      by : laws.PassesMark y.plan (code y s w h stands below).thread (code y s w h stands below).is.places (on_machine y.runs.program w n here) e
           (stage_after y.plan (code y s w h stands below).thread (code y s w h stands below).is.places graph_thread.at seen core.bank e) mark.steps mark.effects
           mark.at
-          ⊎ laws.Stays y.plan (code y s w h stands below).thread (code y s w h stands below).is.places (on_machine y.program w n here) e
+          ⊎ laws.Stays y.plan (code y s w h stands below).thread (code y s w h stands below).is.places (on_machine y.runs.program w n here) e
           (stage_after y.plan (code y s w h stands below).thread (code y s w h stands below).is.places graph_thread.at seen core.bank e) mark.steps mark.effects
           mark.at → StepOf y s w h stands below n
       by (inl p) = quiet_passes p

@@ -56,7 +56,7 @@ use Rattle.crash_simulation.specs.ThreadGhosts as courses
 use Rattle.crash_simulation.specs.ThreadGhosts.{ThreadGhost, ExitInv, InFragment, on_fragment, InPhase, IsComing, is_reached, is_ahead, IsFlushed, ThreadInv}
 use Rattle.crash_simulation.specs.SimulationRelation.{AreHeld, Simulates}
 use Rattle.crash_simulation.specs.InstructionSteps.{StepsOrStutters, stays, goes, abstract_next, MayStore, nothing, with_ghost}
-use Rattle.crash_simulation.specs.InstructionSteps.{begins, is_bound, IsCounted, Releases, nothing_released, OnFragmentNow, thread_of}
+use Rattle.crash_simulation.specs.InstructionSteps.{begins, is_bound, was_unlocked, IsCounted, Releases, nothing_released, OnFragmentNow, thread_of}
 use Rattle.crash_simulation.proofs.LastReleases.{no_release, holders_stay_none, none_leaving}
 use Rattle.crash_simulation.proofs.UncommittedSteps.{leads_on}
 use Rattle.crash_simulation.proofs.StatesMatchSource.{resumed, kept_matches, orderly, now_orderly, now_good}
@@ -91,14 +91,14 @@ some_store b bank resume x = cond_both (b.mask == 0) (commit_effects b.thread 0)
 pub record Called (y : System) (w : World) (b : AbstractRun y) (code : Code y.plan) (all : ℕ → ThreadGhost) (c : ThreadGhost) (h : ℕ) : Type 0 where
   pub next : AbstractRun y
   pub led : StepsOrStutters y b h next
-  pub memory : memory_in (places_of y) (after_event y.program w (Step h)).words ≡ next.config.memory
-  pub stores_own : (hart : Hart) (effect : Effect) → IsNext y.program w h hart effect → MayStore y b h effect
+  pub memory : memory_in (places_of y) (after_event y.runs.program w (Step h)).words ≡ next.config.memory
+  pub stores_own : (hart : Hart) (effect : Effect) → IsNext y.runs.program w h hart effect → MayStore y b h effect
   pub ghost : ThreadGhost
-  pub own : ThreadInv y (after_event y.program w (Step h)) next code ghost
+  pub own : ThreadInv y (after_event y.runs.program w (Step h)) next code ghost
   pub gone : GoneOn own.log.hart.phase
-  pub held : AreHeld (after_event y.program w (Step h)) (with_ghost all h ghost) (now_of y next)
-  pub mutexes : length (after_event y.program w (Step h)).holders ≡ length w.holders
-  pub counted : IsCounted y w h (begins led) c ghost
+  pub held : AreHeld (after_event y.runs.program w (Step h)) (with_ghost all h ghost) (now_of y next)
+  pub mutexes : length (after_event y.runs.program w (Step h)).holders ≡ length w.holders
+  pub counted : IsCounted y w b h (begins led) c ghost
   pub released : Releases y w h c ghost
 
 -- what a record says of a thread that holds nothing
@@ -128,7 +128,7 @@ module _ (y : System) (s : IsSystem y) (w : World) (h : ℕ) (stands : Simulates
   places = code.is.places
 
   abbrev after : World
-  after = after_event y.program w (Step thread)
+  after = after_event y.runs.program w (Step thread)
 
   abbrev t : ThreadInv y w b code c
   t = thread_of y s w h stands below
@@ -185,15 +185,15 @@ module _ (y : System) (s : IsSystem y) (w : World) (h : ℕ) (stands : Simulates
     abbrev stage : Stage
     stage = record { exit = exit; node = t.graph_thread.at; seen = seen_by (now_of y b) t.graph_thread; bank = o.bank }
 
-    pub whole : IsOnFragment y.plan code.thread places (on_machine y.program w thread o.environment) stage 0 (c.cleans ++ c.rest)
+    pub whole : IsOnFragment y.plan code.thread places (on_machine y.runs.program w thread o.environment) stage 0 (c.cleans ++ c.rest)
     whole =
-        subst (λ (a : ExitPoint). IsOnFragment y.plan code.thread places (on_machine y.program w thread o.environment)
+        subst (λ (a : ExitPoint). IsOnFragment y.plan code.thread places (on_machine y.runs.program w thread o.environment)
         (record { exit = a; node = t.graph_thread.at; seen = seen_by (now_of y b) t.graph_thread; bank = o.bank }) 0 (c.cleans ++ c.rest)) exit_is
-        (subst (λ (n : ℕ). IsOnFragment y.plan code.thread places (on_machine y.program w thread o.environment)
+        (subst (λ (n : ℕ). IsOnFragment y.plan code.thread places (on_machine y.runs.program w thread o.environment)
         (record { exit = o.exit; node = t.graph_thread.at; seen = seen_by (now_of y b) t.graph_thread; bank = o.bank }) n (c.cleans ++ c.rest))
         zero_left o.fragment)
 
-    pub fragment : IsOnFragment y.plan code.thread places (on_machine y.program w thread (bare y s w h below)) stage 0 []
+    pub fragment : IsOnFragment y.plan code.thread places (on_machine y.runs.program w thread (bare y s w h below)) stage 0 []
     fragment = resettled y s w h below o.environment stage (c.cleans ++ c.rest) whole
 
     pub rest_over : c.rest ≡ []
@@ -212,24 +212,24 @@ module _ (y : System) (s : IsSystem y) (w : World) (h : ℕ) (stands : Simulates
     committed_over = caught_is_over y w b code c t rest_over (stands.caught_up h below)
 
     -- the hart's instruction is a call, which stores nothing
-    module _ (number : ℕ) (a : IsAtCall y.program w thread number) where
-      calls_next : IsNext y.program w thread a.hart Calls
+    module _ (number : ℕ) (a : IsAtCall y.runs.program w thread number) where
+      calls_next : IsNext y.runs.program w thread a.hart Calls
       unfolding row
-      calls_next = record { here = a.here; runs = ap is_running a.runs; is = effect_is y.program w thread a.hart a.here a.runs Ecall a.calls }
+      calls_next = record { here = a.here; runs = ap is_running a.runs; is = effect_is y.runs.program w thread a.hart a.here a.runs Ecall a.calls }
 
-      pub call_stores : (hart : Hart) (effect : Effect) → IsNext y.program w thread hart effect → MayStore y b thread effect
+      pub call_stores : (hart : Hart) (effect : Effect) → IsNext y.runs.program w thread hart effect → MayStore y b thread effect
       call_stores hart effect is =
-          subst (MayStore y b thread) (one_effect y.program w thread a.hart hart Calls effect calls_next is) (nothing Calls refl)
+          subst (MayStore y b thread) (one_effect y.runs.program w thread a.hart hart Calls effect calls_next is) (nothing Calls refl)
 
-      call_elsewhere : IsElsewhere y.program w thread thread
-      call_elsewhere = stores_nothing y.program w thread thread a.hart Calls calls_next refl
+      call_elsewhere : IsElsewhere y.runs.program w thread thread
+      call_elsewhere = stores_nothing y.runs.program w thread thread a.hart Calls calls_next refl
 
-      pub points_none : stores_point y.program w (Step thread) thread ≡ false
-      points_none = (calls_count y.program w thread number a).1
+      pub points_none : stores_point y.runs.program w (Step thread) thread ≡ false
+      points_none = (calls_count y.runs.program w thread number a).1
 
     -- ---- The step moves the hart alone
 
-    module _ (v : World) (new : Hart) (does : happens y.program w (Step thread) ≡ moved v thread new) (words : v.words ≡ w.words)
+    module _ (v : World) (new : Hart) (does : happens y.runs.program w (Step thread) ≡ moved v thread new) (words : v.words ≡ w.words)
         (harts : v.harts ≡ w.harts) where
       pub words_after : after.words ≡ w.words
       words_after = ap (λ (x : Outcome). x.0.words) does ∙ words
@@ -246,15 +246,15 @@ module _ (y : System) (s : IsSystem y) (w : World) (h : ℕ) (stands : Simulates
       memory_after = ap (memory_in (places_of y)) words_after ∙ stands.before_commit.memory
 
       pub count_after : length after.harts ≡ thread_count y
-      count_after = (steps_touch y.program w thread stands.before_commit.sound).count ∙ stands.before_commit.count
+      count_after = (steps_touch y.runs.program w thread stands.before_commit.sound).count ∙ stands.before_commit.count
 
     pub mutexes_after : length after.holders ≡ length w.holders
-    mutexes_after = (steps_touch y.program w thread stands.before_commit.sound).locks
+    mutexes_after = (steps_touch y.runs.program w thread stands.before_commit.sound).locks
 
   -- ---- A lock
 
   module _ (mutex next : ℕ) (o : OnFragmentNow y s w h stands below) (zero_left : o.steps ≡ 0) (exit_is : o.exit ≡ Asks mutex next) where
-    abbrev pub asks : IsOnFragment y.plan code.thread places (on_machine y.program w thread (bare y s w h below))
+    abbrev pub asks : IsOnFragment y.plan code.thread places (on_machine y.runs.program w thread (bare y s w h below))
         (record { exit = Asks mutex next; node = t.graph_thread.at; seen = seen_by (now_of y b) t.graph_thread; bank = o.bank }) 0 []
     asks = fragment (Asks mutex next) o zero_left exit_is
 
@@ -269,14 +269,15 @@ module _ (y : System) (s : IsSystem y) (w : World) (h : ℕ) (stands : Simulates
         subst (λ (a : Action). IsCalling y.plan code.thread places a t.graph_thread.at) lock.locks
         (code.is.code t.graph_thread.at lock.is lock.own lock.at).calls
 
-    at_lock : IsAtCall y.program w thread takes
-    at_lock = call_there y.program places w thread (bare y s w h below) asks.meets asks.agrees t.graph_thread.at takes lock_calls.0 asks.registers asks.on.hart
+    at_lock : IsAtCall y.runs.program w thread takes
+    at_lock =
+        call_there y.runs.program places w thread (bare y s w h below) asks.meets asks.agrees t.graph_thread.at takes lock_calls.0 asks.registers asks.on.hart
         asks.on.here asks.on.runs asks.on.walks.0 asks.has.call
 
     -- another thread has the mutex
     waits : (holder : ℕ) → slice_get w.holders mutex ≡ Some (Some holder) → Result
     waits holder has =
-        let l = locks_wait calls_count y.plan code.thread y.program code.program code.is w thread (bare y s w h below) t.graph_thread.at mutex next
+        let l = locks_wait calls_count y.plan code.thread y.runs.program code.program code.is w thread (bare y s w h below) t.graph_thread.at mutex next
         (seen_by (now_of y b) t.graph_thread) o.bank [] holder asks has in
         let still : after ≡ w = ap (λ (x : Outcome). x.0) l.0 in
         let goes_on : (u : ThreadInv y w b code c) × GoneOn u.log.hart.phase = (
@@ -297,18 +298,19 @@ module _ (y : System) (s : IsSystem y) (w : World) (h : ℕ) (stands : Simulates
               held_same w after stands.before_commit.ghosts thread c (now_of y b) (now_of y b) (ap (λ (v : World). v.holders) still) refl (sym own_giving) held;
           mutexes = mutexes_after (Asks mutex next) o zero_left exit_is;
           counted = record {
-            marks = l.1 y.marks;
+            marks = l.1 y.runs.marks;
+            unlocked = λ lock gives. was_unlocked refl gives;
             points = points_none (Asks mutex next) o zero_left exit_is takes at_lock ∙ not_twice (is_bound c);
             bound = λ e. e;
           };
-          released = nothing_released (holders_stay_none y.program w thread (ap (λ (v : World). v.holders) still)) refl;
+          released = nothing_released (holders_stay_none y.runs.program w thread (ap (λ (v : World). v.holders) still)) refl;
         }
 
     -- the mutex is free
     module _ (free : slice_get w.holders mutex ≡ Some None) where
-      it : TakesMutex y.plan code.thread places (on_machine y.program w thread (bare y s w h below)) mutex next
+      it : TakesMutex y.plan code.thread places (on_machine y.runs.program w thread (bare y s w h below)) mutex next
           (record { exit = Asks mutex next; node = t.graph_thread.at; seen = seen_by (now_of y b) t.graph_thread; bank = o.bank }) asks.on.hart asks.registers
-      it = locks_take calls_count y.plan code.thread y.program code.program code.is w thread (bare y s w h below) t.graph_thread.at mutex next
+      it = locks_take calls_count y.plan code.thread y.runs.program code.program code.is w thread (bare y s w h below) t.graph_thread.at mutex next
           (seen_by (now_of y b) t.graph_thread) o.bank [] placed_here (bare_reads y s w h below) asks free
 
       abbrev b_next : Boundary
@@ -446,7 +448,7 @@ module _ (y : System) (s : IsSystem y) (w : World) (h : ℕ) (stands : Simulates
 
       log_then : LogInv thread c.new new_record after then_ghost.rest
       log_then =
-          steps_keep y.program thread thread c.new new_record w then_ghost.rest stands.before_commit.sound
+          steps_keep y.runs.program thread thread c.new new_record w then_ghost.rest stands.before_commit.sound
           (begins_standing b_next c.old c.new o.bank (places.after t.graph_thread.at) asks.registers w
           (log_over (Asks mutex next) o zero_left exit_is) at_record
           begins_there.recoverable)
@@ -501,7 +503,7 @@ module _ (y : System) (s : IsSystem y) (w : World) (h : ℕ) (stands : Simulates
         at_bank = (offset_follows b_next o.bank (places.after t.graph_thread.at) asks.registers it.on.on.registers begins_there.recoverable
             asks.has.enters.at_bank.exists it.on.on.has.at_bank.count it.on.on.has.at_bank.zero_is it.on.on.has.at_bank.offset).is;
         steps = it.on.steps;
-        fragment = fragments_see_all y.plan code.thread places y.program after thread (bare y s w h below)
+        fragment = fragments_see_all y.plan code.thread places y.runs.program after thread (bare y s w h below)
             (record { exit = Took t.graph_thread.at; node = next; seen = seen_by (now_of y b) t.graph_thread; bank = bank_after b_next o.bank }) it.on.steps
             then_ghost.rest (now_of y then_abstract).variables it.on.on;
         fits = then_fits;
@@ -544,6 +546,7 @@ module _ (y : System) (s : IsSystem y) (w : World) (h : ℕ) (stands : Simulates
         no_sooner = λ yes. absurd (true≢false (sym yes));
         describes = subst (λ (yes : Bool). Describes y.plan code (kept_of y b) (if yes then c.new else c.old)) goes_clean.goes.committed t.describes;
         will_describe = λ no. begins_there.describes;
+        unlocked = λ mutex gives over. absurd (none-some mutex gives);
         cleans = λ effect found. absurd (contains_none effect found);
         graph_thread = graph_thread;
         walks = walks;
@@ -573,11 +576,12 @@ module _ (y : System) (s : IsSystem y) (w : World) (h : ℕ) (stands : Simulates
             graph_threads_count (sym (own_giving ∙ goes_clean.goes.giving)) held;
         mutexes = mutexes_after (Asks mutex next) o zero_left exit_is;
         counted = record {
-          marks = it.mark y.marks refl;
+          marks = it.mark y.runs.marks refl;
+          unlocked = λ lock gives. absurd (none-some lock gives);
           points = it.counts.0 ∙ sym (ap (λ (x : Bool). not (is_bound c) && x) then_unbound ∙ and_false (not (is_bound c)));
           bound = λ was. absurd (true≢false (sym was ∙ unbound));
         };
-        released = nothing_released (no_release y.program w thread (λ none. absurd (holds_none_is thread after.holders mutex none
+        released = nothing_released (no_release y.runs.program w thread (λ none. absurd (holds_none_is thread after.holders mutex none
             (ap (λ (hs : List (Option ℕ)). slice_get hs mutex) holders_then ∙ get-set_same w.holders mutex (Some thread) None free))))
             (sym (none_leaving c goes_clean.goes.giving));
       }

@@ -99,7 +99,7 @@ gone_gathered v h r Ended g = tt
 module _ (y : System) (s : IsSystem y) (w : World) (b : AbstractRun y) (ghosts : ℕ → ThreadGhost) (h : ℕ) (sound : IsWellFormedWorld w)
     (i : IsInPhase w h Run) where
   abbrev later : World
-  later = after_event y.program w (Step h)
+  later = after_event y.runs.program w (Step h)
 
   -- a hart that runs has gathered its locks, as all have
   pub runs_held : AreLocked y w b ghosts → AreGathered w (records_of ghosts) × AreHeld w ghosts (now_of y b)
@@ -108,20 +108,20 @@ module _ (y : System) (s : IsSystem y) (w : World) (b : AbstractRun y) (ghosts :
   runs_held (gathered ag held) = (ag, held)
 
   gathered_after : (ghost : ThreadGhost) (new : Hart) → slice_get later.harts h ≡ Some new → GoneOn new.phase →
-      ((k : ℕ) → k ≢ h → IsElsewhere y.program w h k) → AreGathered w (records_of ghosts) →
+      ((k : ℕ) → k ≢ h → IsElsewhere y.runs.program w h k) → AreGathered w (records_of ghosts) →
       AreGathered later (records_of (with_ghost ghosts h ghost))
   gathered_after ghost new here goes elsewhere ag = record {
     each = each_ghost ghosts h ghost (λ (n : ℕ) (c : ThreadGhost). (hart : Hart) → slice_get later.harts n ≡ Some hart → HasGathered later n c.new hart.phase)
         (λ hart there. gone_gathered later h ghost.new hart.phase
         (subst (λ (x : Hart). GoneOn x.phase) (same_there (slice_get later.harts h) new hart here there) goes))
         (λ n other hart there. gathered_on w later n (ghosts n).new hart.phase
-        (ready_stays y.program w h n (ghosts n).new sound other (elsewhere n other))
-        (ag.each n hart (sym ((steps_touch y.program w h sound).others n other) ∙ there)));
+        (ready_stays y.runs.program w h n (ghosts n).new sound other (elsewhere n other))
+        (ag.each n hart (sym ((steps_touch y.runs.program w h sound).others n other) ∙ there)));
   }
 
   -- the lock part of the simulation holds after a step of a hart, where harts go on to hold what their threads have
   pub locked_after : (next : AbstractRun y) (ghost : ThreadGhost) (new : Hart) → slice_get later.harts h ≡ Some new → GoneOn new.phase →
-      ((hart : Hart) (effect : Effect) → IsNext y.program w h hart effect → MayStore y b h effect) → AreLocked y w b ghosts →
+      ((hart : Hart) (effect : Effect) → IsNext y.runs.program w h hart effect → MayStore y b h effect) → AreLocked y w b ghosts →
       (AreHeld w ghosts (now_of y b) → AreHeld later (with_ghost ghosts h ghost) (now_of y next)) →
       AreLocked y later next (with_ghost ghosts h ghost)
   locked_after next ghost new here goes may locks held =

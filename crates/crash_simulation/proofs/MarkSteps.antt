@@ -2,6 +2,7 @@
 use Rattle.std.proofs.Common.{◌≡◌, refl, ℕ, ◌<◌, List, [], ◌++◌, length, ap, sym, ◌∙◌, subst, Option, Some, Bool, true, false}
 use Rattle.std.specs.Prelude.{slice_get, Contains, not, ℤ}
 use Rattle.std.proofs.lemmas.List.{append-nil}
+use Rattle.std.proofs.lemmas.Option.{none-some}
 use Rattle.rv64_isa.specs.declared.phase.Phase.{Phase}
 use Rattle.rv64_isa.specs.Rows.{Effect}
 use Rattle.rv64_isa.specs.Machine.{Hart, World}
@@ -103,15 +104,15 @@ module _ (y : System) (s : IsSystem y) (w : World) (h : ℕ) (stands : Simulates
   stage_is variables (a.Gives mutex next) plain = cc
   stage_is variables a.Ends plain = refl
 
-  module _ (e : a.Effect) (plain : is_plain e ≡ true) (environment : MarkedEnvironment) (marks_are : AreMarksOf y.marks n environment) (steps : ℕ)
+  module _ (e : a.Effect) (plain : is_plain e ≡ true) (environment : MarkedEnvironment) (marks_are : AreMarksOf y.runs.marks n environment) (steps : ℕ)
       (effects : List Effect)
-      (at : IsAtMark y.plan (code y s w h stands below).thread (code y s w h stands below).is.places (on_machine y.program w n environment) e
+      (at : IsAtMark y.plan (code y s w h stands below).thread (code y s w h stands below).is.places (on_machine y.runs.program w n environment) e
       (stage_after y.plan (code y s w h stands below).thread (code y s w h stands below).is.places graph_thread.at seen core.bank e) steps effects)
-      (p : laws.PassesMark y.plan (code y s w h stands below).thread (code y s w h stands below).is.places (on_machine y.program w n environment) e
+      (p : laws.PassesMark y.plan (code y s w h stands below).thread (code y s w h stands below).is.places (on_machine y.runs.program w n environment) e
       (stage_after y.plan (code y s w h stands below).thread (code y s w h stands below).is.places graph_thread.at seen core.bank e) steps effects at)
       (cleans : List Effect) (later_is : p.later ≡ cleans) (clean : (effect : Effect) → Contains cleans effect → is_clean effect ≡ true)
       (ends_clean : e ≡ a.Ends → cleans ≡ [])
-      (elsewhere : IsElsewhere y.program w n n) (may : MayStore y b n p.forward.effect) (no_point : is_point_store n p.forward.effect ≡ false)
+      (elsewhere : IsElsewhere y.runs.program w n n) (may : MayStore y b n p.forward.effect) (no_point : is_point_store n p.forward.effect ≡ false)
       (memory : Memory) (memory_is : memory_in (places_of y) v.words ≡ memory)
       (happened : ConfigStep b.config (begun b.config n memory (one_longer b.config n))) (by_it : IsDoneBy n happened) (none_kept : kept_steps happened ≡ [])
       (minded : RespectsBoundaries (flat_of y) y.plan.boundaries (kept_of y b) happened) (is_step : is_begun happened ≡ true) where
@@ -125,7 +126,7 @@ module _ (y : System) (s : IsSystem y) (w : World) (h : ℕ) (stands : Simulates
     abbrev pub later_hart : Hart
     later_hart = p.on.on.hart
 
-    is_next : IsNext y.program w n hart p.forward.effect
+    is_next : IsNext y.runs.program w n hart p.forward.effect
     is_next = record { here = at.on.here; runs = ap is_running at.on.runs; is = p.forward.effect_is }
 
     holders_stay : v.holders ≡ w.holders
@@ -155,20 +156,20 @@ module _ (y : System) (s : IsSystem y) (w : World) (h : ℕ) (stands : Simulates
       walks : slice_get (now_of y next).graph_threads n ≡ Some (moved graph_thread e)
       walks = ap (λ (z : FlowState). slice_get z.graph_threads n) state ∙ graph_thread_is (now_of y b) n graph_thread e (thread_of y s w h stands below).walks
 
-      fragment : IsOnFragment y.plan (code y s w h stands below).thread (code y s w h stands below).is.places (on_machine y.program v n environment)
+      fragment : IsOnFragment y.plan (code y s w h stands below).thread (code y s w h stands below).is.places (on_machine y.runs.program v n environment)
           (record { exit = exit_after e; node = (moved graph_thread e).at; seen = seen_by (now_of y next) (moved graph_thread e); bank = core.bank })
           steps (cleans ++ [])
       fragment =
           let seen_all =
-          fragments_see_all y.plan (code y s w h stands below).thread (code y s w h stands below).is.places y.program v n environment
+          fragments_see_all y.plan (code y s w h stands below).thread (code y s w h stands below).is.places y.runs.program v n environment
           (stage_after y.plan (code y s w h stands below).thread (code y s w h stands below).is.places graph_thread.at seen core.bank e) steps p.later
           (now_of y next).variables p.on in
           subst (λ (es : List Effect). IsOnFragment y.plan (code y s w h stands below).thread (code y s w h stands below).is.places
-          (on_machine y.program v n environment)
+          (on_machine y.runs.program v n environment)
           (record { exit = exit_after e; node = (moved graph_thread e).at; seen = seen_by (now_of y next) (moved graph_thread e); bank = core.bank }) steps es)
           (later_is ∙ sym (append-nil cleans))
           (subst (λ (stage : Stage). IsOnFragment y.plan (code y s w h stands below).thread (code y s w h stands below).is.places
-          (on_machine y.program v n environment) stage
+          (on_machine y.runs.program v n environment) stage
           steps p.later) (stage_is (now_of y next).variables e plain) seen_all)
 
       same_here : (other : Hart) → slice_get v.harts n ≡ Some other → later_hart ≡ other
@@ -190,9 +191,9 @@ module _ (y : System) (s : IsSystem y) (w : World) (h : ℕ) (stands : Simulates
             fits = fits_by e plain ends_clean;
           })))
 
-      may_each : (other : Hart) (effect : Effect) → IsNext y.program w n other effect → MayStore y b n effect
+      may_each : (other : Hart) (effect : Effect) → IsNext y.runs.program w n other effect → MayStore y b n effect
       may_each other effect is =
-          subst (λ (f : Effect). MayStore y b n f) (one_effect y.program w n hart other p.forward.effect effect is_next is) may
+          subst (λ (f : Effect). MayStore y b n f) (one_effect y.runs.program w n hart other p.forward.effect effect is_next is) may
 
       pub passed_step : StepOf y s w h stands below n
       passed_step = record {
@@ -209,9 +210,10 @@ module _ (y : System) (s : IsSystem y) (w : World) (h : ℕ) (stands : Simulates
             (ap (λ (z : FlowState). length z.graph_threads) state ∙ graph_threads_count (now_of y b) n graph_thread e) (sym goes_here.giving));
         mutexes = ap (λ (hs : List (Option ℕ)). length hs) holders_stay;
         counted = record {
-          marks = p.mark y.marks marks_are ∙ sym is_step;
+          marks = p.mark y.runs.marks marks_are ∙ sym is_step;
+          unlocked = λ mutex gives. absurd (none-some mutex gives);
           points = p.point ∙ no_point ∙ and_false (not (is_bound c));
           bound = λ bound. absurd (not_bound c goes_here.committed bound);
         };
-        released = nothing_released (holders_stay_none y.program w n holders_stay) (sym (none_leaving c goes_here.giving));
+        released = nothing_released (holders_stay_none y.runs.program w n holders_stay) (sym (none_leaving c goes_here.giving));
       }

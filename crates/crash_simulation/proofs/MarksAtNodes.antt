@@ -106,7 +106,7 @@ module _ (y : System) (s : IsSystem y) (w : World) (h : ℕ) (stands : Simulates
       (seen_by (now_of y (abstract y s w h stands below)) (thread_of y s w h stands below).graph_thread)) environment.around.loads node.action →
       MayDo y.plan (code y s w h stands below).thread (code y s w h stands below).is.places (length w.harts) environment e →
       IsAtSomeMark y.plan (code y s w h stands below).thread (code y s w h stands below).is.places
-      (on_machine y.program w (number y s w h stands below) environment)
+      (on_machine y.runs.program w (number y s w h stands below) environment)
       (thread_of y s w h stands below).graph_thread.at
       (seen_by (now_of y (abstract y s w h stands below)) (thread_of y s w h stands below).graph_thread) core.bank
       core.registers e
@@ -115,9 +115,9 @@ module _ (y : System) (s : IsSystem y) (w : World) (h : ℕ) (stands : Simulates
       let b = abstract y s w h stands below in
       let graph_thread = (thread_of y s w h stands below).graph_thread in
       let there : NodeAt y.plan.graph graph_thread.at node = subst (λ (g : Graph). NodeAt g graph_thread.at node) (sym s.plan.lowered) at in
-      mark_of y.plan c.thread c.is.places y.program w c.thread.number environment graph_thread.at (seen_by (now_of y b) graph_thread) core.bank
+      mark_of y.plan c.thread c.is.places y.runs.program w c.thread.number environment graph_thread.at (seen_by (now_of y b) graph_thread) core.bank
       core.registers e free
-      (nodes_begin y.plan c.thread y.program c.program c.is w c.thread.number environment graph_thread.at (seen_by (now_of y b) graph_thread) core.bank
+      (nodes_begin y.plan c.thread y.runs.program c.program c.is w c.thread.number environment graph_thread.at (seen_by (now_of y b) graph_thread) core.bank
       core.registers node e
       (placed_here y s w b c (s.own h below) stands.before_commit.count inside) (meets_here y s w b c (s.own h below) stands.before_commit.count inside reads)
       (agrees_here y s w b c (s.own h below) stands.before_commit.count inside reads) reading there does answered may core.core)

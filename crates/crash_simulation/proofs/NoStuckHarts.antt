@@ -49,7 +49,7 @@ use Rattle.crash_simulation.proofs.SimulationInRecovery as recovering
 
 -- hart h is not stuck
 abbrev IsFree : System → World → (h : ℕ) → Type 0
-IsFree y w h = (cause : Cause) → reply_to y.program w (Step h) ≢ Stuck cause
+IsFree y w h = (cause : Cause) → reply_to y.runs.program w (Step h) ≢ Stuck cause
 
 -- ---- A hart in Run that is ready
 
@@ -78,9 +78,9 @@ module _ (y : System) (s : IsSystem y) (w : World) (h : ℕ) (stands : Simulates
   -- before a fragment's end
   on_fragment : (o : OnFragmentNow y s w h stands below) (steps : ℕ) → o.steps ≡ suc steps → IsFree y w thread
   on_fragment o steps is =
-      fragments_are_well harts_well.none_is_stuck y.plan code.thread places y.program w thread o.environment
+      fragments_are_well harts_well.none_is_stuck y.plan code.thread places y.runs.program w thread o.environment
       (record { exit = o.exit; node = t.graph_thread.at; seen = seen; bank = o.bank }) steps (c.cleans ++ c.rest)
-      (subst (λ (n : ℕ). IsOnFragment y.plan code.thread places (on_machine y.program w thread o.environment)
+      (subst (λ (n : ℕ). IsOnFragment y.plan code.thread places (on_machine y.runs.program w thread o.environment)
       (record { exit = o.exit; node = t.graph_thread.at; seen = seen; bank = o.bank }) n (c.cleans ++ c.rest)) is o.fragment)
 
   -- at its end, where the thread makes a call
@@ -93,20 +93,21 @@ module _ (y : System) (s : IsSystem y) (w : World) (h : ℕ) (stands : Simulates
         elim (get_cases w.holders mutex) [
           | inl none ↦ let long = no_more w.holders mutex none in absurd (omega (arith, long, count, within))
           | inr there ↦
-              locks_are_well harts_well.none_is_stuck y.plan code.thread y.program code.program code.is w thread (bare y s w h below)
+              locks_are_well harts_well.none_is_stuck y.plan code.thread y.runs.program code.program code.is w thread (bare y s w h below)
               t.graph_thread.at mutex next
               seen o.bank [] there.0 fragment there.1
         ]
 
     gives : (from mutex : ℕ) → o.exit ≡ Gives from mutex → IsFree y w thread
     gives from mutex is =
-        unlocks_are_well harts_well.none_is_stuck y.plan code.thread y.program code.program code.is w thread (bare y s w h below) from mutex
+        unlocks_are_well harts_well.none_is_stuck y.plan code.thread y.runs.program code.program code.is w thread (bare y s w h below) from mutex
         t.graph_thread.at seen
         o.bank [] (calls.giving y s w h stands below held from mutex o over is) (calls.owns y s w h stands below held from mutex o over is)
 
     ends : o.exit ≡ Ends → IsFree y w thread
     ends is =
-        ends_are_well harts_well.none_is_stuck y.plan code.thread y.program code.program code.is w thread (bare y s w h below) t.graph_thread.at seen o.bank []
+        ends_are_well harts_well.none_is_stuck y.plan code.thread y.runs.program code.program code.is w thread (bare y s w h below)
+        t.graph_thread.at seen o.bank []
         (calls.ending y s w h stands below held o over is)
         (at_calls.none_from thread 0 w.holders (calls.none_here y s w h stands below held o over is))
 
@@ -122,10 +123,10 @@ module _ (y : System) (s : IsSystem y) (w : World) (h : ℕ) (stands : Simulates
     node = found y s w h stands below core marks none
 
     at_mark : (environment : MarkedEnvironment) (effect : a.Effect) →
-        IsAtSomeMark y.plan code.thread places (on_machine y.program w thread environment) t.graph_thread.at seen core.bank core.registers effect →
+        IsAtSomeMark y.plan code.thread places (on_machine y.runs.program w thread environment) t.graph_thread.at seen core.bank core.registers effect →
         IsFree y w thread
     at_mark environment effect m =
-        marks_are_well harts_well.none_is_stuck y.plan code.thread places y.program w thread environment effect
+        marks_are_well harts_well.none_is_stuck y.plan code.thread places y.runs.program w thread environment effect
         (stage_after y.plan code.thread places t.graph_thread.at seen core.bank effect) m.steps m.effects m.at
 
     at_quiet : (z : Action) → node.0.action ≡ z → (effect : a.Effect) → effect_of z seen ≡ Some effect → is_quiet effect ≡ true → IsFree y w thread
@@ -165,17 +166,17 @@ module _ (marks : MarksPass) (y : System) (s : IsSystem y) (w : World) (stands :
       subst (λ (n : ℕ). IsFree y w n) (s.codes.number h r.below) (when_ready y s w h r.stands r.below marks held r.ready)
 
   by_phase : (phase : Phase) → IsInPhase w h phase → IsFree y w h
-  by_phase Take i = harts_well.none_is_stuck y.program w h (harts.apart Take refl i)
-  by_phase Wait i = harts_well.none_is_stuck y.program w h (harts.apart Wait refl i)
-  by_phase Resume i = harts_well.none_is_stuck y.program w h (harts.apart Resume refl i)
+  by_phase Take i = harts_well.none_is_stuck y.runs.program w h (harts.apart Take refl i)
+  by_phase Wait i = harts_well.none_is_stuck y.runs.program w h (harts.apart Wait refl i)
+  by_phase Resume i = harts_well.none_is_stuck y.runs.program w h (harts.apart Resume refl i)
   by_phase Run i = runs i
-  by_phase Done i = harts_well.none_is_stuck y.program w h (harts.apart Done refl i)
-  by_phase Ended i = harts_well.none_is_stuck y.program w h (harts.apart Ended refl i)
+  by_phase Done i = harts_well.none_is_stuck y.runs.program w h (harts.apart Done refl i)
+  by_phase Ended i = harts_well.none_is_stuck y.runs.program w h (harts.apart Ended refl i)
 
   -- nothing happens where there is no hart
-  still : slice_get w.harts h ≡ None → reply_to y.program w (Step h) ≡ Still
+  still : slice_get w.harts h ≡ None → reply_to y.runs.program w (Step h) ≡ Still
   unfolding happens
-  still none = ap (λ (o : Option Hart). (stepped y.program w h o).1) none
+  still none = ap (λ (o : Option Hart). (stepped y.runs.program w h o).1) none
 
   free_by : (o : Option Hart) → slice_get w.harts h ≡ o → IsFree y w h
   free_by None none cause = λ stuck. let no : Still ≡ Stuck cause = sym (still none) ∙ stuck in cc
@@ -187,9 +188,9 @@ none_is_stuck marks y s w stands h = free_by marks y s w stands h (slice_get w.h
 -- ---- A hart that takes its locks
 
 moves_by : (y : System) (s : IsSystem y) (w : World) (h : ℕ) (stands : Simulates y s w) → IsInPhase w h Take →
-    AreLocked y w stands.before_commit.abstract stands.before_commit.ghosts → reply_to y.program w (Step h) ≡ Moved
+    AreLocked y w stands.before_commit.abstract stands.before_commit.ghosts → reply_to y.runs.program w (Step h) ≡ Moved
 moves_by y s w h stands i (gathering none gathers) =
-    (takes_never_wait y.program w (records_of stands.before_commit.ghosts) h gathers (recovering.apart y s w h stands none gathers) i).0
+    (takes_never_wait y.runs.program w (records_of stands.before_commit.ghosts) h gathers (recovering.apart y s w h stands none gathers) i).0
 moves_by y s w h stands i (gathered ag held) =
     absurd (subst (λ (p : Phase). HasGathered w h (records_of stands.before_commit.ghosts h) p) i.phase_is (ag.each h i.hart i.here))
 

@@ -100,16 +100,18 @@ loaded_below ws number count = mod-lt _ (pow_pos (8 * count))
 module _ (y : System) (s : IsSystem y) (w : World) (b : AbstractRun y) (code : Code y.plan) (own : IsOwnCode y code) (count : length w.harts ≡ thread_count y)
     (inside : code.thread.number < thread_count y) where
   abbrev pub environment_with : (reads : ℕ → ℕ → Bool) → MarkedEnvironment
-  environment_with reads = environment_of y.program (slice_index_or y.marks code.thread.number []) reads w code.thread.number
+  environment_with reads = environment_of y.runs.program (slice_index_or y.runs.marks code.thread.number []) reads w code.thread.number
 
   pub meets_here : (reads : ℕ → ℕ → Bool) → Meets code.is.places.program (environment_with reads)
   meets_here reads =
-      let is : program_at y.program code.thread.number (slice_index_or y.marks code.thread.number []) (slice_index_or y.resumes code.thread.number []) ≡
+      let is : program_at y.runs.program code.thread.number (slice_index_or y.runs.marks code.thread.number [])
+      (slice_index_or y.runs.resumes code.thread.number []) ≡
       code.is.places.program = sym (code.is.of_program ∙ own.program) in
       subst (λ (p : Program). Meets p (environment_with reads)) is
-      (environments_meet y.program (slice_index_or y.marks code.thread.number []) (slice_index_or y.resumes code.thread.number []) reads w code.thread.number)
+      (environments_meet y.runs.program (slice_index_or y.runs.marks code.thread.number []) (slice_index_or y.runs.resumes code.thread.number []) reads w
+      code.thread.number)
 
-  pub agrees_here : (reads : ℕ → ℕ → Bool) → Agrees y.program w code.thread.number (environment_with reads)
+  pub agrees_here : (reads : ℕ → ℕ → Bool) → Agrees y.runs.program w code.thread.number (environment_with reads)
   agrees_here reads = record {
     fetches = λ address instr e. e;
     loads = λ address bytes value e.

@@ -159,10 +159,11 @@ module _ (y : System) (b : AbstractRun y) (next : Config) (execution : Execution
 
   -- the event moves its log, and memory goes on to agree with what it reads
   module _ (w : World) (event : Event) (sound : IsWellFormedWorld w) (of_others : IsOfOthers n event)
-      (moves : (hart : Hart) → slice_get w.harts n ≡ Some hart → MovesTo n w hart c.rest (after_event y.program w event) c.rest)
-      (agrees : (z : MarkedEnvironment) → AnswersGuarded y b code c z → Agrees y.program w n z → Agrees y.program (after_event y.program w event) n z) where
+      (moves : (hart : Hart) → slice_get w.harts n ≡ Some hart → MovesTo n w hart c.rest (after_event y.runs.program w event) c.rest)
+      (agrees : (z : MarkedEnvironment) → AnswersGuarded y b code c z → Agrees y.runs.program w n z →
+      Agrees y.runs.program (after_event y.runs.program w event) n z) where
     abbrev after : World
-    after = after_event y.program w event
+    after = after_event y.runs.program w event
 
     runs_on : (hart : Hart) (graph_thread : GraphThread) → IsRunningThread y w b code c hart graph_thread →
         IsRunningThread y after run_after code c hart graph_thread
@@ -173,8 +174,8 @@ module _ (y : System) (b : AbstractRun y) (next : Config) (execution : Execution
       bank = o.bank;
       at_bank = o.at_bank;
       steps = o.steps;
-      fragment = fragments_see_all y.plan code.thread code.is.places y.program after n o.environment _ o.steps _ (now_of y run_after).variables
-          (others_keep_fragments y.plan code.thread code.is.places y.program w n o.environment _ o.steps _ event sound of_others o.fragment
+      fragment = fragments_see_all y.plan code.thread code.is.places y.runs.program after n o.environment _ o.steps _ (now_of y run_after).variables
+          (others_keep_fragments y.plan code.thread code.is.places y.runs.program w n o.environment _ o.steps _ event sound of_others o.fragment
           (agrees o.environment o.answers o.fragment.agrees));
       fits = fits_on graph_thread o.exit o.fits;
     })
@@ -183,7 +184,7 @@ module _ (y : System) (b : AbstractRun y) (next : Config) (execution : Execution
       at_bank = o.at_bank;
       registers = o.registers;
       core = cores_see_all y.plan code.thread code.is.places after n graph_thread.at _ o.bank o.registers (now_of y run_after).variables
-          (others_keep_cores y.plan code.thread code.is.places y.program w n graph_thread.at _ o.bank o.registers event sound of_others o.core);
+          (others_keep_cores y.plan code.thread code.is.places y.runs.program w n graph_thread.at _ o.bank o.registers event sound of_others o.core);
       goes = goes_clean false graph_thread o.goes;
       fresh = λ chosen. done_same ∙ o.fresh chosen;
     })
@@ -199,7 +200,7 @@ module _ (y : System) (b : AbstractRun y) (next : Config) (execution : Execution
 
     coming_on : (hart : Hart) (v e position : ℕ) → IsComing y w b code c hart v e position → IsComing y after run_after code c hart v e position
     coming_on hart v e position (is_reached r) =
-        is_reached (others_reach y.program w n event sound of_others hart.queue (byte_number (variable_at (shapes_of y) v e) / 8) position r)
+        is_reached (others_reach y.runs.program w n event sound of_others hart.queue (byte_number (variable_at (shapes_of y) v e) / 8) position r)
     coming_on hart v e position (is_ahead variable element ahead line) = is_ahead variable element ahead line
 
     flushed_on : (hart : Hart) (v e : ℕ) → Writes b.config.kept n (attempt_of b.config n).done v e → IsFlushed y w b code c hart v e →
@@ -225,7 +226,7 @@ module _ (y : System) (b : AbstractRun y) (next : Config) (execution : Execution
     log_on : (t : ThreadInv y w b code c) → LogOn t
     log_on t =
         let moved = moves t.log.hart t.log.here in
-        let here = (others_leave y.program w n event sound of_others).0 ∙ t.log.here in
+        let here = (others_leave y.runs.program w n event sound of_others).0 ∙ t.log.here in
         record {
           here = here;
           moves_on = subst (λ (x : Hart). Moves n (config_of w t.log.hart c.rest) (config_of after x c.rest))
@@ -243,6 +244,7 @@ module _ (y : System) (b : AbstractRun y) (next : Config) (execution : Execution
           no_sooner = λ is. stays_committed n c.old c.new from to t.log.log on.moves_on (t.no_sooner is);
           describes = t.describes;
           will_describe = λ un. others_describe y.plan code (now_of y b) (now_of y run_after) c.new (t.will_describe un) still.graph_thread still.holds;
+          unlocked = t.unlocked;
           cleans = t.cleans;
           graph_thread = t.graph_thread;
           walks = still.graph_thread ∙ t.walks;

@@ -2,6 +2,7 @@
 use Rattle.std.proofs.Common.{◌≡◌, inl, inr, ⊎_elim, refl, ℕ, ◌<◌, List, [], length, ap, sym, ◌∙◌, subst, Option, Some, None, true}
 use Rattle.std.specs.Prelude.{slice_get, Contains}
 use Rattle.std.proofs.lemmas.Bool.{cond-true, true≢false}
+use Rattle.std.proofs.lemmas.Option.{none-some}
 use Rattle.ido_base.specs.declared.event.Event.TheVariants.{Step}
 use Rattle.rv64_isa.specs.declared.phase.Phase.TheVariants.{Run}
 use Rattle.rv64_isa.specs.Rows.{Effect}
@@ -48,7 +49,7 @@ module _ (y : System) (s : IsSystem y) (w : World) (h : ℕ) (stands : Simulates
   ghost = ghosts h
 
   abbrev pub after : World
-  after = after_event y.program w (Step number)
+  after = after_event y.runs.program w (Step number)
 
   pub same_number : number ≡ h
   same_number = s.codes.number h below
@@ -57,13 +58,13 @@ module _ (y : System) (s : IsSystem y) (w : World) (h : ℕ) (stands : Simulates
   pub record StepOf (k : ℕ) : Type 0 where
     pub next : AbstractRun y
     pub led : StepsOrStutters y abstract k next
-    pub memory : memory_in (places_of y) (after_event y.program w (Step k)).words ≡ next.config.memory
-    pub stores_own : (hart : Hart) (effect : Effect) → IsNext y.program w k hart effect → MayStore y abstract k effect
+    pub memory : memory_in (places_of y) (after_event y.runs.program w (Step k)).words ≡ next.config.memory
+    pub stores_own : (hart : Hart) (effect : Effect) → IsNext y.runs.program w k hart effect → MayStore y abstract k effect
     pub new : ThreadGhost
-    pub own : ThreadInv y (after_event y.program w (Step k)) next code new
-    pub locks : AreLocked y (after_event y.program w (Step k)) next (with_ghost ghosts k new)
-    pub mutexes : length (after_event y.program w (Step k)).holders ≡ length w.holders
-    pub counted : IsCounted y w k (begins led) ghost new
+    pub own : ThreadInv y (after_event y.runs.program w (Step k)) next code new
+    pub locks : AreLocked y (after_event y.runs.program w (Step k)) next (with_ghost ghosts k new)
+    pub mutexes : length (after_event y.runs.program w (Step k)).holders ≡ length w.holders
+    pub counted : IsCounted y w abstract k (begins led) ghost new
     pub released : Releases y w k ghost new
 
   pub own_step : StepOf number → OwnStep y s w h stands
@@ -87,7 +88,7 @@ module _ (y : System) (s : IsSystem y) (w : World) (h : ℕ) (stands : Simulates
 
   pub locks_after : (next : AbstractRun y) (new : ThreadGhost) (hart later : Hart) → slice_get w.harts number ≡ Some hart → hart.phase ≡ Run →
       slice_get after.harts number ≡ Some later → later.phase ≡ Run →
-      ((other : Hart) (effect : Effect) → IsNext y.program w number other effect → MayStore y abstract number effect) →
+      ((other : Hart) (effect : Effect) → IsNext y.runs.program w number other effect → MayStore y abstract number effect) →
       (AreHeld w ghosts (now_of y abstract) → AreHeld after (with_ghost ghosts number new) (now_of y next)) →
       AreLocked y after next (with_ghost ghosts number new)
   locks_after next new hart later here runs there still may held =
@@ -124,11 +125,11 @@ module _ (y : System) (s : IsSystem y) (w : World) (h : ℕ) (stands : Simulates
   -- ---- The thread, between boundaries
 
   module _ (next : AbstractRun y) (schedule : next.schedule ≡ abstract.schedule) (goes : IsInAttempt y abstract code ghost) (cleans : List Effect)
-      (clean : (effect : Effect) → Contains cleans effect → is_clean effect ≡ true) (elsewhere : IsElsewhere y.program w number number)
+      (clean : (effect : Effect) → Contains cleans effect → is_clean effect ≡ true) (elsewhere : IsElsewhere y.runs.program w number number)
       (graph_thread : GraphThread) (walks : slice_get (now_of y next).graph_threads number ≡ Some graph_thread) where
     log_after : LogInv number ghost.old ghost.new after []
     log_after =
-        steps_keep y.program number number ghost.old ghost.new w [] stands.before_commit.sound
+        steps_keep y.runs.program number number ghost.old ghost.new w [] stands.before_commit.sound
         (subst (λ (rest : List Effect). LogInv number ghost.old ghost.new w rest) goes.rest (stands.before_commit.each h below).log) elsewhere
 
     pub thread_going : ((hart : Hart) → slice_get after.harts number ≡ Some hart →
@@ -145,6 +146,7 @@ module _ (y : System) (s : IsSystem y) (w : World) (h : ℕ) (stands : Simulates
           no_sooner = λ _. ends_committed number ghost.old ghost.new (config_of after log_after.hart []) log_after.log refl;
           describes = subst (λ (sch : List ℕ). Describes y.plan code (flow_kept (flat_of y) sch) ghost.new) (sym schedule) told;
           will_describe = λ un. absurd (true≢false un);
+          unlocked = λ mutex gives over. absurd (none-some mutex gives);
           cleans = clean;
           graph_thread = graph_thread;
           walks = walks;

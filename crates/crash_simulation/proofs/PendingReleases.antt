@@ -1,7 +1,8 @@
 -- A thread that has unlocked a mutex by a step that isn't kept is giving it back.
-use Rattle.std.proofs.Common.{◌≡◌, ⊎_elim, ℕ, List, [], ◌∷◌, sym, ◌∙◌, arith, Option, Some, None}
+use Rattle.std.proofs.Common.{◌≡◌, ⊎_elim, ℕ, List, [], ◌∷◌, sym, ◌∙◌, subst, arith, Option, Some, None}
 use Rattle.std.specs.Prelude.{slice_get}
 use Rattle.std.proofs.lemmas.Bool.{cases_Bool}
+use Rattle.std.proofs.lemmas.Option.{none-some, same_Some}
 use Rattle.c_tree.specs.Flats as f
 use Rattle.c_tree.specs.Source as m
 use Rattle.c_tree.specs.Source.{Pending}
@@ -18,7 +19,7 @@ use Rattle.recovery_semantics.specs.Laws.{HasUnlocked}
 use Rattle.recovered_threads.specs.RecordDescriptions.{Code}
 use Rattle.crash_simulation.specs.Systems.{System}
 use Rattle.crash_simulation.specs.AbstractRuns.{AbstractRun}
-use Rattle.crash_simulation.specs.ThreadGhosts.{ThreadGhost, ExitInv, InPhase, IsRunningThread, on_fragment, at_core, ThreadInv}
+use Rattle.crash_simulation.specs.ThreadGhosts.{ThreadGhost, IsBounded, ExitInv, InPhase, IsRunningThread, on_fragment, at_core, ThreadInv}
 
 -- ---- No step both locks and unlocks
 
@@ -87,3 +88,36 @@ module _ (y : System) (w : World) (b : AbstractRun y) (code : Code y.plan) (c : 
 
   pub giving_of : ThreadInv y w b code c → c.giving ≡ Some mutex
   giving_of t = by_phase t.log.hart t.graph_thread t.log.hart.phase t.phase
+
+-- ---- Where a thread is that has a mutex still to give back
+
+module _ (y : System) (w : World) (b : AbstractRun y) (code : Code y.plan) (c : ThreadGhost) (mutex : ℕ) (gives : c.giving ≡ Some mutex) where
+  abbrev BoundedAt : GraphThread → Type 0
+  BoundedAt graph_thread = IsBounded y b code c graph_thread (Some mutex) (HasUnlocked b.config code.thread.number mutex)
+
+  gives_none : c.giving ≡ None → ⊥
+  gives_none none = none-some mutex (sym none ∙ gives)
+
+  bounded_by_exit : (graph_thread : GraphThread) (exit : ExitPoint) → ExitInv y b code c graph_thread exit → BoundedAt graph_thread
+  bounded_by_exit graph_thread Arrives f = absurd (gives_none f.0.giving)
+  bounded_by_exit graph_thread Keeps f = absurd (gives_none f.2.gives)
+  bounded_by_exit graph_thread (Asks other next) f = absurd (gives_none f.goes.giving)
+  bounded_by_exit graph_thread (Took from) f = absurd (gives_none f.gives)
+  bounded_by_exit graph_thread (Gives from other) f =
+      subst (λ (k : ℕ). IsBounded y b code c graph_thread (Some k) (HasUnlocked b.config code.thread.number k)) (same_Some other mutex (sym f.gives ∙ gives)) f
+  bounded_by_exit graph_thread Ends f = absurd (gives_none f.goes.giving)
+
+  bounded_by_run : (hart : Hart) (graph_thread : GraphThread) → IsRunningThread y w b code c hart graph_thread → BoundedAt graph_thread
+  bounded_by_run hart graph_thread (on_fragment o) = bounded_by_exit graph_thread o.exit o.fits
+  bounded_by_run hart graph_thread (at_core o) = absurd (gives_none o.goes.goes.giving)
+
+  bounded_by_phase : (hart : Hart) (graph_thread : GraphThread) (phase : Phase) → InPhase y w b code c hart graph_thread phase → BoundedAt graph_thread
+  bounded_by_phase hart graph_thread Take p = absurd (gives_none p.giving)
+  bounded_by_phase hart graph_thread Wait p = absurd (gives_none p.giving)
+  bounded_by_phase hart graph_thread Resume p = absurd (gives_none p.giving)
+  bounded_by_phase hart graph_thread Run p = bounded_by_run hart graph_thread p
+  bounded_by_phase hart graph_thread Done p = absurd (gives_none p.0.giving)
+  bounded_by_phase hart graph_thread Ended p = absurd (gives_none p.0.goes.giving)
+
+  pub bounded_of : (t : ThreadInv y w b code c) → BoundedAt t.graph_thread
+  bounded_of t = bounded_by_phase t.log.hart t.graph_thread t.log.hart.phase t.phase

@@ -151,6 +151,14 @@ not_running program w h hart phase here is none =
     ∙ (ap (λ (p : Phase). if is_running p && has_moved (reply_to program w (Step h)) then Some hart else None) is
     ∙ ap (λ (b : Bool). if b && has_moved (reply_to program w (Step h)) then Some hart else None) none)
 
+pub none_there_begins : (marks : List (List ℕ)) (program : List (List Slot)) (w : World) (h : ℕ) → slice_get w.harts h ≡ None →
+    passes_mark marks program w h ≡ false
+none_there_begins marks program w h none = no_mark marks program w h (not_there program w h none)
+
+pub none_running_begins : (marks : List (List ℕ)) (program : List (List Slot)) (w : World) (h : ℕ) (hart : Hart) (phase : Phase) →
+    slice_get w.harts h ≡ Some hart → hart.phase ≡ phase → is_running phase ≡ false → passes_mark marks program w h ≡ false
+none_running_begins marks program w h hart phase here is none = no_mark marks program w h (not_running program w h hart phase here is none)
+
 pub none_there_counted : (marks : List (List ℕ)) (program : List (List Slot)) (w : World) (h : ℕ) (s : Steps) → slice_get w.harts h ≡ None →
     with_step marks program w h s ≡ s
 none_there_counted marks program w h s none = nothing_counted marks program w h (not_there program w h none) s

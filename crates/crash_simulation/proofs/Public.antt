@@ -16,6 +16,7 @@ pub use Rattle.crash_simulation.proofs.LongestAttempts.{AreFurthest}
 pub use Rattle.crash_simulation.proofs.MarksAtNodes.{environment, inside}
 pub use Rattle.crash_simulation.proofs.NodeEffects.{is_quiet, owes_here, some_node}
 pub use Rattle.crash_simulation.proofs.NodeEnvironments.{answers_guarded, answers_none, guards_here, reads_none, reads_variables}
+pub use Rattle.crash_simulation.proofs.PendingUnlocks.{unlocked_last}
 pub use Rattle.crash_simulation.proofs.ReadyHarts.{chosen_or_not, chosen_stores, runs_ready}
 pub use Rattle.crash_simulation.proofs.RecordsAfterCrash.{left, left_describes, left_point, log_of}
 pub use Rattle.crash_simulation.proofs.SectionsAfterEvents.{evicted_released, released_by}

@@ -155,7 +155,7 @@ pub record KeepsNow (y : System) (w : World) (b : AbstractRun y) (code : Code y.
   pub bank : ℕ
   pub at_bank : IsAtBankOf y b code c bank
   pub steps : ℕ
-  pub fragment : IsOnFragment y.plan code.thread code.is.places (on_machine y.program w code.thread.number environment)
+  pub fragment : IsOnFragment y.plan code.thread code.is.places (on_machine y.runs.program w code.thread.number environment)
       (record { exit = Keeps; node = graph_thread.at; seen = seen_by (now_of y b) graph_thread; bank = bank }) steps (c.cleans ++ c.rest)
   pub fits : ExitInv y b code c graph_thread Keeps
 
@@ -200,7 +200,7 @@ module _ (y : System) (s : IsSystem y) (w : World) (h : ℕ) (stands : Simulates
   places = code.is.places
 
   abbrev FragmentWith : MarkedEnvironment → (bank steps : ℕ) → ExitPoint → List Effect → Type 0
-  FragmentWith environment bank steps exit effects = IsOnFragment y.plan code.thread places (on_machine y.program w code.thread.number environment)
+  FragmentWith environment bank steps exit effects = IsOnFragment y.plan code.thread places (on_machine y.runs.program w code.thread.number environment)
       (record { exit = exit; node = node; seen = seen; bank = bank }) steps effects
 
   there : HasNodeThere y t.graph_thread
@@ -215,9 +215,9 @@ module _ (y : System) (s : IsSystem y) (w : World) (h : ℕ) (stands : Simulates
 
   core_asks : (core : AtCoreNow y s w h stands below) (mutex next : ℕ) → there.is.action ≡ Lock mutex next → IsReadyToStep y s w h stands below
   core_asks core mutex next e =
-      let some : IsOnSomeFragment y.plan code.thread places (on_machine y.program w code.thread.number (bare y s w h below))
+      let some : IsOnSomeFragment y.plan code.thread places (on_machine y.runs.program w code.thread.number (bare y s w h below))
       (record { exit = Asks mutex next; node = node; seen = seen; bank = core.bank }) (places.words node) [] =
-      nodes_begin y.plan code.thread y.program code.program code.is w code.thread.number (bare y s w h below) node seen core.bank core.registers there.is
+      nodes_begin y.plan code.thread y.runs.program code.program code.is w code.thread.number (bare y s w h below) node seen core.bank core.registers there.is
       (a.Takes mutex next) (placed y s w h below stands.before_commit.count) (bare_meets y s w h below) (bare_agrees y s w h below) (bare_reads y s w h below)
       there.at (ap (λ (z : Action). effect_of z seen) e)
       (subst (λ (z : Action). IsAnswered (source_of y.plan code.thread seen) (bare y s w h below).around.loads z) (sym e) tt) tt core.core in
@@ -229,7 +229,7 @@ module _ (y : System) (s : IsSystem y) (w : World) (h : ℕ) (stands : Simulates
         bank = core.bank;
         at_bank = core.at_bank;
         steps = some.steps;
-        fragment = subst (λ (es : List Effect). IsOnFragment y.plan code.thread places (on_machine y.program w code.thread.number (bare y s w h below))
+        fragment = subst (λ (es : List Effect). IsOnFragment y.plan code.thread places (on_machine y.runs.program w code.thread.number (bare y s w h below))
             (record { exit = Asks mutex next; node = node; seen = seen; bank = core.bank }) some.steps es) (sym none) some.on;
         fits = core.goes;
       } in
@@ -281,7 +281,7 @@ module _ (y : System) (s : IsSystem y) (w : World) (h : ℕ) (stands : Simulates
         IsReadyToStep y s w h stands below
     plain_ready fragment fits plain =
         let again = resettled y s w h below environment _ (c.cleans ++ c.rest) fragment in
-        let core = (arrivals_end y.plan code.thread y.program code.program code.is w code.thread.number (bare y s w h below) node seen bank []
+        let core = (arrivals_end y.plan code.thread y.runs.program code.program code.is w code.thread.number (bare y s w h below) node seen bank []
         (placed y s w h below stands.before_commit.count) (bare_reads y s w h below) there.is there.at again).plain plain in
         core_ready (record {
           bank = bank;
@@ -296,7 +296,7 @@ module _ (y : System) (s : IsSystem y) (w : World) (h : ℕ) (stands : Simulates
 
   module _ (bank : ℕ) (at_bank : IsAtBankOf y b code c bank) (goes : IsInAttempt y b code c) (execution : t.graph_thread.ended ≡ false) (cleans : c.cleans ≡ [])
       (chosen : IsChosen y.plan.graph y.plan.boundaries node) (i : IsInPhase w h Run)
-      (fragment : IsOnFragment y.plan code.thread places (on_machine y.program w code.thread.number (bare y s w h below))
+      (fragment : IsOnFragment y.plan code.thread places (on_machine y.runs.program w code.thread.number (bare y s w h below))
       (record { exit = Arrives; node = node; seen = seen; bank = bank }) 0 []) where
     abbrev registers : List ℕ
     registers = fragment.registers
@@ -362,9 +362,9 @@ module _ (y : System) (s : IsSystem y) (w : World) (h : ℕ) (stands : Simulates
         let number : code.thread.number ≡ h = s.codes.number h below in
         ap (λ (x : Hart). x.phase) (same_there (slice_get w.harts h) log.hart i.hart (ap (slice_get w.harts) (sym number) ∙ log.here) i.here) ∙ i.phase_is
 
-    keeps : IsOnSomeFragment y.plan code.thread places (on_machine y.program w code.thread.number (bare y s w h below))
+    keeps : IsOnSomeFragment y.plan code.thread places (on_machine y.runs.program w code.thread.number (bare y s w h below))
         (record { exit = Keeps; node = node; seen = seen; bank = bank_next }) (places.words node) ahead
-    keeps = (arrivals_end y.plan code.thread y.program code.program code.is w code.thread.number (bare y s w h below) node seen bank []
+    keeps = (arrivals_end y.plan code.thread y.runs.program code.program code.is w code.thread.number (bare y s w h below) node seen bank []
         (placed y s w h below stands.before_commit.count) (bare_reads y s w h below) there.is there.at fragment).chosen chosen
 
     -- the fragment up to its end
@@ -396,6 +396,7 @@ module _ (y : System) (s : IsSystem y) (w : World) (h : ℕ) (stands : Simulates
       no_sooner = λ e. absurd (true≢false (sym e));
       describes = subst (λ (done : Bool). Describes y.plan code (kept_of y b) (if done then c.new else c.old)) goes.committed t.describes;
       will_describe = λ un. begins.describes;
+      unlocked = λ mutex gives over. absurd (true≢false (sym over));
       cleans = λ effect has. absurd (contains_none effect has);
       graph_thread = t.graph_thread;
       walks = t.walks;
@@ -448,7 +449,15 @@ module _ (y : System) (s : IsSystem y) (w : World) (h : ℕ) (stands : Simulates
 ready_with : (y : System) (s : IsSystem y) (w : World) (h : ℕ) (below : h < thread_count y) (old : Simulates y s w) →
     SimulatesAnd y s w h below old (OnKeeps y w) → SimulatesReady y s w h old
 ready_with y s w h below old z =
-    record { stands = z.stands; abstract = z.abstract; bound = z.bound; leaving = z.leaving; below = below; ready = keeps_then y s w h z.stands below z.so }
+    record {
+      stands = z.stands;
+      abstract = z.abstract;
+      bound = z.bound;
+      leaving = z.leaving;
+      giving = z.giving;
+      below = below;
+      ready = keeps_then y s w h z.stands below z.so;
+    }
 
 module _ (y : System) (s : IsSystem y) (w : World) (h : ℕ) (stands : Simulates y s w) (below : h < thread_count y) (i : IsInPhase w h Run) where
   abbrev Of : ExitPoint → (steps : ℕ) → Type 0
@@ -460,7 +469,7 @@ module _ (y : System) (s : IsSystem y) (w : World) (h : ℕ) (stands : Simulates
       SimulatesReady y s w h stands
 
   as_it_is : IsReadyToStep y s w h stands below → SimulatesReady y s w h stands
-  as_it_is ready = record { stands = stands; abstract = refl; bound = λ n. refl; leaving = λ n. refl; below = below; ready = ready }
+  as_it_is ready = record { stands = stands; abstract = refl; bound = λ n. refl; leaving = λ n. refl; giving = λ n. refl; below = below; ready = ready }
 
   -- before its end
   goes_on : (exit : ExitPoint) (n : ℕ) → Of exit (suc n)
@@ -493,7 +502,7 @@ module _ (y : System) (s : IsSystem y) (w : World) (h : ℕ) (stands : Simulates
       let none = none_left y s w h stands below environment bank at_bank (Took from) fragment in
       let rest = right_empty (c y s w h stands below).cleans (c y s w h stands below).rest none in
       let committed = caught_is_over y w _ _ _ (t y s w h stands below) rest (stands.caught_up h below) in
-      let some = took_end y.plan _ y.program _ (code y s w h stands below).is w number (bare y s w h below) from _ _ bank []
+      let some = took_end y.plan _ y.runs.program _ (code y s w h stands below).is w number (bare y s w h below) from _ _ bank []
       (placed y s w h below stands.before_commit.count) (resettled y s w h below environment _ _ fragment) in
       let none_begun = bounded.after committed in
       let going : IsGoing stands.before_commit.abstract.config number =

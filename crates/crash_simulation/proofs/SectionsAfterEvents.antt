@@ -107,27 +107,27 @@ module _ (program : List (List Slot)) (w : World) (h : ℕ) where
 
 -- ---- Where the machine simulates the same abstract run
 
-module _ (y : System) (s : IsSystem y) (w : World) (h : ℕ) (old : Simulates y s w) (still : SimulatesStill y s w (after_event y.program w (Step h)) old)
-    (none : releases_last y.program w (Step h) h ≡ false) (r : ℕ → ℕ) (released : AreReleased y s w old.before_commit r) where
+module _ (y : System) (s : IsSystem y) (w : World) (h : ℕ) (old : Simulates y s w) (still : SimulatesStill y s w (after_event y.runs.program w (Step h)) old)
+    (none : releases_last y.runs.program w (Step h) h ≡ false) (r : ℕ → ℕ) (released : AreReleased y s w old.before_commit r) where
   abbrev then_r : ℕ → ℕ
-  then_r = released_by y.program w (Step h) r
+  then_r = released_by y.runs.program w (Step h) r
 
   kept_still : (n : ℕ) → sections_kept y still.stands.before_commit.abstract n ≡ sections_kept y old.before_commit.abstract n
   kept_still n = ap (λ (b : AbstractRun y). sections_kept y b n) still.abstract
 
   by : (n : ℕ) → IsReleasedOf y w old.before_commit.abstract n (old.before_commit.ghosts n) (r n) →
-      IsReleasedOf y (after_event y.program w (Step h)) still.stands.before_commit.abstract n (still.stands.before_commit.ghosts n) (then_r n)
+      IsReleasedOf y (after_event y.runs.program w (Step h)) still.stands.before_commit.abstract n (still.stands.before_commit.ghosts n) (then_r n)
   by n (in_step e) =
-      let same = none_released y.program w h none r n in
+      let same = none_released y.runs.program w h none r n in
       in_step (kept_still n ∙ (e ∙ (ap (λ (k : ℕ). k + one_if (is_leaving (old.before_commit.ghosts n))) (sym same)
       ∙ ap (λ (c : ThreadGhost). then_r n + one_if (is_leaving c)) (sym (still.ghosts n)))))
   by n (cut_off i e) =
-      cut_off (stays_done y.program w h old.before_commit.sound n i) (kept_still n ∙ (e ∙ ap suc (sym (none_released y.program w h none r n))))
+      cut_off (stays_done y.runs.program w h old.before_commit.sound n i) (kept_still n ∙ (e ∙ ap suc (sym (none_released y.runs.program w h none r n))))
 
-  pub still_released : AreReleased y s (after_event y.program w (Step h)) still.stands.before_commit then_r
+  pub still_released : AreReleased y s (after_event y.runs.program w (Step h)) still.stands.before_commit then_r
   still_released = record {
     each = λ n below. by n (released.each n below);
-    beyond = λ n outside. kept_still n ∙ (released.beyond n outside ∙ sym (none_released y.program w h none r n));
+    beyond = λ n outside. kept_still n ∙ (released.beyond n outside ∙ sym (none_released y.runs.program w h none r n));
   }
 
 -- ---- The machine that is taken to be ready
@@ -153,10 +153,10 @@ module _ (y : System) (s : IsSystem y) (w : World) (h : ℕ) (old : Simulates y 
 module _ (y : System) (s : IsSystem y) (w : World) (h : ℕ) (stands : Simulates y s w) (i : IsInPhase w h Run) (o : OwnStep y s w h stands) (r : ℕ → ℕ)
     (released : AreReleased y s w stands.before_commit r) where
   abbrev then_own : ℕ → ℕ
-  then_own = released_by y.program w (Step h) r
+  then_own = released_by y.runs.program w (Step h) r
 
   abbrev later : World
-  later = after_event y.program w (Step h)
+  later = after_event y.runs.program w (Step h)
 
   kept_own : (n : ℕ) → sections_kept y o.next n ≡ sections_kept y stands.before_commit.abstract n
   kept_own n = ap (λ (us : List ℕ). ended_from (start (flat_of y)) us n) (led_schedule y stands.before_commit.abstract h o.next o.led)
@@ -185,9 +185,9 @@ module _ (y : System) (s : IsSystem y) (w : World) (h : ℕ) (stands : Simulates
   other_by : (n : ℕ) → n ≢ h → IsReleasedOf y w stands.before_commit.abstract n (stands.before_commit.ghosts n) (r n) →
       IsReleasedOf y later o.next n (stands.before_commit.ghosts n) (then_own n)
   other_by n other (in_step e) =
-      in_step (kept_own n ∙ (e ∙ ap (λ (k : ℕ). k + one_if (is_leaving (stands.before_commit.ghosts n))) (sym (other_released y.program w h r n other))))
+      in_step (kept_own n ∙ (e ∙ ap (λ (k : ℕ). k + one_if (is_leaving (stands.before_commit.ghosts n))) (sym (other_released y.runs.program w h r n other))))
   other_by n other (cut_off d e) =
-      cut_off (stays_done y.program w h stands.before_commit.sound n d) (kept_own n ∙ (e ∙ ap suc (sym (other_released y.program w h r n other))))
+      cut_off (stays_done y.runs.program w h stands.before_commit.sound n d) (kept_own n ∙ (e ∙ ap suc (sym (other_released y.runs.program w h r n other))))
 
   IsReleasedAt : ℕ → Type 0
   IsReleasedAt n = IsReleasedOf y later o.next n (with_ghost stands.before_commit.ghosts h o.ghost n) (then_own n)
@@ -210,7 +210,7 @@ module _ (y : System) (s : IsSystem y) (w : World) (h : ℕ) (stands : Simulates
     each = each_own;
     beyond = λ n outside.
         let inside = o.below in
-        kept_own n ∙ (released.beyond n outside ∙ sym (other_released y.program w h r n (λ e. omega (arith, outside, inside, e))));
+        kept_own n ∙ (released.beyond n outside ∙ sym (other_released y.runs.program w h r n (λ e. omega (arith, outside, inside, e))));
   }
 
 -- ---- An eviction
@@ -225,12 +225,13 @@ evicted_done program w line mask n i =
 module _ (y : System) (s : IsSystem y) (w : World) (line mask : ℕ) (stands : Simulates y s w) (r : ℕ → ℕ)
     (released : AreReleased y s w stands.before_commit r) where
   evicted_by : (n : ℕ) → IsReleasedOf y w stands.before_commit.abstract n (stands.before_commit.ghosts n) (r n) →
-      IsReleasedOf y (after_event y.program w (Evict line mask)) (evicted_simulates y s w line mask stands).abstract n (stands.before_commit.ghosts n) (r n + 0)
+      IsReleasedOf y (after_event y.runs.program w (Evict line mask)) (evicted_simulates y s w line mask stands).abstract n
+      (stands.before_commit.ghosts n) (r n + 0)
   evicted_by n (in_step e) = in_step (e ∙ ap (λ (k : ℕ). k + one_if (is_leaving (stands.before_commit.ghosts n))) (none_more (r n)))
-  evicted_by n (cut_off i e) = cut_off (evicted_done y.program w line mask n i) (e ∙ ap suc (none_more (r n)))
+  evicted_by n (cut_off i e) = cut_off (evicted_done y.runs.program w line mask n i) (e ∙ ap suc (none_more (r n)))
 
-  pub evicted_released : AreReleased y s (after_event y.program w (Evict line mask)) (evicted_simulates y s w line mask stands)
-      (released_by y.program w (Evict line mask) r)
+  pub evicted_released : AreReleased y s (after_event y.runs.program w (Evict line mask)) (evicted_simulates y s w line mask stands)
+      (released_by y.runs.program w (Evict line mask) r)
   evicted_released = record {
     each = λ n below. evicted_by n (released.each n below);
     beyond = λ n outside. released.beyond n outside ∙ none_more (r n);
@@ -240,7 +241,7 @@ module _ (y : System) (s : IsSystem y) (w : World) (line mask : ℕ) (stands : S
 
 module _ (y : System) (s : IsSystem y) (w : World) (stands : Simulates y s w) (r : ℕ → ℕ) (released : AreReleased y s w stands.before_commit r) where
   abbrev crashed : World
-  crashed = after_event y.program w Crash
+  crashed = after_event y.runs.program w Crash
 
   -- where a record without a point is kept, the hart is left with nothing to do
   left_none : (n : ℕ) → n < thread_count y → (stands.before_commit.ghosts n).committed ≡ true → (stands.before_commit.ghosts n).new.point ≡ 0 →
@@ -299,7 +300,7 @@ module _ (y : System) (s : IsSystem y) (w : World) (stands : Simulates y s w) (r
             in_step (omega (arith, kept, e, none))
       ]
 
-  pub crash_released : AreReleased y s crashed (crashing.stands_after y s w stands).before_commit (released_by y.program w Crash r)
+  pub crash_released : AreReleased y s crashed (crashing.stands_after y s w stands).before_commit (released_by y.runs.program w Crash r)
   crash_released = record {
     each = λ n below. crashed_by n below (released.each n below);
     beyond = λ n outside. kept_crashed n ∙ (released.beyond n outside ∙ none_more (r n));

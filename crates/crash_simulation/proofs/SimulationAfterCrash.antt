@@ -3,6 +3,7 @@ use Rattle.std.proofs.Common.{◌≡◌, refl, ℕ, zero, suc, ◌<◌, List, []
 use Rattle.std.specs.Prelude.{slice_get}
 use Rattle.std.proofs.lemmas.Bool.{true≢false}
 use Rattle.std.proofs.lemmas.List.{append-nil}
+use Rattle.std.proofs.lemmas.Option.{none-some}
 use Rattle.ido_base.specs.declared.event.Event.TheVariants.{Crash}
 use Rattle.rv64_isa.specs.declared.phase.Phase.{Phase}
 use Rattle.rv64_isa.specs.declared.phase.Phase.TheVariants.{Take, Wait, Resume, Run, Done, Ended}
@@ -59,7 +60,7 @@ module _ (y : System) (s : IsSystem y) (w : World) (stands : Simulates y s w) wh
   b = stands.before_commit.abstract
 
   abbrev after : World
-  after = after_event y.program w Crash
+  after = after_event y.runs.program w Crash
 
   abbrev config_after : Config
   config_after = record { kept = b.config.kept; uncommitted = []; memory = crashed b.config.memory; attempts = map again b.config.attempts }
@@ -83,12 +84,12 @@ module _ (y : System) (s : IsSystem y) (w : World) (stands : Simulates y s w) wh
   abbrev ghosts : ℕ → ThreadGhost
   ghosts n = record { old = nothing_recorded; new = left y s w stands n; rest = []; committed = true; cleans = []; giving = None }
 
-  abbrev same_count : length y.program ≡ length w.harts
+  abbrev same_count : length y.runs.program ≡ length w.harts
   same_count = s.count ∙ sym stands.before_commit.count
 
   pub gathers : AreGathering after (left y s w stands)
   gathers =
-      crashes_gather y.program w (λ n. (stands.before_commit.ghosts n).old) (λ n. (stands.before_commit.ghosts n).new) (left y s w stands)
+      crashes_gather y.runs.program w (λ n. (stands.before_commit.ghosts n).old) (λ n. (stands.before_commit.ghosts n).new) (left y s w stands)
       (λ n. (stands.before_commit.ghosts n).rest) same_count
       (λ n below. log_of y s w stands n (let c = stands.before_commit.count in omega (arith, below, c))) (λ n below. refl)
 
@@ -102,7 +103,7 @@ module _ (y : System) (s : IsSystem y) (w : World) (stands : Simulates y s w) wh
   in_phase code n hart graph_thread Ended g rests = absurd g
 
   pub count_after : length after.harts ≡ thread_count y
-  count_after = (queues_stand y.program w Crash same_count stands.before_commit.sound).1 ∙ stands.before_commit.count
+  count_after = (queues_stand y.runs.program w Crash same_count stands.before_commit.sound).1 ∙ stands.before_commit.count
 
   thread_by : (n : ℕ) (below : n < thread_count y) → (log : LogInv (s.codes.each n below).thread.number nothing_recorded (left y s w stands n) after []) →
       slice_get after.harts n ≡ Some log.hart →
@@ -119,6 +120,7 @@ module _ (y : System) (s : IsSystem y) (w : World) (stands : Simulates y s w) wh
         no_sooner = λ e. ends_committed code.thread.number nothing_recorded (left y s w stands n) (config_of after log.hart []) log.log refl;
         describes = subst (λ (k : FlowState). Describes y.plan code k (left y s w stands n)) (sym kept_same) (left_describes y s w stands n below);
         will_describe = λ un. absurd (true≢false un);
+        unlocked = λ mutex gives over. absurd (none-some mutex gives);
         cleans = λ effect c. absurd (contains_none effect c);
         graph_thread = found.0;
         walks = found.1;
@@ -137,18 +139,18 @@ module _ (y : System) (s : IsSystem y) (w : World) (stands : Simulates y s w) wh
         log = subst (λ (k : ℕ). LogIs k nothing_recorded (left y s w stands n) (config_of after log.hart [])) (sym same) log.log;
       }) log.here
 
-  pub crashed_is : IsCrashed y.program w after
-  crashed_is = crashes_step y.program w
+  pub crashed_is : IsCrashed y.runs.program w after
+  crashed_is = crashes_step y.runs.program w
 
   abbrev pub stands_after : Simulates y s after
   stands_after = record {
     before_commit = record {
       abstract = abstract;
-      memory = crashes_hold (places_of y) y.program w ∙ ap crashed stands.before_commit.memory;
+      memory = crashes_hold (places_of y) y.runs.program w ∙ ap crashed stands.before_commit.memory;
       count = count_after;
       mutexes = crashed_is.locks ∙ stands.before_commit.mutexes;
-      sound = (queues_stand y.program w Crash same_count stands.before_commit.sound).0;
-      short = queues_stay_short y.program w Crash stands.before_commit.short;
+      sound = (queues_stand y.runs.program w Crash same_count stands.before_commit.sound).0;
+      short = queues_stay_short y.runs.program w Crash stands.before_commit.short;
       ghosts = ghosts;
       each = thread;
       locks = gathering refl gathers;

@@ -50,13 +50,13 @@ module _ (y : System) (s : IsSystem y) (w : World) (h : ℕ) (stands : Simulates
   b = stands.before_commit.abstract
 
   abbrev after : World
-  after = after_event y.program w (Step h)
+  after = after_event y.runs.program w (Step h)
 
   abbrev new : Hart
-  new = (resumes_step y.program w h i).after
+  new = (resumes_step y.runs.program w h i).after
 
-  abbrev does : happens y.program w (Step h) ≡ moved w h new
-  does = (resumes_step y.program w h i).does
+  abbrev does : happens y.runs.program w (Step h) ≡ moved w h new
+  does = (resumes_step y.runs.program w h i).does
 
   module _ (below : h < thread_count y) where
     abbrev c : Code y.plan
@@ -76,15 +76,15 @@ module _ (y : System) (s : IsSystem y) (w : World) (h : ℕ) (stands : Simulates
         subst (λ (done : Bool). Describes y.plan c (kept_of y b) (if done then ghost.new else ghost.old)) rests.committed
         (stands.before_commit.each h below).describes
 
-    go : ResumesThread y.program c (kept_of y b) w i.hart ghost.new
+    go : ResumesThread y.runs.program c (kept_of y b) w i.hart ghost.new
     go =
         let ready : IsRecoveredHart w h ghost.new = subst (λ (p : Phase). HasGathered w h ghost.new p) i.phase_is (ag.each h i.hart i.here) in
-        harts_go_on y.program y.plan c (kept_of y b) w ghost.new describes (subst (λ (k : ℕ). IsRecoveredHart w k ghost.new) (sym same) ready)
+        harts_go_on y.runs.program y.plan c (kept_of y b) w ghost.new describes (subst (λ (k : ℕ). IsRecoveredHart w k ghost.new) (sym same) ready)
         (record { hart = i.hart; here = ap (slice_get w.harts) same ∙ i.here; phase_is = i.phase_is })
 
     there : slice_get after.harts h ≡ Some go.after
     there = (moved_is y s w h stands w i.hart go.after i.here
-        (subst (λ (k : ℕ). happens y.program w (Step k) ≡ moved w k go.after) same go.does) refl refl refl go.queue).here
+        (subst (λ (k : ℕ). happens y.runs.program w (Step k) ≡ moved w k go.after) same go.does) refl refl refl go.queue).here
 
     -- the resumed thread's graph thread is that of the kept state
     same_graph_thread : go.told.graph_thread ≡ (stands.before_commit.each h below).graph_thread
@@ -100,20 +100,20 @@ module _ (y : System) (s : IsSystem y) (w : World) (h : ℕ) (stands : Simulates
     environment = bare y s after h below
 
     count : length after.harts ≡ thread_count y
-    count = (queues_stand y.program w (Step h) (s.count ∙ sym stands.before_commit.count) stands.before_commit.sound).1 ∙ stands.before_commit.count
+    count = (queues_stand y.runs.program w (Step h) (s.count ∙ sym stands.before_commit.count) stands.before_commit.sound).1 ∙ stands.before_commit.count
 
     abbrev bank : ℕ
     bank = bank_of ghost.new.point
 
-    under_fragment : IsUnderFragment y.plan c.thread c.is.places (on_machine y.program after c.thread.number environment) go.told.graph_thread.at
+    under_fragment : IsUnderFragment y.plan c.thread c.is.places (on_machine y.runs.program after c.thread.number environment) go.told.graph_thread.at
         (seen_by (kept_of y b) go.told.graph_thread) bank
         go.after.registers
     under_fragment =
         let r = resumed_there y c go.told.graph_thread.at (resume_of ghost.new.point) go.told.own go.told.resumes in
-        subst (λ (node : ℕ). IsUnderFragment y.plan c.thread c.is.places (on_machine y.program after c.thread.number environment) node
+        subst (λ (node : ℕ). IsUnderFragment y.plan c.thread c.is.places (on_machine y.runs.program after c.thread.number environment) node
         (seen_by (kept_of y b) go.told.graph_thread) bank
         go.after.registers) r.1
-        (resumed_go_on y.plan c.thread y.program c.program c.is after c.thread.number environment (resume_of ghost.new.point) r.0
+        (resumed_go_on y.plan c.thread y.runs.program c.program c.is after c.thread.number environment (resume_of ghost.new.point) r.0
         (seen_by (kept_of y b) go.told.graph_thread) bank go.after.registers (placed y s after h below count)
         (bare_meets y s after h below) (bare_agrees y s after h below)
         (record {
@@ -136,7 +136,7 @@ module _ (y : System) (s : IsSystem y) (w : World) (h : ℕ) (stands : Simulates
     none_ahead : ghost.cleans ++ ghost.rest ≡ []
     none_ahead = ap₂ ◌++◌ rests.cleans rests.rest
 
-    runs_by : IsUnderFragment y.plan c.thread c.is.places (on_machine y.program after c.thread.number environment) go.told.graph_thread.at
+    runs_by : IsUnderFragment y.plan c.thread c.is.places (on_machine y.runs.program after c.thread.number environment) go.told.graph_thread.at
         (seen_by (kept_of y b) go.told.graph_thread) bank
         go.after.registers → IsRunningThread y after b c ghost go.after go.told.graph_thread
     runs_by (at_core core) = courses.at_core (record {
@@ -157,10 +157,10 @@ module _ (y : System) (s : IsSystem y) (w : World) (h : ℕ) (stands : Simulates
       bank = bank;
       at_bank = λ some. refl;
       steps = fragment.steps;
-      fragment = subst (λ (es : List Effect). IsOnFragment y.plan c.thread c.is.places (on_machine y.program after c.thread.number environment)
+      fragment = subst (λ (es : List Effect). IsOnFragment y.plan c.thread c.is.places (on_machine y.runs.program after c.thread.number environment)
           (record { exit = Arrives; node = go.told.graph_thread.at; seen = seen_by (now_of y b) go.told.graph_thread; bank = bank }) fragment.steps es)
           (sym none_ahead)
-          (fragments_see_all y.plan c.thread c.is.places y.program after c.thread.number environment
+          (fragments_see_all y.plan c.thread c.is.places y.runs.program after c.thread.number environment
           (record { exit = Arrives; node = go.told.graph_thread.at; seen = seen_by (kept_of y b) go.told.graph_thread; bank = bank }) fragment.steps []
           (now_of y b).variables fragment.on);
       fits = (goes, go.told.goes_on);
@@ -169,7 +169,7 @@ module _ (y : System) (s : IsSystem y) (w : World) (h : ℕ) (stands : Simulates
     own : InPhase y after b c ghost new (stands.before_commit.each h below).graph_thread new.phase
     own =
         let here : slice_get after.harts h ≡ Some new =
-        (moved_is y s w h stands w i.hart new i.here does refl refl refl (resumes_step y.program w h i).queue).here in
+        (moved_is y s w h stands w i.hart new i.here does refl refl refl (resumes_step y.runs.program w h i).queue).here in
         let is : go.after ≡ new = same_there (slice_get after.harts h) go.after new there here in
         let runs : IsRunningThread y after b c ghost go.after (stands.before_commit.each h below).graph_thread =
         subst (λ (x : GraphThread). IsRunningThread y after b c ghost go.after x) same_graph_thread (runs_by under_fragment) in
@@ -179,18 +179,18 @@ module _ (y : System) (s : IsSystem y) (w : World) (h : ℕ) (stands : Simulates
   pub resumes : SimulatesStill y s w after stands
   resumes =
       quiet_stands y s w h stands i.hart new i.here
-      (moved_is y s w h stands w i.hart new i.here does refl refl refl (resumes_step y.program w h i).queue) own
-      (gathered (gathered_go_on y.program w (records_of stands.before_commit.ghosts) h Resume ag (inr refl) i).1
+      (moved_is y s w h stands w i.hart new i.here does refl refl refl (resumes_step y.runs.program w h i).queue) own
+      (gathered (gathered_go_on y.runs.program w (records_of stands.before_commit.ghosts) h Resume ag (inr refl) i).1
       (held_on y s w h stands after (ap (λ (o : Outcome). o.0.holders) does) held))
 
 resumes_by : (y : System) (s : IsSystem y) (w : World) (h : ℕ) (stands : Simulates y s w) → IsInPhase w h Resume →
-    AreLocked y w stands.before_commit.abstract stands.before_commit.ghosts → SimulatesStill y s w (after_event y.program w (Step h)) stands
+    AreLocked y w stands.before_commit.abstract stands.before_commit.ghosts → SimulatesStill y s w (after_event y.runs.program w (Step h)) stands
 resumes_by y s w h stands i (gathering none gathers) =
     absurd (subst (λ (p : Phase). Gathers w h (records_of stands.before_commit.ghosts h) p) i.phase_is (gathers.each h i.hart i.here))
 resumes_by y s w h stands i (gathered ag held) = resumes y s w h stands i ag held
 
 pub resumes_still : (y : System) (s : IsSystem y) (w : World) (h : ℕ) (stands : Simulates y s w) → IsInPhase w h Resume →
-    SimulatesStill y s w (after_event y.program w (Step h)) stands
+    SimulatesStill y s w (after_event y.runs.program w (Step h)) stands
 resumes_still y s w h stands i = resumes_by y s w h stands i stands.before_commit.locks
 
 pub resumes_stand : ResumesStand

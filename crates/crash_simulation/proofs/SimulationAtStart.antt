@@ -16,6 +16,7 @@ use Rattle.rv64_isa.specs.declared.object.Slot.{Slot}
 use Rattle.rv64_isa.specs.declared.object.Slot.TheVariants.{Row}
 use Rattle.rv64_isa.specs.declared.phase.Phase.{Phase}
 use Rattle.rv64_isa.specs.declared.phase.Phase.TheVariants.{Run}
+use Rattle.rv64_isa.specs.Executables.{first_world}
 use Rattle.rv64_isa.specs.Programs.{code_start, code_of}
 use Rattle.rv64_isa.specs.Machine.{Hart, World, fresh_hart, numbers_from, start_of}
 use Rattle.rv64_isa.proofs.Public.{starts_simulate}
@@ -43,7 +44,7 @@ use Rattle.thread_runs.proofs.Public.{threads_start}
 use Rattle.recovered_threads.specs.RecordDescriptions.{Code, between}
 use Rattle.recovered_threads.specs.RecoveryStates.{HasGathered}
 use Rattle.crash_simulation.specs.Systems as systems
-use Rattle.crash_simulation.specs.Systems.{System, IsSystem, flat_of, start_world}
+use Rattle.crash_simulation.specs.Systems.{System, IsSystem, flat_of}
 use Rattle.crash_simulation.specs.AbstractRuns.{AbstractRun, kept_of, now_of}
 use Rattle.crash_simulation.specs.ThreadGhosts.{ThreadGhost, InFragment, on_fragment, InPhase, ThreadInv}
 use Rattle.crash_simulation.specs.SimulationRelation.{Simulates, gathered}
@@ -107,7 +108,7 @@ environments_meet program marks resumes reads w h = record {
 
 module _ (y : System) (s : IsSystem y) where
   abbrev w : World
-  w = start_world y
+  w = first_world y.runs
 
   abbrev abstract : AbstractRun y
   abstract = record { config = first_config (flat_of y); schedule = []; execution = begins; respects = tt }
@@ -115,21 +116,22 @@ module _ (y : System) (s : IsSystem y) where
   abbrev ghosts : ℕ → ThreadGhost
   ghosts n = record { old = nothing_recorded; new = nothing_recorded; rest = []; committed = true; cleans = []; giving = None }
 
-  fresh : (n : ℕ) → n < length y.program → slice_get w.harts n ≡ Some (fresh_hart y.program Run n)
+  fresh : (n : ℕ) → n < length y.runs.program → slice_get w.harts n ≡ Some (fresh_hart y.runs.program Run n)
   unfolding start_of
-  fresh n below = row_of (fresh_hart y.program Run) 0 (length y.program) n below ∙ ap (λ (k : ℕ). Some (fresh_hart y.program Run k)) (omega arith)
+  fresh n below =
+      row_of (fresh_hart y.runs.program Run) 0 (length y.runs.program) n below ∙ ap (λ (k : ℕ). Some (fresh_hart y.runs.program Run k)) (omega arith)
 
-  pub count : length w.harts ≡ length y.program
-  count = (starts_simulate y.program (length (flat_of y).mutexes) y.initial).1
+  pub count : length w.harts ≡ length y.runs.program
+  count = (starts_simulate y.runs.program y.runs.mutexes y.runs.initial).1
 
-  pub holders_are : w.holders ≡ replicate (length (flat_of y).mutexes) None
+  pub holders_are : w.holders ≡ replicate y.runs.mutexes None
   unfolding start_of
   holders_are = refl
 
   abbrev environment : (number : ℕ) → MarkedEnvironment
-  environment number = environment_of y.program (slice_index_or y.marks number []) (λ address bytes. false) w number
+  environment number = environment_of y.runs.program (slice_index_or y.runs.marks number []) (λ address bytes. false) w number
 
-  agrees : (number : ℕ) → Agrees y.program w number (environment number)
+  agrees : (number : ℕ) → Agrees y.runs.program w number (environment number)
   agrees number = record { fetches = λ address instr e. e; loads = λ address bytes value e. absurd (none-some value e) }
 
   pending_free : (action : Action) (seen : Seen) (x : List ℕ) → seen.pending ≡ None → IsPendingIn y.plan action seen x
@@ -178,13 +180,13 @@ module _ (y : System) (s : IsSystem y) where
       let number = code.thread.number in
       let c = s.count in
       let same = s.codes.number n below in
-      let inside : number < length y.program = omega (arith, below, c, same) in
-      let is : program_at y.program number (slice_index_or y.marks number []) (slice_index_or y.resumes number []) ≡ code.is.places.program =
+      let inside : number < length y.runs.program = omega (arith, below, c, same) in
+      let is : program_at y.runs.program number (slice_index_or y.runs.marks number []) (slice_index_or y.runs.resumes number []) ≡ code.is.places.program =
       sym (code.is.of_program ∙ own.program) in
       let meets : Meets code.is.places.program (environment number) =
       subst (λ (p : Program). Meets p (environment number)) is
-      (environments_meet y.program (slice_index_or y.marks number []) (slice_index_or y.resumes number []) (λ address bytes. false) w number) in
-      let start : code_start y.program number ≡ code.program.start = ap (λ (p : Program). p.start) (sym own.program) in
+      (environments_meet y.runs.program (slice_index_or y.runs.marks number []) (slice_index_or y.runs.resumes number []) (λ address bytes. false) w number) in
+      let start : code_start y.runs.program number ≡ code.program.start = ap (λ (p : Program). p.start) (sym own.program) in
       record {
         environment = environment number;
         answers = λ address bytes value e. absurd (none-some value e);
@@ -193,9 +195,10 @@ module _ (y : System) (s : IsSystem y) where
         at_bank = λ none. absurd (none refl);
         steps = 0;
         fragment =
-            threads_start y.plan code.thread y.program code.program code.is w number (environment number) (seen_by (now_of y abstract) (graph_thread code)) 0
+            threads_start y.plan code.thread y.runs.program code.program code.is w number (environment number)
+            (seen_by (now_of y abstract) (graph_thread code)) 0
             (replicate 32 0) meets (agrees number) (first_node code)
-            (record { hart = fresh_hart y.program Run number; here = fresh number inside; runs = refl; is = ap (config (replicate 32 0)) start })
+            (record { hart = fresh_hart y.runs.program Run number; here = fresh number inside; runs = refl; is = ap (config (replicate 32 0)) start })
             (enters code);
         fits = (record { going = nothing_done (flat_of y).threads number; rest = refl; giving = refl; committed = refl }, refl);
       }
@@ -206,9 +209,9 @@ module _ (y : System) (s : IsSystem y) where
       let number = code.thread.number in
       let c = s.count in
       let same = s.codes.number n below in
-      let inside : number < length y.program = omega (arith, below, c, same) in
-      let log = starts_standing y.program (length (flat_of y).mutexes) number y.initial inside in
-      let is : fresh_hart y.program Run number ≡ log.hart = same_Some _ _ (sym (fresh number inside) ∙ log.here) in
+      let inside : number < length y.runs.program = omega (arith, below, c, same) in
+      let log = starts_standing y.runs.program y.runs.mutexes number y.runs.initial inside in
+      let is : fresh_hart y.runs.program Run number ≡ log.hart = same_Some _ _ (sym (fresh number inside) ∙ log.here) in
       let runs : Run ≡ log.hart.phase = ap (λ (h : Hart). h.phase) is in
       let none = free_holds_none number 0 (kept_of y abstract).holders (nothing_free (length (flat_of y).mutexes)) in
       record {
@@ -216,6 +219,7 @@ module _ (y : System) (s : IsSystem y) where
         no_sooner = λ e. ends_committed number nothing_recorded nothing_recorded (config_of w log.hart []) log.log refl;
         describes = between none refl;
         will_describe = λ un. absurd (true≢false un);
+        unlocked = λ mutex gives over. absurd (none-some mutex gives);
         cleans = λ effect e. absurd (contains_none effect e);
         graph_thread = graph_thread code;
         walks = walks code;
@@ -230,23 +234,23 @@ module _ (y : System) (s : IsSystem y) where
   all_run h hart there =
       let inside = slice_get_within w.harts h hart there in
       let c = count in
-      let below : h < length y.program = omega (arith, inside, c) in
+      let below : h < length y.runs.program = omega (arith, inside, c) in
       subst (λ (x : Hart). HasGathered w h nothing_recorded x.phase) (same_Some _ hart (sym (fresh h below) ∙ there)) tt
 
   abbrev pub stands : Simulates y s w
   stands = record {
     before_commit = record {
       abstract = abstract;
-      memory = starts_hold (flat_of y) y.program (length (flat_of y).mutexes) y.initial s.plan.formed s.initial;
+      memory = starts_hold (flat_of y) y.runs.program y.runs.mutexes y.runs.initial s.plan.formed s.initial;
       count = count ∙ s.count;
-      mutexes = ap length holders_are ∙ length-replicate (length (flat_of y).mutexes) None;
-      sound = (starts_simulate y.program (length (flat_of y).mutexes) y.initial).0;
-      short = starts_are_short y.program (length (flat_of y).mutexes) y.initial;
+      mutexes = ap length holders_are ∙ length-replicate y.runs.mutexes None ∙ s.mutexes;
+      sound = (starts_simulate y.runs.program y.runs.mutexes y.runs.initial).0;
+      short = starts_are_short y.runs.program y.runs.mutexes y.runs.initial;
       ghosts = ghosts;
       each = thread;
       locks = gathered (record { each = all_run })
           (record {
-            held = λ lock n there. absurd (none_holds (length (flat_of y).mutexes) lock n
+            held = λ lock n there. absurd (none_holds y.runs.mutexes lock n
                 (ap (λ (hs : List (Option ℕ)). slice_get hs lock) (sym holders_are) ∙ there));
             holds = λ lock n there. absurd (none_holds (length (flat_of y).mutexes) lock n there);
             giving = λ lock n inside gives. absurd (none-some lock gives);

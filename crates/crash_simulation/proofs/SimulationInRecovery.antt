@@ -51,11 +51,11 @@ module _ (y : System) (s : IsSystem y) (w : World) (h : ℕ) (stands : Simulates
   b = stands.before_commit.abstract
 
   abbrev after : World
-  after = after_event y.program w (Step h)
+  after = after_event y.runs.program w (Step h)
 
   -- ---- The hart moves alone
 
-  pub moved_is : (v : World) (old new : Hart) → slice_get w.harts h ≡ Some old → happens y.program w (Step h) ≡ moved v h new → v.words ≡ w.words →
+  pub moved_is : (v : World) (old new : Hart) → slice_get w.harts h ≡ Some old → happens y.runs.program w (Step h) ≡ moved v h new → v.words ≡ w.words →
       v.harts ≡ w.harts → length v.holders ≡ length w.holders → new.queue ≡ old.queue → IsQuiet w after h old new
   moved_is v old new here does words harts locks queue =
       let is : after ≡ (moved v h new).0 = ap (λ (o : Outcome). o.0) does in
@@ -75,10 +75,10 @@ module _ (y : System) (s : IsSystem y) (w : World) (h : ℕ) (stands : Simulates
       before_commit = record {
         abstract = b;
         memory = ap (memory_in (places_of y)) q.words ∙ stands.before_commit.memory;
-        count = (queues_stand y.program w (Step h) (s.count ∙ sym stands.before_commit.count) stands.before_commit.sound).1 ∙ stands.before_commit.count;
+        count = (queues_stand y.runs.program w (Step h) (s.count ∙ sym stands.before_commit.count) stands.before_commit.sound).1 ∙ stands.before_commit.count;
         mutexes = q.locks ∙ stands.before_commit.mutexes;
-        sound = (queues_stand y.program w (Step h) (s.count ∙ sym stands.before_commit.count) stands.before_commit.sound).0;
-        short = queues_stay_short y.program w (Step h) stands.before_commit.short;
+        sound = (queues_stand y.runs.program w (Step h) (s.count ∙ sym stands.before_commit.count) stands.before_commit.sound).0;
+        short = queues_stay_short y.runs.program w (Step h) stands.before_commit.short;
         ghosts = stands.before_commit.ghosts;
         each = each;
         locks = locks;
@@ -112,7 +112,7 @@ module _ (y : System) (s : IsSystem y) (w : World) (h : ℕ) (stands : Simulates
       ]
 
   -- nothing happens
-  pub nothing_happens : (reply : Reply) → happens y.program w (Step h) ≡ (w, reply) → SimulatesStill y s w after stands
+  pub nothing_happens : (reply : Reply) → happens y.runs.program w (Step h) ≡ (w, reply) → SimulatesStill y s w after stands
   nothing_happens reply does =
       subst (λ (v : World). SimulatesStill y s w v stands) (sym (ap (λ (o : Outcome). o.0) does))
       (record { stands = stands; abstract = refl; ghosts = λ n. refl; words = refl })
@@ -165,15 +165,15 @@ module _ (y : System) (s : IsSystem y) (w : World) (h : ℕ) (stands : Simulates
     -- ---- Take
 
     pub takes : IsInPhase w h Take → SimulatesStill y s w after stands
-    takes i = by (takes_step y.program w h i)
+    takes i = by (takes_step y.runs.program w h i)
       where
         rests : (below : h < thread_count y) → Rests y b (s.codes.each h below) (stands.before_commit.ghosts h)
         rests below = phase_of Take i below
 
         locked : AreLocked y after b stands.before_commit.ghosts
-        locked = gathering none (takes_never_wait y.program w records h gathers apart i).1
+        locked = gathering none (takes_never_wait y.runs.program w records h gathers apart i).1
 
-        stay : (v : World) (new : Hart) (phase : Phase) → happens y.program w (Step h) ≡ moved v h new → v.words ≡ w.words → v.harts ≡ w.harts →
+        stay : (v : World) (new : Hart) (phase : Phase) → happens y.runs.program w (Step h) ≡ moved v h new → v.words ≡ w.words → v.harts ≡ w.harts →
             length v.holders ≡ length w.holders → new.queue ≡ i.hart.queue → new.phase ≡ phase →
             ((below : h < thread_count y) →
             InPhase y after b (s.codes.each h below) (stands.before_commit.ghosts h) new (stands.before_commit.each h below).graph_thread phase) →
@@ -186,7 +186,7 @@ module _ (y : System) (s : IsSystem y) (w : World) (h : ℕ) (stands : Simulates
             (own below))
             locked
 
-        by : TakesLocks y.program w h i.hart → SimulatesStill y s w after stands
+        by : TakesLocks y.runs.program w h i.hart → SimulatesStill y s w after stands
         by (has_all all does) = stay w (record i.hart { phase = Wait }) Wait does refl refl refl refl refl rests
         by (takes_one lock r does) =
             stay (with_holder w lock (Some h)) i.hart Take does refl refl (length-set w.holders lock (Some h)) refl i.phase_is rests
@@ -223,9 +223,9 @@ module _ (y : System) (s : IsSystem y) (w : World) (h : ℕ) (stands : Simulates
 
   -- a hart that waits is let through
   pub waits : (i : IsInPhase w h Wait) → AreLocked y w b stands.before_commit.ghosts → SimulatesStill y s w after stands
-  waits i locks = by (waits_step y.program w h i) locks
+  waits i locks = by (waits_step y.runs.program w h i) locks
     where
-      go : happens y.program w (Step h) ≡ moved w h (record i.hart { phase = Resume }) → AreGathered after records →
+      go : happens y.runs.program w (Step h) ≡ moved w h (record i.hart { phase = Resume }) → AreGathered after records →
           AreHeld w stands.before_commit.ghosts (now_of y b) → SimulatesStill y s w after stands
       go does ag held =
           quiet_stands i.hart (record i.hart { phase = Resume }) i.here
@@ -233,32 +233,33 @@ module _ (y : System) (s : IsSystem y) (w : World) (h : ℕ) (stands : Simulates
           (gathered ag (held_on after (ap (λ (o : Outcome). o.0.holders) does) held))
 
       first : (n : b.config.uncommitted ≡ []) (gathers : AreGathering w records) → ((k : ℕ) → ¬ (IsInPhase w k Take)) →
-          happens y.program w (Step h) ≡ moved w h (record i.hart { phase = Resume }) → Awaits y.program w records h → SimulatesStill y s w after stands
+          happens y.runs.program w (Step h) ≡ moved w h (record i.hart { phase = Resume }) → Awaits y.runs.program w records h →
+          SimulatesStill y s w after stands
       first none gathers nobody does (r.all_have others reply isin ag) = go does ag (held_as_kept none gathers nobody)
       first none gathers nobody does (r.one_takes k ik stays) = absurd (nobody k ik)
 
-      by : AwaitsOthers y.program w h i.hart → AreLocked y w b stands.before_commit.ghosts → SimulatesStill y s w after stands
+      by : AwaitsOthers y.runs.program w h i.hart → AreLocked y w b stands.before_commit.ghosts → SimulatesStill y s w after stands
       by (calls.one_takes k ik does) locked = nothing_happens (Barrier k) does
-      by (calls.all_have nobody does) (gathering none gathers) = first none gathers nobody does (waits_for_takers y.program w records h gathers i)
-      by (calls.all_have nobody does) (gathered ag held) = go does (gathered_go_on y.program w records h Wait ag (inl refl) i).1 held
+      by (calls.all_have nobody does) (gathering none gathers) = first none gathers nobody does (waits_for_takers y.runs.program w records h gathers i)
+      by (calls.all_have nobody does) (gathered ag held) = go does (gathered_go_on y.runs.program w records h Wait ag (inl refl) i).1 held
 
 takes_by : (y : System) (s : IsSystem y) (w : World) (h : ℕ) (stands : Simulates y s w) → IsInPhase w h Take →
-    AreLocked y w stands.before_commit.abstract stands.before_commit.ghosts → SimulatesStill y s w (after_event y.program w (Step h)) stands
+    AreLocked y w stands.before_commit.abstract stands.before_commit.ghosts → SimulatesStill y s w (after_event y.runs.program w (Step h)) stands
 takes_by y s w h stands i (gathering none gathers) = takes y s w h stands none gathers i
 takes_by y s w h stands i (gathered ag held) =
     absurd (subst (λ (p : Phase). HasGathered w h (records_of stands.before_commit.ghosts h) p) i.phase_is (ag.each h i.hart i.here))
 
 pub takes_still : (y : System) (s : IsSystem y) (w : World) (h : ℕ) (stands : Simulates y s w) → IsInPhase w h Take →
-    SimulatesStill y s w (after_event y.program w (Step h)) stands
+    SimulatesStill y s w (after_event y.runs.program w (Step h)) stands
 takes_still y s w h stands i = takes_by y s w h stands i stands.before_commit.locks
 
 pub waits_still : (y : System) (s : IsSystem y) (w : World) (h : ℕ) (stands : Simulates y s w) → IsInPhase w h Wait →
-    SimulatesStill y s w (after_event y.program w (Step h)) stands
+    SimulatesStill y s w (after_event y.runs.program w (Step h)) stands
 waits_still y s w h stands i = waits y s w h stands i stands.before_commit.locks
 
 pub stopped_still : (y : System) (s : IsSystem y) (w : World) (h : ℕ) (phase : Phase) (stands : Simulates y s w) → (phase ≡ Done) ⊎ (phase ≡ Ended) →
-    IsInPhase w h phase → SimulatesStill y s w (after_event y.program w (Step h)) stands
-stopped_still y s w h phase stands stopped i = nothing_happens y s w h stands Still (stopped_stay y.program w h phase stopped i)
+    IsInPhase w h phase → SimulatesStill y s w (after_event y.runs.program w (Step h)) stands
+stopped_still y s w h phase stands stopped i = nothing_happens y s w h stands Still (stopped_stay y.runs.program w h phase stopped i)
 
 pub takes_stand : TakesStand
 takes_stand y s w h stands i = (takes_still y s w h stands i).stands

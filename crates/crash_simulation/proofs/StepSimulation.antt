@@ -44,12 +44,12 @@ module _ (y : System) (s : IsSystem y) (w : World) (event : Event) (sound : IsWe
     (c : ThreadGhost) (differs : n ≢ thread)
     (of_others : IsOfOthers (s.codes.each n below).thread.number event)
     (moves : (hart : Hart) → slice_get w.harts (s.codes.each n below).thread.number ≡ Some hart →
-    MovesTo (s.codes.each n below).thread.number w hart c.rest (after_event y.program w event) c.rest)
-    (agrees : (z : MarkedEnvironment) → AnswersGuarded y b (s.codes.each n below) c z → Agrees y.program w (s.codes.each n below).thread.number z →
-    Agrees y.program (after_event y.program w event) (s.codes.each n below).thread.number z)
+    MovesTo (s.codes.each n below).thread.number w hart c.rest (after_event y.runs.program w event) c.rest)
+    (agrees : (z : MarkedEnvironment) → AnswersGuarded y b (s.codes.each n below) c z → Agrees y.runs.program w (s.codes.each n below).thread.number z →
+    Agrees y.runs.program (after_event y.runs.program w event) (s.codes.each n below).thread.number z)
     (t : ThreadInv y w b (s.codes.each n below) c) where
   -- whatever that is to the source
-  pub led_on : (next : AbstractRun y) → StepsOrStutters y b thread next → ThreadInv y (after_event y.program w event) next (s.codes.each n below) c
+  pub led_on : (next : AbstractRun y) → StepsOrStutters y b thread next → ThreadInv y (after_event y.runs.program w event) next (s.codes.each n below) c
   led_on _ stays =
       stands_on y b b.config b.execution b.respects (s.codes.each n below) c
       (stays_unmoved (flat_of y) b.schedule b.config (s.codes.each n below).thread.number) w event sound of_others moves agrees t
@@ -68,7 +68,7 @@ module _ (y : System) (s : IsSystem y) (w : World) (h : ℕ) (stands : Simulates
   before_commit = stands.before_commit
 
   abbrev after : World
-  after = after_event y.program w (Step h)
+  after = after_event y.runs.program w (Step h)
 
   abbrev ghosts : ℕ → ThreadGhost
   ghosts = with_ghost before_commit.ghosts h o.ghost
@@ -81,7 +81,7 @@ module _ (y : System) (s : IsSystem y) (w : World) (h : ℕ) (stands : Simulates
       let c : ThreadGhost = before_commit.ghosts n in
       subst (λ (x : ThreadGhost). ThreadInv y after o.next code x) (sym (cond-false (n == h) o.ghost c (ne_eqb n h differs)))
       (led_on y s w (Step h) before_commit.sound before_commit.abstract h n below c differs other
-      (λ hart here. steps_move y.program w h code.thread.number hart c.rest before_commit.sound here
+      (λ hart here. steps_move y.runs.program w h code.thread.number hart c.rest before_commit.sound here
       (elsewhere y s w h before_commit.abstract o.stores_own code.thread.number other))
       (λ z answers agrees. agrees_after y s w h before_commit.abstract o.stores_own code c other z answers before_commit.sound agrees i.hart i.here)
       (before_commit.each n below) o.next o.led)
@@ -107,10 +107,10 @@ module _ (y : System) (s : IsSystem y) (w : World) (h : ℕ) (stands : Simulates
   simulates_after = record {
     abstract = o.next;
     memory = o.memory;
-    count = (queues_stand y.program w (Step h) (s.count ∙ sym before_commit.count) before_commit.sound).1 ∙ before_commit.count;
+    count = (queues_stand y.runs.program w (Step h) (s.count ∙ sym before_commit.count) before_commit.sound).1 ∙ before_commit.count;
     mutexes = o.mutexes ∙ before_commit.mutexes;
-    sound = (queues_stand y.program w (Step h) (s.count ∙ sym before_commit.count) before_commit.sound).0;
-    short = queues_stay_short y.program w (Step h) before_commit.short;
+    sound = (queues_stand y.runs.program w (Step h) (s.count ∙ sym before_commit.count) before_commit.sound).0;
+    short = queues_stay_short y.runs.program w (Step h) before_commit.short;
     ghosts = ghosts;
     each = each_simulates;
     locks = o.locks;
@@ -126,14 +126,14 @@ module _ (y : System) (s : IsSystem y) (w : World) (line mask : ℕ) (stands : S
   before = stands.before_commit
 
   abbrev evicted : World
-  evicted = after_event y.program w (Evict line mask)
+  evicted = after_event y.runs.program w (Evict line mask)
 
   abbrev persisted : Memory
   persisted = memory_in (places_of y) evicted.words
 
   pub raises : ArePersisted before.abstract.config.memory persisted
   raises =
-      subst (λ (memory : Memory). ArePersisted memory persisted) before.memory (events_raise y.program w (places_of y) (Evict line mask) before.sound tt)
+      subst (λ (memory : Memory). ArePersisted memory persisted) before.memory (events_raise y.runs.program w (places_of y) (Evict line mask) before.sound tt)
 
   abbrev next : Config
   next = record before.abstract.config { memory = persisted }
@@ -145,19 +145,19 @@ module _ (y : System) (s : IsSystem y) (w : World) (line mask : ℕ) (stands : S
   run_after = abstract_next y before.abstract next abstract_persisted.0 abstract_persisted.1
 
   pub holders_same : evicted.holders ≡ w.holders
-  holders_same = ap (λ (v : World). v.holders) (evictions_touch y.program w line mask).1
+  holders_same = ap (λ (v : World). v.holders) (evictions_touch y.runs.program w line mask).1
 
   pub each_evicted : (n : ℕ) (below : n < thread_count y) → ThreadInv y evicted run_after (s.codes.each n below) (before.ghosts n)
   each_evicted n below =
       let code = s.codes.each n below in
       let c : ThreadGhost = before.ghosts n in
       led_on y s w (Evict line mask) before.sound before.abstract (suc n) n below c (λ e. omega (arith, e)) tt
-      (λ hart here. evictions_move y.program w line mask code.thread.number hart c.rest here)
-      (λ z answers agrees. evictions_agree y.program w line mask code.thread.number z agrees)
+      (λ hart here. evictions_move y.runs.program w line mask code.thread.number hart c.rest here)
+      (λ z answers agrees. evictions_agree y.runs.program w line mask code.thread.number z agrees)
       (before.each n below) run_after (goes next (persists persisted raises) tt abstract_persisted.0 abstract_persisted.1)
 
   harts_same : evicted.harts ≡ w.harts
-  harts_same = ap (λ (v : World). v.harts) (evictions_touch y.program w line mask).1
+  harts_same = ap (λ (v : World). v.harts) (evictions_touch y.runs.program w line mask).1
 
   there_before : (h : ℕ) (hart : Hart) → slice_get evicted.harts h ≡ Some hart → slice_get w.harts h ≡ Some hart
   there_before h hart there = ap (λ (hs : List Hart). slice_get hs h) (sym harts_same) ∙ there
@@ -166,7 +166,7 @@ module _ (y : System) (s : IsSystem y) (w : World) (line mask : ℕ) (stands : S
   held_before lock holder there = ap (λ (hs : List (Option ℕ)). slice_get hs lock) (sym holders_same) ∙ there
 
   record_evicted : (h : ℕ) (r : Record) → HasRecord w h r → HasRecord evicted h r
-  record_evicted h r has = evictions_keep y.program line mask h nothing_recorded r w [] has
+  record_evicted h r has = evictions_keep y.runs.program line mask h nothing_recorded r w [] has
 
   gathering_evicted : (records : ℕ → Record) → AreGathering w records → AreGathering evicted records
   gathering_evicted records are = record {
@@ -206,10 +206,10 @@ module _ (y : System) (s : IsSystem y) (w : World) (line mask : ℕ) (stands : S
   evicted_simulates = record {
     abstract = run_after;
     memory = refl;
-    count = (queues_stand y.program w (Evict line mask) (s.count ∙ sym before.count) before.sound).1 ∙ before.count;
+    count = (queues_stand y.runs.program w (Evict line mask) (s.count ∙ sym before.count) before.sound).1 ∙ before.count;
     mutexes = ap length holders_same ∙ before.mutexes;
-    sound = (queues_stand y.program w (Evict line mask) (s.count ∙ sym before.count) before.sound).0;
-    short = queues_stay_short y.program w (Evict line mask) before.short;
+    sound = (queues_stand y.runs.program w (Evict line mask) (s.count ∙ sym before.count) before.sound).0;
+    short = queues_stay_short y.runs.program w (Evict line mask) before.short;
     ghosts = before.ghosts;
     each = each_evicted;
     locks = locked_evicted before.locks;

@@ -155,7 +155,7 @@ module _ (y : System) (s : IsSystem y) (w : World) (h : ℕ) (stands : Simulates
   nothing_read : IsAnswered (source_of y.plan (code y s w h stands below).thread seen) here.around.loads node.action
   nothing_read = subst (λ (z : Action). IsAnswered (source_of y.plan (code y s w h stands below).thread seen) here.around.loads z) (sym action) tt
 
-  pub mark : IsAtSomeMark y.plan (code y s w h stands below).thread (code y s w h stands below).is.places (on_machine y.program w n here)
+  pub mark : IsAtSomeMark y.plan (code y s w h stands below).thread (code y s w h stands below).is.places (on_machine y.runs.program w n here)
       graph_thread.at seen core.bank
       core.registers e
   mark =
@@ -212,7 +212,7 @@ module _ (y : System) (s : IsSystem y) (w : World) (h : ℕ) (stands : Simulates
   abbrev cleans : List Effect
   cleans = cleans_of y.plan (code y s w h stands below).thread (code y s w h stands below).is.places graph_thread.at store
 
-  module _ (p : laws.PassesMark y.plan (code y s w h stands below).thread (code y s w h stands below).is.places (on_machine y.program w n here) e
+  module _ (p : laws.PassesMark y.plan (code y s w h stands below).thread (code y s w h stands below).is.places (on_machine y.runs.program w n here) e
       (stage_after y.plan (code y s w h stands below).thread (code y s w h stands below).is.places graph_thread.at seen core.bank e) mark.steps mark.effects
       mark.at) where
     effect_is : p.forward.effect ≡ r.Stores address (bytes_of k) value
@@ -224,11 +224,11 @@ module _ (y : System) (s : IsSystem y) (w : World) (h : ℕ) (stands : Simulates
         sym (mark.seen_are k kind_is) ∙ p.effects_are ∙ ap (λ (z : Effect). effects_of z ++ p.later) effect_is in
         same_tail _ _ cleans p.later all
 
-    is_next : IsNext y.program w n mark.at.on.hart (r.Stores address (bytes_of k) value)
+    is_next : IsNext y.runs.program w n mark.at.on.hart (r.Stores address (bytes_of k) value)
     is_next = record { here = mark.at.on.here; runs = ap is_running mark.at.on.runs; is = p.forward.effect_is ∙ ap Some effect_is }
 
-    elsewhere : IsElsewhere y.program w n n
-    elsewhere = stores_to_variable y.program w n n mark.at.on.hart address (bytes_of k) value is_next in_variables
+    elsewhere : IsElsewhere y.runs.program w n n
+    elsewhere = stores_to_variable y.runs.program w n n mark.at.on.hart address (bytes_of k) value is_next in_variables
 
     may : MayStore y b n p.forward.effect
     may = subst (λ (z : Effect). MayStore y b n z) (sym effect_is) (element store.variable store.element value formed.it formed.found formed.element guards)
@@ -354,7 +354,7 @@ module _ (y : System) (s : IsSystem y) (w : World) (h : ℕ) (stands : Simulates
                 flushed_still y w v b (code y s w h stands below) (ghost y s w h stands below) core.goes.cleans t.log.hart (b.config.uncommitted ++ n ∷ [])
                 memory (one_longer b.config n) (leads_on y b _ happened refl minded).0 (leads_on y b _ happened refl minded).1 new other
                 (λ j position reach. subst (λ (x : Hart). PersistsThrough v.words x.queue j position) (sym p.same ∙ is)
-                (forward_reaches y.program w n (run_at y.plan (code y s w h stands below).thread (code y s w h stands below).is.places mark.at) p.forward j
+                (forward_reaches y.runs.program w n (run_at y.plan (code y s w h stands below).thread (code y s w h stands below).is.places mark.at) p.forward j
                 position
                 (subst (λ (x : Hart). PersistsThrough w.words x.queue j position) (sym old_is) reach)))
                 (omega (arith, l)) (omega (arith, l)) (λ now line cleaned. comes_now other line cleaned) u i
@@ -377,14 +377,14 @@ module _ (y : System) (s : IsSystem y) (w : World) (h : ℕ) (stands : Simulates
         flushed
 
   pub store_step : StepOf y s w h stands below n
-  store_step = by (marks y.plan (code y s w h stands below).thread (code y s w h stands below).is.places y.program w n here e
+  store_step = by (marks y.plan (code y s w h stands below).thread (code y s w h stands below).is.places y.runs.program w n here e
       (stage_after y.plan (code y s w h stands below).thread (code y s w h stands below).is.places graph_thread.at seen core.bank e) mark.steps mark.effects
       stands.before_commit.sound mark.at)
     where
-      by : laws.PassesMark y.plan (code y s w h stands below).thread (code y s w h stands below).is.places (on_machine y.program w n here) e
+      by : laws.PassesMark y.plan (code y s w h stands below).thread (code y s w h stands below).is.places (on_machine y.runs.program w n here) e
           (stage_after y.plan (code y s w h stands below).thread (code y s w h stands below).is.places graph_thread.at seen core.bank e) mark.steps mark.effects
           mark.at
-          ⊎ laws.Stays y.plan (code y s w h stands below).thread (code y s w h stands below).is.places (on_machine y.program w n here) e
+          ⊎ laws.Stays y.plan (code y s w h stands below).thread (code y s w h stands below).is.places (on_machine y.runs.program w n here) e
           (stage_after y.plan (code y s w h stands below).thread (code y s w h stands below).is.places graph_thread.at seen core.bank e) mark.steps mark.effects
           mark.at → StepOf y s w h stands below n
       by (inl p) = store_passes p

@@ -15,8 +15,9 @@ use Rattle.recovery_semantics.specs.Attempts.{Attempt, attempt_at, no_attempt, I
 use Rattle.recovery_semantics.specs.Configs.{Config, Invariant, now, attempt_of}
 use Rattle.recovery_semantics.specs.Events.{IsGoing, commits, settled_by, IsSettled, steps_begun}
 use Rattle.recovery_semantics.specs.Executions.{then}
-use Rattle.recovery_semantics.specs.Laws.{IsKeptBy, HasLocked, HasUnlocked}
-use Rattle.recovery_semantics.proofs.Public.{inner_along, writes_at_same, none_left, others_left, rest_after, same_other, path}
+use Rattle.recovery_semantics.specs.Laws.{IsKeptBy, HasLocked, HasUnlocked, LastUnlocks}
+use Rattle.recovery_semantics.proofs.Public.{inner_along, writes_at_same, none_left, none_of_other, others_left, rest_after, same_other, path}
+use Rattle.recovery_semantics.proofs.Public.{last_after, last_alone, last_stays}
 use Rattle.region_attempts.specs.GraphStates.{flow_solo, node_after}
 use Rattle.region_attempts.specs.AttemptsInRegion.{SettlesThere}
 use Rattle.region_attempts.specs.PendingCleans.{CleansSince}
@@ -116,9 +117,22 @@ module _ (y : System) (s : IsSystem y) (b : AbstractRun y) where
         (subst (λ (k : ℕ). slice_get (kept_of y committed_run).graph_threads k ≡ slice_get (now_of y b).graph_threads k) (sym number) graph_threads.own)
         (subst (λ (k : ℕ). held_by k (kept_of y committed_run).holders ≡ held_by k (now_of y b).holders) (sym number) held)
 
+    -- the unlock that ends its attempt is its last step that is kept then
+    pub unlock_kept : (mutex : ℕ) → HasUnlocked old t mutex → LastUnlocks (m.start x) committed_run.schedule t mutex
+    unlock_kept mutex h =
+        let alone = subst (λ (n : ℕ). LastUnlocks old.kept (replicate n t) t mutex) (sym h.begun)
+        (last_alone old.kept t (attempt_of old t).done mutex h.unlocks_it) in
+        last_after (m.start x) b.schedule (replicate (steps_begun old t) t) t mutex kept_by.runs
+        (subst (λ (z : m.State). LastUnlocks z (replicate (steps_begun old t) t) t mutex) (sym kept_by.is) alone)
+
     -- ---- Another thread
 
     module _ (u : ℕ) (apart : u ≢ t) where
+      -- its last step that is kept stays so
+      pub unlock_stays : (mutex : ℕ) → LastUnlocks (m.start x) b.schedule u mutex → LastUnlocks (m.start x) committed_run.schedule u mutex
+      unlock_stays mutex l =
+          last_stays (m.start x) b.schedule (replicate (steps_begun old t) t) u mutex (none_of_other t u (steps_begun old t) apart) l
+
       abbrev longest : ℕ
       longest = (attempt_of old u).longest
 

@@ -26,6 +26,7 @@ pub record SimulatesAnd (y : System) (s : IsSystem y) (w : World) (h : ℕ) (bel
   pub abstract : stands.before_commit.abstract ≡ old.before_commit.abstract
   pub bound : (n : ℕ) → is_bound (stands.before_commit.ghosts n) ≡ is_bound (old.before_commit.ghosts n)
   pub leaving : (n : ℕ) → is_leaving (stands.before_commit.ghosts n) ≡ is_leaving (old.before_commit.ghosts n)
+  pub giving : (n : ℕ) → (stands.before_commit.ghosts n).giving ≡ (old.before_commit.ghosts n).giving
   pub so : P stands.before_commit.abstract (s.codes.each h below) (stands.before_commit.ghosts h) (stands.before_commit.each h below)
 
 module _ (y : System) (s : IsSystem y) (w : World) (h : ℕ) (stands : Simulates y s w) (below : h < thread_count y) (i : IsInPhase w h Run) (P : OfThread y w)
@@ -124,5 +125,6 @@ module _ (y : System) (s : IsSystem y) (w : World) (h : ℕ) (stands : Simulates
     abstract = refl;
     bound = same_of is_bound bounds;
     leaving = same_of is_leaving leaves;
+    giving = giving_same;
     so = (all h below).2 refl;
   }

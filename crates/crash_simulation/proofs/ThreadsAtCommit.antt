@@ -11,6 +11,7 @@ use Rattle.flow_graph.specs.Actions.{GraphThread, FlowState, seen_by}
 use Rattle.recovery_semantics.specs.Attempts.{Attempt}
 use Rattle.recovery_semantics.specs.Configs.{now, attempt_of}
 use Rattle.recovery_semantics.specs.Events.{IsSettled, steps_begun}
+use Rattle.recovery_semantics.specs.Laws.{HasUnlocked, LastUnlocks}
 use Rattle.region_attempts.specs.AttemptsInRegion.{SettlesThere}
 use Rattle.code_runs.specs.CodeTraces.{MarkedEnvironment}
 use Rattle.thread_runs.specs.CodeFragments.{ExitPoint, Arrives, Keeps, Asks, Took, Gives, Ends, IsOnFragment, IsAtCore, on_machine}
@@ -21,7 +22,8 @@ use Rattle.crash_simulation.specs.ThreadGhosts.{ThreadGhost, AnswersGuarded, IsI
 use Rattle.crash_simulation.specs.ThreadGhosts.{Rests, InFragment, AtCore, IsRunningThread, on_fragment, at_core, InPhase}
 use Rattle.crash_simulation.specs.ThreadGhosts.{IsComing, is_reached, is_ahead, IsFlushed, ThreadInv, committed}
 use Rattle.crash_simulation.proofs.ThreadCommits.{invariant, committed_run, now_same, source_same, done_same}
-use Rattle.crash_simulation.proofs.ThreadCommits.{begun_same, going_on, locked_on, unlocked_on, writes_on}
+use Rattle.crash_simulation.proofs.ThreadCommits.{begun_same, going_on, locked_on, unlocked_on, unlock_stays, writes_on}
+use Rattle.crash_simulation.proofs.PendingReleases.{bounded_of}
 use Rattle.crash_simulation.proofs.ThreadCommits.{writes_before, cleans_before, describes_on}
 
 -- the ghost state, with its boundary taken as committed, or not
@@ -56,7 +58,7 @@ module _ (y : System) (w : World) (b next : AbstractRun y) (code : Code y.plan) 
     bank = o.bank;
     at_bank = o.at_bank;
     steps = o.steps;
-    fragment = subst (λ (z : FlowState). IsOnFragment y.plan code.thread code.is.places (on_machine y.program w code.thread.number o.environment)
+    fragment = subst (λ (z : FlowState). IsOnFragment y.plan code.thread code.is.places (on_machine y.runs.program w code.thread.number o.environment)
         (record { exit = o.exit; node = graph_thread.at; seen = seen_by z graph_thread; bank = o.bank }) o.steps (c.cleans ++ c.rest)) (sym states) o.fragment;
     fits = fits;
   }
@@ -78,7 +80,9 @@ module _ (y : System) (w : World) (b next : AbstractRun y) (code : Code y.plan) 
 
   module _ (t : ThreadInv y w b code c) (taken_is : is ≡ true) (sooner : committed y w b code c t.log.hart ≡ true) (not_yet : c.committed ≡ false)
       (begun : steps_begun next.config code.thread.number ≡ 0) (done : (attempt_of next.config code.thread.number).done ≡ 0)
-      (describes : Describes y.plan code (now_of y b) c.new → Describes y.plan code (kept_of y next) c.new) where
+      (describes : Describes y.plan code (now_of y b) c.new → Describes y.plan code (kept_of y next) c.new)
+      (unlocks : (mutex : ℕ) → HasUnlocked b.config code.thread.number mutex →
+      LastUnlocks (m.start (flat_of y)) next.schedule code.thread.number mutex) where
     is_taken : c.committed ≡ true → ⊥
     is_taken e = true≢false (sym e ∙ not_yet)
 
@@ -121,6 +125,7 @@ module _ (y : System) (w : World) (b next : AbstractRun y) (code : Code y.plan) 
       describes =
           subst (λ (z : Bool). Describes y.plan code (kept_of y next) (if z then c.new else c.old)) (sym taken_is) (describes (t.will_describe not_yet));
       will_describe = λ un. absurd (true≢false (sym taken_is ∙ un));
+      unlocked = λ mutex gives over. unlocks mutex ((bounded_of y w b code c mutex gives t).before not_yet);
       cleans = t.cleans;
       graph_thread = t.graph_thread;
       walks = ap (λ (z : FlowState). slice_get z.graph_threads code.thread.number) states ∙ t.walks;
@@ -238,6 +243,7 @@ module _ (y : System) (s : IsSystem y) (b : AbstractRun y) (k : ℕ) (attempts :
         subst (λ (z : Bool). Describes y.plan code (kept_of y next) (if z then c.new else c.old)) (sym same)
         (describes_on y s b k attempts settled there u apart code (if c.committed then c.new else c.old) refl t.describes);
     will_describe = λ un. subst (λ (z : FlowState). Describes y.plan code z c.new) (sym states_are) (t.will_describe (sym same ∙ un));
+    unlocked = λ mutex gives over. unlock_stays y s b k attempts settled there u apart mutex (t.unlocked mutex gives (sym same ∙ over));
     cleans = t.cleans;
     graph_thread = t.graph_thread;
     walks = ap (λ (z : FlowState). slice_get z.graph_threads u) states_are ∙ t.walks;

@@ -22,8 +22,8 @@ use Rattle.crash_simulation.specs.ThreadGhosts.{ThreadGhost, InPhase, IsRunningT
 use Rattle.crash_simulation.specs.ThreadGhosts.{IsComing, is_reached, is_ahead, ThreadInv, committed}
 
 -- memory agrees where it is as it was
-pub agrees_on : (y : System) (w v : World) (h : ℕ) (s : MarkedEnvironment) → v.words ≡ w.words → length v.harts ≡ length w.harts → Agrees y.program w h s →
-    Agrees y.program v h s
+pub agrees_on : (y : System) (w v : World) (h : ℕ) (s : MarkedEnvironment) → v.words ≡ w.words → length v.harts ≡ length w.harts → Agrees y.runs.program w h s →
+    Agrees y.runs.program v h s
 agrees_on y w v h s words count a = record {
   fetches = a.fetches;
   loads = λ address bytes value e.
@@ -59,6 +59,7 @@ module _ (y : System) (w v : World) (b : AbstractRun y) (code : Code y.plan) (c 
     no_sooner = λ e. same_committed t.log.hart hart ∙ t.no_sooner e;
     describes = t.describes;
     will_describe = t.will_describe;
+    unlocked = t.unlocked;
     cleans = t.cleans;
     graph_thread = t.graph_thread;
     walks = t.walks;
@@ -78,10 +79,10 @@ module _ (y : System) (w v : World) (b : AbstractRun y) (code : Code y.plan) (c 
 
 -- a step of another hart that leaves memory leaves the thread
 module _ (y : System) (w : World) (g : ℕ) (b : AbstractRun y) (code : Code y.plan) (c : ThreadGhost)
-    (words : (after_event y.program w (Step g)).words ≡ w.words)
+    (words : (after_event y.runs.program w (Step g)).words ≡ w.words)
     (sound : IsWellFormedWorld w) (other : g ≢ code.thread.number) where
   abbrev after : World
-  after = after_event y.program w (Step g)
+  after = after_event y.runs.program w (Step g)
 
   runs_on : (hart : Hart) (graph_thread : GraphThread) → IsRunningThread y w b code c hart graph_thread → IsRunningThread y after b code c hart graph_thread
   runs_on hart graph_thread (on_fragment o) = on_fragment (record {
@@ -91,15 +92,19 @@ module _ (y : System) (w : World) (g : ℕ) (b : AbstractRun y) (code : Code y.p
     bank = o.bank;
     at_bank = o.at_bank;
     steps = o.steps;
-    fragment = others_keep_fragments y.plan code.thread code.is.places y.program w code.thread.number o.environment _ o.steps _ (Step g) sound other o.fragment
-        (agrees_on y w after code.thread.number o.environment words (others_leave y.program w code.thread.number (Step g) sound other).1 o.fragment.agrees);
+    fragment =
+        others_keep_fragments y.plan code.thread code.is.places y.runs.program w code.thread.number o.environment _ o.steps _ (Step g) sound other o.fragment
+        (agrees_on y w after code.thread.number o.environment words (others_leave y.runs.program w code.thread.number (Step g) sound other).1
+        o.fragment.agrees);
     fits = o.fits;
   })
   runs_on hart graph_thread (at_core o) = at_core (record {
     bank = o.bank;
     at_bank = o.at_bank;
     registers = o.registers;
-    core = others_keep_cores y.plan code.thread code.is.places y.program w code.thread.number graph_thread.at _ o.bank o.registers (Step g) sound other o.core;
+    core =
+        others_keep_cores y.plan code.thread code.is.places y.runs.program w code.thread.number graph_thread.at _ o.bank o.registers (Step g)
+        sound other o.core;
     goes = o.goes;
     fresh = o.fresh;
   })
@@ -115,5 +120,5 @@ module _ (y : System) (w : World) (g : ℕ) (b : AbstractRun y) (code : Code y.p
 
   pub others_stand : ThreadInv y w b code c → ThreadInv y after b code c
   others_stand t =
-      phase_moves y w after b code c words t t.log.hart ((others_leave y.program w code.thread.number (Step g) sound other).0 ∙ t.log.here) refl
+      phase_moves y w after b code c words t t.log.hart ((others_leave y.runs.program w code.thread.number (Step g) sound other).0 ∙ t.log.here) refl
       (in_phase_on t.log.hart t.graph_thread t.log.hart.phase t.phase)

@@ -57,7 +57,7 @@ use Rattle.crash_simulation.specs.ThreadGhosts.{ThreadGhost, record_kept, IsAtBa
 use Rattle.crash_simulation.specs.ThreadGhosts.{IsFlushed, IsComing, is_reached, is_ahead, ThreadInv}
 use Rattle.crash_simulation.specs.SimulationRelation.{IsGiving, AreHeld, Simulates}
 use Rattle.crash_simulation.specs.InstructionSteps.{goes, MayStore, nothing, in_log, with_ghost, abstract_next}
-use Rattle.crash_simulation.specs.InstructionSteps.{is_bound, nothing_released, AtCoreNow, thread_of}
+use Rattle.crash_simulation.specs.InstructionSteps.{begins_unlock, is_bound, nothing_released, AtCoreNow, thread_of}
 use Rattle.crash_simulation.proofs.LastReleases.{holders_stay_none, none_leaving}
 use Rattle.crash_simulation.proofs.StatesMatchSource.{cuts, resumed, now_orderly, now_good}
 use Rattle.crash_simulation.proofs.Boundaries.{after_unlock_in, BoundaryIsRecoverable, boundaries_begin}
@@ -118,7 +118,7 @@ module _ (y : System) (s : IsSystem y) (w : World) (h : ℕ) (stands : Simulates
   nothing_read : IsAnswered (source_of y.plan (code y s w h stands below).thread seen) here.around.loads node.action
   nothing_read = subst (λ (z : Action). IsAnswered (source_of y.plan (code y s w h stands below).thread seen) here.around.loads z) (sym action) tt
 
-  pub mark : IsAtSomeMark y.plan (code y s w h stands below).thread (code y s w h stands below).is.places (on_machine y.program w n here)
+  pub mark : IsAtSomeMark y.plan (code y s w h stands below).thread (code y s w h stands below).is.places (on_machine y.runs.program w n here)
       graph_thread.at seen core.bank
       core.registers e
   mark =
@@ -233,7 +233,7 @@ module _ (y : System) (s : IsSystem y) (w : World) (h : ℕ) (stands : Simulates
 
   -- ---- The mark is passed
 
-  module _ (p : laws.PassesMark y.plan (code y s w h stands below).thread (code y s w h stands below).is.places (on_machine y.program w n here) e
+  module _ (p : laws.PassesMark y.plan (code y s w h stands below).thread (code y s w h stands below).is.places (on_machine y.runs.program w n here) e
       (stage_after y.plan (code y s w h stands below).thread (code y s w h stands below).is.places graph_thread.at seen core.bank e) mark.steps mark.effects
       mark.at) where
     abbrev hart : Hart
@@ -253,7 +253,7 @@ module _ (y : System) (s : IsSystem y) (w : World) (h : ℕ) (stands : Simulates
         subst (λ (x : Contents). Changes (record { words = w.words; queue = hart.queue }) f x) (sym same)
         (subst (λ (z : Effect). Changes (record { words = w.words; queue = hart.queue }) z p.forward.contents) is p.forward.changes)
 
-    is_next : (f : Effect) → p.forward.effect ≡ f → IsNext y.program w n hart f
+    is_next : (f : Effect) → p.forward.effect ≡ f → IsNext y.runs.program w n hart f
     is_next f is = record { here = mark.at.on.here; runs = ap is_running mark.at.on.runs; is = p.forward.effect_is ∙ ap Some is }
 
     ahead_is : (f : Effect) → p.forward.effect ≡ f → effects_all ≡ effects_of f ++ p.later
@@ -269,8 +269,9 @@ module _ (y : System) (s : IsSystem y) (w : World) (h : ℕ) (stands : Simulates
     unseen : (f : Effect) (is : p.forward.effect ≡ f) → effects_all ≡ p.later → is_store f ≡ false → is_point_store n f ≡ false →
         v.words ≡ w.words → IsFirst f
     unseen f is same no_store no_point words = record {
-      log = steps_keep y.program n n c.new new_record w p.later stands.before_commit.sound
-          (subst (λ (rest : List Effect). LogInv n c.new new_record w rest) same log_first) (stores_nothing y.program w n n hart f (is_next f is) no_store);
+      log = steps_keep y.runs.program n n c.new new_record w p.later stands.before_commit.sound
+          (subst (λ (rest : List Effect). LogInv n c.new new_record w rest) same log_first)
+          (stores_nothing y.runs.program w n n hart f (is_next f is) no_store);
       may = nothing f no_store;
       memory = memory_as words;
       point = no_point ∙ ap not (sym (boundary_stores boundary (1 - core.bank) resume core.registers) ∙ ap (list_any is_store) same);
@@ -280,7 +281,7 @@ module _ (y : System) (s : IsSystem y) (w : World) (h : ℕ) (stands : Simulates
     }
 
     -- the instruction makes the first effect of the boundary
-    log_by : (f : Effect) (is : p.forward.effect ≡ f) → effects_all ≡ f ∷ p.later → Advances y.program (passage n c.new new_record) w (f ∷ []) p.later →
+    log_by : (f : Effect) (is : p.forward.effect ≡ f) → effects_all ≡ f ∷ p.later → Advances y.runs.program (passage n c.new new_record) w (f ∷ []) p.later →
         LogInv n c.new new_record v p.later
     log_by f is same (Completes reply log) = log
     log_by f is same (WritesBack reply log) = let z : Moved ≡ Drained = sym p.forward.reply ∙ reply in cc
@@ -321,7 +322,7 @@ module _ (y : System) (s : IsSystem y) (w : World) (h : ℕ) (stands : Simulates
         let log = first_log f same in
         let word = stored_word address bytes value (of_log f same) in
         record {
-          log = log_by f is same (own_steps_keep y.program n c.new new_record w hart f p.later stands.before_commit.sound (is_next f is) log);
+          log = log_by f is same (own_steps_keep y.runs.program n c.new new_record w hart f p.later stands.before_commit.sound (is_next f is) log);
           may = subst (λ (k : ℕ). MayStore y b n (r.Stores address k value)) (sym word.3) (in_log address value word.0 word.1 word.2);
           memory =
               ap (memory_in (places_of y)) (same_words ∙ ap (λ (x : Contents). x.words) (words_by f is _ refl))
@@ -343,7 +344,8 @@ module _ (y : System) (s : IsSystem y) (w : World) (h : ℕ) (stands : Simulates
         let f : Effect = r.Cleans address in
         let same : effects_all ≡ f ∷ p.later = ahead_is f is in
         record {
-          log = log_by f is same (own_steps_keep y.program n c.new new_record w hart f p.later stands.before_commit.sound (is_next f is) (first_log f same));
+          log =
+              log_by f is same (own_steps_keep y.runs.program n c.new new_record w hart f p.later stands.before_commit.sound (is_next f is) (first_log f same));
           may = nothing f refl;
           memory = memory_as (same_words ∙ ap (λ (x : Contents). x.words) (words_by f is _ refl).1);
           point = ap not (sym (boundary_stores boundary (1 - core.bank) resume core.registers) ∙ ap (list_any is_store) same);
@@ -355,7 +357,8 @@ module _ (y : System) (s : IsSystem y) (w : World) (h : ℕ) (stands : Simulates
         let f : Effect = r.Fences in
         let same : effects_all ≡ f ∷ p.later = ahead_is f is in
         record {
-          log = log_by f is same (own_steps_keep y.program n c.new new_record w hart f p.later stands.before_commit.sound (is_next f is) (first_log f same));
+          log =
+              log_by f is same (own_steps_keep y.runs.program n c.new new_record w hart f p.later stands.before_commit.sound (is_next f is) (first_log f same));
           may = nothing f refl;
           memory = memory_as (same_words ∙ ap (λ (x : Contents). x.words) (words_by f is _ refl).1);
           point = ap not (sym (boundary_stores boundary (1 - core.bank) resume core.registers) ∙ ap (list_any is_store) same);
@@ -382,9 +385,9 @@ module _ (y : System) (s : IsSystem y) (w : World) (h : ℕ) (stands : Simulates
           says.1 ∙ ap (λ (q : Bool). if q then core.bank else 1 - core.bank) (sym within)
     ]
 
-    fragment : IsOnFragment y.plan (code y s w h stands below).thread (code y s w h stands below).is.places (on_machine y.program v n here)
+    fragment : IsOnFragment y.plan (code y s w h stands below).thread (code y s w h stands below).is.places (on_machine y.runs.program v n here)
         (record { exit = Gives graph_thread.at mutex; node = next_node; seen = seen_by (now_of y next) graph_thread_next; bank = bank_next }) mark.steps p.later
-    fragment = fragments_see_all y.plan (code y s w h stands below).thread (code y s w h stands below).is.places y.program v n here
+    fragment = fragments_see_all y.plan (code y s w h stands below).thread (code y s w h stands below).is.places y.runs.program v n here
         (stage_after y.plan (code y s w h stands below).thread (code y s w h stands below).is.places graph_thread.at seen core.bank e) mark.steps p.later
         (now_of y next).variables p.on
 
@@ -436,7 +439,7 @@ module _ (y : System) (s : IsSystem y) (w : World) (h : ℕ) (stands : Simulates
             let old_is : hart ≡ t.log.hart = same_there (slice_get w.harts n) hart t.log.hart mark.at.on.here t.log.here in
             let j : ℕ = byte_number (variable_at (shapes_of y) u i) / 8 in
             let settles =
-            fences_settle y.program w n (run_at y.plan (code y s w h stands below).thread (code y s w h stands below).is.places mark.at) p.forward fence j
+            fences_settle y.runs.program w n (run_at y.plan (code y s w h stands below).thread (code y s w h stands below).is.places mark.at) p.forward fence j
             f.position (subst (λ (x : Hart). PersistsThrough w.words x.queue j f.position) (sym old_is) reached) in
             let there : f.position < length (history_at (memory_in (places_of y) w.words) u i).values =
             subst (λ (m : Memory). f.position < length (history_at m u i).values) (sym stands.before_commit.memory) f.since.there in
@@ -451,7 +454,8 @@ module _ (y : System) (s : IsSystem y) (w : World) (h : ℕ) (stands : Simulates
         flushed_still y w v b (code y s w h stands below) c core.goes.cleans t.log.hart (b.config.uncommitted ++ n ∷ []) b.config.memory b.config.attempts
         (leads_on y b _ happened refl tt).0 (leads_on y b _ happened refl tt).1 new other
         (λ j position reach. subst (λ (x : Hart). PersistsThrough v.words x.queue j position) (sym p.same ∙ same_here other there)
-        (forward_reaches y.program w n (run_at y.plan (code y s w h stands below).thread (code y s w h stands below).is.places mark.at) p.forward j position
+        (forward_reaches y.runs.program w n (run_at y.plan (code y s w h stands below).thread (code y s w h stands below).is.places mark.at)
+        p.forward j position
         (subst (λ (x : Hart). PersistsThrough w.words x.queue j position) (sym old_is) reach)))
         (omega arith) (omega arith) (λ longer. absurd (omega (arith, longer))) u i (λ position since. since) (t.flushed u i writes)
         (λ un few. settled u i (t.flushed u i writes) (first.fenced few))
@@ -464,6 +468,7 @@ module _ (y : System) (s : IsSystem y) (w : World) (h : ℕ) (stands : Simulates
           no_sooner = λ over. absurd (true≢false (sym over));
           describes = subst (λ (z : Record). Describes y.plan (code y s w h stands below) (kept_of y b) z) kept (thread_of y s w h stands below).describes;
           will_describe = λ un. begins.describes;
+          unlocked = λ mutex gives over. absurd (true≢false (sym over));
           cleans = none_clean;
           graph_thread = graph_thread_next;
           walks = walks_next;
@@ -532,9 +537,9 @@ module _ (y : System) (s : IsSystem y) (w : World) (h : ℕ) (stands : Simulates
               gives = ap (λ (z : ThreadGhost). z.giving) (other_ghost (ghosts y s w h stands below) n new k apart) ∙ g.gives;
             })
 
-    may_each : (other : Hart) (effect : Effect) → IsNext y.program w n other effect → MayStore y b n effect
+    may_each : (other : Hart) (effect : Effect) → IsNext y.runs.program w n other effect → MayStore y b n effect
     may_each other effect is =
-        subst (λ (f : Effect). MayStore y b n f) (one_effect y.program w n hart other p.forward.effect effect (is_next _ refl) is) first.may
+        subst (λ (f : Effect). MayStore y b n f) (one_effect y.runs.program w n hart other p.forward.effect effect (is_next _ refl) is) first.may
 
     unlock_passes : StepOf y s w h stands below n
     unlock_passes = record {
@@ -547,22 +552,23 @@ module _ (y : System) (s : IsSystem y) (w : World) (h : ℕ) (stands : Simulates
       locks = locks_after y s w h stands below next new hart p.on.on.hart mark.at.on.here mark.at.on.runs p.on.on.here p.on.on.runs may_each held;
       mutexes = ap (λ (hs : List (Option ℕ)). length hs) holders_stay;
       counted = record {
-        marks = p.mark y.marks refl;
+        marks = p.mark y.runs.marks refl;
+        unlocked = λ lock gives. begins_unlock refl (unlocks_now ∙ gives);
         points = p.point ∙ first.point ∙ ap (λ (q : Bool). not q && is_bound new) (sym not_bound_now);
         bound = λ bound. absurd (not_bound c core.goes.goes.committed bound);
       };
-      released = nothing_released (holders_stay_none y.program w n holders_stay) (sym (none_leaving c core.goes.goes.giving));
+      released = nothing_released (holders_stay_none y.runs.program w n holders_stay) (sym (none_leaving c core.goes.goes.giving));
     }
 
   pub unlock_step : StepOf y s w h stands below n
-  unlock_step = by (marks y.plan (code y s w h stands below).thread (code y s w h stands below).is.places y.program w n here e
+  unlock_step = by (marks y.plan (code y s w h stands below).thread (code y s w h stands below).is.places y.runs.program w n here e
       (stage_after y.plan (code y s w h stands below).thread (code y s w h stands below).is.places graph_thread.at seen core.bank e) mark.steps mark.effects
       stands.before_commit.sound mark.at)
     where
-      by : laws.PassesMark y.plan (code y s w h stands below).thread (code y s w h stands below).is.places (on_machine y.program w n here) e
+      by : laws.PassesMark y.plan (code y s w h stands below).thread (code y s w h stands below).is.places (on_machine y.runs.program w n here) e
           (stage_after y.plan (code y s w h stands below).thread (code y s w h stands below).is.places graph_thread.at seen core.bank e) mark.steps mark.effects
           mark.at
-          ⊎ laws.Stays y.plan (code y s w h stands below).thread (code y s w h stands below).is.places (on_machine y.program w n here) e
+          ⊎ laws.Stays y.plan (code y s w h stands below).thread (code y s w h stands below).is.places (on_machine y.runs.program w n here) e
           (stage_after y.plan (code y s w h stands below).thread (code y s w h stands below).is.places graph_thread.at seen core.bank e) mark.steps mark.effects
           mark.at → StepOf y s w h stands below n
       by (inl p) = unlock_passes p

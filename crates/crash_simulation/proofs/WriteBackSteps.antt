@@ -2,6 +2,7 @@
 use Rattle.std.proofs.Common.{◌≡◌, refl, ℕ, ◌<◌, List, [], ◌∷◌, length, ap, sym, ◌∙◌, subst, arith, Option, Some, Bool, true, false}
 use Rattle.std.specs.Prelude.{slice_get, Contains, not, ◌&&◌}
 use Rattle.std.proofs.lemmas.Bool.{true≢false}
+use Rattle.std.proofs.lemmas.Option.{none-some}
 use Rattle.ido_base.specs.Words.{Entry}
 use Rattle.ido_base.specs.Growth as growth
 use Rattle.ido_base.specs.Growth.{AreEntries, PersistsThrough}
@@ -67,10 +68,10 @@ not_bound c committed bound =
 module _ (y : System) (s : IsSystem y) (w : World) (h : ℕ) (stands : Simulates y s w) (below : h < thread_count y) (core : AtCoreNow y s w h stands below)
     (environment : MarkedEnvironment) (e : a.Effect) (stage : Stage) (steps : ℕ) (effects : List Effect)
     (at : IsAtMark y.plan (code y s w h stands below).thread (code y s w h stands below).is.places
-    (on_machine y.program w (number y s w h stands below) environment) e stage
+    (on_machine y.runs.program w (number y s w h stands below) environment) e stage
     steps effects)
     (stays : laws.Stays y.plan (code y s w h stands below).thread (code y s w h stands below).is.places
-    (on_machine y.program w (number y s w h stands below) environment) e
+    (on_machine y.runs.program w (number y s w h stands below) environment) e
     stage steps effects at) where
   abbrev n : ℕ
   n = number y s w h stands below
@@ -90,20 +91,20 @@ module _ (y : System) (s : IsSystem y) (w : World) (h : ℕ) (stands : Simulates
   abbrev later_hart : Hart
   later_hart = stays.still.on.hart
 
-  abbrev d : Drains y.program w n (run_at y.plan (code y s w h stands below).thread (code y s w h stands below).is.places at)
+  abbrev d : Drains y.runs.program w n (run_at y.plan (code y s w h stands below).thread (code y s w h stands below).is.places at)
   d = stays.drains
 
   boundary_after_is : later_hart ≡ record hart { queue = d.rest }
   boundary_after_is = stays.same ∙ d.same
 
-  is_next : IsNext y.program w n hart d.effect
+  is_next : IsNext y.runs.program w n hart d.effect
   is_next = record { here = at.on.here; runs = ap is_running at.on.runs; is = d.effect_is }
 
   no_store : is_store d.effect ≡ false
   no_store = held_no_store hart.queue d.effect d.held_up
 
-  elsewhere : IsElsewhere y.program w n n
-  elsewhere = stores_nothing y.program w n n hart d.effect is_next no_store
+  elsewhere : IsElsewhere y.runs.program w n n
+  elsewhere = stores_nothing y.runs.program w n n hart d.effect is_next no_store
 
   persisted : growth.ArePersisted w.words v.words
   persisted =
@@ -147,7 +148,9 @@ module _ (y : System) (s : IsSystem y) (w : World) (h : ℕ) (stands : Simulates
         bank = core.bank;
         at_bank = core.at_bank;
         registers = core.registers;
-        core = stays_are_at_core y.plan (code y s w h stands below).thread (code y s w h stands below).is.places y.program w n environment e stage steps effects
+        core =
+            stays_are_at_core y.plan (code y s w h stands below).thread (code y s w h stands below).is.places y.runs.program w n environment e
+            stage steps effects
             at stays
             (thread_of y s w h stands below).graph_thread.at (seen_by (now_of y b) (thread_of y s w h stands below).graph_thread) core.bank
             core.registers core.core;
@@ -169,14 +172,15 @@ module _ (y : System) (s : IsSystem y) (w : World) (h : ℕ) (stands : Simulates
       (leads_on y b next_config happened refl tt).0 (leads_on y b next_config happened refl tt).1 (going c []) other
       (λ j position r.
       subst (λ (x : Hart). PersistsThrough v.words x.queue j position) (sym stays.same ∙ same_here other there)
-      (drains_reach y.program w n (run_at y.plan (code y s w h stands below).thread (code y s w h stands below).is.places at) d j position
+      (drains_reach y.runs.program w n (run_at y.plan (code y s w h stands below).thread (code y s w h stands below).is.places at) d j position
       (subst (λ (x : Hart). PersistsThrough w.words x.queue j position) (sym old_is) r)))
       (omega arith) (omega arith) (λ longer. absurd (omega (arith, longer))) u i
       (λ p since. since_is_persisted b.config.memory memory u i p memory_persists since) old
       (λ un. absurd (true≢false un))
 
-  may : (other : Hart) (effect : Effect) → IsNext y.program w n other effect → MayStore y b n effect
-  may other effect is = subst (λ (f : Effect). MayStore y b n f) (one_effect y.program w n hart other d.effect effect is_next is) (nothing d.effect no_store)
+  may : (other : Hart) (effect : Effect) → IsNext y.runs.program w n other effect → MayStore y b n effect
+  may other effect is =
+      subst (λ (f : Effect). MayStore y b n f) (one_effect y.runs.program w n hart other d.effect effect is_next is) (nothing d.effect no_store)
 
   pub stays_step : StepOf y s w h stands below n
   stays_step = record {
@@ -192,9 +196,10 @@ module _ (y : System) (s : IsSystem y) (w : World) (h : ℕ) (stands : Simulates
         (held_still y s w h stands below next (going c []) holders_stay refl refl (sym goes_here.giving));
     mutexes = ap (λ (hs : List (Option ℕ)). length hs) holders_stay;
     counted = record {
-      marks = stays.no_mark y.marks;
+      marks = stays.no_mark y.runs.marks;
+      unlocked = λ mutex gives. absurd (none-some mutex gives);
       points = stays.counts.0 ∙ and_false (not (is_bound c));
       bound = λ bound. absurd (not_bound c goes_here.committed bound);
     };
-    released = nothing_released (holders_stay_none y.program w n holders_stay) (sym (none_leaving c goes_here.giving));
+    released = nothing_released (holders_stay_none y.runs.program w n holders_stay) (sym (none_leaving c goes_here.giving));
   }

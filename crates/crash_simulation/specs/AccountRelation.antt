@@ -2,11 +2,12 @@
 use Rattle.std.specs.Prelude.{◌≡◌, ℕ, ◌<◌, List, [], ◌∷◌, length, true, false}
 use Rattle.ido_base.specs.declared.event.Event.{Event}
 use Rattle.ido_base.specs.Words.{last_position}
+use Rattle.rv64_isa.specs.Executables.{first_world}
 use Rattle.rv64_isa.specs.Machine.{World, after_events}
 use Rattle.rv64_isa.specs.Schedule.{HartSteps, Steps, hart_steps, first_steps, steps_along}
 use Rattle.recovery_semantics.specs.Events.{steps_begun}
 use Rattle.log_states.specs.Logs.{point_in}
-use Rattle.crash_simulation.specs.Systems.{System, IsSystem, thread_count, start_world}
+use Rattle.crash_simulation.specs.Systems.{System, IsSystem, thread_count}
 use Rattle.crash_simulation.specs.AbstractRuns.{AbstractRun}
 use Rattle.crash_simulation.specs.ThreadGhosts.{ThreadGhost}
 use Rattle.crash_simulation.specs.SimulationRelation.{SimulatesBeforeCommit, Simulates}
@@ -32,5 +33,5 @@ pub record SimulatesCounted (y : System) (s : IsSystem y) (w : World) (steps : S
 -- the machine simulates an abstract run and its steps are counted after all events that may happen, in whatever order
 abbrev pub MachinesResume : Type 0
 MachinesResume = (y : System) (s : IsSystem y) (events : List Event) →
-    SimulatesCounted y s (after_events y.program (start_world y) events)
-    (steps_along y.marks y.program (start_world y) events (first_steps (length y.program) []))
+    SimulatesCounted y s (after_events y.runs.program (first_world y.runs) events)
+    (steps_along y.runs.marks y.runs.program (first_world y.runs) events (first_steps (length y.runs.program) []))

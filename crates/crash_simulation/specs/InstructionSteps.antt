@@ -1,12 +1,14 @@
 -- A step of a hart that executes instructions: what it is to its own thread, and all that the others need to know of it.
-use Rattle.std.specs.Prelude.{◌≡◌, ◌≢◌, ℕ, suc, ◌*◌, ◌/◌, ◌<◌, length, slice_get, Some, is_some, Bool, true, false, not, ◌&&◌, ◌==◌, if◌then◌else◌}
+use Rattle.std.specs.Prelude.{◌≡◌, ◌≢◌, ℕ, suc, ◌*◌, ◌/◌, ◌<◌, length, slice_get, Option, Some, is_some, Bool, true, false, not, ◌&&◌, ◌==◌, if◌then◌else◌}
 use Rattle.std.specs.List.{list_any}
 use Rattle.ido_base.specs.declared.event.Event.TheVariants.{Step}
 use Rattle.ido_base.specs.Layout.{log_lines, variable_at, byte_number}
 use Rattle.ido_ints.specs.Kinds.{bytes_of}
 use Rattle.c_tree.specs.Programs.{Variable}
 use Rattle.c_tree.specs.WellFormed.{elements_in}
+use Rattle.c_tree.specs.Source.{State}
 use Rattle.source_machine.specs.Discipline.{Guards}
+use Rattle.source_machine.specs.Mutexes.{unlocks}
 use Rattle.rv64_isa.specs.declared.phase.Phase.TheVariants.{Run}
 use Rattle.rv64_isa.specs.Rows.{Effect, Stores}
 use Rattle.rv64_isa.specs.Machine.{Hart, World, after_event}
@@ -79,10 +81,16 @@ begins (goes next h by execution respects) = is_begun h
 abbrev pub is_bound : ThreadGhost → Bool
 is_bound c = not c.committed && not (list_any is_store c.rest)
 
+-- the thread has a mutex still to give back: it had before, and begins no step; or the step that it begins unlocks the mutex
+pub data IsUnlocked (s : State) (thread : ℕ) (begun : Bool) (giving : Option ℕ) (mutex : ℕ) : Type 0 where
+  was_unlocked : begun ≡ false → giving ≡ Some mutex → IsUnlocked s thread begun giving mutex
+  begins_unlock : begun ≡ true → unlocks s thread ≡ Some mutex → IsUnlocked s thread begun giving mutex
+
 -- the step passes a mark exactly where a step of the source is begun, and stores the thread's point exactly where the steps become bound to that
-pub record IsCounted (y : System) (w : World) (h : ℕ) (begun : Bool) (old new : ThreadGhost) : Type 0 where
-  pub marks : passes_mark y.marks y.program w h ≡ begun
-  pub points : stores_point y.program w (Step h) h ≡ (not (is_bound old) && is_bound new)
+pub record IsCounted (y : System) (w : World) (b : AbstractRun y) (h : ℕ) (begun : Bool) (old new : ThreadGhost) : Type 0 where
+  pub marks : passes_mark y.runs.marks y.runs.program w h ≡ begun
+  pub unlocked : (mutex : ℕ) → new.giving ≡ Some mutex → IsUnlocked (now b.config) h begun old.giving mutex
+  pub points : stores_point y.runs.program w (Step h) h ≡ (not (is_bound old) && is_bound new)
   pub bound : is_bound old ≡ true → is_bound new ≡ true
 
 -- ---- What it releases
@@ -93,20 +101,20 @@ is_leaving c = c.committed && (is_some c.giving && (c.new.point == 0))
 
 -- the step gives that back, or it releases no hart's last one
 pub data Releases (y : System) (w : World) (h : ℕ) (old new : ThreadGhost) : Type 0 where
-  nothing_released : releases_last y.program w (Step h) h ≡ false → is_leaving new ≡ is_leaving old → Releases y w h old new
-  last_released : releases_last y.program w (Step h) h ≡ true → is_leaving old ≡ true → is_leaving new ≡ false → Releases y w h old new
+  nothing_released : releases_last y.runs.program w (Step h) h ≡ false → is_leaving new ≡ is_leaving old → Releases y w h old new
+  last_released : releases_last y.runs.program w (Step h) h ≡ true → is_leaving old ≡ true → is_leaving new ≡ false → Releases y w h old new
 
 pub record OwnStep (y : System) (s : IsSystem y) (w : World) (h : ℕ) (stands : Simulates y s w) : Type 0 where
   pub below : h < thread_count y
   pub next : AbstractRun y
   pub led : StepsOrStutters y stands.before_commit.abstract h next
-  pub memory : memory_in (places_of y) (after_event y.program w (Step h)).words ≡ next.config.memory
-  pub stores_own : (hart : Hart) (effect : Effect) → IsNext y.program w h hart effect → MayStore y stands.before_commit.abstract h effect
+  pub memory : memory_in (places_of y) (after_event y.runs.program w (Step h)).words ≡ next.config.memory
+  pub stores_own : (hart : Hart) (effect : Effect) → IsNext y.runs.program w h hart effect → MayStore y stands.before_commit.abstract h effect
   pub ghost : ThreadGhost
-  pub own : ThreadInv y (after_event y.program w (Step h)) next (s.codes.each h below) ghost
-  pub locks : AreLocked y (after_event y.program w (Step h)) next (with_ghost stands.before_commit.ghosts h ghost)
-  pub mutexes : length (after_event y.program w (Step h)).holders ≡ length w.holders
-  pub counted : IsCounted y w h (begins led) (stands.before_commit.ghosts h) ghost
+  pub own : ThreadInv y (after_event y.runs.program w (Step h)) next (s.codes.each h below) ghost
+  pub locks : AreLocked y (after_event y.runs.program w (Step h)) next (with_ghost stands.before_commit.ghosts h ghost)
+  pub mutexes : length (after_event y.runs.program w (Step h)).holders ≡ length w.holders
+  pub counted : IsCounted y w stands.before_commit.abstract h (begins led) (stands.before_commit.ghosts h) ghost
   pub released : Releases y w h (stands.before_commit.ghosts h) ghost
 
 -- ---- By where the hart is
@@ -140,6 +148,7 @@ pub record SimulatesReady (y : System) (s : IsSystem y) (w : World) (h : ℕ) (o
   pub abstract : stands.before_commit.abstract ≡ old.before_commit.abstract
   pub bound : (n : ℕ) → is_bound (stands.before_commit.ghosts n) ≡ is_bound (old.before_commit.ghosts n)
   pub leaving : (n : ℕ) → is_leaving (stands.before_commit.ghosts n) ≡ is_leaving (old.before_commit.ghosts n)
+  pub giving : (n : ℕ) → (stands.before_commit.ghosts n).giving ≡ (old.before_commit.ghosts n).giving
   pub below : h < thread_count y
   pub ready : IsReadyToStep y s w h stands below
 
@@ -166,4 +175,4 @@ CallsStep = (y : System) (s : IsSystem y) (w : World) (h : ℕ) (stands : Simula
 -- where a step of a hart that executes instructions is one of its thread's own, the machine simulates an abstract run before commit after it
 abbrev pub OwnStepsSimulate : Type 0
 OwnStepsSimulate = (y : System) (s : IsSystem y) (w : World) (h : ℕ) (stands : Simulates y s w) → IsInPhase w h Run → OwnStep y s w h stands →
-    SimulatesBeforeCommit y s (after_event y.program w (Step h))
+    SimulatesBeforeCommit y s (after_event y.runs.program w (Step h))

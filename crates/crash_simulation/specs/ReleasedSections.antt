@@ -3,10 +3,11 @@ use Rattle.std.specs.Prelude.{◌≡◌, ℕ, suc, ◌+◌, ◌<◌, ◌≤◌, 
 use Rattle.ido_base.specs.declared.event.Event.{Event}
 use Rattle.c_tree.specs.Source.{start, ended_from}
 use Rattle.rv64_isa.specs.declared.phase.Phase.TheVariants.{Done}
+use Rattle.rv64_isa.specs.Executables.{first_world}
 use Rattle.rv64_isa.specs.Machine.{World}
 use Rattle.rv64_isa.specs.Schedule.{Steps, first_steps, steps_along, released_count}
 use Rattle.hart_runs.specs.Calls.{IsInPhase}
-use Rattle.crash_simulation.specs.Systems.{System, IsSystem, flat_of, thread_count, start_world}
+use Rattle.crash_simulation.specs.Systems.{System, IsSystem, flat_of, thread_count}
 use Rattle.crash_simulation.specs.AbstractRuns.{AbstractRun}
 use Rattle.crash_simulation.specs.ThreadGhosts.{ThreadGhost}
 use Rattle.crash_simulation.specs.SimulationRelation.{SimulatesBeforeCommit}
@@ -38,10 +39,10 @@ pub record IsCarried (y : System) (s : IsSystem y) (w : World) (steps : Steps) (
 -- the sections that have ended for the source, and for the machine
 abbrev pub ended_in_source : (y : System) → List Event → (thread : ℕ) → ℕ
 ended_in_source y events thread =
-    ended_from (start (flat_of y)) (steps_along y.marks y.program (start_world y) events (first_steps (length y.program) [])).kept thread
+    ended_from (start (flat_of y)) (steps_along y.runs.marks y.runs.program (first_world y.runs) events (first_steps (length y.runs.program) [])).kept thread
 
 abbrev pub ended_in_machine : (y : System) → List Event → (hart : ℕ) → ℕ
-ended_in_machine y events hart = released_count y.program (start_world y) events hart
+ended_in_machine y events hart = released_count y.runs.program (first_world y.runs) events hart
 
 -- after whatever events, as many sections are kept as the hart has left by a release, or one more
 abbrev pub SectionsAreKept : Type 0

@@ -5,8 +5,7 @@ use Rattle.c_tree.specs.Flats as f
 use Rattle.c_tree.specs.WellFormed.{shape_of, initial_numbers}
 use Rattle.c_tree.specs.LockDiscipline.{IsDisciplined}
 use Rattle.memory_layout.specs.Variables.{AreInitial}
-use Rattle.rv64_isa.specs.declared.object.Slot.{Slot}
-use Rattle.rv64_isa.specs.Machine.{World, start_of}
+use Rattle.rv64_isa.specs.Executables.{Executable}
 use Rattle.hart_runs.specs.Laws.{program_at}
 use Rattle.recovery_semantics.specs.VariableSpots.{Spot}
 use Rattle.variable_words.specs.VariablesInWords.{spots_of}
@@ -16,12 +15,7 @@ use Rattle.recovered_threads.specs.RecordDescriptions.{Code, Codes}
 
 pub record System : Type 0 where
   pub plan : Plan
-  -- of each thread its words, its marks, and where it may be resumed
-  pub program : List (List Slot)
-  pub marks : List (List ℕ)
-  pub resumes : List (List ℕ)
-  -- the bytes that variables begin with
-  pub initial : List ℕ
+  pub runs : Executable
   -- of each node whether its store's line isn't cleaned at once
   pub left_out : List Bool
 
@@ -38,14 +32,10 @@ places_of y = spots_of (flat_of y).variables
 abbrev pub thread_count : System → ℕ
 thread_count y = length y.plan.graph.threads
 
--- the machine at its start: as many locks as mutexes
-abbrev pub start_world : System → World
-start_world y = start_of y.program (length (flat_of y).mutexes) y.initial
-
 -- the thread's code is what the machine runs for it
 pub record IsOwnCode (y : System) (code : Code y.plan) : Type 0 where
-  pub program : code.program ≡ program_at y.program code.thread.number
-      (slice_index_or y.marks code.thread.number []) (slice_index_or y.resumes code.thread.number [])
+  pub program : code.program ≡ program_at y.runs.program code.thread.number
+      (slice_index_or y.runs.marks code.thread.number []) (slice_index_or y.runs.resumes code.thread.number [])
   -- the thread's code ends within the addresses
   pub room : code.program.start + 4 * length code.program.code < 2 ^ 64
   pub cleans : (node : ℕ) → IsNodeOf code.thread node → code.is.places.cleans node ≡ false → slice_get y.left_out node ≡ Some true
@@ -53,8 +43,9 @@ pub record IsOwnCode (y : System) (code : Code y.plan) : Type 0 where
 pub record IsSystem (y : System) : Type 0 where
   pub plan : IsPlan y.plan
   pub disciplined : All (IsDisciplined (flat_of y)) (flat_of y).threads
-  pub count : length y.program ≡ thread_count y
+  pub count : length y.runs.program ≡ thread_count y
   pub codes : Codes y.plan
   pub own : (n : ℕ) (below : n < thread_count y) → IsOwnCode y (codes.each n below)
-  pub initial : AreInitial (map shape_of (flat_of y).variables) (map initial_numbers (flat_of y).variables) y.initial
+  pub initial : AreInitial (map shape_of (flat_of y).variables) (map initial_numbers (flat_of y).variables) y.runs.initial
+  pub mutexes : y.runs.mutexes ≡ length (flat_of y).mutexes
   pub left_out : AreLeftOut (flat_of y) y.plan.boundaries (shapes_of y) y.left_out

@@ -5,6 +5,7 @@ use Rattle.ido_base.specs.Growth.{PersistsThrough}
 use Rattle.ido_ints.specs.Kinds.{bytes_of}
 use Rattle.c_tree.specs.Programs.{Variable}
 use Rattle.c_tree.specs.WellFormed.{elements_in}
+use Rattle.c_tree.specs.Source.{start}
 use Rattle.source_machine.specs.Discipline.{Guards}
 use Rattle.rv64_isa.specs.declared.phase.Phase.{Phase}
 use Rattle.rv64_isa.specs.declared.phase.Phase.TheVariants.{Take, Wait, Resume, Run, Done, Ended}
@@ -17,7 +18,7 @@ use Rattle.recovery_semantics.specs.ElementHistories.{IsSince, history_at}
 use Rattle.recovery_semantics.specs.Attempts.{Writes, WritesAt}
 use Rattle.recovery_semantics.specs.Configs.{now, attempt_of}
 use Rattle.recovery_semantics.specs.Events.{IsGoing, steps_begun}
-use Rattle.recovery_semantics.specs.Laws.{HasLocked, HasUnlocked}
+use Rattle.recovery_semantics.specs.Laws.{HasLocked, HasUnlocked, LastUnlocks}
 use Rattle.region_attempts.specs.PendingCleans.{line_of, CleansSince}
 use Rattle.log_states.specs.Logs.{Record}
 use Rattle.log_states.specs.Stages.{fences_ahead, is_committed}
@@ -125,7 +126,7 @@ module _ (y : System) (w : World) (b : AbstractRun y) (code : Code y.plan) (c : 
     pub bank : ℕ
     pub at_bank : IsAtBankOf y b code c bank
     pub steps : ℕ
-    pub fragment : IsOnFragment y.plan code.thread code.is.places (on_machine y.program w code.thread.number environment)
+    pub fragment : IsOnFragment y.plan code.thread code.is.places (on_machine y.runs.program w code.thread.number environment)
         (record { exit = exit; node = graph_thread.at; seen = seen_by (now_of y b) graph_thread; bank = bank }) steps (c.cleans ++ c.rest)
     pub fits : ExitInv y b code c graph_thread exit
 
@@ -179,6 +180,8 @@ module _ (y : System) (w : World) (b : AbstractRun y) (code : Code y.plan) (c : 
     -- the record that is kept describes the kept state, and that of the boundary under way, until it is committed, the state now
     pub describes : Describes y.plan code (kept_of y b) (record_kept c)
     pub will_describe : c.committed ≡ false → Describes y.plan code (now_of y b) c.new
+    -- a mutex that it has still to give back, where its steps are kept, is unlocked by its last one of these
+    pub unlocked : (mutex : ℕ) → c.giving ≡ Some mutex → c.committed ≡ true → LastUnlocks (start (flat_of y)) b.schedule code.thread.number mutex
     pub cleans : (effect : Effect) → Contains c.cleans effect → is_clean effect ≡ true
     pub graph_thread : GraphThread
     pub walks : slice_get (now_of y b).graph_threads code.thread.number ≡ Some graph_thread

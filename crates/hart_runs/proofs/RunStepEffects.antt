@@ -64,10 +64,6 @@ seen_may threads Calls h = refl
 
 -- ---- By the effect of the next instruction
 
--- the world after an instruction that is completed
-pub forward_to : World → ℕ → Hart → LocalConfig → Contents → World
-forward_to w h hart by c = with_hart (record w { words = c.words }) h (record hart { registers = by.registers; pc = by.pc; queue = c.queue })
-
 record Completes (w : World) (h : ℕ) (hart : Hart) (by : LocalConfig) (effect : Effect) (o : Outcome) : Type 0 where
   contents : Contents
   changes : Changes (record { words = w.words; queue = hart.queue }) effect contents

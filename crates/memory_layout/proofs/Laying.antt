@@ -1,10 +1,11 @@
 -- Addresses of variables, one after another.
-use Rattle.std.proofs.Common.{◌≡◌, refl, ℕ, zero, suc, ◌+◌, ◌*◌, ◌<◌, ◌≤◌, List, [], ◌∷◌, ◌++◌}
+use Rattle.std.proofs.Common.{◌≡◌, ℕ, zero, suc, ◌+◌, ◌*◌, ◌<◌, ◌≤◌, List, [], ◌∷◌, ◌++◌}
 use Rattle.std.proofs.Common.{◌==◌, ◌||◌, length, take, get_or, sym, ◌∙◌, ap, subst, arith, IsTrue}
 use Rattle.std.proofs.Common.{⊎_elim}
 use Rattle.std.specs.Int.{next_multiple_of}
 use Rattle.std.proofs.lemmas.Bool.{cases_lt, or_cases, and_parts, eqb-true}
 use Rattle.std.proofs.lemmas.List.{take_more, get_or_append_left, get_or-append-add, length-append}
+use Rattle.ido_base.specs.declared.limits.TheConstants.{MOST_VARIABLE_BYTES}
 use Rattle.ido_base.specs.declared.location.Shape.{Shape}
 use Rattle.ido_base.specs.Layout.{aligned_up, start_from, end_from, variable_at, variables_base}
 use Rattle.memory_layout.specs.Variables.{is_size, are_sizes}
@@ -38,9 +39,6 @@ pub record IsSoFar (ss : List Shape) (i end : ℕ) (addresses : List ℕ) : Type
   pub count : length addresses ≡ i
   pub each : (v : ℕ) → v < i → get_or addresses v 0 ≡ variable_at ss v 0
 
-pub none_so_far : (ss : List Shape) → IsSoFar ss 0 0 []
-none_so_far ss = record { end_is = refl; count = refl; each = λ v l. absurd (omega (arith, l)) }
-
 module _ (ss : List Shape) (i : ℕ) (shaped : IsTrue (are_sizes ss)) (l : i < length ss) where
   abbrev s : Shape
   s = get_or ss i none
@@ -52,7 +50,7 @@ module _ (ss : List Shape) (i : ℕ) (shaped : IsTrue (are_sizes ss)) (l : i < l
   end_more = ap (λ (xs : List Shape). end_from 0 xs) (take_more ss i none l) ∙ end-append 0 (take i ss) (s ∷ [])
 
   -- no sum on the way is large
-  pub next_fits : (end : ℕ) → end_from 0 ss ≤ 65536 → end ≡ end_from 0 (take i ss) → after end s ≤ 65536
+  pub next_fits : (end : ℕ) → end_from 0 ss ≤ MOST_VARIABLE_BYTES → end ≡ end_from 0 (take i ss) → after end s ≤ MOST_VARIABLE_BYTES
   next_fits end room end_is =
       let within = end-take 0 (i + 1) ss (sizes ss shaped) in
       let here : after end s ≡ after (end_from 0 (take i ss)) s = ap (λ (n : ℕ). after n s) end_is in

@@ -6,6 +6,7 @@ use Rattle.std.proofs.lemmas.Bool.Decides.{nat_tests}
 use Rattle.std.proofs.lemmas.Bool.{and_parts}
 use Rattle.std.proofs.lemmas.List.{take_more}
 use Rattle.std.proofs.Math.Nat.{lt-div-mul-add, div-mul-le_self, mul-le-mul_left}
+use Rattle.ido_base.specs.declared.limits.TheConstants.{MOST_VARIABLE_BYTES, WORD_BYTES}
 use Rattle.ido_base.specs.declared.location.Shape.{Shape}
 use Rattle.ido_base.specs.Layout.{aligned_up, start_from, end_from, variable_at, variables_base}
 use Rattle.memory_layout.specs.Variables.{are_sizes}
@@ -65,7 +66,7 @@ sizes-take (suc k) [] h = tt
 sizes-take (suc k) (s ∷ ss) h = (h.0, sizes-take k ss h.1)
 
 -- where the first i of the first v end
-pub end_within : (ss : List Shape) (v i : ℕ) → IsTrue (are_sizes ss) → end_from 0 ss ≤ 65536 → end_from 0 (passed ss v i) ≤ 65536
+pub end_within : (ss : List Shape) (v i : ℕ) → IsTrue (are_sizes ss) → end_from 0 ss ≤ MOST_VARIABLE_BYTES → end_from 0 (passed ss v i) ≤ MOST_VARIABLE_BYTES
 end_within ss v i h l =
     let all = sizes ss h in
     omega (arith, l, end-take 0 v ss all, end-take 0 i (take v ss) (sizes-take v ss all))
@@ -112,7 +113,7 @@ address ss v element end bytes up l e b u =
 
 -- ---- Sums that fit
 
-pub aligned_small : (end bytes up : ℕ) → end ≤ 65536 → bytes ≤ 8 → up ≡ aligned_up end bytes → up ≤ 65544
+pub aligned_small : (end bytes up : ℕ) → end ≤ MOST_VARIABLE_BYTES → bytes ≤ 8 → up ≡ aligned_up end bytes → up ≤ MOST_VARIABLE_BYTES + WORD_BYTES
 aligned_small end bytes up e b u = omega (arith, u, to_aligned_up end bytes)
 
 pub product_small : (bytes element : ℕ) → bytes ≤ 8 → element < 2 ^ 32 → bytes * element < 2 ^ 36

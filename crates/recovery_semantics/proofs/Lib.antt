@@ -12,6 +12,7 @@ mod EventsKeepInvariant
 mod WholeExecutions
 mod Worked
 mod UncommittedReleases
+mod LastUnlocks
 mod Elements
 mod VariableMemory
 mod WorkedWords

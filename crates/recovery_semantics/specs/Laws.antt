@@ -1,10 +1,10 @@
 -- What holds of every config, whatever happens.
-use Rattle.std.specs.Prelude.{◌⊎◌, suc, slice_get, Some, ℤ, length, ◌≡◌, ◌≢◌, ℕ, ◌+◌, ◌<◌, ◌≤◌, List, ◌++◌, All, map, replicate, true}
+use Rattle.std.specs.Prelude.{◌⊎◌, suc, slice_get, Some, ℤ, length, ◌≡◌, ◌≢◌, ℕ, ◌+◌, ◌<◌, ◌≤◌, List, ◌∷◌, ◌++◌, All, map, replicate, true}
 use Rattle.c_tree.specs.Flats as f
 use Rattle.c_tree.specs.Source.{State, start, is_between, after_from, runs_from, ended_from}
 use Rattle.c_tree.specs.LockDiscipline.{IsDisciplined}
 use Rattle.source_machine.specs.Discipline.{Guards}
-use Rattle.source_machine.specs.StepExchanges.{IsSameTo, AcquiresReleased}
+use Rattle.source_machine.specs.StepExchanges.{steps_of, IsSameTo, AcquiresReleased}
 use Rattle.source_machine.specs.Mutexes.{locks, unlocks}
 use Rattle.recovery_semantics.specs.ElementHistories.{Memory, IsStable, IsSince, IsStored, IsOther, ArePersisted}
 use Rattle.recovery_semantics.specs.ElementHistories.{durable_number, history_at, live_number, number_at}
@@ -72,6 +72,19 @@ pub record HasLocked (m : Config) (thread mutex : ℕ) : Type 0 where
 pub record HasUnlocked (m : Config) (thread mutex : ℕ) : Type 0 where
   pub begun : steps_begun m thread ≡ suc (attempt_of m thread).done
   pub unlocks_it : unlocks (solo m.kept thread (attempt_of m thread).done) thread ≡ Some mutex
+
+-- the thread's last step of the schedule, which is made from that state, unlocks the mutex
+pub record LastUnlocks (s : State) (schedule : List ℕ) (thread mutex : ℕ) : Type 0 where
+  pub before : List ℕ
+  pub after : List ℕ
+  pub parts : schedule ≡ before ++ thread ∷ after
+  pub none_after : steps_of thread after ≡ 0
+  pub unlocks_it : unlocks (after_from s before) thread ≡ Some mutex
+
+-- the unlock that ends the thread's attempt is its last step of those that are begun and aren't kept
+abbrev pub UnlockedIsLast : Type 0
+UnlockedIsLast = (x : f.Flat) (m : Config) (thread mutex : ℕ) → Invariant x m → HasUnlocked m thread mutex →
+    LastUnlocks m.kept m.uncommitted thread mutex
 
 -- a mutex that a thread has now it has in what is kept, or it has locked it since
 abbrev pub HeldNow : Type 0

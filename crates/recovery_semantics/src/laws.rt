@@ -2,7 +2,8 @@
 ghost use Rattle.recovery_semantics.specs.Elements.{BesideIn, CrashedIn, DurableIn, LiveIn, PersistedIn, StoredIn};
 ghost use Rattle.recovery_semantics.specs.Laws.{BetweenIsKept, DurableIsKept, EventsKeep, GoesAlone, HeldBefore, HeldNow, LeftIsFree, ExecutionsResume};
 ghost use Rattle.recovery_semantics.specs.Laws.{ExecutionsSettle, NowStays, PathsStay, ReadsAreRight, ScheduleGrows, SectionsStay, SettlesAsItIs};
-ghost use Rattle.recovery_semantics.specs.Laws.{SinceIsPersisted, SinceSettles, SinceStays, StartMeets, StoredIsSince, WritersApart, WritersGuard};
+ghost use Rattle.recovery_semantics.specs.Laws.{SinceIsPersisted, SinceSettles, SinceStays, StartMeets, StoredIsSince, UnlockedIsLast, WritersApart};
+ghost use Rattle.recovery_semantics.specs.Laws.{WritersGuard};
 ghost use Rattle.recovery_semantics.specs.VariableSpots.{MemoryCrashed, MemoryLoaded, MemoryPersisted, MemoryStays, MemoryStored};
 
 /// What is true of each config: the start meets it, and every event keeps it.
@@ -37,11 +38,13 @@ pub fn durable_is_kept()
 {}
 
 /// A thread acquires no released mutex by a step that isn't kept where no other thread has the mutex in what is kept.
-/// What it has now it has in what is kept, or has locked since; and what it has in what is kept it has now, or has unlocked since.
+/// What it has now it has in what is kept, or has locked since; and what it has in what is kept it has now, or has unlocked since,
+/// which is its last step then.
 pub fn mutexes_stay()
     ensures free { LeftIsFree }
     ensures now { HeldNow }
     ensures before { HeldBefore }
+    ensures last { UnlockedIsLast }
 {}
 
 /// An element that is stored to has its number since then, whatever else is stored or becomes durable; and once that is durable in

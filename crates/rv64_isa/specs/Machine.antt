@@ -283,10 +283,6 @@ IsValidEvent threads event = IsValid threads (IsEviction threads) event
 abbrev pub machine_start : Object → World
 machine_start object = start_of (program_of object) object.mutexes object.initial.items
 
--- the machine of an object after events
-abbrev pub machine : Object → List Event → World
-machine object events = after_events (program_of object) (machine_start object) events
-
 -- the machine of an object after events, begun after a crash that left these words of its variables and logs
 abbrev pub machine_from : Object → (words : List ℕ) → List Event → World
 machine_from object words events =

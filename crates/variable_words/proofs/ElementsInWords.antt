@@ -3,6 +3,7 @@ use Rattle.std.proofs.Common.{◌≡◌, ◌⊎◌, inl, inr, refl, ℕ, zero, s
 use Rattle.std.specs.Prelude.{slice_get, nat_lt}
 use Rattle.std.proofs.lemmas.Bool.{cases_lt, cases_eq, cond_both, ltb-false, le-leb, and_from, or_left, eq-eqb}
 use Rattle.std.proofs.Math.Nat.{mul-le-mul_left}
+use Rattle.ido_base.specs.declared.limits.TheConstants.{MOST_VARIABLE_BYTES}
 use Rattle.ido_ints.specs.declared.kinds.Kind.{Kind}
 use Rattle.ido_ints.specs.Kinds.{bytes_of}
 use Rattle.ido_base.specs.declared.location.Shape.{Shape}
@@ -78,8 +79,9 @@ spot_there ss number (x ∷ vs) (suc v) is h =
     spot_there ss (number + 1) vs v is h ∙ ap (λ (k : ℕ). Some (spot ss k is)) more
 
 -- the number of a byte of the variables
-pub variable_byte : (n : ℕ) → n ≤ 65536 → byte_number (variables_base + n) ≡ n
-variable_byte n l = cond_both (nat_lt (variables_base + n) logs_base) (variables_base + n - variables_base) (65536 + (variables_base + n - logs_base))
+pub variable_byte : (n : ℕ) → n ≤ MOST_VARIABLE_BYTES → byte_number (variables_base + n) ≡ n
+variable_byte n l =
+    cond_both (nat_lt (variables_base + n) logs_base) (variables_base + n - variables_base) (MOST_VARIABLE_BYTES + (variables_base + n - logs_base))
     (λ (r : ℕ). r ≡ n)
     (λ _. omega arith)
     (λ no. absurd (omega (arith, l, ltb-false (variables_base + n) logs_base no)))
@@ -137,7 +139,7 @@ aligned_sum k s e =
 pub record IsWhole (kind : Kind) (number : ℕ) : Type 0 where
   pub is_aligned : number % bytes_of kind ≡ 0
   pub in_word : number % 8 + bytes_of kind ≤ 8
-  pub ends : number + bytes_of kind ≤ 65536
+  pub ends : number + bytes_of kind ≤ MOST_VARIABLE_BYTES
 
 pub next_element : (b e count : ℕ) → e < count → b * e + b ≤ b * count
 next_element b e count l =
