@@ -11,4 +11,4 @@ mod ElementLoadCode
 mod TemporaryNeeds
 mod Words
 mod WholeExpressionCode
-mod Fences
+mod PureCode

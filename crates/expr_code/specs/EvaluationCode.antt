@@ -1,6 +1,6 @@
 -- Code that evaluates expressions: locals stand in registers, variables in memory, and every value in its register form.
 use Rattle.std.specs.Prelude.{◌≡◌, ℕ, ◌+◌, ◌*◌, ◌^◌, ◌<◌, ◌≤◌, List, length, map, slice_index, slice_index_or, Option, Some, Bool, true, false, not, ◌==◌}
-use Rattle.std.specs.Prelude.{◌||◌, ℤ, pos}
+use Rattle.std.specs.Prelude.{◌||◌, ℤ, pos, sum_by}
 use Rattle.ido_base.specs.Layout.{variable_at, end_from}
 use Rattle.ido_base.specs.declared.limits.TheConstants.{MOST_VARIABLE_BYTES, MOST_ELEMENTS}
 use Rattle.ido_ints.specs.declared.kinds.Kind.{Kind}
@@ -14,8 +14,7 @@ use Rattle.c_tree.specs.Values.{value, element_number, element_at}
 use Rattle.c_tree.specs.Ranges.{elements_of}
 use Rattle.c_tree.specs.WellFormed.{IsExpr, IsDeclared, IndexFits, Fits, shape_of}
 use Rattle.rv64_isa.specs.declared.instr.Instr.{Instr}
-use Rattle.rv64_isa.specs.declared.object.CodeItem.TheVariants.{Instruction}
-use Rattle.rv64_link.specs.LabelledCode.{fences_in}
+use Rattle.rv64_isa.specs.declared.instr.Instr.TheVariants.{Store, CboClean, Fence, Ecall}
 use Rattle.rv64_isa.specs.Rows.{read}
 use Rattle.memory_layout.specs.Roles.{is_temporary, is_local}
 use Rattle.operator_code.specs.declared.branches.Test.{Test}
@@ -95,9 +94,17 @@ AreLoaded s loads (e.Conditional kind condition chosen otherwise) = AreLoaded s 
 
 -- ---- Code
 
--- how many of the instructions are FENCEs
-abbrev pub fences_among : List Instr → ℕ
-fences_among code = fences_in (map Instruction code)
+-- 1 for an instruction that stores, cleans, fences or calls; 0 for one that computes, loads or goes elsewhere
+abbrev pub impure_of : Instr → ℕ
+impure_of (Store kind rs2 rs1 offset) = 1
+impure_of (CboClean rs1) = 1
+impure_of Fence = 1
+impure_of Ecall = 1
+impure_of _ = 0
+
+-- how many of the instructions store, clean, fence or call
+abbrev pub impure_among : List Instr → ℕ
+impure_among code = sum_by impure_of code
 
 -- an expression that may be evaluated, in this environment
 pub record IsLegal (h : Homes) (s : Source) (r : Environment) (x : e.Expr) : Type 0 where

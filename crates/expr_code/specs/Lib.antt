@@ -1,3 +1,2 @@
 pub mod EvaluationCode
-pub mod RefusedExpressions
 pub mod links

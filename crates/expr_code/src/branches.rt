@@ -2,7 +2,7 @@
 ghost use Rattle.std.specs.Prelude.{◌≡◌, ◌<◌, ◌≤◌, ◌+◌, ◌*◌, ◌^◌, ℕ, List, length, ◌↔◌, IsSome, IfSome, IfOk};
 ghost use Rattle.ido_ints.specs.TypedNumbers.{Typed};
 ghost use Rattle.c_tree.specs.Exprs as e;
-ghost use Rattle.expr_code.specs.EvaluationCode.{Homes, EvaluatesTo, fences_among};
+ghost use Rattle.expr_code.specs.EvaluationCode.{Homes, EvaluatesTo, impure_among};
 ghost use Rattle.expr_code.specs.links.OperandCode.{IsTest, IsMade, IsChoice, Choice};
 ghost use Rattle.expr_code.specs.links.ForwardJumps.{Skips, SkipsWhere, IsGuard};
 
@@ -47,7 +47,7 @@ fn branch(test: Test, words: usize) -> Option<Instr>
 /// doesn't reach.
 fn guard(alloc: Global, test: Test, words: usize) -> Result<Vec<Instr>, OutOfMemory>
     requires { words + 1 < 2 ^ 18 }
-    ensures fences { IfOk result (λ code. fences_among code.items ≡ 0) }
+    ensures pure { IfOk result (λ code. impure_among code.items ≡ 0) }
     ensures code { IfOk result (λ code. IsGuard words test code.items) }
     ensures short { IfOk result (λ code. length code.items ≤ 2) }
 {
@@ -68,7 +68,7 @@ pub(crate) fn choose(
     requires chosen { length chosen.now + 2 < 2 ^ 18 }
     requires otherwise { length otherwise.now + 1 < 2 ^ 18 }
     ensures short { IfOk result (λ whole. length whole.items ≤ length code.items + length chosen.now + length otherwise.now + 3) }
-    ensures fences { IfOk result (λ whole. fences_among whole.items ≡ fences_among code.items + fences_among chosen.now + fences_among otherwise.now) }
+    ensures pure { IfOk result (λ whole. impure_among whole.items ≡ impure_among code.items + impure_among chosen.now + impure_among otherwise.now) }
     ensures code { IfOk result (λ whole. (h : Homes) (c : Choice) (held rd : ℕ) → IsTest h c.condition held test code.items →
         IsMade h c.chosen c.from_chosen held rd chosen.now → IsMade h c.otherwise c.from_otherwise held rd otherwise.now →
         IsChoice h c held rd whole.items) }

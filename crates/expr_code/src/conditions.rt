@@ -6,7 +6,7 @@ ghost use Rattle.ido_ints.specs.declared.operators.Binary.TheVariants.{LogicalAn
 ghost use Rattle.c_tree.specs.Exprs as e;
 ghost use Rattle.c_tree.specs.Elaboration.{kind_of};
 ghost use Rattle.operator_code.specs.ComputingCode.{left_kind, right_kind, is_comparison};
-ghost use Rattle.expr_code.specs.EvaluationCode.{Homes, fences_among};
+ghost use Rattle.expr_code.specs.EvaluationCode.{Homes, impure_among};
 ghost use Rattle.expr_code.specs.links.OperandCode.{IsEvaluation, IsOperand, IsPair, IsTest, IsMade, truth_of};
 
 use crate::branches::choose;
@@ -29,7 +29,7 @@ pub(crate) fn conjunction(
     requires some { 0 < rd }
     requires right { length right.items + 2 < 2 ^ 18 }
     ensures short { IfOk result (λ code. length code.items ≤ length left.code.items + length right.items + 4) }
-    ensures fences { IfOk result (λ code. fences_among code.items ≡ fences_among left.code.items + fences_among right.items) }
+    ensures pure { IfOk result (λ code. impure_among code.items ≡ impure_among left.code.items + impure_among right.items) }
     ensures code { IfOk result (λ code. (h : Homes) (x y : e.Expr) (held : ℕ) → IsTest h x held left.test left.code.items →
         IsMade h y truth_of held rd right.items → IsEvaluation h (e.Binary LogicalAnd x y) held rd code.items) }
 {
@@ -48,7 +48,7 @@ pub(crate) fn disjunction(
     requires some { 0 < rd }
     requires right { length right.items + 2 < 2 ^ 18 }
     ensures short { IfOk result (λ code. length code.items ≤ length left.code.items + length right.items + 4) }
-    ensures fences { IfOk result (λ code. fences_among code.items ≡ fences_among left.code.items + fences_among right.items) }
+    ensures pure { IfOk result (λ code. impure_among code.items ≡ impure_among left.code.items + impure_among right.items) }
     ensures code { IfOk result (λ code. (h : Homes) (x y : e.Expr) (held : ℕ) → IsTest h x held left.test left.code.items →
         IsMade h y truth_of held rd right.items → IsEvaluation h (e.Binary LogicalOr x y) held rd code.items) }
 {
@@ -67,8 +67,8 @@ pub(crate) fn conditional(
     requires chosen { length chosen.items + 2 < 2 ^ 18 }
     requires otherwise { length otherwise.items + 1 < 2 ^ 18 }
     ensures short { IfOk result (λ code. length code.items ≤ length condition.code.items + length chosen.items + length otherwise.items + 3) }
-    ensures fences { IfOk result (λ code.
-        fences_among code.items ≡ fences_among condition.code.items + fences_among chosen.items + fences_among otherwise.items) }
+    ensures pure { IfOk result (λ code.
+        impure_among code.items ≡ impure_among condition.code.items + impure_among chosen.items + impure_among otherwise.items) }
     ensures code { IfOk result (λ code. (h : Homes) (k : Kind) (c x y : e.Expr) (held rd : ℕ) → IsTest h c held condition.test condition.code.items →
         IsEvaluation h (e.Converted k x) held rd chosen.items → IsEvaluation h (e.Converted k y) held rd otherwise.items →
         IsEvaluation h (e.Conditional k c x y) held rd code.items) }

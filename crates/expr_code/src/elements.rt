@@ -5,7 +5,7 @@ ghost use Rattle.ido_base.specs.declared.limits.TheConstants.{MOST_TEMPORARIES};
 ghost use Rattle.ido_ints.specs.Kinds.{bytes_of};
 ghost use Rattle.c_tree.specs.Exprs as e;
 ghost use Rattle.rv64_isa.specs.declared.instr.Instr.{Instr};
-ghost use Rattle.expr_code.specs.EvaluationCode.{Homes, EvaluatesTo, IsElementAddressCode, IsVariableAddressCode, fences_among};
+ghost use Rattle.expr_code.specs.EvaluationCode.{Homes, EvaluatesTo, IsElementAddressCode, IsVariableAddressCode, impure_among};
 ghost use Rattle.expr_code.specs.links.OperandCode.{IsEvaluation, IsOperand, is_free};
 ghost use Rattle.expr_code.specs.links.ElementLoads.{loaded_by, places_of, HasUpper};
 
@@ -69,7 +69,7 @@ fn element_upper(
 ) -> Result<Vec<Instr>, OutOfMemory>
     requires { held < MOST_TEMPORARIES }
     ensures short { IfOk result (λ code. length code.items ≤ length index.code.items + 3) }
-    ensures fences { IfOk result (λ code. fences_among code.items ≡ fences_among index.code.items) }
+    ensures pure { IfOk result (λ code. impure_among code.items ≡ impure_among index.code.items) }
     ensures code { IfOk result (λ code. (h : Homes) (x : e.Expr) → address + 2048 < 2 ^ 31 → IsOperand h x held index.register index.code.items →
         EvaluatesTo h x code.items (is_free held) (λ v y. HasUpper address (bytes_of kind) v y)) }
 {
@@ -107,7 +107,7 @@ pub(crate) fn variable_code(
 ) -> Result<Vec<Instr>, OutOfMemory>
     requires { 0 < rd }
     ensures short { IfOk result (λ code. length code.items ≡ 2) }
-    ensures fences { IfOk result (λ code. fences_among code.items ≡ 0) }
+    ensures pure { IfOk result (λ code. impure_among code.items ≡ 0) }
     ensures code { IfOk result (λ code. (h : Homes) (place : Place) (variable held : ℕ) → slice_index h.addresses variable ≡ address →
         IsEvaluation h (e.Variable place variable kind) held rd code.items) }
 {
@@ -125,7 +125,7 @@ pub(crate) fn element_code(
     requires some { 0 < rd }
     requires held { held < MOST_TEMPORARIES }
     ensures short { IfOk result (λ code. length code.items ≤ length index.code.items + 4) }
-    ensures fences { IfOk result (λ code. fences_among code.items ≡ fences_among index.code.items) }
+    ensures pure { IfOk result (λ code. impure_among code.items ≡ impure_among index.code.items) }
     ensures code { IfOk result (λ code. (h : Homes) (place : Place) (variable : ℕ) (index_place : Place) (x : e.Expr) →
         slice_index h.addresses variable ≡ address →
         IsOperand h x held index.register index.code.items → IsEvaluation h (e.Element place variable kind index_place x) held rd code.items) }
@@ -143,7 +143,7 @@ pub(crate) fn variable_address(
 ) -> Result<Vec<Instr>, OutOfMemory>
     requires { 0 < rd }
     ensures short { IfOk result (λ code. length code.items ≡ 2) }
-    ensures fences { IfOk result (λ code. fences_among code.items ≡ 0) }
+    ensures pure { IfOk result (λ code. impure_among code.items ≡ 0) }
     ensures code { IfOk result (λ code. (h : Homes) (variable : ℕ) → slice_index h.addresses variable ≡ address →
         IsVariableAddressCode h variable rd code.items) }
 {
@@ -162,7 +162,7 @@ pub(crate) fn element_address(
 ) -> Result<Vec<Instr>, OutOfMemory>
     requires { 0 < rd }
     ensures short { IfOk result (λ code. length code.items ≤ length index.code.items + 4) }
-    ensures fences { IfOk result (λ code. fences_among code.items ≡ fences_among index.code.items) }
+    ensures pure { IfOk result (λ code. impure_among code.items ≡ impure_among index.code.items) }
     ensures code { IfOk result (λ code. (h : Homes) (variable : ℕ) (x : e.Placed) → slice_index h.addresses variable ≡ address →
         IsOperand h x.expr 0 index.register index.code.items → IsElementAddressCode h variable kind x rd code.items) }
 {

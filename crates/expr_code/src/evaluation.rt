@@ -7,7 +7,7 @@ ghost use Rattle.c_tree.specs.Exprs.{expr_of};
 ghost use Rattle.c_tree.specs.Prices.{need_of, need_of_both, nodes_of, node_price};
 ghost use Rattle.c_tree.specs.Elaboration.{kind_of};
 ghost use Rattle.operator_code.specs.ComputingCode.{is_comparison};
-ghost use Rattle.expr_code.specs.EvaluationCode.{AreAtHome, homes_of, fences_among};
+ghost use Rattle.expr_code.specs.EvaluationCode.{AreAtHome, homes_of, impure_among};
 ghost use Rattle.expr_code.specs.links.OperandCode.{IsEvaluation, IsOperand, IsTest, IsMade, truth_of, conversion_words};
 
 use crate::conditions::{compared, conditional, conjunction, disjunction, negated, tested};
@@ -42,7 +42,7 @@ pub(crate) fn evaluate(
     requires price { node_price (nodes_of (expr_of expr.now)) ≤ MOST_PRICE }
     requires some { 0 < rd }
     ensures short { IfOk result (λ code. length code.items + 8 ≤ 16 * nodes_of (expr_of expr.now) + conversion_words (expr_of expr.now)) }
-    ensures fences { IfOk result (λ code. fences_among code.items ≡ 0) }
+    ensures pure { IfOk result (λ code. impure_among code.items ≡ 0) }
     ensures code { IfOk result (λ code. IsEvaluation (homes_of frame.now) (expr_of expr.now) held rd code.items) }
 {
     match expr {
@@ -146,7 +146,7 @@ pub(crate) fn evaluate_converted(
     requires price { node_price (nodes_of (expr_of expr.now)) ≤ MOST_PRICE }
     requires some { 0 < rd }
     ensures short { IfOk result (λ code. length code.items + 8 ≤ 16 * nodes_of (expr_of expr.now) + 2 * rank_of kind) }
-    ensures fences { IfOk result (λ code. fences_among code.items ≡ 0) }
+    ensures pure { IfOk result (λ code. impure_among code.items ≡ 0) }
     ensures code { IfOk result (λ code. IsEvaluation (homes_of frame.now) (e.Converted kind (expr_of expr.now)) held rd code.items) }
 {
     match expr {
@@ -184,7 +184,7 @@ fn evaluate_truth(
     requires price { node_price (nodes_of (expr_of expr.now)) ≤ MOST_PRICE }
     requires some { 0 < rd }
     ensures short { IfOk result (λ code. length code.items ≤ 16 * nodes_of (expr_of expr.now) + 2) }
-    ensures fences { IfOk result (λ code. fences_among code.items ≡ 0) }
+    ensures pure { IfOk result (λ code. impure_among code.items ≡ 0) }
     ensures code { IfOk result (λ code. IsMade (homes_of frame.now) (expr_of expr.now) truth_of held rd code.items) }
 {
     match expr {
@@ -211,7 +211,7 @@ pub(crate) fn operand(
     requires need { need_of (expr_of expr.now) + held ≤ MOST_TEMPORARIES }
     requires price { node_price (nodes_of (expr_of expr.now)) ≤ MOST_PRICE }
     ensures short { IfOk result (λ x. length x.code.items + 8 ≤ 16 * nodes_of (expr_of expr.now) + conversion_words (expr_of expr.now)) }
-    ensures fences { IfOk result (λ x. fences_among x.code.items ≡ 0) }
+    ensures pure { IfOk result (λ x. impure_among x.code.items ≡ 0) }
     ensures operand { IfOk result (λ x. IsOperand (homes_of frame.now) (expr_of expr.now) held x.register x.code.items) }
 {
     match expr {
@@ -236,7 +236,7 @@ fn operand_in(
     requires need { need_of (expr_of expr.now) + held ≤ MOST_TEMPORARIES }
     requires price { node_price (nodes_of (expr_of expr.now)) ≤ MOST_PRICE }
     ensures short { IfOk result (λ x. length x.code.items ≤ 16 * nodes_of (expr_of expr.now) + 2) }
-    ensures fences { IfOk result (λ x. fences_among x.code.items ≡ 0) }
+    ensures pure { IfOk result (λ x. impure_among x.code.items ≡ 0) }
     ensures operand { IfOk result (λ x. IsOperand (homes_of frame.now) (e.Converted kind (expr_of expr.now)) held x.register x.code.items) }
 {
     let inner = operand(alloc, expr, frame, held)?;
@@ -267,7 +267,7 @@ pub(crate) fn test(
     requires need { need_of (expr_of expr.now) + held ≤ MOST_TEMPORARIES }
     requires price { node_price (nodes_of (expr_of expr.now)) ≤ MOST_PRICE }
     ensures short { IfOk result (λ x. length x.code.items ≤ 16 * nodes_of (expr_of expr.now)) }
-    ensures fences { IfOk result (λ x. fences_among x.code.items ≡ 0) }
+    ensures pure { IfOk result (λ x. impure_among x.code.items ≡ 0) }
     ensures test { IfOk result (λ x. IsTest (homes_of frame.now) (expr_of expr.now) held x.test x.code.items) }
 {
     match expr {

@@ -17,6 +17,5 @@ mod temporaries;
 pub use frame::Frame;
 pub use operand::TestCode;
 pub use selection::{
-    SelectError, select, select_converted, select_element_address, select_test,
-    select_variable_address,
+    select, select_converted, select_element_address, select_test, select_variable_address,
 };

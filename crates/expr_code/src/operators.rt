@@ -10,7 +10,7 @@ ghost use Rattle.operator_code.specs.declared.operation.BinaryOperation.{BinaryO
 ghost use Rattle.rv64_isa.specs.declared.instr.Instr.{Instr};
 ghost use Rattle.memory_layout.specs.Roles.{is_local};
 ghost use Rattle.operator_code.specs.ComputingCode.{is_strict, left_kind, right_kind};
-ghost use Rattle.expr_code.specs.EvaluationCode.{Homes, EvaluatesTo, fences_among};
+ghost use Rattle.expr_code.specs.EvaluationCode.{Homes, EvaluatesTo, impure_among};
 ghost use Rattle.expr_code.specs.links.OperandCode.{IsEvaluation, IsOperand, IsPair, IsMade, IsConstantForm, temporary, truth_of};
 
 use crate::operand::{Operand, Pair};
@@ -43,7 +43,7 @@ pub(crate) fn constant_code(
     requires { 0 < rd }
     ensures short { IfOk result (λ code. length code.items ≤ 8) }
     ensures small { register_form_of value < 2 ^ 11 → IfOk result (λ code. length code.items ≡ 1) }
-    ensures fences { IfOk result (λ code. fences_among code.items ≡ 0) }
+    ensures pure { IfOk result (λ code. impure_among code.items ≡ 0) }
     ensures code { IfOk result (λ code. (h : Homes) (held : ℕ) → IsEvaluation h (e.Constant value) held rd code.items) }
 {
     let code = constant(alloc, rd, register_form(value))?;
@@ -54,7 +54,7 @@ pub(crate) fn constant_code(
 pub(crate) fn copied(operand: Operand, rd: Register) -> Result<Vec<Instr>, OutOfMemory>
     requires { 0 < rd }
     ensures short { IfOk result (λ code. length code.items ≤ length operand.code.items + 2) }
-    ensures fences { IfOk result (λ code. fences_among code.items ≡ fences_among operand.code.items) }
+    ensures pure { IfOk result (λ code. impure_among code.items ≡ impure_among operand.code.items) }
     ensures code { IfOk result (λ code. (h : Homes) (x : e.Expr) (held : ℕ) →
         IsOperand h x held operand.register operand.code.items → IsEvaluation h x held rd code.items) }
 {
@@ -72,7 +72,7 @@ pub(crate) fn with_unary(
 ) -> Result<Vec<Instr>, OutOfMemory>
     requires { 0 < rd }
     ensures short { IfOk result (λ code. length code.items ≤ length operand.code.items + 2) }
-    ensures fences { IfOk result (λ code. fences_among code.items ≡ fences_among operand.code.items) }
+    ensures pure { IfOk result (λ code. impure_among code.items ≡ impure_among operand.code.items) }
     ensures code { IfOk result (λ code. (h : Homes) (x : e.Expr) (held : ℕ) → kind_of x ≡ kind →
         IsOperand h x held operand.register operand.code.items → IsEvaluation h (e.Unary operator x) held rd code.items) }
 {
@@ -90,7 +90,7 @@ pub(crate) fn with_conversion(
 ) -> Result<Vec<Instr>, OutOfMemory>
     requires { 0 < rd }
     ensures short { IfOk result (λ code. length code.items ≤ length operand.code.items + 2) }
-    ensures fences { IfOk result (λ code. fences_among code.items ≡ fences_among operand.code.items) }
+    ensures pure { IfOk result (λ code. impure_among code.items ≡ impure_among operand.code.items) }
     ensures code { IfOk result (λ code. (h : Homes) (x : e.Expr) (held : ℕ) → kind_of x ≡ from →
         IsOperand h x held operand.register operand.code.items → IsEvaluation h (e.Converted to x) held rd code.items) }
 {
@@ -108,7 +108,7 @@ pub(crate) fn converted(
 ) -> Result<Operand, OutOfMemory>
     requires { held < MOST_TEMPORARIES }
     ensures short { IfOk result (λ y. length y.code.items ≤ length operand.code.items + 2) }
-    ensures fences { IfOk result (λ y. fences_among y.code.items ≡ fences_among operand.code.items) }
+    ensures pure { IfOk result (λ y. impure_among y.code.items ≡ impure_among operand.code.items) }
     ensures operand { IfOk result (λ y. (h : Homes) (x : e.Expr) → kind_of x ≡ from →
         IsOperand h x held operand.register operand.code.items → IsOperand h (e.Converted to x) held y.register y.code.items) }
 {
@@ -147,7 +147,7 @@ pub(crate) fn held_operand(code: Vec<Instr>, held: u32) -> Operand
 /// Two operands, the right one evaluated while the left one is held.
 pub(crate) fn left_first(left: Operand, right: Operand) -> Result<Pair, OutOfMemory>
     ensures short { IfOk result (λ p. length p.code.items ≡ length left.code.items + length right.code.items) }
-    ensures fences { IfOk result (λ p. fences_among p.code.items ≡ fences_among left.code.items + fences_among right.code.items) }
+    ensures pure { IfOk result (λ p. impure_among p.code.items ≡ impure_among left.code.items + impure_among right.code.items) }
     ensures pair { IfOk result (λ p. (h : Homes) (x y : e.Expr) (held : ℕ) →
         IsOperand h x held left.register left.code.items → IsOperand h y (held + 1) right.register right.code.items → IsPair h x y held p) }
 {
@@ -163,7 +163,7 @@ pub(crate) fn left_first(left: Operand, right: Operand) -> Result<Pair, OutOfMem
 /// Two operands, the left one evaluated while the right one is held.
 pub(crate) fn right_first(left: Operand, right: Operand) -> Result<Pair, OutOfMemory>
     ensures short { IfOk result (λ p. length p.code.items ≡ length left.code.items + length right.code.items) }
-    ensures fences { IfOk result (λ p. fences_among p.code.items ≡ fences_among left.code.items + fences_among right.code.items) }
+    ensures pure { IfOk result (λ p. impure_among p.code.items ≡ impure_among left.code.items + impure_among right.code.items) }
     ensures pair { IfOk result (λ p. (h : Homes) (x y : e.Expr) (held : ℕ) →
         IsOperand h x (held + 1) left.register left.code.items → IsOperand h y held right.register right.code.items → IsPair h x y held p) }
 {
@@ -185,7 +185,7 @@ pub(crate) fn with_binary(
     requires some { 0 < rd }
     requires strict { is_strict operation.operator ≡ true }
     ensures short { IfOk result (λ code. length code.items ≤ length pair.code.items + 2) }
-    ensures fences { IfOk result (λ code. fences_among code.items ≡ fences_among pair.code.items) }
+    ensures pure { IfOk result (λ code. impure_among code.items ≡ impure_among pair.code.items) }
     ensures code { IfOk result (λ code. (h : Homes) (x y : e.Expr) (held : ℕ) → kind_of x ≡ operation.left → kind_of y ≡ operation.right →
         IsPair h (e.Converted (left_kind operation) x) (e.Converted (right_kind operation) y) held pair →
         IsEvaluation h (e.Binary operation.operator x y) held rd code.items) }
@@ -218,7 +218,7 @@ pub(crate) fn with_immediate(
 ) -> Result<Vec<Instr>, OutOfMemory>
     requires { 0 < rd }
     ensures short { IfOk result (λ code. length code.items ≤ length operand.code.items + 1) }
-    ensures fences { IfOk result (λ code. fences_among code.items ≡ fences_among operand.code.items) }
+    ensures pure { IfOk result (λ code. impure_among code.items ≡ impure_among operand.code.items) }
     ensures code { IfOk result (λ code. (o : BinaryOperation) (h : Homes) (x y : e.Expr) (held : ℕ) → kind_of x ≡ o.left → kind_of y ≡ o.right →
         IsConstantForm o y form → IsOperand h (e.Converted (left_kind o) x) held operand.register operand.code.items →
         IsEvaluation h (e.Binary o.operator x y) held rd code.items) }
@@ -232,7 +232,7 @@ pub(crate) fn with_immediate(
 pub(crate) fn with_truth(operand: Operand, rd: Register) -> Result<Vec<Instr>, OutOfMemory>
     requires { 0 < rd }
     ensures short { IfOk result (λ code. length code.items ≤ length operand.code.items + 2) }
-    ensures fences { IfOk result (λ code. fences_among code.items ≡ fences_among operand.code.items) }
+    ensures pure { IfOk result (λ code. impure_among code.items ≡ impure_among operand.code.items) }
     ensures code { IfOk result (λ code. (h : Homes) (x : e.Expr) (held : ℕ) →
         IsOperand h x held operand.register operand.code.items → IsMade h x truth_of held rd code.items) }
 {

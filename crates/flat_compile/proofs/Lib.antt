@@ -1,4 +1,4 @@
-mod TemporariesSuffice
+pub mod Public
 mod LinkedThreads
 mod CleanFlags
 mod OmittedCleanList
@@ -7,6 +7,7 @@ mod Limits
 mod Plans
 mod Stores
 mod ResumeAddresses
+mod ResumeEntries
 mod ResumedNodes
 mod LiveLocals
 mod Tables

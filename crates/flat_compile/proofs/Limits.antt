@@ -4,12 +4,13 @@ use Rattle.std.specs.Prelude.{slice_get, slice_index_or, Vec}
 use Rattle.std.specs.Global.{Global}
 use Rattle.std.proofs.lemmas.List.{length-map}
 use Rattle.std.proofs.lemmas.Option.{none-some, same_Some}
+use Rattle.ido_base.specs.declared.limits.TheConstants.{MOST_CODE_WORDS, MOST_MUTEXES, MOST_THREADS, MOST_VARIABLE_BYTES}
 use Rattle.ido_base.specs.Layout.{end_from}
 use Rattle.c_tree.specs.Flats as f
 use Rattle.c_tree.specs.WellFormed.{shape_of, initial_numbers}
 use Rattle.rv64_isa.specs.declared.object.CodeItem.{CodeItem}
 use Rattle.rv64_isa.specs.declared.object.Object.{Object}
-use Rattle.rv64_isa.specs.declared.object.ThreadMarks.{ThreadMarks}
+use Rattle.rv64_isa.specs.declared.object.Marks.{Marks}
 use Rattle.rv64_isa.specs.Programs.{code_base, program_of, slot_of}
 use Rattle.hart_core.specs.Objects.{IsWithinLimits}
 use Rattle.rv64_link.specs.LinkedCode.{AreLinked}
@@ -47,7 +48,7 @@ module _ (s : System) (is : IsSystem s) (n : ℕ) (below : n < y.thread_count s)
       part_some flat.threads 0 code.thread.number code.thread.part
       (ap (λ (qs : List Part). slice_get qs code.thread.number) threads ∙ code.of.nodes)
 
-  some_words : 1 ≤ length (slice_index_or s.program n [])
+  some_words : 1 ≤ length (slice_index_or s.runs.program n [])
   some_words =
       let first = code.thread.part.first in
       let own : IsNodeOf code.thread first = record { from_first = omega arith; below_end = some_nodes } in
@@ -57,9 +58,9 @@ module _ (s : System) (is : IsSystem s) (n : ℕ) (below : n < y.thread_count s)
       let after = made.within.after_core.is in
       let all = made.words.to_is in
       let inside = made.words.inside in
-      let mine : length code.is.places.program.code ≡ length (slice_index_or s.program n []) =
+      let mine : length code.is.places.program.code ≡ length (slice_index_or s.runs.program n []) =
       ap (λ (q : Program). length q.code) (code.is.of_program ∙ (is.own n below).program)
-      ∙ ap (λ (k : ℕ). length (slice_index_or s.program k [])) (is.codes.number n below) in
+      ∙ ap (λ (k : ℕ). length (slice_index_or s.runs.program k [])) (is.codes.number n below) in
       omega (arith, core, after, all, inside, mine)
 
 -- ---- Objects
@@ -71,39 +72,41 @@ as_many_slots [] k d below = absurd (omega (arith, below))
 as_many_slots (code ∷ codes) zero d below = length-map code.items slot_of
 as_many_slots (code ∷ codes) (suc k) d below = as_many_slots codes k d (omega (arith, below))
 
-module _ (p : Plan) (plan : IsPlan p) (threads : List (List CodeItem)) (object : Object) (marks : List ThreadMarks) (coded : IsCode p threads)
-    (few : AllFew threads) (eight : length threads ≤ 8) (linked : AreLinked code_base threads (program_of object) marks)
-    (begins : AreInitial (map shape_of p.flat.variables) (map initial_numbers p.flat.variables) object.initial.items) where
+module _ (p : Plan) (plan : IsPlan p) (threads : List (List CodeItem)) (object : Object) (marks : Marks) (coded : IsCode p threads)
+    (few : AllFew threads) (few_threads : length threads ≤ MOST_THREADS) (linked : AreLinked code_base threads (program_of object) marks.threads.items)
+    (begins : AreInitial (map shape_of p.flat.variables) (map initial_numbers p.flat.variables) object.initial.items)
+    (mutexes : object.mutexes ≡ length p.flat.mutexes) where
   -- as many as the items are of
   pub count : length object.code.items ≡ length threads
   count =
-      sym (length-map object.code.items (λ (code : Vec ℕ Global). map slot_of code.items)) ∙ linked_count code_base threads (program_of object) marks linked
+      sym (length-map object.code.items (λ (code : Vec ℕ Global). map slot_of code.items))
+      ∙ linked_count code_base threads (program_of object) marks.threads.items linked
 
   some_at : (k : ℕ) (d : Vec ℕ Global) → k < length object.code.items → 1 ≤ length (slice_index_or object.code.items k d).items
   some_at k d below =
-      let own = system p plan threads (program_of object) marks object.initial.items coded few eight linked begins in
-      let is = system_is p plan threads (program_of object) marks object.initial.items coded few eight linked begins in
+      let own = system p plan threads object marks coded few few_threads linked begins mutexes in
+      let is = system_is p plan threads object marks coded few few_threads linked begins mutexes in
       let many = coded.count in
       let inside : k < length p.graph.threads = omega (arith, below, count, many) in
       let words : 1 ≤ length (slice_index_or (program_of object) k []) = some_words own is k inside in
       subst (λ (n : ℕ). 1 ≤ n) (as_many_slots object.code.items k d below) words
 
-  few_at : (k : ℕ) (d : Vec ℕ Global) → k < length object.code.items → length (slice_index_or object.code.items k d).items ≤ 65536
+  few_at : (k : ℕ) (d : Vec ℕ Global) → k < length object.code.items → length (slice_index_or object.code.items k d).items ≤ MOST_CODE_WORDS
   few_at k d below =
       let items = found_in threads k (omega (arith, below, count)) in
-      let there = linked_at code_base threads (program_of object) marks linked few k items.0 items.1 in
+      let there = linked_at code_base threads (program_of object) marks.threads.items linked few k items.0 items.1 in
       let words = few_words _ items.0 (slice_index_or (program_of object) k []) _ _ there.linked in
-      let most : length (slice_index_or (program_of object) k []) ≤ 65536 = omega (arith, words, few k items.0 items.1) in
-      subst (λ (n : ℕ). n ≤ 65536) (as_many_slots object.code.items k d below) most
+      let most : length (slice_index_or (program_of object) k []) ≤ MOST_CODE_WORDS = omega (arith, words, few k items.0 items.1) in
+      subst (λ (n : ℕ). n ≤ MOST_CODE_WORDS) (as_many_slots object.code.items k d below) most
 
-  pub within_limits : object.mutexes ≡ length p.flat.mutexes → IsWithinLimits object
-  within_limits mutexes =
-      let most : length p.flat.mutexes ≤ 64 = plan.formed.shared.mutexes in
+  pub within_limits : IsWithinLimits object
+  within_limits =
+      let most : length p.flat.mutexes ≤ MOST_MUTEXES = plan.formed.shared.mutexes in
       let end = end_from 0 (map shape_of p.flat.variables) in
-      let room : end ≤ 65536 = plan.formed.shared.bytes in
+      let room : end ≤ MOST_VARIABLE_BYTES = plan.formed.shared.bytes in
       let size : length object.initial.items ≡ (end + 8 - 1) / 8 * 8 = begins.size in
       record {
-        threads = omega (arith, count, eight);
+        threads = omega (arith, count, few_threads);
         some_words = some_at;
         few_words = few_at;
         mutexes = omega (arith, mutexes, most);

@@ -3,12 +3,13 @@ use Rattle.std.proofs.Common.{◌≡◌, refl, ℕ, zero, suc, ◌+◌, ◌*◌,
 use Rattle.std.specs.Prelude.{slice_get, slice_index_or, sum_by}
 use Rattle.std.proofs.lemmas.Option.{none-some, same_Some}
 use Rattle.std.proofs.lemmas.List.Sums.{sum_by-cons}
+use Rattle.ido_base.specs.declared.limits.TheConstants.{MOST_CODE_WORDS}
 use Rattle.rv64_isa.specs.declared.object.CodeItem.{CodeItem}
 use Rattle.rv64_isa.specs.declared.object.Slot.{Slot}
 use Rattle.rv64_isa.specs.declared.object.ThreadMarks.{ThreadMarks}
 use Rattle.rv64_link.specs.LabelledCode.{most_words_of}
 use Rattle.rv64_link.specs.LinkedCode.{IsLinked, AreLinked}
-use Rattle.flat_compile.specs.TranslatedForms.{node_marks, resume_marks}
+use Rattle.rv64_isa.specs.Executables.{node_marks, resume_marks}
 
 -- ---- How many words
 
@@ -54,7 +55,7 @@ marked_count start (items ∷ threads) (code ∷ program) (m ∷ marks) l = ap s
 
 -- no thread has more words than that
 abbrev pub AllFew : List (List CodeItem) → Type 0
-AllFew threads = (n : ℕ) (items : List CodeItem) → slice_get threads n ≡ Some items → sum_by most_words_of items ≤ 65536
+AllFew threads = (n : ℕ) (items : List CodeItem) → slice_get threads n ≡ Some items → sum_by most_words_of items ≤ MOST_CODE_WORDS
 
 -- where the code of a thread begins
 abbrev start_at : ℕ → List (List Slot) → (n : ℕ) → ℕ
@@ -63,7 +64,7 @@ start_at start program n = start + 4 * sum_by length (take n program)
 pub record LinkedAt (start : ℕ) (program : List (List Slot)) (marks : List ThreadMarks) (n : ℕ) (items : List CodeItem) : Type 0 where
   pub linked : IsLinked (start_at start program n) items (slice_index_or program n []) (slice_index_or (node_marks marks) n [])
       (slice_index_or (resume_marks marks) n [])
-  pub within : start_at start program n + 4 * length (slice_index_or program n []) ≤ start + 4 * (65536 * (n + 1))
+  pub within : start_at start program n + 4 * length (slice_index_or program n []) ≤ start + 4 * (MOST_CODE_WORDS * (n + 1))
 
 pub linked_at : (start : ℕ) (threads : List (List CodeItem)) (program : List (List Slot)) (marks : List ThreadMarks) →
     AreLinked start threads program marks → AllFew threads → (n : ℕ) (items : List CodeItem) → slice_get threads n ≡ Some items →

@@ -89,9 +89,6 @@ module _ (colours : List ℕ) (kinds : List Kind) (sets : List (List ℕ)) (node
   One count l = (number : ℕ) × (number < count) × IsLiveIn colours sets node number l.local × (slice_get kinds l.local ≡ Some l.kind)
       × (l.register ≡ slice_index LOCALS number)
 
-  pub live_none : Is 0 []
-  live_none = record { each = λ l. (λ k. absurd (omega (arith, k.1)), λ w. absurd (omega (arith, w.1))); ascend = tt }
-
   wider : (count : ℕ) (l : LiveLocal) → One count l → One (count + 1) l
   wider count l w = (w.0, omega (arith, w.1), w.2, w.3, w.4)
 

@@ -5,12 +5,14 @@ use Rattle.std.specs.Global.{Global}
 use Rattle.std.proofs.lemmas.List.{length-map}
 use Rattle.std.proofs.lemmas.List.Elements.{All-head, All-tail}
 use Rattle.std.proofs.lemmas.Option.{none-some, same_Some}
+use Rattle.ido_base.specs.declared.limits.TheConstants.{MOST_THREADS, MOST_CODE_WORDS}
 use Rattle.c_tree.specs.Flats.{flat_of}
 use Rattle.rv64_isa.specs.declared.object.Code.{Code}
 use Rattle.rv64_isa.specs.declared.object.CodeItem.{CodeItem}
 use Rattle.rv64_isa.specs.declared.object.Object.{Object}
 use Rattle.rv64_isa.specs.declared.object.Marks.{Marks}
 use Rattle.rv64_isa.specs.Programs.{code_base, program_of}
+use Rattle.rv64_isa.specs.Executables.{resume_marks}
 use Rattle.rv64_link.specs.LabelledCode.{most_words_of}
 use Rattle.rv64_link.specs.LinkedCode.{AreLinked}
 use Rattle.rv64_link.specs.links.Threads.{items_in}
@@ -23,16 +25,18 @@ use Rattle.flow_graph.specs.IdempotentCuts.{AreCuts, IsMinimal, boundaries_of, A
 use Rattle.flat_analysis.specs.declared.analyses.Analysis.{Analysis}
 use Rattle.flat_analysis.specs.Analyses.{IsAnalysis}
 use Rattle.thread_code.specs.Plans.{Plan, IsPlan}
+use Rattle.rv64_codegen.specs.StoreCleans.{AllCleanAtOnce}
+use Rattle.rv64_codegen.specs.ThreadPieces.{IsCode}
 use Rattle.std.proofs.Common.{ap}
 use Rattle.std.specs.Prelude.{slice_index_or}
+use Rattle.ido_base.specs.declared.limits.TheConstants.{MOST_CODE_WORDS, MOST_THREADS}
 use Rattle.rv64_isa.specs.declared.object.ThreadMarks.{ThreadMarks}
 use Rattle.code_runs.specs.CodeTraces.{Program}
 use Rattle.recovered_threads.specs.RecordDescriptions.{Codes}
 use Rattle.crash_simulation.specs.Systems.{System, IsSystem}
 use Rattle.flat_compile.specs.declared.resumes.Resume.{Resume}
 use Rattle.flat_compile.specs.ResumePlaces.{AreMarksOf, AreMarked, IsResumeTable}
-use Rattle.flat_compile.specs.TranslatedForms.{IsTranslated, IsResumable, resume_marks}
-use Rattle.flat_compile.specs.links.Emission.{IsCodeFor}
+use Rattle.flat_compile.specs.TranslatedForms.{IsTranslated, IsResumable}
 use Rattle.flat_compile.proofs.LinkedThreads.{AllFew, marked_count}
 use Rattle.flat_compile.proofs.Limits.{count, within_limits}
 use Rattle.flat_compile.proofs.Systems.{system, system_is}
@@ -65,13 +69,22 @@ plan_is a cuts is chosen places = record {
 
 -- ---- Its code
 
+-- what is emitted for a plan, before it is linked: the code of all its threads, and what the variables begin with
+pub record IsCodeFor (p : Plan) (code : Code) : Type 0 where
+  pub is : IsCode p (map items_in code.threads.items)
+  pub cleans : AllCleanAtOnce p (map items_in code.threads.items)
+  pub few_threads : length code.threads.items ≤ MOST_THREADS
+  pub few : All (λ (items : Vec CodeItem Global). sum_by most_words_of items.items ≤ MOST_CODE_WORDS) code.threads.items
+  pub initial : AreInitial (map shape_of p.flat.variables) (map initial_numbers p.flat.variables) code.initial.items
+  pub mutexes : code.mutexes ≡ length p.flat.mutexes
+
 abbrev IsFew : Vec CodeItem Global → Type 0
-IsFew items = sum_by most_words_of items.items ≤ 65536
+IsFew items = sum_by most_words_of items.items ≤ MOST_CODE_WORDS
 
 few_at : (threads : List (Vec CodeItem Global)) → All IsFew threads → AllFew (map items_in threads)
 few_at [] few n items there = absurd (none-some items there)
 few_at (first ∷ threads) few zero items there =
-    subst (λ (is : List CodeItem). sum_by most_words_of is ≤ 65536) (same_Some first.items items there) (All-head IsFew first threads few)
+    subst (λ (is : List CodeItem). sum_by most_words_of is ≤ MOST_CODE_WORDS) (same_Some first.items items there) (All-head IsFew first threads few)
 few_at (first ∷ threads) few (suc n) items there = few_at threads (All-tail IsFew first threads few) n items there
 
 pub is_translated : (p : Plan) (code : Code) → IsCodeFor p code → IsPlan p → (object : Object) (marks : Marks) (cuts : Cuts) →
@@ -81,33 +94,33 @@ pub is_translated : (p : Plan) (code : Code) → IsCodeFor p code → IsPlan p �
 is_translated p code is plan object marks cuts at minimal linked initial mutexes =
     let threads = map items_in code.threads.items in
     let few = few_at code.threads.items is.few in
-    let eight : length threads ≤ 8 = omega (arith, is.eight, length-map code.threads.items items_in) in
+    let few_threads : length threads ≤ MOST_THREADS = omega (arith, is.few_threads, length-map code.threads.items items_in) in
     let begins = subst (λ (bytes : Vec ℕ Global). AreInitial (map shape_of p.flat.variables) (map initial_numbers p.flat.variables) bytes.items)
     (sym initial) is.initial in
+    let locks = mutexes ∙ is.mutexes in
     record {
-      system = system p plan threads (program_of object) marks.threads.items object.initial.items is.is few eight linked begins;
-      is = system_is p plan threads (program_of object) marks.threads.items object.initial.items is.is few eight linked begins;
+      system = system p plan threads object marks is.is few few_threads linked begins locks;
+      is = system_is p plan threads object marks is.is few few_threads linked begins locks;
       of_flat = refl;
       at_cuts = at;
       minimal = subst (λ (g : Graph). IsMinimal g (boundaries_of cuts)) plan.lowered minimal;
       runs = refl;
-      marked = refl;
-      resumed = refl;
-      begins = refl;
-      mutexes = mutexes ∙ is.mutexes;
-      limits = within_limits p plan threads object marks.threads.items is.is few eight linked begins (mutexes ∙ is.mutexes);
+      items = threads;
+      linked = linked;
+      cleans = is.cleans;
+      limits = within_limits p plan threads object marks is.is few few_threads linked begins locks;
       threads =
           marked_count code_base threads (program_of object) marks.threads.items linked
-          ∙ sym (count p plan threads object marks.threads.items is.is few eight linked begins);
+          ∙ sym (count p plan threads object marks is.is few few_threads linked begins locks);
     }
 
 -- ---- Where recovery may resume its threads
 
-marks_of : (y : System) (s : IsSystem y) → length y.resumes ≡ length y.plan.graph.threads → AreMarksOf y.plan s.codes y.resumes
+marks_of : (y : System) (s : IsSystem y) → length y.runs.resumes ≡ length y.plan.graph.threads → AreMarksOf y.plan s.codes y.runs.resumes
 marks_of y s long = record {
   count = long;
   each = λ n below.
-      ap (λ (x : Program). x.resumes) (s.own n below).program ∙ ap (λ (m : ℕ). slice_index_or y.resumes m []) (s.codes.number n below);
+      ap (λ (x : Program). x.resumes) (s.own n below).program ∙ ap (λ (m : ℕ). slice_index_or y.runs.resumes m []) (s.codes.number n below);
 }
 
 module _ (p : Plan) (code : Code) (is : IsCodeFor p code) (plan : IsPlan p) (object : Object) (marks : Marks) (cuts : Cuts)

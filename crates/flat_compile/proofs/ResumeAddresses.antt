@@ -150,7 +150,7 @@ module _ (p : Plan) (plan : IsPlan p) (t : Thread) where
         let r = rising (n + 1 + 1) m (omega (arith, a.from_first)) (omega (arith, below)) (omega (arith, b.below_end)) in
         omega (arith, w.0, w.1, r)
 
-    rises : (a b : Spot) → IsSpot p t a → IsSpot p t b → rank a < rank b → address_in c a < address_in c b
+    pub rises : (a b : Spot) → IsSpot p t a → IsSpot p t b → rank a < rank b → address_in c a < address_in c b
     rises (Before n) (Before m) a b h =
         let o = own_of (Before n) a in
         let u = own_of (Before m) b in
@@ -218,7 +218,7 @@ module _ (p : Plan) (plan : IsPlan p) (t : Thread) where
         let r = mapped spots s (j, omega (arith, below), is) in
         tail (address_in c z) (map (address_in c) spots) (address_in c s) r
 
-    resumed : (s : Spot) → IsSpot p t s → IsResumeAddress p t c (address_in c s)
+    pub resumed : (s : Spot) → IsSpot p t s → IsResumeAddress p t c (address_in c s)
     resumed s (at_chosen node own chosen) = places.at_chosen node own chosen
     resumed s (past_lock node mutex next is own at does) = places.past_lock node mutex next is own at does
     resumed s (past_unlock node mutex next is own at does some) = places.past_unlock node mutex next is own at does some

@@ -3,13 +3,15 @@ use Rattle.std.proofs.Common.{◌≡◌, refl, ℕ, zero, suc, ◌+◌, ◌*◌,
 use Rattle.std.proofs.Common.{◌∷◌, ◌++◌, length, length-append, map, true, false, Some, ap, sym, subst, ◌∙◌, arith}
 use Rattle.std.specs.Prelude.{slice_get, slice_index, slice_index_or, All}
 use Rattle.std.proofs.lemmas.Option.{none-some, same_Some, get_or_from_slice_get}
+use Rattle.ido_base.specs.declared.limits.TheConstants.{MOST_THREADS}
 use Rattle.c_tree.specs.Flats as f
 use Rattle.c_tree.specs.WellFormed.{shape_of, initial_numbers}
 use Rattle.c_tree.specs.LockDiscipline.{IsDisciplined}
 use Rattle.rv64_isa.specs.declared.object.CodeItem.{CodeItem}
-use Rattle.rv64_isa.specs.declared.object.Slot.{Slot}
-use Rattle.rv64_isa.specs.declared.object.ThreadMarks.{ThreadMarks}
-use Rattle.rv64_isa.specs.Programs.{code_base}
+use Rattle.rv64_isa.specs.declared.object.Object.{Object}
+use Rattle.rv64_isa.specs.declared.object.Marks.{Marks}
+use Rattle.rv64_isa.specs.Programs.{code_base, program_of}
+use Rattle.rv64_isa.specs.Executables.{Executable, executable_of}
 use Rattle.rv64_link.specs.LinkedCode.{AreLinked}
 use Rattle.memory_layout.specs.declared.roles.TheConstants.{LOCALS}
 use Rattle.memory_layout.specs.Variables.{AreInitial}
@@ -26,7 +28,6 @@ use Rattle.thread_code.specs.Programs.{IsThreadCode}
 use Rattle.recovered_threads.specs.RecordDescriptions.{Codes}
 use Rattle.rv64_codegen.specs.ThreadPieces.{IsCode}
 use Rattle.crash_simulation.specs.Systems.{System, IsSystem}
-use Rattle.flat_compile.specs.TranslatedForms.{node_marks, resume_marks}
 use Rattle.flat_compile.proofs.LinkedThreads.{AllFew, LinkedAt, linked_at, linked_count}
 use Rattle.flat_compile.proofs.CleanFlags.{recleaned, recleaned_later}
 use Rattle.flat_compile.proofs.OmittedCleanList.{LeftOut, left_out}
@@ -104,37 +105,41 @@ disciplined_by p plan k d below =
 
 -- ---- Linked code of a plan
 
-module _ (p : Plan) (plan : IsPlan p) (threads : List (List CodeItem)) (program : List (List Slot)) (marks : List ThreadMarks)
-    (initial : List ℕ) (coded : IsCode p threads) (few : AllFew threads) (eight : length threads ≤ 8) (linked : AreLinked code_base threads program marks)
-    (begins : AreInitial (map shape_of p.flat.variables) (map initial_numbers p.flat.variables) initial) where
-  abbrev program_of : (n : ℕ) → Program
-  program_of n = program_at program n (slice_index_or (node_marks marks) n []) (slice_index_or (resume_marks marks) n [])
+module _ (p : Plan) (plan : IsPlan p) (threads : List (List CodeItem)) (object : Object) (marks : Marks) (coded : IsCode p threads)
+    (few : AllFew threads) (few_threads : length threads ≤ MOST_THREADS) (linked : AreLinked code_base threads (program_of object) marks.threads.items)
+    (begins : AreInitial (map shape_of p.flat.variables) (map initial_numbers p.flat.variables) object.initial.items)
+    (mutexes : object.mutexes ≡ length p.flat.mutexes) where
+  abbrev runs : Executable
+  runs = executable_of object marks
+
+  abbrev thread_program : (n : ℕ) → Program
+  thread_program n = program_at runs.program n (slice_index_or runs.marks n []) (slice_index_or runs.resumes n [])
 
   items_at : (n : ℕ) → n < length p.graph.threads → (items : List CodeItem) × (slice_get threads n ≡ Some items)
   items_at n below = found_in threads n (let count = coded.count in omega (arith, below, count))
 
-  linked_there : (n : ℕ) (below : n < length p.graph.threads) → LinkedAt code_base program marks n (items_at n below).0
-  linked_there n below = linked_at code_base threads program marks linked few n (items_at n below).0 (items_at n below).1
+  linked_there : (n : ℕ) (below : n < length p.graph.threads) → LinkedAt code_base runs.program marks.threads.items n (items_at n below).0
+  linked_there n below = linked_at code_base threads runs.program marks.threads.items linked few n (items_at n below).0 (items_at n below).1
 
-  room : (n : ℕ) → n < length p.graph.threads → (program_of n).start + 4 * length (program_of n).code < 2 ^ 64
+  room : (n : ℕ) → n < length p.graph.threads → (thread_program n).start + 4 * length (thread_program n).code < 2 ^ 64
   room n below =
       let within = (linked_there n below).within in
       let count = coded.count in
-      omega (arith, within, below, count, eight)
+      omega (arith, within, below, count, few_threads)
 
-  first_code : (n : ℕ) (below : n < length p.graph.threads) → IsThreadCode p (thread_at p plan n below) (program_of n)
+  first_code : (n : ℕ) (below : n < length p.graph.threads) → IsThreadCode p (thread_at p plan n below) (thread_program n)
   first_code n below =
       let t = thread_at p plan n below in
       let items = items_at n below in
-      coded.each t items.0 (is_thread p plan n below) items.1 (program_of n) (linked_there n below).linked (room n below)
+      coded.each t items.0 (is_thread p plan n below) items.1 (thread_program n) (linked_there n below).linked (room n below)
 
   pub codes : Codes p
   codes = record {
     each = λ n below. record {
       thread = thread_at p plan n below;
       of = is_thread p plan n below;
-      program = program_of n;
-      is = recleaned p (thread_at p plan n below) (program_of n) (first_code n below);
+      program = thread_program n;
+      is = recleaned p (thread_at p plan n below) (thread_program n) (first_code n below);
     };
     number = λ n below. refl;
   }
@@ -145,10 +150,7 @@ module _ (p : Plan) (plan : IsPlan p) (threads : List (List CodeItem)) (program 
   abbrev pub system : System
   system = record {
     plan = p;
-    program = program;
-    marks = node_marks marks;
-    resumes = resume_marks marks;
-    initial = initial;
+    runs = runs;
     left_out = out.list;
   }
 
@@ -158,17 +160,18 @@ module _ (p : Plan) (plan : IsPlan p) (threads : List (List CodeItem)) (program 
   cleans n below node own h =
       let t = thread_at p plan n below in
       let is = node_there p plan t (is_thread p plan n below) node own in
-      (out.each node).1 (recleaned_later p t (program_of n) (first_code n below) node is.0 own is.1 h)
+      (out.each node).1 (recleaned_later p t (thread_program n) (first_code n below) node is.0 own is.1 h)
 
   pub system_is : IsSystem system
   unfolding codes
   system_is = record {
     plan = plan;
     disciplined = disciplined_by p plan;
-    count = linked_count code_base threads program marks linked ∙ coded.count;
+    count = linked_count code_base threads runs.program marks.threads.items linked ∙ coded.count;
     codes = codes;
     own = λ n below. record { program = refl; room = room n below; cleans = cleans n below };
     initial = begins;
+    mutexes = mutexes;
     left_out = λ node e.
         subst (λ (g : Graph). IsCleanedLater g p.boundaries (map shape_of p.flat.variables) node) plan.lowered ((out.each node).0 e);
   }

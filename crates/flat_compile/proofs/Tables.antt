@@ -190,9 +190,6 @@ at_push : (table : List (Vec Resume Global)) (rs : Vec Resume Global) → resume
 at_push [] rs = refl
 at_push (x ∷ table) rs = at_push table rs
 
-pub none_tabled : (p : Plan) (marks : List (List ℕ)) → AreTabled p marks 0 []
-none_tabled p marks = record { long = refl; each = λ codes are n below l. absurd (omega (arith, l)) }
-
 pub tabled_more : (p : Plan) (marks : List (List ℕ)) (count : ℕ) (table : List (Vec Resume Global)) (rs : Vec Resume Global) → AreTabled p marks count table →
     ((codes : Codes p) → AreMarksOf p codes marks → (below : count < length p.graph.threads) →
     AreResumes p (codes.each count below).thread (codes.each count below).program (codes.each count below).is rs.items) →

@@ -1,26 +1,22 @@
 -- What the machine runs for a flat form.
-use Rattle.std.specs.Prelude.{◌≡◌, ℕ, List, length, map}
+use Rattle.std.specs.Prelude.{◌≡◌, List, length}
 use Rattle.c_tree.specs.Flats.{Flat}
 use Rattle.rv64_isa.specs.declared.object.Object.{Object}
-use Rattle.rv64_isa.specs.declared.object.ThreadMarks.{ThreadMarks}
 use Rattle.rv64_isa.specs.declared.object.Marks.{Marks}
-use Rattle.rv64_isa.specs.Programs.{program_of}
+use Rattle.rv64_isa.specs.declared.object.CodeItem.{CodeItem}
+use Rattle.rv64_isa.specs.Programs.{code_base}
+use Rattle.rv64_isa.specs.Executables.{executable_of}
+use Rattle.rv64_link.specs.LinkedCode.{AreLinked}
 use Rattle.hart_core.specs.Objects.{IsWithinLimits}
 use Rattle.flow_graph.specs.declared.cuts.Cuts.{Cuts}
 use Rattle.flow_graph.specs.Lowering.{lowered}
 use Rattle.flow_graph.specs.IdempotentCuts.{IsMinimal, boundaries_of}
+use Rattle.rv64_codegen.specs.StoreCleans.{AllCleanAtOnce}
 use Rattle.crash_simulation.specs.Systems.{System, IsSystem, flat_of}
 use Rattle.std.specs.Prelude.{Vec}
 use Rattle.std.specs.Global.{Global}
 use Rattle.flat_compile.specs.declared.resumes.Resume.{Resume}
 use Rattle.flat_compile.specs.ResumePlaces.{IsResumeTable}
-
--- of each thread the marks of its nodes, and where it may be resumed
-abbrev pub node_marks : List ThreadMarks → List (List ℕ)
-node_marks marks = map (λ (m : ThreadMarks). m.nodes.items) marks
-
-abbrev pub resume_marks : List ThreadMarks → List (List ℕ)
-resume_marks marks = map (λ (m : ThreadMarks). m.resumes.items) marks
 
 -- What the machine runs is a system of the flat form, so all laws of compiled programs hold of it; none of the boundaries can be taken away.
 -- A machine can begin with the object: it is within a machine's limits, and each of its threads has its marks.
@@ -30,11 +26,12 @@ pub record IsTranslated (flat : Flat) (object : Object) (marks : Marks) (cuts : 
   pub of_flat : flat_of system ≡ flat
   pub at_cuts : system.plan.boundaries ≡ boundaries_of cuts
   pub minimal : IsMinimal (lowered flat) (boundaries_of cuts)
-  pub runs : system.program ≡ program_of object
-  pub marked : system.marks ≡ node_marks marks.threads.items
-  pub resumed : system.resumes ≡ resume_marks marks.threads.items
-  pub begins : system.initial ≡ object.initial.items
-  pub mutexes : object.mutexes ≡ length flat.mutexes
+  pub runs : system.runs ≡ executable_of object marks
+  -- The items that the code is linked from, thread after thread: at once after a store they clean its line where no later store of the region does,
+  -- and outside the code of boundaries no other line.
+  pub items : List (List CodeItem)
+  pub linked : AreLinked code_base items system.runs.program marks.threads.items
+  pub cleans : AllCleanAtOnce system.plan items
   -- as many threads, words, mutexes and initial bytes as a machine takes
   pub limits : IsWithinLimits object
   -- as many threads are marked as there are

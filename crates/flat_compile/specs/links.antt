@@ -1,2 +1,1 @@
-pub mod Emission
 pub mod ResumePlacesByNode

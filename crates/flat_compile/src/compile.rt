@@ -1,20 +1,16 @@
 //! Objects of flat forms.
-ghost use Rattle.std.specs.Prelude.{◌≡◌, None, IfOk};
+ghost use Rattle.std.specs.Prelude.{IfOk};
 ghost use Rattle.c_tree.specs.Flats.{flat_of};
-ghost use Rattle.c_tree.specs.Temporaries.{temporaries_fault};
-ghost use Rattle.thread_code.specs.Plans.{IsPlan};
-ghost use Rattle.rv64_codegen.specs.Plans.{plan_of};
 ghost use Rattle.flat_analysis.specs.Analyses.{IsAnalysis};
 ghost use Rattle.flat_compile.specs.TranslatedForms.{IsTranslated, IsResumable};
-ghost use Rattle.flat_compile.specs.links.Emission.{IsCodeFor};
 
 use crate::resumes::{Resume, resume_table};
 use flat_analysis::Analysis;
 use flow_graph::cuts::Cuts;
 use ido_base::memory::OutOfMemory;
 use region_cutter::cut;
-use rv64_codegen::{EmitError, Plan, emit};
-use rv64_isa::object::{Code, Marks, Object};
+use rv64_codegen::{Plan, emit};
+use rv64_isa::object::{Marks, Object};
 use rv64_link::link::link;
 use std::alloc::Global;
 
@@ -28,19 +24,6 @@ pub struct Translated {
     pub cuts: Cuts,
     /// Of each thread what it has where recovery may resume it, in the order of the addresses.
     pub resumes: Vec<Vec<Resume>>,
-}
-
-/// The code of the threads: no expression needs too many temporaries.
-fn emitted(alloc: Global, plan: &Plan) -> Result<Code, OutOfMemory>
-    requires plan { IsPlan (plan_of plan.now) }
-    requires shallow { temporaries_fault (plan_of plan.now).flat ≡ None }
-    ensures { IfOk result (IsCodeFor (plan_of plan.now)) }
-{
-    match emit(alloc, plan) {
-        Ok(code) => Ok(code),
-        Err(EmitError::Memory) => Err(OutOfMemory),
-        Err(EmitError::Temporaries { .. }) => unreachable!(),
-    }
 }
 
 /// The object of a flat form that was analysed, the addresses of its marks, and where boundaries stand: a machine that runs it is
@@ -59,7 +42,7 @@ pub fn translate(alloc: Global, analysis: &Analysis) -> Result<Translated, OutOf
         live: &analysis.live,
         colours: &analysis.colours,
     };
-    let code = emitted(alloc, &plan)?;
+    let code = emit(alloc, &plan)?;
     let (object, marks) = link(alloc, code)?;
     let resumes = resume_table(alloc, &plan, &marks)?;
     Ok(Translated {

@@ -8,7 +8,7 @@ ghost use Rattle.thread_code.specs.Plans.{IsPlan, mask_before};
 ghost use Rattle.recovered_threads.specs.RecordDescriptions.{Codes};
 ghost use Rattle.rv64_codegen.specs.Plans.{plan_of};
 ghost use Rattle.rv64_codegen.specs.links.Threads.{gives};
-ghost use Rattle.flat_compile.specs.TranslatedForms.{resume_marks};
+ghost use Rattle.rv64_isa.specs.Executables.{resume_marks};
 ghost use Rattle.flat_compile.specs.ResumePlaces.{IsFound, IsResumeTable, AreMarksOf, AreMarked};
 ghost use Rattle.flat_compile.specs.links.ResumePlacesByNode.{thread_in, IsOwn, IsOwnNode, IsPastCall, IsBefore};
 ghost use Rattle.flat_compile.specs.links.ResumePlacesByNode.{AreNodesBelow, AreFoundAt, IsLiveIn, AreLiveBelow};

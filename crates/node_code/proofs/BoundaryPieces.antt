@@ -24,6 +24,7 @@ use Rattle.node_code.specs.Pieces.{LeavesRegisters, boundary_observations, IsBou
 use Rattle.node_code.specs.links.BoundaryCode.{IsCodeOf}
 use Rattle.node_code.specs.links.ItemLists.{plain, boundary_items}
 use Rattle.node_code.proofs.Fences.{boundary_items_fences}
+use Rattle.node_code.proofs.PieceCleans.{boundary_cleans}
 use Rattle.node_code.proofs.ItemAddresses.{part_left, part_right, waits_left, waits_append, waits_plain_on, labels_append, labels_plain}
 use Rattle.node_code.proofs.ItemAddresses.{positions_append, no_marks_in, no_resumes_in}
 use Rattle.node_code.proofs.Words.{AreExact, exact_plain, exact_append, exact_words}
@@ -202,6 +203,7 @@ is_boundary b code e h = record {
   few = let z : sum_by most_words_of (boundary_items code) ≡ length code = boundary_words code in let l : length code ≤ length b.live + 35 = h.short in
       omega arith;
   fences = boundary_items_fences b code h.effects_are;
+  cleans = boundary_cleans b code h.effects_are;
   at = λ at. record {
     keeps = λ x bank a.
         more_room at.linking.environment x (begin_of (boundary_items code) at) (end_of (boundary_items code) at) (length code)

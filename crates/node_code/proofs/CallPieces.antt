@@ -29,6 +29,7 @@ use Rattle.node_code.specs.Pieces.{takes, gives, words_in}
 use Rattle.node_code.specs.links.BoundaryCode.{IsCodeOf}
 use Rattle.node_code.specs.links.ItemLists.{plain, asking, boundary_items, lock_items, unlock_items, end_items}
 use Rattle.node_code.proofs.Fences.{lock_items_fences, unlock_items_fences}
+use Rattle.node_code.proofs.PieceCleans.{lock_cleans, unlock_cleans}
 use Rattle.node_code.proofs.ItemAddresses.{part_left, part_right, waits_left, waits_right, waits_append, waits_plain, labels_append, labels_plain}
 use Rattle.node_code.proofs.ItemAddresses.{positions_append, no_marks_in, no_resumes_in}
 use Rattle.node_code.proofs.Words.{AreExact, exact_plain, exact_append, exact_words}
@@ -186,6 +187,7 @@ module _ (b : Boundary) (mutex : ℕ) (code : List Instr) (small : mutex < 2048)
     closed = record { waits = boundary_waits_on code; labels = λ label. boundary_labels label code };
     few = let l : length code ≤ length b.live + 35 = h.short in omega (arith, lock_words);
     fences = lock_items_fences b mutex code h.effects_are;
+    cleans = lock_cleans b mutex code h.effects_are;
     at = locks;
   }
 
@@ -399,6 +401,7 @@ module _ (b : Boundary) (mutex : ℕ) (code : List Instr) (small : mutex < 2048)
     closed = unlock_closed;
     few = let l : length code ≤ length b.live + 35 = h.short in omega (arith, unlock_words);
     fences = unlock_items_fences b mutex b.mask code h.effects_are;
+    cleans = unlock_cleans b mutex b.mask code h.effects_are;
     at = unlocks;
   }
 
@@ -423,6 +426,7 @@ is_end = record {
   closed = record { waits = refl; labels = λ label. refl };
   few = omega arith;
   fences = refl;
+  cleans = refl;
   at = λ site.
       let code : List Instr = OpImmediate Addi 17 0 3 ∷ [] in
       let k : ℕ = site.position in

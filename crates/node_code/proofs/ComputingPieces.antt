@@ -19,6 +19,7 @@ use Rattle.node_code.specs.Sites.{Site, Linking, IsPart, mark_waits, begin_of, e
 use Rattle.node_code.specs.Pieces.{IsClosed, marks_in, resumes_in, Computed, IsComputing, IsChoice, PieceLeads, words_in}
 use Rattle.node_code.specs.links.ItemLists.{plain, nothing, some_code, computing_items, choice_items}
 use Rattle.node_code.proofs.Fences.{computing_fences, choice_fences}
+use Rattle.node_code.proofs.PieceCleans.{computing_cleans, choice_cleans}
 use Rattle.node_code.proofs.ItemAddresses.{length_map, part_left, part_right, waits_right, waits_append, waits_plain, labels_append, labels_plain}
 use Rattle.node_code.proofs.ItemAddresses.{positions_append, no_marks_in, no_resumes_in, stand}
 use Rattle.node_code.proofs.Words.{exact_plain, exact_end, exact_words}
@@ -136,6 +137,7 @@ is_computing [] = record {
   closed = record { waits = refl; labels = λ label. refl };
   few = omega arith;
   fences = refl;
+  cleans = refl;
   at = λ site. record {
     stands = tt;
     room = no_room (computing_items []) site;
@@ -151,6 +153,7 @@ is_computing (i ∷ is) = record {
       let f : sum_by most_words_of (computing_items (i ∷ is)) ≡ 0 + sum_by most_words_of (plain (i ∷ is)) = sum_by-append most_words_of (MarkNext ∷ [])
       (plain (i ∷ is)) in omega (arith, e, f);
   fences = computing_fences i is;
+  cleans = computing_cleans i is;
   at = λ site. record {
     stands = stands_marked site.items site.linking site.position (i ∷ is) site.is_part;
     room = room_marked site.items site.linking site.position (i ∷ is) site.is_part;
@@ -269,6 +272,7 @@ module _ (test : Test) (to : Label) where
     closed = choice_closed code;
     few = let e : sum_by most_words_of (choice_items code test to) ≡ length code + 2 = choice_words code in omega arith;
     fences = choice_fences code test to;
+    cleans = choice_cleans code test to;
     at = λ site. record {
       stands = stands_marked site.items site.linking site.position code (part_left site.items site.position (MarkNext ∷ plain code) (branch ∷ []) site.is_part);
       room = room_marked site.items site.linking site.position code (part_left site.items site.position (MarkNext ∷ plain code) (branch ∷ []) site.is_part);

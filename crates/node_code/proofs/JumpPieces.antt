@@ -11,6 +11,7 @@ is_jump to = record {
   closed = record { waits = refl; labels = λ label. refl };
   few = omega arith;
   fences = refl;
+  cleans = refl;
   at = λ site. record {
     jumps = λ x. jump_part site.items site.linking site.position to site.is_part x site.closed;
     marks = refl;
@@ -23,6 +24,7 @@ is_branch test to = record {
   closed = record { waits = refl; labels = λ label. refl };
   few = omega arith;
   fences = refl;
+  cleans = refl;
   at = λ site. record {
     branches = λ x. branch_part site.items site.linking site.position test.condition test.rs1 test.rs2 to site.is_part x false site.closed;
     marks = refl;

@@ -11,3 +11,4 @@ mod ComputingPieces
 mod PiecePlaces
 mod TwoPartPieces
 mod Fences
+mod PieceCleans

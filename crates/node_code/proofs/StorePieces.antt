@@ -77,6 +77,7 @@ is_store kind k true e = record {
   closed = record { waits = refl; labels = λ label. refl };
   few = omega arith;
   fences = refl;
+  code = record { width = kind; width_is = e; items_are = refl };
   at = λ at. record {
     makes = makes kind k true e (λ a b v. (refl, (refl, tt))) at
         (let w : words_in (store_items kind true) at ≡ 2 = exact_words (store_items kind true) at (refl, (refl, (refl, tt))) in omega (arith, w));
@@ -91,6 +92,7 @@ is_store kind k false e = record {
   closed = record { waits = refl; labels = λ label. refl };
   few = omega arith;
   fences = refl;
+  code = record { width = kind; width_is = e; items_are = refl };
   at = λ at. record {
     makes = makes kind k false e (λ a b v. (refl, tt)) at
         (let w : words_in (store_items kind false) at ≡ 1 = exact_words (store_items kind false) at (refl, (refl, tt)) in omega (arith, w));

@@ -1,4 +1,5 @@
 pub mod Sites
+pub mod Cleans
 pub mod Pieces
 pub mod JoinedPieces
 pub mod links

@@ -19,6 +19,7 @@ use Rattle.code_runs.specs.ComputingRuns as r
 use Rattle.code_runs.specs.ComputingRuns.{Environment, config}
 use Rattle.code_runs.specs.CodeTraces.{Observation, Mark, Does, GoesThrough, seen_effects, marked}
 use Rattle.node_code.specs.declared.kept.Kept as kept
+use Rattle.node_code.specs.Cleans.{cleans_in, CleansInBoundary, IsStoreThenClean}
 use Rattle.node_code.specs.Sites.{Site, mark_waits, begin_of, end_of, label_of}
 
 -- the items are what was there, and a piece after that
@@ -70,6 +71,7 @@ pub record IsStorePiece (kind : Kind) (cleans : Bool) (piece : List CodeItem) : 
   pub closed : IsClosed piece
   pub few : sum_by most_words_of piece ≤ 2
   pub fences : fences_in piece ≡ 0
+  pub code : IsStoreThenClean kind cleans piece
   pub at : (at : Site piece) → Makes kind cleans piece at
 
 -- ---- Boundaries
@@ -101,6 +103,7 @@ pub record IsBoundaryPiece (b : Boundary) (piece : List CodeItem) : Type 0 where
   pub closed : IsClosed piece
   pub few : sum_by most_words_of piece ≤ length b.live + 35
   pub fences : fences_in piece ≡ 2
+  pub cleans : CleansInBoundary b piece
   pub at : (at : Site piece) → Keeps b piece at
 
 -- ---- Calls
@@ -136,6 +139,7 @@ pub record IsLockPiece (b : Boundary) (mutex : ℕ) (piece : List CodeItem) : Ty
   pub closed : IsClosed piece
   pub few : sum_by most_words_of piece ≤ length b.live + 38
   pub fences : fences_in piece ≡ 2
+  pub cleans : CleansInBoundary b piece
   pub at : (at : Site piece) → Locks b mutex piece at
 
 -- first the mark and a boundary, then the call, which is no mark; the point gets the address after the call, where the thread may be resumed if it still
@@ -155,6 +159,7 @@ pub record IsUnlockPiece (b : Boundary) (mutex : ℕ) (piece : List CodeItem) : 
   pub closed : IsClosed piece
   pub few : sum_by most_words_of piece ≤ length b.live + 38
   pub fences : fences_in piece ≡ 2
+  pub cleans : CleansInBoundary b piece
   pub at : (at : Site piece) → Unlocks b mutex piece at
 
 pub record IsEndPiece (piece : List CodeItem) (at : Site piece) : Type 0 where
@@ -170,6 +175,7 @@ pub record IsEnd (piece : List CodeItem) : Type 0 where
   pub closed : IsClosed piece
   pub few : sum_by most_words_of piece ≤ 2
   pub fences : fences_in piece ≡ 0
+  pub cleans : cleans_in piece ≡ 0
   pub at : (at : Site piece) → IsEndPiece piece at
 
 -- ---- Evaluation
@@ -192,6 +198,7 @@ pub record IsComputing (code : List Instr) (piece : List CodeItem) : Type 0 wher
   pub closed : IsClosed piece
   pub few : sum_by most_words_of piece ≤ length code + 1
   pub fences : fences_in piece ≡ fences_in (map Instruction code)
+  pub cleans : cleans_in piece ≡ cleans_in (map Instruction code)
   pub at : (at : Site piece) → Computes code piece at
 
 -- the mark, code that only computes, and a branch to the label, which is taken where the test is passed after the code
@@ -207,6 +214,7 @@ pub record IsChoice (code : List Instr) (test : Test) (label : ℕ) (piece : Lis
   pub closed : IsClosed piece
   pub few : sum_by most_words_of piece ≤ length code + 2
   pub fences : fences_in piece ≡ fences_in (map Instruction code)
+  pub cleans : cleans_in piece ≡ cleans_in (map Instruction code)
   pub at : (at : Site piece) → Chooses code test label piece at
 
 -- ---- Jumps
@@ -221,6 +229,7 @@ pub record IsJump (label : ℕ) (piece : List CodeItem) : Type 0 where
   pub closed : IsClosed piece
   pub few : sum_by most_words_of piece ≤ 1
   pub fences : fences_in piece ≡ 0
+  pub cleans : cleans_in piece ≡ 0
   pub at : (at : Site piece) → Jumps label piece at
 
 -- to the label where the test is passed, else to the piece's end
@@ -233,4 +242,5 @@ pub record IsBranch (test : Test) (label : ℕ) (piece : List CodeItem) : Type 0
   pub closed : IsClosed piece
   pub few : sum_by most_words_of piece ≤ 2
   pub fences : fences_in piece ≡ 0
+  pub cleans : cleans_in piece ≡ 0
   pub at : (at : Site piece) → Branches test label piece at

@@ -1,10 +1,8 @@
 -- Pieces of nodes, one after another, and the threads that they make up.
 use Rattle.std.proofs.Common.{◌≡◌, ◌⊎◌, inl, inr, ⊎_elim, refl, ℕ, zero, suc, ◌+◌, ◌-◌, ◌<◌, ◌≤◌, List, [], ◌∷◌, ◌++◌, append_assoc, length, ◌∙◌, ap, ap₂}
 use Rattle.std.proofs.Common.{sym, subst, arith, Some}
-use Rattle.std.specs.Prelude.{slice_get, slice_index_or, map, sum_by, Vec, MatchResult, Ok, Err}
-use Rattle.std.specs.declared.result.Result.{Result}
+use Rattle.std.specs.Prelude.{slice_get, slice_index_or, map, sum_by, Vec}
 use Rattle.std.specs.Global.{Global}
-use Rattle.std.proofs.lemmas.Bool.{cases_lt}
 use Rattle.std.proofs.lemmas.List.{length-append, length-map}
 use Rattle.std.proofs.lemmas.List.Sums.{sum_by-append, sum_by-cons}
 use Rattle.std.proofs.lemmas.Option.{slice_get_within, slice_get-get_or}
@@ -13,25 +11,20 @@ use Rattle.rv64_isa.specs.declared.object.Label.{Label}
 use Rattle.rv64_isa.specs.declared.object.CodeItem.{CodeItem}
 use Rattle.rv64_isa.specs.declared.object.CodeItem.TheVariants.{Here}
 use Rattle.rv64_link.specs.LabelledCode.{most_words_of}
-use Rattle.flow_graph.specs.declared.graph.Part.{Part}
 use Rattle.flow_graph.specs.Nodes.{Node, Graph}
 use Rattle.flow_graph.specs.Liveness.{NodeAt}
-use Rattle.flow_graph.specs.Lowering.{thread_nodes, threads_nodes, parts}
-use Rattle.flow_graph.proofs.Public.{length-thread_nodes, found_in}
+use Rattle.flow_graph.specs.Lowering.{thread_nodes}
+use Rattle.flow_graph.proofs.Public.{length-thread_nodes}
 use Rattle.node_code.specs.Pieces.{Appends}
 use Rattle.node_code.specs.JoinedPieces.{joined}
 use Rattle.thread_code.specs.Plans.{Plan, Thread, IsPlan, IsNodeOf}
-use Rattle.rv64_codegen.specs.declared.error.EmitError.{EmitError}
-use Rattle.rv64_codegen.specs.declared.error.EmitError.TheVariants.{Temporaries, Memory}
 use Rattle.rv64_codegen.specs.declared.thread.ThreadPlan as opened
-use Rattle.rv64_codegen.specs.Evaluations.{NeedFew}
 use Rattle.rv64_codegen.specs.ThreadPieces.{IsNodePiece, IsEmitted}
-use Rattle.rv64_codegen.specs.RefusedGraphs.{action_exprs, IsRefusedBy, AllNeedFew, IsRefusedGraph}
-use Rattle.rv64_codegen.specs.links.Threads.{IsOpen, IsOwn, DoesAction, DoesAt, NeedFewAt, IsRefusedAt, IsPiece, plan_in, thread_of, choices_of}
-use Rattle.rv64_codegen.specs.links.Emission.{NeedFewFrom, IsRefusedFrom, IsEmittedThread, IsRefusedThread, IsEmittedOf, IsRefusedOf, AreEmittedTo, AreEmitted}
+use Rattle.rv64_codegen.specs.links.Threads.{IsOpen, DoesAction, DoesAt, IsPiece, plan_in, thread_of, choices_of}
+use Rattle.rv64_codegen.specs.links.Emission.{IsEmittedThread, IsEmittedOf, AreEmittedTo, AreEmitted}
 use Rattle.rv64_codegen.proofs.Homes.{one_thread}
-use Rattle.rv64_codegen.proofs.PlannedNodes.{nodes_are, threads_are, node_in, end_is, cheap, node_exists}
-use Rattle.rv64_codegen.proofs.LoweredNodes.{price_of, prices, thread_of_node, thread_before}
+use Rattle.rv64_codegen.proofs.PlannedNodes.{node_in, end_is, cheap, node_exists}
+use Rattle.rv64_codegen.proofs.LoweredNodes.{price_of, prices}
 use Rattle.rv64_codegen.proofs.NodePieces.{are_choices}
 
 -- ---- Answers
@@ -39,26 +32,14 @@ use Rattle.rv64_codegen.proofs.NodePieces.{are_choices}
 one_node : (g : Graph) (node : ℕ) (a b : Node) → NodeAt g node a → NodeAt g node b → a ≡ b
 one_node g node a b h k = let both : Some a ≡ Some b = sym h ∙ k in cc
 
-pub weaker_ok : {X E : Type 0} (r : Result X E) (P R : X → Type 0) (Q : E → Type 0) → ((x : X) → P x → R x) → MatchResult r P Q → MatchResult r R Q
-weaker_ok (Ok x) P R Q f m = f x m
-weaker_ok (Err error) P R Q f m = m
-
 -- what is said of the node that was found is said of each that is there
-pub at_node : (x : opened.ThreadPlan) (node : ℕ) (found : Node) (r : Result (Unit {0}) EmitError) (old new : List CodeItem) →
-    NodeAt (plan_in x).graph node found →
-    MatchResult r (λ _. NeedFew (action_exprs found.action) × Appends old new (DoesAction x node found.action))
-    (λ error. IsRefusedBy (action_exprs found.action) error) →
-    MatchResult r (λ _. NeedFewAt x node × Appends old new (DoesAt x node)) (λ error. IsRefusedAt x node error)
-at_node x node found (Ok done) old new at m = (
-  λ is there. subst (λ (z : Node). NeedFew (action_exprs z.action)) (one_node (plan_in x).graph node found is at there) m.0,
-  record {
-    piece = m.1.piece;
-    appended = m.1.appended;
-    is = λ is there. subst (λ (z : Node). DoesAction x node z.action m.1.piece) (one_node (plan_in x).graph node found is at there) m.1.is;
-  },
-)
-at_node x node found (Err error) old new at m = λ is there. subst (λ (z : Node). IsRefusedBy (action_exprs z.action) error)
-    (one_node (plan_in x).graph node found is at there) m
+pub at_node : (x : opened.ThreadPlan) (node : ℕ) (found : Node) (old new : List CodeItem) → NodeAt (plan_in x).graph node found →
+    Appends old new (DoesAction x node found.action) → Appends old new (DoesAt x node)
+at_node x node found old new at m = record {
+  piece = m.piece;
+  appended = m.appended;
+  is = λ is there. subst (λ (z : Node). DoesAction x node z.action m.piece) (one_node (plan_in x).graph node found is at there) m.is;
+}
 
 -- ---- Lists
 
@@ -110,11 +91,10 @@ pub record Begun (x : opened.ThreadPlan) (node : ℕ) (items : List CodeItem) : 
   pub long : length pieces ≡ node - x.part.first
   pub each : (i : ℕ) (piece : List CodeItem) → slice_get pieces i ≡ Some piece → IsPiece x (x.part.first + i) piece
   pub joined_are : items ≡ joined 0 pieces
-  pub need : NeedFewFrom (plan_in x).graph x.part.first node
 
 pub begun_more : (x : opened.ThreadPlan) (node : ℕ) (old mid new : List CodeItem) (label : Label) → x.part.first ≤ node → label.0 ≡ node - x.part.first →
-    Begun x node old → mid ≡ old ++ Here label ∷ [] → NeedFewAt x node → Appends mid new (IsPiece x node) → Begun x (node + 1) new
-begun_more x node old mid new label from label_is b here few a = record {
+    Begun x node old → mid ≡ old ++ Here label ∷ [] → Appends mid new (IsPiece x node) → Begun x (node + 1) new
+begun_more x node old mid new label from label_is b here a = record {
   pieces = b.pieces ++ a.piece ∷ [];
   long = omega (arith, length-append b.pieces (a.piece ∷ []), b.long, from);
   each = λ i piece g. ⊎_elim (λ l. b.each i piece l)
@@ -125,11 +105,6 @@ begun_more x node old mid new label from label_is b here few a = record {
       (get_cases b.pieces a.piece i piece g);
   joined_are = a.appended ∙ ap (λ (xs : List CodeItem). xs ++ a.piece) (here ∙ ap (λ (xs : List CodeItem). xs ++ Here label ∷ []) b.joined_are)
       ∙ sym (joined_more 0 b.pieces a.piece label (omega (arith, label_is, b.long)));
-  need = λ other is low high at. ⊎_elim (λ l. b.need other is low l at)
-      (λ l.
-      let e : node ≡ other = omega (arith, high, l) in
-      few is (subst (λ (n : ℕ). NodeAt (plan_in x).graph n is) (sym e) at))
-      (cases_lt other node);
 }
 
 pub thread_emitted : (x : opened.ThreadPlan) (items : List CodeItem) → IsOpen x → Begun x x.part.end items → IsEmittedThread x items
@@ -160,29 +135,9 @@ thread_emitted x items o b =
             omega (arith, piece_of.price, ap (λ (z : Node). price_of z) same)),
         cheap p o.plan t o.thread,
       );
-      need = b.need;
     }
-
--- refused at a node
-pub refused_at : (x : opened.ThreadPlan) (node : ℕ) (items : List CodeItem) (error : EmitError) → IsOwn x node → Begun x node items →
-    IsRefusedAt x node error → IsRefusedThread x error
-refused_at x node items (Temporaries place) own b r =
-    let there = node_exists (plan_in x) own.open_is.plan (thread_of x) own.open_is.thread node own.own in
-    record {
-      node = node;
-      is = there.0;
-      at = there.1;
-      from_first = own.own.from_first;
-      below_end = own.own.below_end;
-      of = r there.0 there.1;
-      earlier = b.need;
-    }
-refused_at x node items Memory own b r = tt
 
 -- ---- Threads
-
-part_same : (g : Graph) (k : ℕ) (a b : Part) → slice_get g.threads k ≡ Some a → slice_get g.threads k ≡ Some b → a ≡ b
-part_same g k a b h i = let both : Some a ≡ Some b = sym h ∙ i in cc
 
 pub of_thread : (x : opened.ThreadPlan) (number : ℕ) (items : List CodeItem) → x.number ≡ number → IsOpen x → IsEmittedThread x items →
     IsEmittedOf (plan_in x) number items
@@ -190,24 +145,7 @@ of_thread x number items e o is = record {
   each = λ t th same. subst (λ (u : Thread). IsEmitted (plan_in x) u items)
       (one_thread (plan_in x) (thread_of x) t o.thread th (omega (arith, e, same))) is.emitted;
   words = is.words;
-  need = λ part there.
-      let same : x.part ≡ part = part_same (plan_in x).graph number x.part part
-      (ap (slice_get (plan_in x).graph.threads) (sym e) ∙ o.thread.nodes) there in
-      subst (λ (q : Part). NeedFewFrom (plan_in x).graph q.first q.end) same is.need;
 }
-
-pub of_refused : (x : opened.ThreadPlan) (number : ℕ) (error : EmitError) → x.number ≡ number → IsOpen x → IsRefusedThread x error →
-    IsRefusedOf (plan_in x) number error
-of_refused x number error e o r part there =
-    let same : x.part ≡ part = part_same (plan_in x).graph number x.part part
-    (ap (slice_get (plan_in x).graph.threads) (sym e) ∙ o.thread.nodes) there in
-    subst (λ (q : Part). IsRefusedFrom (plan_in x).graph q.first q.end error) same r
-
-pub number_done : (x : opened.ThreadPlan) (number : ℕ) (r : Result (Vec CodeItem Global) EmitError) → x.number ≡ number → IsOpen x →
-    MatchResult r (λ (v : Vec CodeItem Global). IsEmittedThread x v.items) (IsRefusedThread x) →
-    MatchResult r (λ (v : Vec CodeItem Global). IsEmittedOf (plan_in x) number v.items) (IsRefusedOf (plan_in x) number)
-number_done x number (Ok v) e o m = of_thread x number v.items e o m
-number_done x number (Err error) e o m = of_refused x number error e o m
 
 pub emitted_more : (p : Plan) (count : ℕ) (threads : List (Vec CodeItem Global)) (items : Vec CodeItem Global) → AreEmittedTo p count threads →
     IsEmittedOf p count items.items → AreEmittedTo p (count + 1) (threads ++ items ∷ [])
@@ -221,44 +159,6 @@ emitted_more p count threads items are is = record {
 }
 
 module _ (p : Plan) (plan : IsPlan p) where
-  there_is : (k : ℕ) (q : Part) → slice_get (parts p.flat.threads 0) k ≡ Some q → slice_get p.graph.threads k ≡ Some q
-  there_is k q h = ap (λ (qs : List Part). slice_get qs k) (threads_are p plan) ∙ h
-
-  here_is : (k : ℕ) (q : Part) → slice_get p.graph.threads k ≡ Some q → slice_get (parts p.flat.threads 0) k ≡ Some q
-  here_is k q h = ap (λ (qs : List Part). slice_get qs k) (sym (threads_are p plan)) ∙ h
-
-  pub all_need_few : (threads : List (Vec CodeItem Global)) → AreEmittedTo p (length p.graph.threads) threads → AllNeedFew p.graph
-  all_need_few threads are node is at =
-      let at' : slice_get (threads_nodes p.flat.threads 0) node ≡ Some is = ap (λ (ns : List Node). slice_get ns node) (sym (nodes_are p plan)) ∙ at in
-      let w = thread_of_node p.flat.threads 0 node is at' in
-      let own = there_is w.0 w.1 w.2.is in
-      let below : w.0 < length threads = omega (arith, slice_get_within p.graph.threads w.0 w.1 own, are.long) in
-      let made = found_in threads w.0 below in
-      (are.each w.0 made.0 made.1).need w.1 own node is (omega (arith, w.2.from_first)) (omega (arith, w.2.below_end)) at
-
-  earlier_few : (count : ℕ) (threads : List (Vec CodeItem Global)) (part : Part) → AreEmittedTo p count threads →
-      slice_get p.graph.threads count ≡ Some part → (node : ℕ) (is : Node) → node < part.first → NodeAt p.graph node is → NeedFew (action_exprs is.action)
-  earlier_few count threads part are there node is low at =
-      let w = thread_before p.flat.threads 0 count part node (here_is count part there) (omega arith) low in
-      let own = there_is w.0 w.1 w.3.is in
-      let below : w.0 < length threads = omega (arith, w.2, are.long) in
-      let made = found_in threads w.0 below in
-      (are.each w.0 made.0 made.1).need w.1 own node is w.3.from_first w.3.below_end at
-
-  pub graph_refused : (count : ℕ) (threads : List (Vec CodeItem Global)) (part : Part) (error : EmitError) → AreEmittedTo p count threads →
-      slice_get p.graph.threads count ≡ Some part → IsRefusedOf p count error → IsRefusedGraph p.graph error
-  graph_refused count threads part (Temporaries place) are there r =
-      let first = r part there in
-      record {
-        node = first.node;
-        is = first.is;
-        at = first.at;
-        first = first.of;
-        earlier = λ other before low at. ⊎_elim (λ l. earlier_few count threads part are there other before l at)
-            (λ l. first.earlier other before l low at) (cases_lt other part.first);
-      }
-  graph_refused count threads part Memory are there r = tt
-
   items_at : (threads : List (Vec CodeItem Global)) (k : ℕ) (items : List CodeItem) →
       slice_get (map (λ (v : Vec CodeItem Global). v.items) threads) k ≡ Some items →
       (v : Vec CodeItem Global) × (slice_get threads k ≡ Some v) × (v.items ≡ items)

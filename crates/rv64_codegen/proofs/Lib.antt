@@ -2,7 +2,7 @@ pub mod Public
 mod Shaped
 mod EvaluationCode
 mod Pieces
-mod RefusedEvaluations
+mod NeededTemporaries
 mod Results
 mod ReadLocals
 mod JoinedAddresses
@@ -10,6 +10,7 @@ mod Addresses
 mod PieceSites
 mod PieceSplits
 mod ClosedPieces
+mod CleanedStores
 mod PiecePlaces
 mod Marks
 mod EmittedThreads

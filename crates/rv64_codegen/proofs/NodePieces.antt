@@ -22,11 +22,11 @@ use Rattle.node_code.specs.Pieces.{Appends, boundary_of}
 use Rattle.thread_code.specs.Plans.{Plan, Thread, IsNodeOf, homes, mask_before}
 use Rattle.thread_code.specs.Programs.{action_nodes}
 use Rattle.rv64_codegen.specs.declared.thread.ThreadPlan as opened
-use Rattle.rv64_codegen.specs.Evaluations.{IsAtHome}
+use Rattle.rv64_codegen.specs.Evaluations.{IsAtHome, NeedFew}
 use Rattle.rv64_codegen.specs.ThreadPieces.{Choices, AreChoices, IsGuarded, IsDoing, IsNodePiece, boundary_before}
 use Rattle.rv64_codegen.specs.links.LiveRegisters.{AreLiveRegisters}
 use Rattle.rv64_codegen.specs.links.Threads.{IsOpen, IsOwn, HasAction, IsKeptFor, Guards, stands, absent}
-use Rattle.rv64_codegen.specs.links.Threads.{GoesToNode, DoesAction, DoesAt, IsPiece, most_doing, list_at}
+use Rattle.rv64_codegen.specs.links.Threads.{GoesToNode, DoesAction, DoesAt, IsPiece, action_exprs, most_doing, list_at}
 use Rattle.rv64_codegen.specs.links.Threads.{plan_in, thread_of, choices_of}
 use Rattle.rv64_codegen.proofs.Homes.{has_homes}
 use Rattle.rv64_codegen.proofs.PlannedNodes.{chosen_stores, IsStoring, sound_node, cheap_node, few_nodes, end_within, thread_below}
@@ -249,6 +249,10 @@ module _ (x : opened.ThreadPlan) (node : ℕ) where
   cheap_at a at =
       let o = at.own.open_is in
       omega (arith, cheap_node q o.plan u o.thread node at.is at.own.own at.at, ap (λ (b : Action). action_nodes b) at.action_is)
+
+  -- its expressions need few enough temporaries
+  pub few_at : (a : Action) (at : HasAction x node a) → NeedFew (action_exprs a)
+  few_at a at = subst (λ (b : Action). NeedFew (action_exprs b)) at.action_is (at.own.open_is.few node at.is at.at)
 
   pub exists_at : (at : IsOwn x node) → node < length q.graph.nodes
   exists_at at =

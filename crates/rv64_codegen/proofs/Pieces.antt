@@ -1,32 +1,90 @@
 -- Evaluations and tests as pieces of a thread's code.
 use Rattle.std.proofs.Common.{◌≡◌, ℕ, ◌+◌, ◌*◌, ◌≤◌, List, [], ◌∷◌, length, refl, ap, sym, ◌∙◌, arith, subst, Bool, true, false, if◌then◌else◌}
-use Rattle.std.specs.Prelude.{not, sum_by}
+use Rattle.std.specs.Prelude.{not, map, sum_by}
+use Rattle.std.proofs.lemmas.List.Sums.{sum_by-cons}
 use Rattle.ido_ints.specs.Operators.{is_zero}
 use Rattle.c_tree.specs.Exprs as e
 use Rattle.c_tree.specs.Prices.{nodes_of}
 use Rattle.c_tree.specs.Values.{value}
 use Rattle.rv64_isa.specs.declared.instr.Instr.{Instr}
 use Rattle.rv64_isa.specs.declared.object.CodeItem.{CodeItem}
-use Rattle.rv64_link.specs.LabelledCode.{most_words_of}
+use Rattle.rv64_isa.specs.declared.instr.Instr.TheVariants.{Lui, Auipc, Jal, Jalr, Branch, Load, Store, OpImmediate}
+use Rattle.rv64_isa.specs.declared.instr.Instr.TheVariants.{ShiftImmediate, ShiftImmediateWord, Op, CboClean, Fence, Ecall}
+use Rattle.rv64_isa.specs.declared.object.CodeItem.TheVariants.{Instruction}
+use Rattle.rv64_link.specs.LabelledCode.{most_words_of, fences_of, fences_in}
 use Rattle.memory_layout.specs.Roles.{is_temporary}
 use Rattle.operator_code.specs.declared.branches.Test.{Test}
 use Rattle.operator_code.specs.ComputingCode.{AreRegisters, passes}
 use Rattle.code_runs.specs.ComputingRuns.{config}
 use Rattle.code_runs.specs.CodeTraces.{Mark}
-use Rattle.expr_code.specs.EvaluationCode.{Homes, Source, EvaluationEnds, IsTestCode, fences_among}
+use Rattle.expr_code.specs.EvaluationCode.{Homes, Source, EvaluationEnds, IsTestCode, impure_of, impure_among}
 use Rattle.node_code.specs.Sites.{Site, begin_of, end_of, label_of}
 use Rattle.node_code.specs.Pieces.{IsComputing, Computes, IsChoice, Chooses, PieceLeads, words_in}
-use Rattle.node_code.proofs.Public.{fragment, weaker}
+use Rattle.node_code.specs.Cleans.{cleans_of, cleans_in}
+use Rattle.node_code.proofs.Public.{cleans_cons, fragment, weaker}
 use Rattle.rv64_codegen.specs.Evaluations.{MayReach, MayEvaluate, may_write, Has, IsAssigned, IsEvaluation, IsTest, IsTested, is_taken, target_nodes}
 use Rattle.rv64_codegen.specs.links.Targets.{IsSelected, IsTurned}
 
-pub is_evaluation : (h : Homes) (target : e.Lvalue) (t : e.Placed) (code : List Instr) (piece : List CodeItem) → IsSelected h target t code →
-    IsComputing code piece → IsEvaluation h target t.expr piece
+-- pure code has no FENCE
+fences_below : (i : Instr) → fences_of (Instruction i) ≤ impure_of i
+fences_below (Lui rd immediate) = omega arith
+fences_below (Auipc rd immediate) = omega arith
+fences_below (Jal rd offset) = omega arith
+fences_below (Jalr rd rs1 offset) = omega arith
+fences_below (Branch condition rs1 rs2 offset) = omega arith
+fences_below (Load kind rd rs1 offset) = omega arith
+fences_below (Store kind rs2 rs1 offset) = omega arith
+fences_below (OpImmediate operation rd rs1 immediate) = omega arith
+fences_below (ShiftImmediate operation rd rs1 count) = omega arith
+fences_below (ShiftImmediateWord operation rd rs1 count) = omega arith
+fences_below (Op operation rd rs1 rs2) = omega arith
+fences_below (CboClean rs1) = omega arith
+fences_below Fence = omega arith
+fences_below Ecall = omega arith
+
+no_fences : (code : List Instr) → impure_among code ≡ 0 → fences_in (map Instruction code) ≡ 0
+no_fences [] h = refl
+no_fences (i ∷ is) h =
+    let all = sum_by-cons impure_of i is in
+    let here = fences_below i in
+    let rest = no_fences is (omega (arith, h, all)) in
+    let sum = sum_by-cons fences_of (Instruction i) (map Instruction is) in
+    omega (arith, h, all, here, rest, sum)
+
+-- nor does it clean a line
+cleans_below : (i : Instr) → cleans_of (Instruction i) ≤ impure_of i
+cleans_below (Lui rd immediate) = omega arith
+cleans_below (Auipc rd immediate) = omega arith
+cleans_below (Jal rd offset) = omega arith
+cleans_below (Jalr rd rs1 offset) = omega arith
+cleans_below (Branch condition rs1 rs2 offset) = omega arith
+cleans_below (Load kind rd rs1 offset) = omega arith
+cleans_below (Store kind rs2 rs1 offset) = omega arith
+cleans_below (OpImmediate operation rd rs1 immediate) = omega arith
+cleans_below (ShiftImmediate operation rd rs1 count) = omega arith
+cleans_below (ShiftImmediateWord operation rd rs1 count) = omega arith
+cleans_below (Op operation rd rs1 rs2) = omega arith
+cleans_below (CboClean rs1) = omega arith
+cleans_below Fence = omega arith
+cleans_below Ecall = omega arith
+
+no_cleans : (code : List Instr) → impure_among code ≡ 0 → cleans_in (map Instruction code) ≡ 0
+no_cleans [] h = refl
+no_cleans (i ∷ is) h =
+    let all = sum_by-cons impure_of i is in
+    let here = cleans_below i in
+    let rest = no_cleans is (omega (arith, h, all)) in
+    let sum = cleans_cons (Instruction i) (map Instruction is) in
+    omega (arith, h, all, here, rest, sum)
+
+pub is_evaluation : (h : Homes) (target : e.Lvalue) (t : e.Expr) (code : List Instr) (piece : List CodeItem) → IsSelected h target t code →
+    IsComputing code piece → IsEvaluation h target t piece
 is_evaluation h target t code piece sel comp = record {
   closed = comp.closed;
-  few = let a : length code ≤ 16 * (target_nodes target + nodes_of t.expr) + 16 = sel.short in
+  few = let a : length code ≤ 16 * (target_nodes target + nodes_of t) + 16 = sel.short in
       let b : sum_by most_words_of piece ≤ length code + 1 = comp.few in omega (arith, a, b);
-  fences = comp.fences ∙ sel.fences;
+  fences = comp.fences ∙ no_fences code sel.pure;
+  cleans = comp.cleans ∙ no_cleans code sel.pure;
   at = λ at. record {
     evaluates = evaluates at (comp.at at);
     marks = (comp.at at).marks;
@@ -35,15 +93,15 @@ is_evaluation h target t code piece sel comp = record {
 }
   where
     evaluates : (at : Site piece) → Computes code piece at → (s : Source) (x : List ℕ) → AreRegisters x → MayReach h s at.linking.environment.around x target →
-        MayEvaluate h s at.linking.environment.around x t.expr →
-        PieceLeads at x (begin_of piece at) (end_of piece at) (Mark ∷ []) (IsAssigned h s target t.expr x)
+        MayEvaluate h s at.linking.environment.around x t →
+        PieceLeads at x (begin_of piece at) (end_of piece at) (Mark ∷ []) (IsAssigned h s target t x)
     evaluates at c s x are reach may =
         let b : ℕ = begin_of piece at in
         let end : EvaluationEnds at.linking.environment.around code (may_write h target)
-        (λ y. Has h s y target (value s.locals s.numbers t.expr)) (config x b) =
+        (λ y. Has h s y target (value s.locals s.numbers t)) (config x b) =
         sel.does.ends s at.linking.environment.around (config x b) (record { registers = are; stands = c.stands; room = c.room }) reach may in
-        weaker at.linking.environment (fragment x b (end_of piece at) (words_in piece at)) (Mark ∷ []) (λ z. z ≡ end.registers) (IsAssigned h s target t.expr x)
-        (λ z f. subst (λ (v : List ℕ). IsAssigned h s target t.expr x v) (sym f) (record { are = end.are; unchanged = end.unchanged; has = end.has }))
+        weaker at.linking.environment (fragment x b (end_of piece at) (words_in piece at)) (Mark ∷ []) (λ z. z ≡ end.registers) (IsAssigned h s target t x)
+        (λ z f. subst (λ (v : List ℕ). IsAssigned h s target t x v) (sym f) (record { are = end.are; unchanged = end.unchanged; has = end.has }))
         (c.computes x end.registers (record { run = end.leads; short = end.short }))
 
 turn : (turned z : Bool) → (if turned then not (not z) else not z) ≡ (if turned then z else not z)
@@ -52,12 +110,13 @@ turn true false = refl
 turn false z = refl
 
 pub is_test : (h : Homes) (t : e.Expr) (turned : Bool) (label : ℕ) (code : List Instr) (other test : Test) (piece : List CodeItem) →
-    length code ≤ 16 * nodes_of t + 8 → fences_among code ≡ 0 →
+    length code ≤ 16 * nodes_of t + 8 → impure_among code ≡ 0 →
     IsTestCode h t other code → IsTurned other test turned → IsChoice code test label piece → IsTest h t turned label piece
 is_test h t turned label code other test piece short none sel turns choice = record {
   closed = choice.closed;
   few = let b : sum_by most_words_of piece ≤ length code + 2 = choice.few in omega (arith, short, b);
-  fences = choice.fences ∙ none;
+  fences = choice.fences ∙ no_fences code none;
+  cleans = choice.cleans ∙ no_cleans code none;
   at = λ at. record {
     tests = tests at (choice.at at);
     marks = (choice.at at).marks;

@@ -1,13 +1,11 @@
 -- What a plan says of all its threads and variables.
-use Rattle.std.proofs.Common.{◌≡◌, refl, ℕ, suc, ◌+◌, ◌<◌, ◌≤◌, List, [], ◌∷◌, length, ◌∙◌, ap, sym, subst, arith, Some, true, ◌||◌, ◌==◌, get_or}
+use Rattle.std.proofs.Common.{◌≡◌, refl, ℕ, suc, ◌+◌, ◌<◌, ◌≤◌, List, [], ◌∷◌, length, ◌∙◌, ap, sym, subst, arith, Some, get_or}
 use Rattle.std.specs.Prelude.{slice_get, slice_index, map, Vec}
 use Rattle.std.specs.Global.{Global}
 use Rattle.std.specs.List.{AllByRecursion}
 use Rattle.std.specs.Option.{option_map}
 use Rattle.std.proofs.lemmas.Option.{slice_get_within, slice_get-map}
 use Rattle.ido_base.specs.declared.limits.TheConstants.{MOST_THREADS}
-use Rattle.ido_ints.specs.declared.kinds.Kind.{Kind}
-use Rattle.ido_ints.specs.Kinds.{bytes_of}
 use Rattle.c_tree.specs.Flats as f
 use Rattle.c_tree.specs.Programs as p
 use Rattle.c_tree.specs.WellFormed.{shape_of, IsVariable, initial_numbers}
@@ -22,7 +20,7 @@ use Rattle.memory_layout.specs.Variables.{AreAddresses, AreCounted, HaveRoom}
 use Rattle.thread_code.specs.Plans.{Plan, Thread, IsPlan, IsThread}
 use Rattle.rv64_codegen.specs.declared.thread.ThreadPlan as opened
 use Rattle.rv64_codegen.specs.links.Emission.{AreRegistersOf, AreListsOf}
-use Rattle.rv64_codegen.specs.links.Threads.{AreCleaned, IsOpen, plan_in, kinds_in}
+use Rattle.rv64_codegen.specs.links.Threads.{AllNeedFew, AreCleaned, IsOpen, plan_in, kinds_in}
 use Rattle.rv64_codegen.proofs.ChosenBoundaries.{read_get}
 use Rattle.rv64_codegen.proofs.Homes.{addresses_are, kinds_there}
 use Rattle.rv64_codegen.proofs.PlannedNodes.{nodes_are, threads_are, sound_node, first_below, end_within}
@@ -115,12 +113,14 @@ module _ (q : Plan) (plan : IsPlan q) where
 abbrev homes_made : List ℕ → List ℕ → Homes
 homes_made addresses registers = record { addresses = addresses; registers = registers }
 
-pub is_open : (x : opened.ThreadPlan) → IsPlan (plan_in x) → AreAddresses (map shape_of (plan_in x).flat.variables) x.frame.addresses.now →
+pub is_open : (x : opened.ThreadPlan) → IsPlan (plan_in x) → AllNeedFew (plan_in x).graph →
+    AreAddresses (map shape_of (plan_in x).flat.variables) x.frame.addresses.now →
     AreCleaned (plan_in x) x.later.now →
     slice_get (plan_in x).graph.threads x.number ≡ Some x.part → AreRegistersOf (plan_in x) x.number x.frame.registers.now →
     AreListsOf (plan_in x) x.number x.frame.registers.now x.live.now → IsOpen x
-is_open x plan addresses later at registers lists = record {
+is_open x plan few addresses later at registers lists = record {
   plan = plan;
+  few = few;
   thread = is_thread (plan_in x) plan x.number x.part x.frame.registers.now at registers;
   homes = ap (λ (places : List ℕ). homes_made places x.frame.registers.now) (addresses_are (plan_in x).flat.variables x.frame.addresses.now addresses);
   lists = lists x.part at;

@@ -1,5 +1,5 @@
 -- What the code of nodes that evaluate and test does, wherever it stands in a thread's linked code.
-use Rattle.std.specs.Prelude.{◌≡◌, ℕ, ◌+◌, ◌*◌, ◌<◌, ◌≤◌, List, [], ◌∷◌, length, slice_index, sum_by, Contains, find, Some, nat_lt, Bool, true, false, not}
+use Rattle.std.specs.Prelude.{◌≡◌, ℕ, ◌+◌, ◌*◌, ◌<◌, ◌≤◌, List, [], ◌∷◌, length, slice_index, sum_by, Bool, true, false, not}
 use Rattle.std.specs.Prelude.{◌==◌, ◌||◌}
 use Rattle.std.specs.Prelude.{if◌then◌else◌}
 use Rattle.std.specs.List.{AllByRecursion}
@@ -18,33 +18,15 @@ use Rattle.memory_layout.specs.Roles.{is_temporary, is_local}
 use Rattle.operator_code.specs.ComputingCode.{AreRegisters, Carries}
 use Rattle.code_runs.specs.ComputingRuns.{Environment}
 use Rattle.code_runs.specs.CodeTraces.{Mark}
-use Rattle.expr_code.specs.declared.selection.SelectError.{SelectError}
-use Rattle.expr_code.specs.declared.selection.SelectError.TheVariants.{Temporaries, Memory}
 use Rattle.expr_code.specs.EvaluationCode as x
 use Rattle.expr_code.specs.EvaluationCode.{Homes, Source}
+use Rattle.node_code.specs.Cleans.{cleans_in}
 use Rattle.node_code.specs.Sites.{Site, begin_of, end_of, label_of}
 use Rattle.node_code.specs.Pieces.{IsClosed, PieceLeads, marks_in, resumes_in}
 
--- ---- Temporaries
-
--- the expressions need few enough
+-- the expressions need few enough temporaries
 abbrev pub NeedFew : List e.Placed → Type 0
 NeedFew xs = AllByRecursion (λ (y : e.Placed). need_of y.expr ≤ MOST_TEMPORARIES) xs
-
--- the expression needs more temporaries than there are
-abbrev pub is_needy : e.Placed → Bool
-is_needy x = nat_lt MOST_TEMPORARIES (need_of x.expr)
-
--- where it is said so one of them needs too many, and the first one is named; want of memory may come at any time
-pub record NeedsTooMany (xs : List e.Placed) : Type 0 where
-  pub one : e.Placed
-  pub among : Contains xs one
-  pub needs : MOST_TEMPORARIES < need_of one.expr
-  pub first : find is_needy xs ≡ Some one
-
-abbrev pub AreRefusedExpressions : List e.Placed → SelectError → Type 0
-AreRefusedExpressions xs (Temporaries place) = (n : NeedsTooMany xs) × (place ≡ n.one.place)
-AreRefusedExpressions xs Memory = Unit {0}
 
 -- ---- What a node evaluates
 
@@ -105,6 +87,7 @@ pub record IsEvaluation (h : Homes) (target : e.Lvalue) (t : e.Expr) (piece : Li
   pub closed : IsClosed piece
   pub few : sum_by most_words_of piece ≤ 16 * (target_nodes target + nodes_of t) + 17
   pub fences : fences_in piece ≡ 0
+  pub cleans : cleans_in piece ≡ 0
   pub at : (at : Site piece) → Evaluates h target t piece at
 
 -- ---- Tests
@@ -130,4 +113,5 @@ pub record IsTest (h : Homes) (t : e.Expr) (turned : Bool) (label : ℕ) (piece 
   pub closed : IsClosed piece
   pub few : sum_by most_words_of piece ≤ 16 * nodes_of t + 10
   pub fences : fences_in piece ≡ 0
+  pub cleans : cleans_in piece ≡ 0
   pub at : (at : Site piece) → Tests h t turned label piece at

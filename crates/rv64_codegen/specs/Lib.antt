@@ -2,5 +2,5 @@ pub mod Evaluations
 pub mod Locals
 pub mod links
 pub mod ThreadPieces
+pub mod StoreCleans
 pub mod Plans
-pub mod RefusedGraphs

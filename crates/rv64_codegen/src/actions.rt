@@ -1,15 +1,10 @@
 //! What nodes do, and how they go on.
-ghost use Rattle.std.specs.Prelude.{◌≡◌, ◌==◌, ◌+◌, [], ◌∷◌, OnOk, MatchResult};
+ghost use Rattle.std.specs.Prelude.{◌≡◌, ◌==◌, ◌+◌, OnOk};
 ghost use Rattle.c_tree.specs.Exprs.{placed_of, lvalue_of};
-ghost use Rattle.c_tree.specs.Temporaries.{assign_exprs};
 ghost use Rattle.flow_graph.specs.Nodes.{Eval, Store, Test, Lock, Unlock, End, action_of};
 ghost use Rattle.node_code.specs.Pieces.{Appends};
-ghost use Rattle.rv64_codegen.specs.Evaluations.{NeedFew};
-ghost use Rattle.rv64_codegen.specs.RefusedGraphs.{IsRefusedBy, action_exprs};
-ghost use Rattle.rv64_codegen.specs.links.Errors.{emit_result};
-ghost use Rattle.rv64_codegen.specs.links.Threads.{IsOwn, HasAction, DoesAction, DoesAt, GoesToNode, NeedFewAt, IsRefusedAt};
+ghost use Rattle.rv64_codegen.specs.links.Threads.{IsOwn, HasAction, DoesAction, DoesAt, GoesToNode};
 
-use crate::error::{EmitError, emit_error};
 use crate::evaluations::push_evaluation;
 use crate::tests_of_conditions::push_test;
 use crate::thread::ThreadPlan;
@@ -53,21 +48,13 @@ fn push_eval(
     target: &Lvalue,
     value: &Placed,
     next: usize,
-) -> Result<(), EmitError>
+) -> Result<(), OutOfMemory>
     requires { HasAction thread.now node (Eval (lvalue_of target.now) (placed_of value.now) next) }
-    ensures { MatchResult result
-        (λ _. NeedFew (assign_exprs (lvalue_of target.now) (placed_of value.now)) ×
-        Appends items.old.items items.new.items (DoesAction thread.now node (Eval (lvalue_of target.now) (placed_of value.now) next)))
-        (λ error. IsRefusedBy (assign_exprs (lvalue_of target.now) (placed_of value.now)) error) }
+    ensures { OnOk result
+        (Appends items.old.items items.new.items (DoesAction thread.now node (Eval (lvalue_of target.now) (placed_of value.now) next))) }
 {
-    match push_evaluation(alloc, items, &thread.frame, target, value) {
-        Ok(()) => {}
-        Err(error) => return Err(emit_error(error)),
-    }
-    match push_fragment(items, thread, node, next) {
-        Ok(()) => Ok(()),
-        Err(_) => Err(EmitError::Memory),
-    }
+    push_evaluation(alloc, items, &thread.frame, target, value)?;
+    push_fragment(items, thread, node, next)
 }
 
 /// A test whose first path is what follows: it is turned round.
@@ -78,18 +65,13 @@ fn push_turned(
     node: usize,
     condition: &Placed,
     fails: usize,
-) -> Result<(), EmitError>
+) -> Result<(), OutOfMemory>
     requires { HasAction thread.now node (Test (placed_of condition.now) (node + 1) fails) }
-    ensures { MatchResult result
-        (λ _. NeedFew (placed_of condition.now ∷ []) ×
-        Appends items.old.items items.new.items (DoesAction thread.now node (Test (placed_of condition.now) (node + 1) fails)))
-        (λ error. IsRefusedBy (placed_of condition.now ∷ []) error) }
+    ensures { OnOk result
+        (Appends items.old.items items.new.items (DoesAction thread.now node (Test (placed_of condition.now) (node + 1) fails))) }
 {
     let to = thread.label(fails);
-    match push_test(alloc, items, &thread.frame, condition, true, to) {
-        Ok(()) => Ok(()),
-        Err(error) => Err(emit_error(error)),
-    }
+    push_test(alloc, items, &thread.frame, condition, true, to)
 }
 
 /// A test that is not turned round.
@@ -101,22 +83,14 @@ fn push_straight(
     condition: &Placed,
     holds: usize,
     fails: usize,
-) -> Result<(), EmitError>
+) -> Result<(), OutOfMemory>
     requires { HasAction thread.now node (Test (placed_of condition.now) holds fails) }
-    ensures { MatchResult result
-        (λ _. NeedFew (placed_of condition.now ∷ []) ×
-        Appends items.old.items items.new.items (DoesAction thread.now node (Test (placed_of condition.now) holds fails)))
-        (λ error. IsRefusedBy (placed_of condition.now ∷ []) error) }
+    ensures { OnOk result
+        (Appends items.old.items items.new.items (DoesAction thread.now node (Test (placed_of condition.now) holds fails))) }
 {
     let to = thread.label(holds);
-    match push_test(alloc, items, &thread.frame, condition, false, to) {
-        Ok(()) => {}
-        Err(error) => return Err(emit_error(error)),
-    }
-    match push_fragment(items, thread, node, fails) {
-        Ok(()) => Ok(()),
-        Err(_) => Err(EmitError::Memory),
-    }
+    push_test(alloc, items, &thread.frame, condition, false, to)?;
+    push_fragment(items, thread, node, fails)
 }
 
 /// A test: where the node that it leads to where the condition isn't 0 follows, it is turned round.
@@ -128,12 +102,10 @@ fn push_choosing(
     condition: &Placed,
     holds: usize,
     fails: usize,
-) -> Result<(), EmitError>
+) -> Result<(), OutOfMemory>
     requires { HasAction thread.now node (Test (placed_of condition.now) holds fails) }
-    ensures { MatchResult result
-        (λ _. NeedFew (placed_of condition.now ∷ []) ×
-        Appends items.old.items items.new.items (DoesAction thread.now node (Test (placed_of condition.now) holds fails)))
-        (λ error. IsRefusedBy (placed_of condition.now ∷ []) error) }
+    ensures { OnOk result
+        (Appends items.old.items items.new.items (DoesAction thread.now node (Test (placed_of condition.now) holds fails))) }
 {
     if follows(node, holds) {
         push_turned(alloc, items, thread, node, condition, fails)
@@ -204,16 +176,6 @@ fn push_ending(
     push_end(items)
 }
 
-/// The answer, where only want of memory can be the reason.
-fn answer(done: Result<(), OutOfMemory>) -> Result<(), EmitError>
-    ensures { result ≡ emit_result done }
-{
-    match done {
-        Ok(()) => Ok(()),
-        Err(_) => Err(EmitError::Memory),
-    }
-}
-
 /// What a node does, and how it goes on.
 fn push_doing(
     alloc: Global,
@@ -221,11 +183,9 @@ fn push_doing(
     thread: &ThreadPlan,
     node: usize,
     action: Action,
-) -> Result<(), EmitError>
+) -> Result<(), OutOfMemory>
     requires { HasAction thread.now node (action_of action) }
-    ensures { MatchResult result
-        (λ _. NeedFew (action_exprs (action_of action.entry)) × Appends items.old.items items.new.items (DoesAction thread.now node (action_of action.entry)))
-        (λ error. IsRefusedBy (action_exprs (action_of action.entry)) error) }
+    ensures { OnOk result (Appends items.old.items items.new.items (DoesAction thread.now node (action_of action.entry))) }
 {
     match action {
         Action::Eval {
@@ -237,19 +197,15 @@ fn push_doing(
             variable,
             kind,
             next,
-        } => answer(push_making(items, thread, node, variable, kind, next)),
+        } => push_making(items, thread, node, variable, kind, next),
         Action::Test {
             condition,
             holds,
             fails,
         } => push_choosing(alloc, items, thread, node, condition, holds, fails),
-        Action::Lock { mutex, next } => answer(push_taking(
-            alloc, items, thread, node, mutex, next,
-        )),
-        Action::Unlock { mutex, next } => {
-            answer(push_giving(alloc, items, thread, node, mutex, next))
-        }
-        Action::End => answer(push_ending(items, thread, node)),
+        Action::Lock { mutex, next } => push_taking(alloc, items, thread, node, mutex, next),
+        Action::Unlock { mutex, next } => push_giving(alloc, items, thread, node, mutex, next),
+        Action::End => push_ending(items, thread, node),
     }
 }
 
@@ -259,11 +215,9 @@ pub(crate) fn push_action(
     items: &mut Vec<CodeItem>,
     thread: &ThreadPlan,
     node: usize,
-) -> Result<(), EmitError>
+) -> Result<(), OutOfMemory>
     requires { IsOwn thread.now node }
-    ensures { MatchResult result
-        (λ _. NeedFewAt thread.now node × Appends items.old.items items.new.items (DoesAt thread.now node))
-        (λ error. IsRefusedAt thread.now node error) }
+    ensures { OnOk result (Appends items.old.items items.new.items (DoesAt thread.now node)) }
 {
     let action = thread.plan.graph.nodes[node].action;
     push_doing(alloc, items, thread, node, action)

@@ -1,21 +1,21 @@
 //! The code of all threads.
-ghost use Rattle.std.specs.Prelude.{◌≡◌, ◌<◌, ◌≤◌, ◌++◌, ◌∷◌, [], ℕ, length, map, sum_by, All, IfOk, IfErr, OnOk, MatchResult};
+ghost use Rattle.std.specs.Prelude.{◌≡◌, ◌<◌, ◌≤◌, ◌++◌, ◌∷◌, [], ℕ, length, map, sum_by, All, None, IfOk, OnOk};
 ghost use Rattle.ido_base.specs.declared.limits.TheConstants.{MOST_THREADS, MOST_CODE_WORDS};
 ghost use Rattle.rv64_isa.specs.declared.object.CodeItem.TheVariants.{Here};
 ghost use Rattle.rv64_link.specs.LabelledCode.{most_words_of};
 ghost use Rattle.rv64_link.specs.links.Threads.{items_in};
 ghost use Rattle.node_code.specs.Pieces.{Appends};
+ghost use Rattle.c_tree.specs.Temporaries.{temporaries_fault};
 ghost use Rattle.c_tree.specs.WellFormed.{shape_of, initial_numbers};
 ghost use Rattle.memory_layout.specs.Variables.{AreInitial, AreAddresses};
 ghost use Rattle.thread_code.specs.Plans.{IsPlan};
 ghost use Rattle.rv64_codegen.specs.Plans.{plan_of};
+ghost use Rattle.rv64_codegen.specs.StoreCleans.{AllCleanAtOnce};
 ghost use Rattle.rv64_codegen.specs.ThreadPieces.{IsCode};
-ghost use Rattle.rv64_codegen.specs.RefusedGraphs.{IsRefusedGraph, AllNeedFew};
-ghost use Rattle.rv64_codegen.specs.links.Threads.{IsOpen, IsOwn, AreCleaned, NeedFewAt, IsRefusedAt, IsPiece};
-ghost use Rattle.rv64_codegen.specs.links.Emission.{IsEmittedThread, IsRefusedThread, IsEmittedOf, IsRefusedOf, AreRegistersOf, AreListsOf, AreEmittedTo};
+ghost use Rattle.rv64_codegen.specs.links.Threads.{IsOpen, IsOwn, AreCleaned, AllNeedFew, IsPiece};
+ghost use Rattle.rv64_codegen.specs.links.Emission.{IsEmittedThread, IsEmittedOf, AreRegistersOf, AreListsOf, AreEmittedTo};
 
 use crate::actions::push_action;
-use crate::error::EmitError;
 use crate::guards::push_guard;
 use crate::initial::initial_bytes;
 use crate::plan::Plan;
@@ -48,31 +48,23 @@ fn push_node(
     items: &mut Vec<CodeItem>,
     thread: &ThreadPlan,
     node: usize,
-) -> Result<(), EmitError>
+) -> Result<(), OutOfMemory>
     requires { IsOwn thread.now node }
-    ensures { MatchResult result
-        (λ _. NeedFewAt thread.now node × Appends items.old.items items.new.items (IsPiece thread.now node))
-        (λ error. IsRefusedAt thread.now node error) }
+    ensures { OnOk result (Appends items.old.items items.new.items (IsPiece thread.now node)) }
 {
-    match push_guard(alloc, items, thread, node) {
-        Ok(()) => {}
-        Err(_) => return Err(EmitError::Memory),
-    }
+    push_guard(alloc, items, thread, node)?;
     push_action(alloc, items, thread, node)
 }
 
 /// The code of a thread: node after node in their order, each after its label.
-fn thread_items(alloc: Global, thread: &ThreadPlan) -> Result<Vec<CodeItem>, EmitError>
+fn thread_items(alloc: Global, thread: &ThreadPlan) -> Result<Vec<CodeItem>, OutOfMemory>
     requires { IsOpen thread.now }
-    ensures { MatchResult result (λ r. IsEmittedThread thread.now r.items) (IsRefusedThread thread.now) }
+    ensures { IfOk result (λ r. IsEmittedThread thread.now r.items) }
 {
     let mut items = Vec::new(alloc);
     for node in thread.part.first..thread.part.end {
         push_label(&mut items, thread.label(node))?;
-        match push_node(alloc, &mut items, thread, node) {
-            Ok(()) => {}
-            Err(error) => return Err(error),
-        }
+        push_node(alloc, &mut items, thread, node)?;
     }
     Ok(items)
 }
@@ -86,14 +78,15 @@ fn emit_from<'a>(
     registers: &'a [Register],
     live: &'a [Vec<Register>],
     number: usize,
-) -> Result<Vec<CodeItem>, EmitError>
+) -> Result<Vec<CodeItem>, OutOfMemory>
     requires plan { IsPlan (plan_of plan.now) }
+    requires few { AllNeedFew (plan_of plan.now).graph }
     requires addresses { AreAddresses (map shape_of (plan_of plan.now).flat.variables) addresses.now }
     requires later { AreCleaned (plan_of plan.now) later.now }
     requires number { number < length plan.now.graph.now.threads.items }
     requires registers { AreRegistersOf (plan_of plan.now) number registers.now }
     requires live { AreListsOf (plan_of plan.now) number registers.now live.now }
-    ensures { MatchResult result (λ r. IsEmittedOf (plan_of plan.now) number r.items) (IsRefusedOf (plan_of plan.now) number) }
+    ensures { IfOk result (λ r. IsEmittedOf (plan_of plan.now) number r.items) }
 {
     let thread = ThreadPlan {
         plan,
@@ -106,7 +99,8 @@ fn emit_from<'a>(
         live,
         later,
     };
-    thread_items(alloc, &thread)
+    let items = thread_items(alloc, &thread)?;
+    Ok(items)
 }
 
 /// The code of the thread of this number.
@@ -116,22 +110,17 @@ fn emit_thread(
     addresses: &[u32],
     later: &[bool],
     number: usize,
-) -> Result<Vec<CodeItem>, EmitError>
+) -> Result<Vec<CodeItem>, OutOfMemory>
     requires plan { IsPlan (plan_of plan.now) }
+    requires few { AllNeedFew (plan_of plan.now).graph }
     requires addresses { AreAddresses (map shape_of (plan_of plan.now).flat.variables) addresses.now }
     requires later { AreCleaned (plan_of plan.now) later.now }
     requires number { number < length plan.now.graph.now.threads.items }
-    ensures { MatchResult result (λ r. IsEmittedOf (plan_of plan.now) number r.items) (IsRefusedOf (plan_of plan.now) number) }
+    ensures { IfOk result (λ r. IsEmittedOf (plan_of plan.now) number r.items) }
 {
-    let registers = match registers(alloc, &plan.colours.threads[number]) {
-        Ok(registers) => registers,
-        Err(_) => return Err(EmitError::Memory),
-    };
+    let registers = registers(alloc, &plan.colours.threads[number])?;
     let part = plan.graph.threads[number];
-    let live = match live_lists(alloc, plan, &registers, part) {
-        Ok(live) => live,
-        Err(_) => return Err(EmitError::Memory),
-    };
+    let live = live_lists(alloc, plan, &registers, part)?;
     emit_from(
         alloc,
         &*plan,
@@ -149,20 +138,17 @@ fn emit_threads(
     plan: &Plan,
     addresses: &[u32],
     later: &[bool],
-) -> Result<Vec<Vec<CodeItem>>, EmitError>
+) -> Result<Vec<Vec<CodeItem>>, OutOfMemory>
     requires plan { IsPlan (plan_of plan.now) }
+    requires few { AllNeedFew (plan_of plan.now).graph }
     requires addresses { AreAddresses (map shape_of (plan_of plan.now).flat.variables) addresses.now }
     requires later { AreCleaned (plan_of plan.now) later.now }
-    ensures { MatchResult result
-        (λ r. AreEmittedTo (plan_of plan.now) (length plan.now.graph.now.threads.items) r.items)
-        (IsRefusedGraph (plan_of plan.now).graph) }
+    ensures { IfOk result (λ r. AreEmittedTo (plan_of plan.now) (length plan.now.graph.now.threads.items) r.items) }
 {
     let mut threads = Vec::new(alloc);
     for number in 0..plan.graph.threads.len() {
-        match emit_thread(alloc, plan, addresses, later, number) {
-            Ok(items) => threads.push(items)?,
-            Err(error) => return Err(error),
-        }
+        let items = emit_thread(alloc, plan, addresses, later, number)?;
+        threads.push(items)?;
     }
     Ok(threads)
 }
@@ -186,26 +172,24 @@ fn places(alloc: Global, plan: &Plan) -> Result<Vec<u32>, OutOfMemory>
 }
 
 /// The code of a program: that of each thread, the bytes of the variables, and the number of mutexes.
-/// Wherever the items are linked, with room, they are the thread's code. An error names the first expression, in the order of nodes
-/// and an index before its value, that needs more than four temporaries.
-pub fn emit(alloc: Global, plan: &Plan) -> Result<Code, EmitError>
-    requires { IsPlan (plan_of plan.now) }
+/// Wherever the items are linked, with room, they are the thread's code; a store's line is cleaned at once where no later store of the region cleans it,
+/// and outside the code of boundaries no other line is. Where no expression needs too many temporaries, want of memory is all that may
+/// hinder it.
+pub fn emit(alloc: Global, plan: &Plan) -> Result<Code, OutOfMemory>
+    requires plan { IsPlan (plan_of plan.now) }
+    requires shallow { temporaries_fault (plan_of plan.now).flat ≡ None }
     ensures code { IfOk result (λ code. IsCode (plan_of plan.now) (map items_in code.threads.items)) }
+    ensures cleans { IfOk result (λ code. AllCleanAtOnce (plan_of plan.now) (map items_in code.threads.items)) }
     ensures threads { IfOk result (λ code. length code.threads.items ≤ MOST_THREADS) }
     ensures few { IfOk result (λ code. All (λ items. sum_by most_words_of items.items ≤ MOST_CODE_WORDS) code.threads.items) }
     ensures initial { IfOk result (λ code.
         AreInitial (map shape_of (plan_of plan.now).flat.variables) (map initial_numbers (plan_of plan.now).flat.variables) code.initial.items) }
     ensures mutexes { IfOk result (λ code. code.mutexes ≡ length (plan_of plan.now).flat.mutexes) }
-    ensures temporaries { IfOk result (λ _. AllNeedFew (plan_of plan.now).graph) }
-    ensures refused { IfErr result (IsRefusedGraph (plan_of plan.now).graph) }
 {
     let addresses = places(alloc, plan)?;
     let initial = initial_bytes(alloc, &plan.flat.variables)?;
     let later = cleaned(alloc, plan)?;
-    let threads = match emit_threads(alloc, plan, &addresses, &later) {
-        Ok(threads) => threads,
-        Err(error) => return Err(error),
-    };
+    let threads = emit_threads(alloc, plan, &addresses, &later)?;
     Ok(Code {
         threads,
         initial,

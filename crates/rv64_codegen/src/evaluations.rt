@@ -1,17 +1,18 @@
 //! Evaluations.
-ghost use Rattle.std.specs.Prelude.{◌≡◌, ◌≤◌, ◌+◌, MatchResult};
+ghost use Rattle.std.specs.Prelude.{◌≡◌, ◌≤◌, ◌+◌, IfOk, OnOk};
 ghost use Rattle.ido_base.specs.declared.limits.TheConstants.{MOST_PRICE};
 ghost use Rattle.c_tree.specs.Exprs.{expr_of, placed_of, lvalue_of};
 ghost use Rattle.c_tree.specs.Prices.{nodes_of, node_price};
 ghost use Rattle.c_tree.specs.Temporaries.{assign_exprs};
 ghost use Rattle.expr_code.specs.EvaluationCode.{AreAtHome, homes_of};
 ghost use Rattle.node_code.specs.Pieces.{Appends};
-ghost use Rattle.rv64_codegen.specs.Evaluations.{AreRefusedExpressions, NeedFew, IsAtHome, IsEvaluation, target_nodes};
+ghost use Rattle.rv64_codegen.specs.Evaluations.{NeedFew, IsAtHome, IsEvaluation, target_nodes};
 ghost use Rattle.rv64_codegen.specs.links.Targets.{IsSelected};
 
 use crate::targets::{Assigned, element_code, local_code, variable_code};
 use c_tree::expr::{Lvalue, Placed};
-use expr_code::{Frame, SelectError};
+use expr_code::Frame;
+use ido_base::memory::OutOfMemory;
 use node_code::push_computing;
 use rv64_isa::instr::Instr;
 use rv64_isa::object::CodeItem;
@@ -23,13 +24,12 @@ fn target_code(
     frame: &Frame,
     target: &Lvalue,
     value: &Placed,
-) -> Result<Vec<Instr>, SelectError>
+) -> Result<Vec<Instr>, OutOfMemory>
     requires target { IsAtHome (homes_of frame.now) (lvalue_of target.now) }
     requires home { AreAtHome (homes_of frame.now) (expr_of value.now.expr) }
+    requires few { NeedFew (assign_exprs (lvalue_of target.now) (placed_of value.now)) }
     requires price { node_price (target_nodes (lvalue_of target.now) + nodes_of (expr_of value.now.expr)) ≤ MOST_PRICE }
-    ensures { MatchResult result
-        (λ code. IsSelected (homes_of frame.now) (lvalue_of target.now) (placed_of value.now) code.items)
-        (λ error. AreRefusedExpressions (assign_exprs (lvalue_of target.now) (placed_of value.now)) error) }
+    ensures { IfOk result (λ code. IsSelected (homes_of frame.now) (lvalue_of target.now) (expr_of value.now.expr) code.items) }
 {
     match target {
         Lvalue::Local { local, kind } => local_code(alloc, frame, *local, *kind, value),
@@ -69,21 +69,14 @@ pub fn push_evaluation(
     frame: &Frame,
     target: &Lvalue,
     value: &Placed,
-) -> Result<(), SelectError>
+) -> Result<(), OutOfMemory>
     requires target { IsAtHome (homes_of frame.now) (lvalue_of target.now) }
     requires home { AreAtHome (homes_of frame.now) (expr_of value.now.expr) }
+    requires few { NeedFew (assign_exprs (lvalue_of target.now) (placed_of value.now)) }
     requires price { node_price (target_nodes (lvalue_of target.now) + nodes_of (expr_of value.now.expr)) ≤ MOST_PRICE }
-    ensures { MatchResult result
-        (λ _. NeedFew (assign_exprs (lvalue_of target.now) (placed_of value.now)) ×
-        Appends items.old.items items.new.items (IsEvaluation (homes_of frame.now) (lvalue_of target.now) (expr_of value.now.expr)))
-        (λ error. AreRefusedExpressions (assign_exprs (lvalue_of target.now) (placed_of value.now)) error) }
+    ensures { OnOk result
+        (Appends items.old.items items.new.items (IsEvaluation (homes_of frame.now) (lvalue_of target.now) (expr_of value.now.expr))) }
 {
-    let code = match target_code(alloc, frame, target, value) {
-        Ok(code) => code,
-        Err(error) => return Err(error),
-    };
-    match push_computing(items, &code) {
-        Ok(()) => Ok(()),
-        Err(_) => Err(SelectError::Memory),
-    }
+    let code = target_code(alloc, frame, target, value)?;
+    push_computing(items, &code)
 }

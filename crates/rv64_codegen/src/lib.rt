@@ -3,7 +3,6 @@
 
 mod actions;
 mod emission;
-mod error;
 mod evaluations;
 mod guards;
 mod initial;
@@ -15,7 +14,6 @@ mod tests_of_conditions;
 mod thread;
 
 pub use emission::emit;
-pub use error::EmitError;
 pub use evaluations::push_evaluation;
 pub use plan::Plan;
 pub use tests_of_conditions::push_test;

@@ -1,18 +1,14 @@
 //! Code that evaluates what is assigned.
-ghost use Rattle.std.specs.Prelude.{◌≡◌, ◌<◌, ◌≤◌, ◌+◌, ◌++◌, [], ◌∷◌, length, slice_index, IfOk, MatchResult, true};
-ghost use Rattle.ido_base.specs.declared.limits.TheConstants.{MOST_PRICE};
+ghost use Rattle.std.specs.Prelude.{◌≡◌, ◌<◌, ◌≤◌, ◌+◌, ◌++◌, length, slice_index, IfOk, true};
+ghost use Rattle.ido_base.specs.declared.limits.TheConstants.{MOST_PRICE, MOST_TEMPORARIES};
 ghost use Rattle.memory_layout.specs.Roles.{is_local};
 ghost use Rattle.c_tree.specs.Exprs.{expr_of, placed_of, ToLocal, ToVariable, ToElement};
-ghost use Rattle.c_tree.specs.Prices.{nodes_of, node_price};
-ghost use Rattle.c_tree.specs.Temporaries.{assign_exprs};
+ghost use Rattle.c_tree.specs.Prices.{need_of, nodes_of, node_price};
 ghost use Rattle.expr_code.specs.EvaluationCode.{AreAtHome, homes_of};
-ghost use Rattle.rv64_codegen.specs.Evaluations.{AreRefusedExpressions};
 ghost use Rattle.rv64_codegen.specs.links.Targets.{IsSelected};
 
 use c_tree::expr::Placed;
-use expr_code::{
-    Frame, SelectError, select_converted, select_element_address, select_variable_address,
-};
+use expr_code::{Frame, select_converted, select_element_address, select_variable_address};
 use ido_base::memory::OutOfMemory;
 use ido_base::place::Place;
 use ido_ints::Kind;
@@ -49,16 +45,17 @@ pub(crate) fn local_code(
     local: u32,
     kind: Kind,
     value: &Placed,
-) -> Result<Vec<Instr>, SelectError>
+) -> Result<Vec<Instr>, OutOfMemory>
     requires local { local < length frame.now.registers.now }
     requires register { is_local (slice_index frame.now.registers.now local) ≡ true }
     requires home { AreAtHome (homes_of frame.now) (expr_of value.now.expr) }
+    requires need { need_of (expr_of value.now.expr) ≤ MOST_TEMPORARIES }
     requires price { node_price (nodes_of (expr_of value.now.expr)) ≤ MOST_PRICE }
-    ensures { MatchResult result
-        (λ code. IsSelected (homes_of frame.now) (ToLocal local kind) (placed_of value.now) code.items)
-        (λ error. AreRefusedExpressions (assign_exprs (ToLocal local kind) (placed_of value.now)) error) }
+    ensures { IfOk result (λ code. IsSelected (homes_of frame.now) (ToLocal local kind) (expr_of value.now.expr) code.items) }
 {
-    select_converted(alloc, value, kind, frame, frame.registers[local as usize])
+    let register = frame.registers[local as usize];
+    let code = select_converted(alloc, &value.expr, kind, frame, register)?;
+    Ok(code)
 }
 
 /// x28 takes the address of a variable that is no array, and x29 the value.
@@ -67,26 +64,18 @@ pub(crate) fn variable_code(
     frame: &Frame,
     assigned: Assigned,
     value: &Placed,
-) -> Result<Vec<Instr>, SelectError>
+) -> Result<Vec<Instr>, OutOfMemory>
     requires variable { assigned.variable < length frame.now.addresses.now }
     requires home { AreAtHome (homes_of frame.now) (expr_of value.now.expr) }
+    requires need { need_of (expr_of value.now.expr) ≤ MOST_TEMPORARIES }
     requires price { node_price (nodes_of (expr_of value.now.expr)) ≤ MOST_PRICE }
-    ensures { MatchResult result
-        (λ code. IsSelected (homes_of frame.now) (ToVariable assigned.place assigned.variable assigned.kind) (placed_of value.now) code.items)
-        (λ error. AreRefusedExpressions (assign_exprs (ToVariable assigned.place assigned.variable assigned.kind) (placed_of value.now)) error) }
+    ensures { IfOk result (λ code.
+        IsSelected (homes_of frame.now) (ToVariable assigned.place assigned.variable assigned.kind) (expr_of value.now.expr) code.items) }
 {
-    let Ok(address) = select_variable_address(alloc, assigned.variable, frame, PENDING_ADDRESS)
-    else {
-        return Err(SelectError::Memory);
-    };
-    let value = match select_converted(alloc, value, assigned.kind, frame, PENDING_VALUE) {
-        Ok(code) => code,
-        Err(error) => return Err(error),
-    };
-    match joined(address, &value) {
-        Ok(code) => Ok(code),
-        Err(_) => Err(SelectError::Memory),
-    }
+    let address = select_variable_address(alloc, assigned.variable, frame, PENDING_ADDRESS)?;
+    let value = select_converted(alloc, &value.expr, assigned.kind, frame, PENDING_VALUE)?;
+    let code = joined(address, &value)?;
+    Ok(code)
 }
 
 /// x28 takes the address of the element of an array, and x29 the value.
@@ -96,34 +85,26 @@ pub(crate) fn element_code(
     assigned: Assigned,
     index: &Placed,
     value: &Placed,
-) -> Result<Vec<Instr>, SelectError>
+) -> Result<Vec<Instr>, OutOfMemory>
     requires variable { assigned.variable < length frame.now.addresses.now }
     requires index { AreAtHome (homes_of frame.now) (expr_of index.now.expr) }
     requires home { AreAtHome (homes_of frame.now) (expr_of value.now.expr) }
+    requires need_index { need_of (expr_of index.now.expr) ≤ MOST_TEMPORARIES }
+    requires need { need_of (expr_of value.now.expr) ≤ MOST_TEMPORARIES }
     requires price { node_price (nodes_of (expr_of index.now.expr) + nodes_of (expr_of value.now.expr)) ≤ MOST_PRICE }
-    ensures { MatchResult result
-        (λ code. IsSelected (homes_of frame.now) (ToElement assigned.place assigned.variable assigned.kind (placed_of index.now))
-        (placed_of value.now) code.items)
-        (λ error. AreRefusedExpressions
-        (assign_exprs (ToElement assigned.place assigned.variable assigned.kind (placed_of index.now)) (placed_of value.now)) error) }
+    ensures { IfOk result (λ code.
+        IsSelected (homes_of frame.now) (ToElement assigned.place assigned.variable assigned.kind (placed_of index.now))
+        (expr_of value.now.expr) code.items) }
 {
-    let address = match select_element_address(
+    let address = select_element_address(
         alloc,
         assigned.variable,
         assigned.kind,
         index,
         frame,
         PENDING_ADDRESS,
-    ) {
-        Ok(code) => code,
-        Err(error) => return Err(error),
-    };
-    let value = match select_converted(alloc, value, assigned.kind, frame, PENDING_VALUE) {
-        Ok(code) => code,
-        Err(error) => return Err(error),
-    };
-    match joined(address, &value) {
-        Ok(code) => Ok(code),
-        Err(_) => Err(SelectError::Memory),
-    }
+    )?;
+    let value = select_converted(alloc, &value.expr, assigned.kind, frame, PENDING_VALUE)?;
+    let code = joined(address, &value)?;
+    Ok(code)
 }

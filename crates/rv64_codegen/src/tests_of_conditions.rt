@@ -1,15 +1,16 @@
 //! Tests.
-ghost use Rattle.std.specs.Prelude.{◌≡◌, ◌≤◌, [], ◌∷◌, MatchResult};
-ghost use Rattle.ido_base.specs.declared.limits.TheConstants.{MOST_PRICE};
-ghost use Rattle.c_tree.specs.Exprs.{expr_of, placed_of};
-ghost use Rattle.c_tree.specs.Prices.{nodes_of, node_price};
+ghost use Rattle.std.specs.Prelude.{◌≡◌, ◌≤◌, OnOk};
+ghost use Rattle.ido_base.specs.declared.limits.TheConstants.{MOST_PRICE, MOST_TEMPORARIES};
+ghost use Rattle.c_tree.specs.Exprs.{expr_of};
+ghost use Rattle.c_tree.specs.Prices.{need_of, nodes_of, node_price};
 ghost use Rattle.expr_code.specs.EvaluationCode.{AreAtHome, homes_of};
 ghost use Rattle.node_code.specs.Pieces.{Appends};
-ghost use Rattle.rv64_codegen.specs.Evaluations.{AreRefusedExpressions, NeedFew, IsTest};
+ghost use Rattle.rv64_codegen.specs.Evaluations.{IsTest};
 ghost use Rattle.rv64_codegen.specs.links.Targets.{IsTurned};
 
 use c_tree::expr::Placed;
-use expr_code::{Frame, SelectError, select_test};
+use expr_code::{Frame, select_test};
+use ido_base::memory::OutOfMemory;
 use node_code::push_choice;
 use operator_code::Test;
 use rv64_isa::object::{CodeItem, Label};
@@ -31,21 +32,14 @@ pub fn push_test(
     condition: &Placed,
     is_turned: bool,
     to: Label,
-) -> Result<(), SelectError>
+) -> Result<(), OutOfMemory>
     requires home { AreAtHome (homes_of frame.now) (expr_of condition.now.expr) }
+    requires need { need_of (expr_of condition.now.expr) ≤ MOST_TEMPORARIES }
     requires price { node_price (nodes_of (expr_of condition.now.expr)) ≤ MOST_PRICE }
-    ensures { MatchResult result
-        (λ _. NeedFew (placed_of condition.now ∷ []) ×
-        Appends items.old.items items.new.items (IsTest (homes_of frame.now) (expr_of condition.now.expr) is_turned to.0))
-        (λ error. AreRefusedExpressions (placed_of condition.now ∷ []) error) }
+    ensures { OnOk result
+        (Appends items.old.items items.new.items (IsTest (homes_of frame.now) (expr_of condition.now.expr) is_turned to.0)) }
 {
-    let selected = match select_test(alloc, condition, frame) {
-        Ok(selected) => selected,
-        Err(error) => return Err(error),
-    };
+    let selected = select_test(alloc, &condition.expr, frame)?;
     let test = turned(selected.test, is_turned);
-    match push_choice(items, &selected.code, test, to) {
-        Ok(()) => Ok(()),
-        Err(_) => Err(SelectError::Memory),
-    }
+    push_choice(items, &selected.code, test, to)
 }

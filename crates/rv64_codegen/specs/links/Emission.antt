@@ -1,60 +1,27 @@
 -- The code of some threads.
-use Rattle.std.specs.Prelude.{◌≡◌, ℕ, ◌<◌, ◌≤◌, List, length, map, slice_get, slice_index, sum_by, Some, Vec}
+use Rattle.std.specs.Prelude.{◌≡◌, ℕ, ◌≤◌, List, length, map, slice_get, slice_index, sum_by, Some, Vec}
 use Rattle.std.specs.Global.{Global}
-use Rattle.ido_base.specs.declared.place.Place.{Place}
 use Rattle.ido_base.specs.declared.limits.TheConstants.{MOST_CODE_WORDS}
 use Rattle.rv64_isa.specs.declared.object.CodeItem.{CodeItem}
 use Rattle.rv64_link.specs.LabelledCode.{most_words_of}
 use Rattle.memory_layout.specs.declared.roles.TheConstants.{LOCALS}
 use Rattle.flow_graph.specs.declared.graph.Part.{Part}
-use Rattle.flow_graph.specs.Nodes.{Node, Graph}
-use Rattle.flow_graph.specs.Liveness.{NodeAt}
 use Rattle.thread_code.specs.Plans.{Plan, Thread, IsThread}
-use Rattle.rv64_codegen.specs.declared.error.EmitError.{EmitError}
-use Rattle.rv64_codegen.specs.declared.error.EmitError.TheVariants.{Temporaries, Memory}
 use Rattle.rv64_codegen.specs.declared.thread.ThreadPlan as opened
-use Rattle.rv64_codegen.specs.Evaluations.{NeedFew}
 use Rattle.rv64_codegen.specs.ThreadPieces.{IsEmitted}
-use Rattle.rv64_codegen.specs.RefusedGraphs.{action_exprs, IsFirstOf}
 use Rattle.rv64_codegen.specs.links.LiveRegisters.{AreLists}
 use Rattle.rv64_codegen.specs.links.Threads.{plan_in, thread_of}
-
--- the expressions of the nodes from one up to another need few enough temporaries
-abbrev pub NeedFewFrom : Graph → (first end : ℕ) → Type 0
-NeedFewFrom g first end = (node : ℕ) (is : Node) → first ≤ node → node < end → NodeAt g node is → NeedFew (action_exprs is.action)
-
--- an expression of one of these nodes needs too many, and none before it does
-pub record IsFirstFrom (g : Graph) (first end : ℕ) (place : Place) : Type 0 where
-  pub node : ℕ
-  pub is : Node
-  pub at : NodeAt g node is
-  pub from_first : first ≤ node
-  pub below_end : node < end
-  pub of : IsFirstOf (action_exprs is.action) place
-  pub earlier : NeedFewFrom g first node
-
-abbrev pub IsRefusedFrom : Graph → (first end : ℕ) → EmitError → Type 0
-IsRefusedFrom g first end (Temporaries place) = IsFirstFrom g first end place
-IsRefusedFrom g first end Memory = Unit {0}
 
 -- ---- A thread
 
 pub record IsEmittedThread (x : opened.ThreadPlan) (items : List CodeItem) : Type 0 where
   pub emitted : IsEmitted (plan_in x) (thread_of x) items
   pub words : sum_by most_words_of items ≤ MOST_CODE_WORDS
-  pub need : NeedFewFrom (plan_in x).graph x.part.first x.part.end
-
-abbrev pub IsRefusedThread : opened.ThreadPlan → EmitError → Type 0
-IsRefusedThread x error = IsRefusedFrom (plan_in x).graph x.part.first x.part.end error
 
 -- the thread of that number
 pub record IsEmittedOf (p : Plan) (number : ℕ) (items : List CodeItem) : Type 0 where
   pub each : (t : Thread) → IsThread p t → t.number ≡ number → IsEmitted p t items
   pub words : sum_by most_words_of items ≤ MOST_CODE_WORDS
-  pub need : (part : Part) → slice_get p.graph.threads number ≡ Some part → NeedFewFrom p.graph part.first part.end
-
-abbrev pub IsRefusedOf : Plan → (number : ℕ) → EmitError → Type 0
-IsRefusedOf p number error = (part : Part) → slice_get p.graph.threads number ≡ Some part → IsRefusedFrom p.graph part.first part.end error
 
 -- the thread's locals have these registers, and these are live at its nodes
 abbrev pub AreRegistersOf : Plan → (number : ℕ) → List ℕ → Type 0

@@ -1,15 +1,18 @@
 -- A thread whose code is made, and the pieces of its nodes.
-use Rattle.std.specs.Prelude.{◌≡◌, ◌↔◌, ℕ, ◌+◌, ◌-◌, ◌*◌, ◌≤◌, List, [], ◌++◌, length, map, slice_get, slice_index_or, sum_by, Some, Bool, true, false, not}
+use Rattle.std.specs.Prelude.{◌≡◌, ◌↔◌, ℕ, ◌+◌, ◌-◌, ◌*◌, ◌≤◌, List, [], ◌∷◌, ◌++◌, length, map, slice_get, slice_index_or, sum_by, Some}
+use Rattle.std.specs.Prelude.{Bool, true, false, not}
 use Rattle.std.specs.Prelude.{Vec}
 use Rattle.std.specs.Global.{Global}
+use Rattle.c_tree.specs.Exprs as e
 use Rattle.c_tree.specs.Flats as f
+use Rattle.c_tree.specs.Temporaries.{assign_exprs}
 use Rattle.c_tree.specs.WellFormed.{shape_of}
 use Rattle.ido_ints.specs.declared.kinds.Kind.{Kind}
 use Rattle.rv64_isa.specs.declared.object.CodeItem.{CodeItem}
 use Rattle.rv64_link.specs.LabelledCode.{most_words_of}
 use Rattle.expr_code.specs.EvaluationCode.{homes_of}
 use Rattle.flow_graph.specs.declared.graph.Part.{Part}
-use Rattle.flow_graph.specs.Nodes.{Action, Eval, Store, Test, Lock, Unlock, End, Node}
+use Rattle.flow_graph.specs.Nodes.{Action, Eval, Store, Test, Lock, Unlock, End, Node, Graph}
 use Rattle.flow_graph.specs.Liveness.{NodeAt}
 use Rattle.flow_graph.specs.OmittedCleans.{IsCleanedLater}
 use Rattle.flow_graph.specs.IdempotentCuts.{IsChosen}
@@ -17,12 +20,10 @@ use Rattle.node_code.specs.declared.kept.Kept as kept
 use Rattle.node_code.specs.Pieces.{IsBoundaryPiece}
 use Rattle.thread_code.specs.Plans.{Plan, Thread, IsPlan, IsThread, IsNodeOf, homes, mask_before}
 use Rattle.thread_code.specs.Programs.{action_nodes}
-use Rattle.rv64_codegen.specs.declared.error.EmitError.{EmitError}
 use Rattle.rv64_codegen.specs.declared.thread.ThreadPlan as opened
 use Rattle.rv64_codegen.specs.Evaluations.{NeedFew}
 use Rattle.rv64_codegen.specs.ThreadPieces.{Choices, IsDoing, IsNodePiece, GoesTo, boundary_before}
 use Rattle.rv64_codegen.specs.Plans.{plan_of}
-use Rattle.rv64_codegen.specs.RefusedGraphs.{action_exprs, IsRefusedBy}
 use Rattle.rv64_codegen.specs.links.LiveRegisters.{AreLists}
 
 -- ---- A thread
@@ -52,9 +53,23 @@ pub record AreCleaned (p : Plan) (later : List Bool) : Type 0 where
   pub count : length later ≡ length p.graph.nodes
   pub each : (node : ℕ) → (slice_get later node ≡ Some true) ↔ IsCleanedLater p.graph p.boundaries (map shape_of p.flat.variables) node
 
+-- a node's expressions
+abbrev pub action_exprs : Action → List e.Placed
+action_exprs (Eval target value next) = assign_exprs target value
+action_exprs (Store variable kind next) = []
+action_exprs (Test condition holds fails) = condition ∷ []
+action_exprs (Lock mutex next) = []
+action_exprs (Unlock mutex next) = []
+action_exprs End = []
+
+-- the expressions of all nodes need few enough temporaries
+abbrev pub AllNeedFew : Graph → Type 0
+AllNeedFew g = (node : ℕ) (is : Node) → NodeAt g node is → NeedFew (action_exprs is.action)
+
 -- all that is known of the thread
 pub record IsOpen (x : opened.ThreadPlan) : Type 0 where
   pub plan : IsPlan (plan_in x)
+  pub few : AllNeedFew (plan_in x).graph
   pub thread : IsThread (plan_in x) (thread_of x)
   pub homes : homes_of x.frame ≡ homes (plan_in x) (thread_of x)
   pub lists : AreLists (plan_in x).graph x.frame.registers.now (plan_in x).live x.part.first x.part.end x.live.now
@@ -122,9 +137,3 @@ DoesAt x node piece = (is : Node) → NodeAt (plan_in x).graph node is → DoesA
 
 abbrev pub IsPiece : opened.ThreadPlan → (node : ℕ) → List CodeItem → Type 0
 IsPiece x node piece = (is : Node) → NodeAt (plan_in x).graph node is → IsNodePiece (plan_in x) (thread_of x) (choices_of x) node is piece
-
-abbrev pub NeedFewAt : opened.ThreadPlan → (node : ℕ) → Type 0
-NeedFewAt x node = (is : Node) → NodeAt (plan_in x).graph node is → NeedFew (action_exprs is.action)
-
-abbrev pub IsRefusedAt : opened.ThreadPlan → (node : ℕ) → EmitError → Type 0
-IsRefusedAt x node error = (is : Node) → NodeAt (plan_in x).graph node is → IsRefusedBy (action_exprs is.action) error

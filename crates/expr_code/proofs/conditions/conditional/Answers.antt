@@ -1,4 +1,4 @@
-use Rattle.expr_code.specs.EvaluationCode.{fences_among}
+use Rattle.expr_code.specs.EvaluationCode.{impure_among}
 use Rattle.std.proofs.Common.{sym, subst, List, ap, arith}
 use Rattle.rv64_isa.specs.declared.instr.Instr.{Instr}
 use Rattle.c_tree.specs.Exprs as e
@@ -14,9 +14,9 @@ returns-clause-code c = λ h k x y z held rd tests chosen otherwise.
     (as_made h k z held rd c.deref-2.result.now
     (subst (λ (code : List Instr). IsEvaluation h (e.Converted k z) held rd code) (sym c.deref-2.ensures.value) otherwise)))
 
-pub returns-clause-fences : goal.returns-clause-fences
-returns-clause-fences c =
-    let whole = c.in_ok-code.ensures.fences in
-    let first = ap fences_among c.deref.ensures.value in
-    let second = ap fences_among c.deref-2.ensures.value in
+pub returns-clause-pure : goal.returns-clause-pure
+returns-clause-pure c =
+    let whole = c.in_ok-code.ensures.pure in
+    let first = ap impure_among c.deref.ensures.value in
+    let second = ap impure_among c.deref-2.ensures.value in
     omega (arith, whole, first, second)

@@ -1,4 +1,4 @@
-use Rattle.expr_code.specs.EvaluationCode.{fences_among}
+use Rattle.expr_code.specs.EvaluationCode.{impure_among}
 use Rattle.std.proofs.Common.{◌≡◌, ◌^◌, ◌<◌, length, sym, subst, List, arith, lit<, ap}
 use Rattle.rv64_isa.specs.declared.instr.Instr.{Instr}
 use Rattle.c_tree.specs.Exprs as e
@@ -23,10 +23,10 @@ returns-clause-short c =
     let second = c.deref-2.ensures.len in
     omega arith
 
-pub returns-clause-fences : goal.returns-clause-fences
-returns-clause-fences c =
-    let whole = c.in_ok-code.ensures.fences in
-    let none = c.in_ok-zero.ensures.fences in
-    let right = ap fences_among c.deref.ensures.value in
-    let last = ap fences_among c.deref-2.ensures.value in
+pub returns-clause-pure : goal.returns-clause-pure
+returns-clause-pure c =
+    let whole = c.in_ok-code.ensures.pure in
+    let none = c.in_ok-zero.ensures.pure in
+    let right = ap impure_among c.deref.ensures.value in
+    let last = ap impure_among c.deref-2.ensures.value in
     omega (arith, whole, none, right, last)

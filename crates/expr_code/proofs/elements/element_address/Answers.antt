@@ -4,7 +4,7 @@ use Rattle.rv64_isa.specs.declared.instr.Instr.TheVariants.{OpImmediate}
 use Rattle.rv64_isa.specs.declared.instr.ImmediateOperation.TheVariants.{Addi}
 use Rattle.expr_code.specs.EvaluationCode.{IsElementAddressCode}
 use Rattle.expr_code.proofs.ElementLoadCode.{element_address_code}
-use Rattle.expr_code.proofs.Fences.{none_more}
+use Rattle.expr_code.proofs.PureCode.{none_more}
 use Rattle.expr_code.proofs.elements.element_address.Goals as goal
 
 pub returns-clause-code : goal.returns-clause-code
@@ -17,8 +17,8 @@ returns-clause-code c =
     (element_address_code c.args.kind c.args.rd c.args.address c.in_ok-code.code.items c.requires small h variable x is
     (λ low. c.in_ok-code.ensures.code h x.expr low operand))
 
-pub returns-clause-fences : goal.returns-clause-fences
-returns-clause-fences c =
+pub returns-clause-pure : goal.returns-clause-pure
+returns-clause-pure c =
     let seen : c.push.new.self.items ≡ c.in_ok-code.code.items ++ OpImmediate Addi c.args.rd 31 (c.args.address % 4096) ∷ [] =
     cc (c.in_ok-push.ensures.items, c.immediate.ensures, c.lower.ensures.value) in
-    none_more c.in_ok-code.code.items (OpImmediate Addi c.args.rd 31 (c.args.address % 4096) ∷ []) _ seen refl ∙ c.in_ok-code.ensures.fences
+    none_more c.in_ok-code.code.items (OpImmediate Addi c.args.rd 31 (c.args.address % 4096) ∷ []) _ seen refl ∙ c.in_ok-code.ensures.pure

@@ -8,7 +8,7 @@ use Rattle.expr_code.specs.EvaluationCode.{EvaluatesTo}
 use Rattle.expr_code.specs.links.OperandCode.{temporary, is_free}
 use Rattle.expr_code.specs.links.ElementLoads.{places_of, HasUpper}
 use Rattle.expr_code.proofs.ElementLoadCode.{scaled_upper, plain_upper}
-use Rattle.expr_code.proofs.Fences.{none_more}
+use Rattle.expr_code.proofs.PureCode.{none_more}
 use Rattle.expr_code.proofs.elements.element_upper.Goals as goal
 
 pub returns-then-count-eq0-clause-code : goal.returns-then-count-eq0-clause-code
@@ -38,16 +38,16 @@ returns-clause-code c = λ h x low operand.
     subst (λ (code : List Instr). EvaluatesTo h x code (is_free c.args.held) (HasUpper c.args.address (bytes_of c.args.kind))) (sym seen)
     (scaled_upper c.args.kind c.args.held c.args.index.register c.args.address c.args.index.code.items c.requires h x low operand)
 
-pub returns-then-count-eq0-clause-fences : goal.returns-then-count-eq0-clause-fences
-returns-then-count-eq0-clause-fences c =
+pub returns-then-count-eq0-clause-pure : goal.returns-then-count-eq0-clause-pure
+returns-then-count-eq0-clause-pure c =
     let seen : c.push-then-count-eq0.new.self.items ≡
     (c.args.index.code.items ++ Lui 31 ((c.args.address + 2048) % 2 ^ 32 / 4096) ∷ []) ++ Op Add 31 31 c.args.index.register ∷ [] =
     cc (c.in_ok-push.ensures.items, c.in_ok-push-2.ensures.items, c.upper.ensures, c.add.ensures) in
     none_more (c.args.index.code.items ++ Lui 31 ((c.args.address + 2048) % 2 ^ 32 / 4096) ∷ []) (Op Add 31 31 c.args.index.register ∷ []) _ seen refl ∙
     none_more c.args.index.code.items (Lui 31 ((c.args.address + 2048) % 2 ^ 32 / 4096) ∷ []) _ refl refl
 
-pub returns-clause-fences : goal.returns-clause-fences
-returns-clause-fences c =
+pub returns-clause-pure : goal.returns-clause-pure
+returns-clause-pure c =
     let seen : c.push-3.new.self.items ≡
     ((c.args.index.code.items ++ Lui 31 ((c.args.address + 2048) % 2 ^ 32 / 4096) ∷ []) ++
     ShiftImmediate Slli (temporary c.args.held) c.args.index.register (places_of c.args.kind) ∷ []) ++ Op Add 31 31 (temporary c.args.held) ∷ [] =

@@ -4,7 +4,7 @@ use Rattle.operator_code.specs.Sequences.{listed}
 use Rattle.c_tree.specs.Exprs as e
 use Rattle.expr_code.specs.links.OperandCode.{IsEvaluation}
 use Rattle.expr_code.proofs.OperationCode.{conversion_code}
-use Rattle.expr_code.proofs.Fences.{none_more, conversion_none}
+use Rattle.expr_code.proofs.PureCode.{none_more, conversion_none}
 use Rattle.expr_code.proofs.operators.with_conversion.Goals as goal
 
 pub returns-clause-code : goal.returns-clause-code
@@ -15,7 +15,7 @@ returns-clause-code c =
     (conversion_code c.args.from c.args.to c.args.rd c.args.operand.register c.args.operand.code.items
     (listed c.convert.result) c.requires small c.convert.ensures h x held kind operand)
 
-pub returns-clause-fences : goal.returns-clause-fences
-returns-clause-fences c =
+pub returns-clause-pure : goal.returns-clause-pure
+returns-clause-pure c =
     none_more c.args.operand.code.items (listed c.convert.result) _ c.in_ok-push_to.ensures.code
     (conversion_none c.args.from c.args.to c.args.rd c.args.operand.register (listed c.convert.result) c.convert.ensures)

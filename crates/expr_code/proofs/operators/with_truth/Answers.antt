@@ -5,7 +5,7 @@ use Rattle.operator_code.specs.Sequences.{listed}
 use Rattle.expr_code.specs.links.OperandCode.{IsMade, truth_of}
 use Rattle.c_tree.specs.Elaboration.{kind_of}
 use Rattle.expr_code.proofs.OperationCode.{truth_code}
-use Rattle.expr_code.proofs.Fences.{none_more, truth_none}
+use Rattle.expr_code.proofs.PureCode.{none_more, truth_none}
 use Rattle.expr_code.proofs.operators.with_truth.Goals as goal
 
 pub returns-clause-code : goal.returns-clause-code
@@ -16,7 +16,7 @@ returns-clause-code c =
     (truth_code (kind_of x) c.args.rd c.args.operand.register c.args.operand.code.items (listed c.truth.result) c.requires small
     (c.truth.ensures (kind_of x)) h x held refl operand)
 
-pub returns-clause-fences : goal.returns-clause-fences
-returns-clause-fences c =
+pub returns-clause-pure : goal.returns-clause-pure
+returns-clause-pure c =
     none_more c.args.operand.code.items (listed c.truth.result) _ c.in_ok-push_to.ensures.code
     (truth_none Int c.args.rd c.args.operand.register (listed c.truth.result) (c.truth.ensures Int))

@@ -4,7 +4,7 @@ use Rattle.operator_code.specs.Sequences.{listed}
 use Rattle.c_tree.specs.Exprs as e
 use Rattle.expr_code.specs.links.OperandCode.{IsEvaluation}
 use Rattle.expr_code.proofs.OperationCode.{unary_code}
-use Rattle.expr_code.proofs.Fences.{none_more, unary_none}
+use Rattle.expr_code.proofs.PureCode.{none_more, unary_none}
 use Rattle.expr_code.proofs.operators.with_unary.Goals as goal
 
 pub returns-clause-code : goal.returns-clause-code
@@ -15,7 +15,7 @@ returns-clause-code c =
     (unary_code c.args.operator c.args.kind c.args.rd c.args.operand.register c.args.operand.code.items
     (listed c.unary.result) c.requires small c.unary.ensures h x held kind operand)
 
-pub returns-clause-fences : goal.returns-clause-fences
-returns-clause-fences c =
+pub returns-clause-pure : goal.returns-clause-pure
+returns-clause-pure c =
     none_more c.args.operand.code.items (listed c.unary.result) _ c.in_ok-push_to.ensures.code
     (unary_none c.args.operator c.args.kind c.args.rd c.args.operand.register (listed c.unary.result) c.unary.ensures)

@@ -3,16 +3,23 @@ use Rattle.std.proofs.Common.{refl}
 use Rattle.flat_compile.proofs.Plans.{is_translated, marked, plan_at, plan_is, resumable}
 use Rattle.flat_compile.proofs.compile.translate.Goals as goal
 
-pub emitted-requires-clause-plan : goal.emitted-requires-clause-plan
-emitted-requires-clause-plan c = plan_is c.args.analysis.now c.in_ok-cuts.cuts c.requires c.in_ok-cuts.ensures.cuts c.in_ok-cuts.ensures.places
+pub emit-requires-clause-plan : goal.emit-requires-clause-plan
+emit-requires-clause-plan c = plan_is c.args.analysis.now c.in_ok-cuts.cuts c.requires c.in_ok-cuts.ensures.cuts c.in_ok-cuts.ensures.places
 
-pub emitted-requires-clause-shallow : goal.emitted-requires-clause-shallow
-emitted-requires-clause-shallow c = c.requires.accepted.shallow
+pub emit-requires-clause-shallow : goal.emit-requires-clause-shallow
+emit-requires-clause-shallow c = c.requires.accepted.shallow
 
 pub returns-clause-translated : goal.returns-clause-translated
 returns-clause-translated c =
     let plan = plan_is c.args.analysis.now c.in_ok-cuts.cuts c.requires c.in_ok-cuts.ensures.cuts c.in_ok-cuts.ensures.places in
-    is_translated (plan_at c.args.analysis.now c.in_ok-cuts.cuts) c.in_ok-code.code c.in_ok-code.ensures plan
+    is_translated (plan_at c.args.analysis.now c.in_ok-cuts.cuts) c.in_ok-code.code (record {
+      is = c.in_ok-code.ensures.code;
+      cleans = c.in_ok-code.ensures.cleans;
+      few_threads = c.in_ok-code.ensures.threads;
+      few = c.in_ok-code.ensures.few;
+      initial = c.in_ok-code.ensures.initial;
+      mutexes = c.in_ok-code.ensures.mutexes;
+    }) plan
     c.in_ok-object.object c.in_ok-object.marks c.in_ok-cuts.cuts refl c.in_ok-cuts.ensures.minimal c.in_ok-object.ensures.linked
     c.in_ok-object.ensures.initial c.in_ok-object.ensures.mutexes
 
@@ -22,14 +29,28 @@ resume_table-requires-clause-plan c = plan_is c.args.analysis.now c.in_ok-cuts.c
 pub resume_table-requires-clause-marked : goal.resume_table-requires-clause-marked
 resume_table-requires-clause-marked c =
     let plan = plan_is c.args.analysis.now c.in_ok-cuts.cuts c.requires c.in_ok-cuts.ensures.cuts c.in_ok-cuts.ensures.places in
-    marked (plan_at c.args.analysis.now c.in_ok-cuts.cuts) c.in_ok-code.code c.in_ok-code.ensures plan
+    marked (plan_at c.args.analysis.now c.in_ok-cuts.cuts) c.in_ok-code.code (record {
+      is = c.in_ok-code.ensures.code;
+      cleans = c.in_ok-code.ensures.cleans;
+      few_threads = c.in_ok-code.ensures.threads;
+      few = c.in_ok-code.ensures.few;
+      initial = c.in_ok-code.ensures.initial;
+      mutexes = c.in_ok-code.ensures.mutexes;
+    }) plan
     c.in_ok-object.object c.in_ok-object.marks c.in_ok-cuts.cuts refl c.in_ok-cuts.ensures.minimal c.in_ok-object.ensures.linked
     c.in_ok-object.ensures.initial c.in_ok-object.ensures.mutexes
 
 pub returns-clause-resumes : goal.returns-clause-resumes
 returns-clause-resumes c =
     let plan = plan_is c.args.analysis.now c.in_ok-cuts.cuts c.requires c.in_ok-cuts.ensures.cuts c.in_ok-cuts.ensures.places in
-    resumable (plan_at c.args.analysis.now c.in_ok-cuts.cuts) c.in_ok-code.code c.in_ok-code.ensures plan
+    resumable (plan_at c.args.analysis.now c.in_ok-cuts.cuts) c.in_ok-code.code (record {
+      is = c.in_ok-code.ensures.code;
+      cleans = c.in_ok-code.ensures.cleans;
+      few_threads = c.in_ok-code.ensures.threads;
+      few = c.in_ok-code.ensures.few;
+      initial = c.in_ok-code.ensures.initial;
+      mutexes = c.in_ok-code.ensures.mutexes;
+    }) plan
     c.in_ok-object.object c.in_ok-object.marks c.in_ok-cuts.cuts refl c.in_ok-cuts.ensures.minimal c.in_ok-object.ensures.linked
     c.in_ok-object.ensures.initial c.in_ok-object.ensures.mutexes
     c.in_ok-resumes.resumes.items c.in_ok-resumes.ensures

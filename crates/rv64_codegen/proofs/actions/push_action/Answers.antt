@@ -2,6 +2,7 @@ use Rattle.std.proofs.Common.{◌∙◌, ap, refl, arith}
 use Rattle.std.specs.Option.{option_map}
 use Rattle.std.proofs.lemmas.Option.{slice_get-map}
 use Rattle.std.proofs.lemmas.List.{length-map}
+use Rattle.std.proofs.lemmas.Result.{on_ok_weaker}
 use Rattle.flow_graph.specs.Nodes.{node_of, graph_of}
 use Rattle.flow_graph.specs.Liveness.{NodeAt}
 use Rattle.rv64_codegen.proofs.ChosenBoundaries.{read_get}
@@ -32,4 +33,5 @@ push_doing-requires c = record {
 
 pub returns : goal.returns
 returns c =
-    at_node c.args.thread.now c.args.node (node_of c.index.result.now) c.push_doing.result _ _ (found (goal.at.returns c).After-index) c.push_doing.ensures
+    on_ok_weaker c.push_doing.result
+    (λ done. at_node c.args.thread.now c.args.node (node_of c.index.result.now) _ _ (found (goal.at.returns c).After-index) done) c.push_doing.ensures

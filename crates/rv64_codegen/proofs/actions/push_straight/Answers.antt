@@ -1,9 +1,8 @@
-use Rattle.std.proofs.Common.{[], ◌∷◌}
+use Rattle.std.proofs.lemmas.Result.{on_ok_weaker}
 use Rattle.c_tree.specs.Exprs.{placed_of}
 use Rattle.flow_graph.specs.Nodes.{Test}
 use Rattle.rv64_codegen.proofs.AppendedParts.{straight_done}
-use Rattle.rv64_codegen.proofs.NodePieces.{formed_at, cheap_at}
-use Rattle.rv64_codegen.proofs.RefusedEvaluations.{same_refused}
+use Rattle.rv64_codegen.proofs.NodePieces.{formed_at, few_at, cheap_at}
 use Rattle.rv64_codegen.proofs.actions.push_straight.Goals as goal
 
 pub label-to-requires : goal.label-to-requires
@@ -14,6 +13,9 @@ pub push_test-requires-clause-home : goal.push_test-requires-clause-home
 push_test-requires-clause-home c =
     (formed_at c.args.thread.now c.args.node (Test (placed_of c.args.condition.now) c.args.holds c.args.fails) c.requires).0
 
+pub push_test-requires-clause-need : goal.push_test-requires-clause-need
+push_test-requires-clause-need c = (few_at c.args.thread.now c.args.node (Test (placed_of c.args.condition.now) c.args.holds c.args.fails) c.requires).0
+
 pub push_test-requires-clause-price : goal.push_test-requires-clause-price
 push_test-requires-clause-price c =
     cheap_at c.args.thread.now c.args.node (Test (placed_of c.args.condition.now) c.args.holds c.args.fails) c.requires
@@ -22,12 +24,8 @@ pub push_fragment-requires : goal.push_fragment-requires
 push_fragment-requires c =
     (formed_at c.args.thread.now c.args.node (Test (placed_of c.args.condition.now) c.args.holds c.args.fails) c.requires).1.1
 
-pub returns-in-Err : goal.returns-in-Err
-returns-in-Err c = same_refused (placed_of c.args.condition.now ∷ []) c.in-Err.error c.emit_error.result c.in-Err.ensures c.emit_error.ensures
-
-pub returns-in-Ok-push_fragment : goal.returns-in-Ok-push_fragment
-returns-in-Ok-push_fragment c = (
-  c.in-Ok.ensures.0,
-  straight_done c.args.thread.now c.args.node (placed_of c.args.condition.now) c.args.holds c.args.fails c.label-to.result.0 _ _ _ c.requires
-      c.label-to.ensures c.in-Ok.ensures.1 c.in-Ok-push_fragment.ensures,
-)
+pub returns : goal.returns
+returns c =
+    on_ok_weaker c.push_fragment.result
+    (λ fragment. straight_done c.args.thread.now c.args.node (placed_of c.args.condition.now) c.args.holds c.args.fails c.label-to.result.0 _ _ _ c.requires
+    c.label-to.ensures c.in_ok-push_test.ensures fragment) c.push_fragment.ensures

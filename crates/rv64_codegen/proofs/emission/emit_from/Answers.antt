@@ -3,7 +3,7 @@ use Rattle.rv64_codegen.specs.declared.thread.ThreadPlan as opened
 use Rattle.rv64_codegen.specs.Plans.{plan_of}
 use Rattle.rv64_codegen.specs.links.Threads.{IsOpen}
 use Rattle.rv64_codegen.proofs.ChosenBoundaries.{read_get}
-use Rattle.rv64_codegen.proofs.JoinedPieces.{number_done}
+use Rattle.rv64_codegen.proofs.JoinedPieces.{of_thread}
 use Rattle.rv64_codegen.proofs.PlannedThreads.{few_threads, is_open}
 use Rattle.rv64_codegen.proofs.emission.emit_from.Goals as goal
 use Rattle.rv64_codegen.proofs.emission.emit_from.Goals.{After-index}
@@ -23,7 +23,7 @@ thread c = record {
 
 opens : (c : After-index) → IsOpen (thread c)
 opens c =
-    is_open (thread c) c.requires.plan c.requires.addresses c.requires.later
+    is_open (thread c) c.requires.plan c.requires.few c.requires.addresses c.requires.later
     (read_get c.args.plan.now.graph.now.threads.items c.args.number c.index.result.now c.requires.number c.index.ensures) c.requires.registers
     c.requires.live
 
@@ -32,4 +32,5 @@ thread_items-requires c = opens (goal.at.thread_items-requires c).After-index
 
 pub returns : goal.returns
 returns c =
-    number_done (thread (goal.at.returns c).After-index) c.args.number c.thread_items.result refl (opens (goal.at.returns c).After-index) c.thread_items.ensures
+    of_thread (thread (goal.at.returns c).After-index) c.args.number c.in_ok-items.items.items refl (opens (goal.at.returns c).After-index)
+    c.in_ok-items.ensures

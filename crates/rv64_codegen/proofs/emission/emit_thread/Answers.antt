@@ -44,7 +44,7 @@ live_lists-requires-clause-end c =
 
 pub emit_from-requires-clause-registers : goal.emit_from-requires-clause-registers
 emit_from-requires-clause-registers c =
-    λ colours at. c.deref-3.ensures.value ∙ c.in-Ok.ensures
+    λ colours at. c.deref-3.ensures.value ∙ c.in_ok-registers.ensures
     ∙ ap (λ (cs : List ℕ). map (λ (colour : ℕ). slice_index LOCALS colour) cs)
     (same_some _ _ _ (coloured (goal.at.emit_from-requires-clause-registers c).After-deref) at)
 
@@ -60,4 +60,4 @@ emit_from-requires-clause-live c =
     let Q : List ℕ → Type 0 = λ rs. AreLists g rs sets c.index-part.result.now.first c.index-part.result.now.end c.deref-4.result.now in
     let R : List (Vec ℕ Global) → Type 0 = λ ls.
     AreLists g c.deref-2.result.now sets c.index-part.result.now.first c.index-part.result.now.end ls in
-    subst P same (subst Q registers (subst R (sym c.deref-4.ensures.value) c.in-Ok-live_lists.ensures))
+    subst P same (subst Q registers (subst R (sym c.deref-4.ensures.value) c.in_ok-live.ensures))

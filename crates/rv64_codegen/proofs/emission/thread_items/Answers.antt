@@ -1,22 +1,13 @@
 use Rattle.std.proofs.Common.{◌≡◌, ℕ, arith, subst}
-use Rattle.rv64_codegen.specs.links.Threads.{IsOwn, plan_in, thread_of}
-use Rattle.rv64_codegen.proofs.JoinedPieces.{Begun, begun_more, thread_emitted, refused_at}
+use Rattle.rv64_codegen.specs.links.Threads.{plan_in, thread_of}
+use Rattle.rv64_codegen.proofs.JoinedPieces.{Begun, begun_more, thread_emitted}
 use Rattle.rv64_codegen.proofs.PlannedNodes.{first_below}
 use Rattle.rv64_codegen.proofs.emission.thread_items.Goals as goal
-
-pub returns-in-Err : goal.returns-in-Err
-returns-in-Err c =
-    let x = c.args.thread.now in
-    let own : IsOwn x c.loop-node.node = record {
-      open_is = c.requires;
-      own = record { from_first = c.loop-node.auto.node; below_end = c.loop-node-test.true };
-    } in
-    refused_at x c.loop-node.node c.loop-node.items.items c.in-Err.error own c.loop-node.invariant c.in-Err.ensures
 
 pub loop-node-preserved : goal.loop-node-preserved
 loop-node-preserved c =
     begun_more c.args.thread.now c.loop-node.node c.loop-node.items.items c.push_label.new.items.items c.push_node.new.items.items c.label.result
-    c.loop-node.auto.node c.label.ensures c.loop-node.invariant c.in_ok-push_label.ensures c.in-Ok.ensures.0 c.in-Ok.ensures.1
+    c.loop-node.auto.node c.label.ensures c.loop-node.invariant c.in_ok-push_label.ensures c.in_ok-push_node.ensures
 
 pub returns : goal.returns
 returns c =

@@ -1,4 +1,4 @@
-use Rattle.std.proofs.Common.{◌≡◌, ◌-◌, ◌++◌, ◌∙◌, ap, arith, sym, ℕ, List, ℤ, length, map, take, replicate, vec_len}
+use Rattle.std.proofs.Common.{◌≡◌, ◌-◌, ◌++◌, ◌∙◌, ap, arith, ℕ, List, ℤ, length, map, take, replicate, vec_len}
 use Rattle.std.specs.Int.{next_multiple_of}
 use Rattle.std.proofs.lemmas.List.{take_all}
 use Rattle.ido_base.specs.declared.location.Shape.{Shape}
@@ -6,7 +6,7 @@ use Rattle.c_tree.specs.Programs.{variable_of}
 use Rattle.c_tree.specs.WellFormed.{shape_of, initial_numbers}
 use Rattle.memory_layout.specs.links.Bytes.{bytes_from, variable_bytes}
 use Rattle.memory_layout.proofs.Public.{bytes-none, bytes-more, filled}
-use Rattle.rv64_codegen.proofs.Shaped.{shaped, long_shapes, long_numbers, shape_at, numbers_at, is_size_of}
+use Rattle.rv64_codegen.proofs.Shaped.{shaped, long_shapes, long_numbers, shape_at, numbers_at}
 use Rattle.rv64_codegen.proofs.initial.initial_bytes.Goals as goal
 
 pub loop-variable-init : goal.loop-variable-init

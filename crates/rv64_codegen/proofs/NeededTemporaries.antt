@@ -1,21 +1,30 @@
 -- A flat form none of whose expressions needs too many temporaries has a graph of which none does.
-use Rattle.std.proofs.Common.{◌≡◌, refl, ℕ, suc, ◌+◌, List, [], ◌∷◌, ◌++◌, Bool, true, false, cond, Option, Some, None, ap, sym, ◌∙◌}
-use Rattle.std.specs.Prelude.{slice_get, find, flat_map}
+use Rattle.std.proofs.Common.{◌≡◌, refl, ℕ, suc, ◌+◌, ◌≤◌, arith, List, [], ◌∷◌, ◌++◌, Bool, true, false, cond, Option, Some, None, ap, sym, ◌∙◌}
+use Rattle.std.specs.Prelude.{slice_get, find, flat_map, nat_lt}
 use Rattle.std.specs.List.{AllByRecursion}
 use Rattle.std.specs.Option.{option_map}
-use Rattle.std.proofs.lemmas.Option.{none-some}
 use Rattle.ido_base.specs.declared.place.Place.{Place}
+use Rattle.ido_base.specs.declared.limits.TheConstants.{MOST_TEMPORARIES}
 use Rattle.c_tree.specs.Exprs as e
 use Rattle.c_tree.specs.Flats as f
+use Rattle.c_tree.specs.Prices.{need_of}
 use Rattle.c_tree.specs.Temporaries.{assign_exprs, statement_exprs, statements_exprs, arms_exprs, temporaries_fault}
 use Rattle.flow_graph.specs.Nodes.{Node, End}
-use Rattle.flow_graph.specs.Lowering.{lowered, assign_nodes, count, statements_count, arms_count, thread_count, entry, statement_nodes, statements_nodes}
+use Rattle.flow_graph.specs.Lowering.{assign_nodes, count, statements_count, arms_count, thread_count, entry, statement_nodes, statements_nodes}
 use Rattle.flow_graph.specs.Lowering.{arms_nodes, thread_nodes, threads_nodes, plain_node, test_node}
-use Rattle.flow_graph.proofs.Public.{all_at, lowered_nodes}
-use Rattle.rv64_codegen.specs.Evaluations.{is_needy}
-use Rattle.rv64_codegen.specs.RefusedGraphs.{action_exprs, IsFirstNeedy}
+use Rattle.flow_graph.proofs.Public.{all_at}
+use Rattle.thread_code.specs.Plans.{Plan, IsPlan}
+use Rattle.rv64_codegen.specs.Evaluations.{NeedFew}
+use Rattle.rv64_codegen.specs.links.Threads.{action_exprs, AllNeedFew}
+use Rattle.rv64_codegen.proofs.PlannedNodes.{nodes_are}
 
 -- ---- Expressions
+
+abbrev is_needy : e.Placed → Bool
+is_needy x = nat_lt MOST_TEMPORARIES (need_of x.expr)
+
+not_less : (a b : ℕ) → nat_lt a b ≡ false → b ≤ a
+not_less a b h = grind arith
 
 -- none of the expressions needs too many temporaries
 abbrev Quiet : List e.Placed → Type 0
@@ -115,9 +124,14 @@ all_quiet : (x : f.Flat) → temporaries_fault x ≡ None → Quiet (flat_map bo
 unfolding temporaries_fault
 all_quiet x h = none_mapped (λ (y : e.Placed). y.place) (find is_needy (flat_map body_exprs x.threads)) h
 
-pub none_needy : (x : f.Flat) (place : Place) → temporaries_fault x ≡ None → IsFirstNeedy (lowered x) place → ⊥
-none_needy x place h needy =
-    let there : slice_get (threads_nodes x.threads 0) needy.node ≡ Some needy.is =
-    ap (λ (ns : List Node). slice_get ns needy.node) (sym (lowered_nodes x)) ∙ needy.at in
-    let quiet = all_at IsQuiet (threads_nodes x.threads 0) needy.node needy.is (quiet_threads x.threads 0 (all_quiet x h)) there in
-    none-some needy.first.one (sym quiet ∙ needy.first.first)
+few_of : (xs : List e.Placed) → Quiet xs → NeedFew xs
+few_of [] h = tt
+few_of (x ∷ xs) h =
+    let one = none_either (is_needy x) x (find is_needy xs) h in
+    (not_less MOST_TEMPORARIES (need_of x.expr) one.0, few_of xs one.1)
+
+-- no expression of a plan's flat form needs too many temporaries, so none of its graph's does
+pub few_needed : (p : Plan) → IsPlan p → temporaries_fault p.flat ≡ None → AllNeedFew p.graph
+few_needed p plan h node is at =
+    let there : slice_get (threads_nodes p.flat.threads 0) node ≡ Some is = ap (λ (ns : List Node). slice_get ns node) (sym (nodes_are p plan)) ∙ at in
+    few_of (action_exprs is.action) (all_at IsQuiet (threads_nodes p.flat.threads 0) node is (quiet_threads p.flat.threads 0 (all_quiet p.flat h)) there)

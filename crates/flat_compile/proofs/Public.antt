@@ -1,0 +1,3 @@
+-- What crates above may use of this crate's proofs, passed on from one place. Declares nothing.
+pub use Rattle.flat_compile.proofs.ResumeEntries.{HasEntry, entry_at}
+pub use Rattle.flat_compile.proofs.Systems.{node_there}

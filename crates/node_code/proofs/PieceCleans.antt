@@ -1,0 +1,61 @@
+-- The cleans of pieces.
+use Rattle.std.proofs.Common.{◌≡◌, ◌+◌, List, [], ◌∷◌, ◌++◌, refl, ◌∙◌, arith, Bool, true, false, ℕ}
+use Rattle.std.specs.Prelude.{◌==◌, if◌then◌else◌}
+use Rattle.std.proofs.lemmas.List.Sums.{sum_by-append, sum_by-cons}
+use Rattle.rv64_isa.specs.declared.instr.Instr.{Instr}
+use Rattle.rv64_isa.specs.declared.instr.Instr.TheVariants.{Ecall}
+use Rattle.rv64_isa.specs.declared.object.CodeItem.{CodeItem}
+use Rattle.rv64_isa.specs.declared.object.CodeItem.TheVariants.{Instruction, BranchTo, MarkNext, ResumeNext}
+use Rattle.rv64_isa.specs.declared.object.Label.{Label}
+use Rattle.boundary_code.specs.Boundaries.{Boundary, HasEffects}
+use Rattle.operator_code.specs.declared.branches.Test.{Test}
+use Rattle.node_code.specs.Cleans.{cleans_of, cleans_in, CleansInBoundary}
+use Rattle.node_code.specs.links.ItemLists.{plain, asking, boundary_items, lock_items, unlock_items, computing_items, choice_items}
+
+pub cleans_append : (xs ys : List CodeItem) → cleans_in (xs ++ ys) ≡ cleans_in xs + cleans_in ys
+cleans_append xs ys = sum_by-append cleans_of xs ys
+
+pub cleans_cons : (x : CodeItem) (xs : List CodeItem) → cleans_in (x ∷ xs) ≡ cleans_of x + cleans_in xs
+cleans_cons x xs = sum_by-cons cleans_of x xs
+
+-- ---- Boundaries
+
+pub boundary_cleans : (b : Boundary) (code : List Instr) → HasEffects b code → CleansInBoundary b (boundary_items code)
+boundary_cleans b code h = record { before = []; code = code; after = ResumeNext ∷ []; split = refl; does = h; none_before = refl; none_after = refl }
+
+pub lock_cleans : (b : Boundary) (mutex : ℕ) (code : List Instr) → HasEffects b code → CleansInBoundary b (lock_items mutex code)
+lock_cleans b mutex code h = record {
+  before = plain (asking mutex 1) ++ (MarkNext ∷ Instruction Ecall ∷ []);
+  code = code;
+  after = ResumeNext ∷ [];
+  split = refl;
+  does = h;
+  none_before = refl;
+  none_after = refl;
+}
+
+pub unlock_cleans : (b : Boundary) (mutex mask : ℕ) (code : List Instr) → HasEffects b code → CleansInBoundary b (unlock_items mutex mask code)
+unlock_cleans b mutex mask code h = record {
+  before = MarkNext ∷ [];
+  code = code;
+  after = plain (asking mutex 2) ++ (Instruction Ecall ∷ (if mask == 0 then [] else ResumeNext ∷ []));
+  split = refl;
+  does = h;
+  none_before = refl;
+  none_after = by (mask == 0);
+}
+  where
+    by : (z : Bool) → cleans_in (plain (asking mutex 2) ++ (Instruction Ecall ∷ (if z then [] else ResumeNext ∷ []))) ≡ 0
+    by true = refl
+    by false = refl
+
+-- ---- Code that computes
+
+pub computing_cleans : (i : Instr) (is : List Instr) → cleans_in (computing_items (i ∷ is)) ≡ cleans_in (plain (i ∷ is))
+computing_cleans i is = cleans_cons MarkNext (plain (i ∷ is)) ∙ omega arith
+
+pub choice_cleans : (code : List Instr) (test : Test) (to : Label) → cleans_in (choice_items code test to) ≡ cleans_in (plain code)
+choice_cleans code test to =
+    let sum = cleans_append (MarkNext ∷ plain code) (BranchTo test.condition test.rs1 test.rs2 to ∷ []) in
+    let marked : cleans_in (MarkNext ∷ plain code) ≡ 0 + cleans_in (plain code) = cleans_cons MarkNext (plain code) in
+    omega (arith, sum, marked)
