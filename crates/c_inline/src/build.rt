@@ -152,9 +152,9 @@ fn begin(
         return Ok(None);
     };
     let first = local_count(kinds)?;
-    let following = assign(alloc, place, first, &called.result, by, target)?;
     pass(alloc, place, first, &called.locals, by, arguments, made)?;
     kinds.extend_from_slice(&called.locals)?;
+    let following = assign(alloc, place, first, &called.result, by, target)?;
     Ok(Some(Begun {
         function,
         done: 0,
@@ -214,8 +214,9 @@ fn make_step(
     let mut begun = begun;
     match next(bodies, &mut begun) {
         Some(statement) => {
-            let inner = make_or_begin(alloc, bodies, begun.by, statement, kinds, made)?;
+            let by = begun.by;
             waiting.push(begun)?;
+            let inner = make_or_begin(alloc, bodies, by, statement, kinds, made)?;
             push_begun(waiting, inner)
         }
         None => push_following(made, begun.following),

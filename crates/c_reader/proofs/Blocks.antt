@@ -11,12 +11,14 @@ use Rattle.c_tree.specs.Views as v
 use Rattle.c_tree.specs.declared.tree.Statement as s
 use Rattle.c_tree.specs.declared.tree.Arm as arm
 use Rattle.c_reader.specs.links.ParserFunctions.{Parsed, Parser, Read, Wrong, give, follow, ◌>>=◌, ◌>>◌, head_of, by_head, where_head}
-use Rattle.c_reader.specs.links.ParserFunctions.{head_is, is_word, begins_statement, parse_word, parse_condition}
+use Rattle.c_reader.specs.links.ParserFunctions.{head_is, is_mark, is_word, begins_statement, parse_mark, parse_word, parse_condition}
+use Rattle.c_reader.specs.links.ParserFunctions.{parse_expression, parse_assignment, parse_unless, parse_first}
 use Rattle.c_reader.specs.links.ParserFunctions.{parse_statement, parse_statements, parse_block, statements_over}
 use Rattle.c_reader.specs.links.ParserFunctions.{statement_by, statement_over, arms_after, with_arm, if_of}
 use Rattle.c_reader.specs.links.ParserSteps.{statement_by_word, statement_by_mark, parse_named_statement, parse_declaration_statement}
 use Rattle.c_reader.specs.links.ParserSteps.{parse_assignment_statement, parse_lock}
 use Rattle.c_reader.specs.links.ParserSteps.{parse_unlock, parse_if, parse_while, parse_do, parse_for}
+use Rattle.c_reader.specs.links.ParserSteps.{ForHead, parse_start_of_for, parse_middle_of_for, parse_end_of_for, parse_head_of_for}
 use Rattle.c_reader.specs.links.ParserSteps.{parse_arm, then_statements, then_arms, more_statements, more_arms}
 use Rattle.c_reader.proofs.ParserStepEquations.{where_followed}
 
@@ -27,6 +29,10 @@ pub through : {A B C : Type 0} (r : Parsed A) (f : A → Parser B) (g : B → Pa
     → ((x : A) (rest : List Token) → follow (f x rest) g ≡ h x rest) → follow (follow r f) g ≡ follow r h
 through (Read x rest) f g h e = e x rest
 through (Wrong rest) f g h e = refl
+
+same : {A B : Type 0} (r : Parsed A) (f g : A → Parser B) → ((x : A) (rest : List Token) → f x rest ≡ g x rest) → follow r f ≡ follow r g
+same (Read x rest) f g e = e x rest
+same (Wrong rest) f g e = refl
 
 pub by_same : {A : Type 0} (test : Option Lexeme → Bool) (then then' otherwise otherwise' : Parser A) (ts : List Token) → then ts ≡ then' ts
     → otherwise ts ≡ otherwise' ts
@@ -83,13 +89,57 @@ statement_by_head fuel (Some (Punctuator first)) = statement_by_mark fuel first
 statement_by_head fuel (Some (Keyword first)) = statement_by_word fuel first
 statement_by_head fuel _ = parse_declaration_statement fuel
 
+-- ---- A `for`, whose head is read in parts
+
+abbrev with_head : (fuel : ℕ) → Place → t.First → Option t.Expression → Option t.Assignment → Parser t.Statement
+with_head fuel place start x last = do parse_mark p.CloseParenthesis; b ← parse_block (fuel - 1); give (t.For place start x last b)
+
+abbrev past_condition : (fuel : ℕ) → Place → t.First → Option t.Expression → Parser t.Statement
+past_condition fuel place start x =
+    do parse_mark p.Semicolon; last ← parse_unless (is_mark p.CloseParenthesis) (parse_assignment fuel); with_head fuel place start x last
+
+abbrev past_start : (fuel : ℕ) → Place → t.First → Parser t.Statement
+past_start fuel place start = do parse_mark p.Semicolon; x ← parse_unless (is_mark p.Semicolon) (parse_expression fuel); past_condition fuel place start x
+
+abbrev past_word : (fuel : ℕ) → Place → Parser t.Statement
+past_word fuel place = do parse_mark p.OpenParenthesis; start ← parse_first fuel; past_start fuel place start
+
+end_is : (fuel : ℕ) (place : Place) (start : t.First) (x : Option t.Expression) (ts : List Token)
+    → follow (parse_end_of_for fuel ts) (with_head fuel place start x) ≡ past_condition fuel place start x ts
+unfolding parse_end_of_for
+end_is fuel place start x ts = through (parse_mark p.Semicolon ts) _ _ _ (λ y rest. refl)
+
+middle_is : (fuel : ℕ) (place : Place) (start : t.First) (ts : List Token)
+    → follow (parse_middle_of_for fuel ts) (λ x. parse_end_of_for fuel >>= with_head fuel place start x) ≡ past_start fuel place start ts
+unfolding parse_middle_of_for
+middle_is fuel place start ts =
+    through (parse_mark p.Semicolon ts) _ _ _
+    (λ y rest. same (parse_unless (is_mark p.Semicolon) (parse_expression fuel) rest) _ _ (λ x more. end_is fuel place start x more))
+
+start_is : (fuel : ℕ) (place : Place) (ts : List Token)
+    → follow (parse_start_of_for fuel ts) (λ start. parse_middle_of_for fuel >>= λ x. parse_end_of_for fuel >>= with_head fuel place start x)
+    ≡ past_word fuel place ts
+unfolding parse_start_of_for
+start_is fuel place ts =
+    through (parse_mark p.OpenParenthesis ts) _ _ _ (λ y rest. same (parse_first fuel rest) _ _ (λ start more. middle_is fuel place start more))
+
+whole_is : (fuel : ℕ) (place : Place) (ts : List Token) → follow (parse_head_of_for fuel ts) (λ h. with_head fuel place h.start h.condition h.last)
+    ≡ follow (parse_start_of_for fuel ts) (λ start. parse_middle_of_for fuel >>= λ x. parse_end_of_for fuel >>= with_head fuel place start x)
+unfolding parse_head_of_for
+whole_is fuel place ts =
+    through (parse_start_of_for fuel ts) _ _ _ (λ start rest. through (parse_middle_of_for fuel rest) _ _ _
+    (λ x more. through (parse_end_of_for fuel more) _ _ _ (λ last left. refl)))
+
+for_is : (fuel : ℕ) (ts : List Token) → statement_by (parse_block (fuel - 1)) fuel (Some (Keyword k.For)) ts ≡ parse_for fuel ts
+unfolding parse_for
+for_is fuel ts = same (parse_word k.For ts) (past_word fuel) _ (λ place rest. sym (whole_is fuel place rest ∙ start_is fuel place rest))
+
 pub statement_none : (fuel : ℕ) (ts : List Token) → fuel ≡ 0 → parse_statement fuel ts ≡ Wrong ts
 unfolding parse_statement
 statement_none fuel ts none = ap (λ n. parse_statement n ts) none
 
 pub statement_some : (fuel : ℕ) (ts : List Token) → 0 < fuel → parse_statement fuel ts ≡ by_head (statement_by_head fuel) ts
 unfolding parse_statement parse_named_statement parse_declaration_statement parse_assignment_statement parse_lock parse_unlock parse_if parse_while parse_do
-    parse_for
 statement_some fuel ts some =
     let e : fuel ≡ suc (fuel - 1) = omega arith in
     ap (λ (n : ℕ). parse_statement n ts) e ∙ ap (λ (n : ℕ). statement_over (parse_block (fuel - 1)) n ts) (sym e) ∙ by_lexeme (head_of ts)
@@ -98,7 +148,7 @@ statement_some fuel ts some =
     by_word_is k.If = refl
     by_word_is k.While = refl
     by_word_is k.Do = refl
-    by_word_is k.For = refl
+    by_word_is k.For = for_is fuel ts
     by_word_is k.Lock = refl
     by_word_is k.Unlock = refl
     by_word_is _ = refl

@@ -1,18 +1,17 @@
 //! Blocks, and the statements that have them.
 ghost use Rattle.std.specs.Prelude.{◌≡◌, ◌<◌, ◌≤◌, IfOk};
-ghost use Rattle.std.specs.Option.{option_map};
 ghost use Rattle.c_tree.specs.Trees as t;
-ghost use Rattle.c_tree.specs.Views.{arms_list_of, assignment_of, block_of, expression_of, first_of, otherwise_of, statement_of, statements_of};
+ghost use Rattle.c_tree.specs.Views.{arms_list_of, block_of, expression_of, otherwise_of, statement_of, statements_of};
 ghost use Rattle.c_reader.specs.links.ParserFunctions as spec;
 ghost use Rattle.c_reader.specs.links.ParserContracts.{Reads};
-ghost use Rattle.c_reader.specs.links.Rows.{arm_of};
+ghost use Rattle.c_reader.specs.links.Rows.{arm_of, for_head_of};
 ghost use Rattle.c_reader.specs.links.ParserSteps.{parse_arm, parse_do, parse_for, parse_if, parse_while, statement_by_mark, statement_by_word};
 
 use crate::cursor::Cursor;
 use crate::halt::Halt;
 use crate::statement::{
-    assignment_statement, condition, condition_of_for, declaration_statement, first, last, lock,
-    named_statement, unlock,
+    assignment_statement, condition, declaration_statement, head_of_for, lock, named_statement,
+    unlock,
 };
 use crate::token::Lexeme;
 use c_tree::token::{Keyword, Punctuator};
@@ -66,13 +65,11 @@ fn do_of(
     })
 }
 
-/// A `for`, its head boxed.
-fn for_of(alloc: Global, place: Place, head: Head, block: Block) -> Result<Statement, AllocError>
-    ensures { IfOk result (λ x. statement_of x ≡ t.For place (first_of head.first) (option_map expression_of head.condition)
-        (option_map assignment_of head.last) (block_of block)) }
+/// A `for`.
+fn for_of(place: Place, head: Box<Head>, block: Block) -> Statement
+    ensures { statement_of result ≡ t.For place (for_head_of head).start (for_head_of head).condition (for_head_of head).last (block_of block) }
 {
-    let head = Box::new(alloc, head)?;
-    Ok(Statement::For { place, head, block })
+    Statement::For { place, head, block }
 }
 
 /// A statement.
@@ -212,20 +209,10 @@ fn for_statement(alloc: Global, tokens: &mut Cursor<'_>, fuel: usize) -> Result<
     ensures { Reads statement_of (parse_for fuel tokens.old) result tokens.new }
 {
     let place = tokens.word(Keyword::For)?;
-    tokens.mark(Punctuator::OpenParenthesis)?;
-    let first = first(alloc, tokens, fuel)?;
-    tokens.mark(Punctuator::Semicolon)?;
-    let condition = condition_of_for(alloc, tokens, fuel)?;
-    tokens.mark(Punctuator::Semicolon)?;
-    let last = last(alloc, tokens, fuel)?;
+    let head = head_of_for(alloc, tokens, fuel)?;
     tokens.mark(Punctuator::CloseParenthesis)?;
     let block = block(alloc, tokens, fuel - 1)?;
-    let head = Head {
-        first,
-        condition,
-        last,
-    };
-    Ok(for_of(alloc, place, head, block)?)
+    Ok(for_of(place, head, block))
 }
 
 /// Statements in braces.

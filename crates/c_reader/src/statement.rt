@@ -6,7 +6,9 @@ ghost use Rattle.c_tree.specs.Views.{assignment_of, call_of, declaration_of, exp
 ghost use Rattle.c_reader.specs.links.ParserFunctions as spec;
 ghost use Rattle.c_reader.specs.links.ParserContracts.{Reads};
 ghost use Rattle.c_reader.specs.links.ParserSteps.{maybe_initial, parse_assignment_statement, parse_declaration_statement, parse_lock};
+ghost use Rattle.c_reader.specs.links.ParserSteps.{parse_end_of_for, parse_head_of_for, parse_middle_of_for, parse_start_of_for};
 ghost use Rattle.c_reader.specs.links.ParserSteps.{parse_named_statement, parse_unlock, statement_past_name, statement_past_target};
+ghost use Rattle.c_reader.specs.links.Rows.{for_head_of};
 
 use crate::assignment::{RightSide, assignment, call_after, change, right};
 use crate::cursor::Cursor;
@@ -15,7 +17,8 @@ use crate::halt::Halt;
 use crate::kind::kind;
 use c_tree::token::{Keyword, Punctuator};
 use c_tree::tree::{
-    Assignment, Call, Change, Declaration, Expression, First, Initial, Lvalue, Name, Statement,
+    Assignment, Call, Change, Declaration, Expression, First, Head, Initial, Lvalue, Name,
+    Statement,
 };
 use std::alloc::{AllocError, Global};
 
@@ -82,7 +85,7 @@ fn declaration_of_first(
 }
 
 /// The first part of a `for`, before its semicolon.
-pub fn first(alloc: Global, tokens: &mut Cursor<'_>, fuel: usize) -> Result<First, Halt>
+fn first(alloc: Global, tokens: &mut Cursor<'_>, fuel: usize) -> Result<First, Halt>
     ensures { Reads first_of (spec.parse_first fuel tokens.old) result tokens.new }
 {
     if tokens.sees(Punctuator::Semicolon) {
@@ -95,7 +98,7 @@ pub fn first(alloc: Global, tokens: &mut Cursor<'_>, fuel: usize) -> Result<Firs
 }
 
 /// The condition of a `for`, before its semicolon.
-pub fn condition_of_for(
+fn condition_of_for(
     alloc: Global,
     tokens: &mut Cursor<'_>,
     fuel: usize,
@@ -111,7 +114,7 @@ pub fn condition_of_for(
 }
 
 /// The last part of a `for`, before its closing parenthesis.
-pub fn last(alloc: Global, tokens: &mut Cursor<'_>, fuel: usize) -> Result<Option<Assignment>, Halt>
+fn last(alloc: Global, tokens: &mut Cursor<'_>, fuel: usize) -> Result<Option<Assignment>, Halt>
     ensures { Reads (option_map assignment_of) (spec.parse_unless (spec.is_mark Punctuator.CloseParenthesis) (spec.parse_assignment fuel) tokens.old) result
         tokens.new }
 {
@@ -120,6 +123,60 @@ pub fn last(alloc: Global, tokens: &mut Cursor<'_>, fuel: usize) -> Result<Optio
     } else {
         Ok(Some(assignment(alloc, tokens, fuel)?))
     }
+}
+
+/// The parenthesis before the first part of a `for`, and that part.
+#[tactic(auto, unfolding(crate::specs::links::ParserSteps::parse_start_of_for))]
+fn start_of_for(alloc: Global, tokens: &mut Cursor<'_>, fuel: usize) -> Result<First, Halt>
+    ensures { Reads first_of (parse_start_of_for fuel tokens.old) result tokens.new }
+{
+    tokens.mark(Punctuator::OpenParenthesis)?;
+    first(alloc, tokens, fuel)
+}
+
+/// The semicolon before the condition of a `for`, and the condition.
+#[tactic(auto, unfolding(crate::specs::links::ParserSteps::parse_middle_of_for))]
+fn middle_of_for(
+    alloc: Global,
+    tokens: &mut Cursor<'_>,
+    fuel: usize,
+) -> Result<Option<Expression>, Halt>
+    ensures { Reads (option_map expression_of) (parse_middle_of_for fuel tokens.old) result tokens.new }
+{
+    tokens.mark(Punctuator::Semicolon)?;
+    condition_of_for(alloc, tokens, fuel)
+}
+
+/// The semicolon before the last part of a `for`, and that part.
+#[tactic(auto, unfolding(crate::specs::links::ParserSteps::parse_end_of_for))]
+fn end_of_for(
+    alloc: Global,
+    tokens: &mut Cursor<'_>,
+    fuel: usize,
+) -> Result<Option<Assignment>, Halt>
+    ensures { Reads (option_map assignment_of) (parse_end_of_for fuel tokens.old) result tokens.new }
+{
+    tokens.mark(Punctuator::Semicolon)?;
+    last(alloc, tokens, fuel)
+}
+
+/// The head of a `for`, boxed, without the parenthesis after it.
+#[tactic(auto, unfolding(crate::specs::links::ParserSteps::parse_head_of_for))]
+pub fn head_of_for(alloc: Global, tokens: &mut Cursor<'_>, fuel: usize) -> Result<Box<Head>, Halt>
+    ensures { Reads for_head_of (parse_head_of_for fuel tokens.old) result tokens.new }
+{
+    let first = start_of_for(alloc, tokens, fuel)?;
+    let mut head = Box::new(
+        alloc,
+        Head {
+            first,
+            condition: None,
+            last: None,
+        },
+    )?;
+    head.condition = middle_of_for(alloc, tokens, fuel)?;
+    head.last = end_of_for(alloc, tokens, fuel)?;
+    Ok(head)
 }
 
 /// `(condition)`

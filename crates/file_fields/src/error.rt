@@ -21,7 +21,7 @@ pub enum ReadError {
     #[error("a field outside its limits")]
     Field(Place),
     /// The file ends there, and more bytes follow.
-    #[error("bytes behind the end")]
+    #[error("bytes past the end")]
     Rest(Place),
     /// An allocation was refused.
     #[error("out of memory")]

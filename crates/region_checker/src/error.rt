@@ -12,7 +12,7 @@ pub struct Idempotent;
 #[derive(Clone, Copy, Debug, PartialEq, Eq, Drop, Error)]
 pub enum CheckError {
     /// No boundary stands after the lock at this node.
-    #[error("no boundary stands behind the lock at node {node}")]
+    #[error("no boundary stands after the lock at node {node}")]
     MissingAfterAcquire { node: usize },
     /// No boundary stands before the unlock at this node.
     #[error("no boundary stands before the unlock at node {node}")]

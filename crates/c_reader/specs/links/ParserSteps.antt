@@ -1,5 +1,5 @@
 -- Steps of the parser that functions of the code take. Each of the later ones is opaque, so that no goal holds the precedences of all operators.
-use Rattle.std.specs.Prelude.{ℕ, ◌-◌, List, [], ◌∷◌, ◌++◌, Bool, true, false}
+use Rattle.std.specs.Prelude.{ℕ, ◌-◌, List, [], ◌∷◌, ◌++◌, Option, Bool, true, false}
 use Rattle.ido_base.specs.declared.place.Place.{Place}
 use Rattle.ido_ints.specs.declared.operators.Unary.{Unary}
 use Rattle.ido_ints.specs.declared.operators.Binary.{Binary}
@@ -102,18 +102,35 @@ parse_do fuel ts = (do
   parse_mark p.Semicolon
   give (t.Do place b x)) ts
 
+-- the head of a `for`, in parts: each takes the token before it
+pub record ForHead : Type 0 where
+  pub start : t.First
+  pub condition : Option t.Expression
+  pub last : Option t.Assignment
+
+unfoldable pub parse_start_of_for : (fuel : ℕ) → Parser t.First
+parse_start_of_for fuel ts = (do parse_mark p.OpenParenthesis; parse_first fuel) ts
+
+unfoldable pub parse_middle_of_for : (fuel : ℕ) → Parser (Option t.Expression)
+parse_middle_of_for fuel ts = (do parse_mark p.Semicolon; parse_unless (is_mark p.Semicolon) (parse_expression fuel)) ts
+
+unfoldable pub parse_end_of_for : (fuel : ℕ) → Parser (Option t.Assignment)
+parse_end_of_for fuel ts = (do parse_mark p.Semicolon; parse_unless (is_mark p.CloseParenthesis) (parse_assignment fuel)) ts
+
+unfoldable pub parse_head_of_for : (fuel : ℕ) → Parser ForHead
+parse_head_of_for fuel ts = (do
+  start ← parse_start_of_for fuel
+  x ← parse_middle_of_for fuel
+  last ← parse_end_of_for fuel
+  give (record { start = start; condition = x; last = last })) ts
+
 unfoldable pub parse_for : (fuel : ℕ) → Parser t.Statement
 parse_for fuel ts = (do
   place ← parse_word k.For
-  parse_mark p.OpenParenthesis
-  start ← parse_first fuel
-  parse_mark p.Semicolon
-  x ← parse_unless (is_mark p.Semicolon) (parse_expression fuel)
-  parse_mark p.Semicolon
-  last ← parse_unless (is_mark p.CloseParenthesis) (parse_assignment fuel)
+  head ← parse_head_of_for fuel
   parse_mark p.CloseParenthesis
   b ← parse_block (fuel - 1)
-  give (t.For place start x last b)) ts
+  give (t.For place head.start head.condition head.last b)) ts
 
 -- by the first token of a statement, where it is a reserved word or a punctuator
 abbrev pub statement_by_word : (fuel : ℕ) → Keyword → Parser t.Statement

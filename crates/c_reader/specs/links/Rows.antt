@@ -1,9 +1,15 @@
--- The trees of an arm and of a right side.
+-- The trees of an arm, of a right side, and of the head of a `for`.
+use Rattle.std.specs.Prelude.{Box}
+use Rattle.std.specs.Box.{box_value}
+use Rattle.std.specs.Global.{Global}
+use Rattle.std.specs.Option.{option_map}
 use Rattle.c_tree.specs.Trees as t
-use Rattle.c_tree.specs.Views.{expression_of, call_of, block_of}
+use Rattle.c_tree.specs.Views.{assignment_of, expression_of, call_of, block_of, first_of}
 use Rattle.c_tree.specs.declared.tree.Arm.{Arm}
+use Rattle.c_tree.specs.declared.tree.Head.{Head}
 use Rattle.c_reader.specs.declared.assignment.RightSide.{RightSide}
 use Rattle.c_reader.specs.declared.assignment.RightSide.TheVariants as right
+use Rattle.c_reader.specs.links.ParserSteps.{ForHead}
 
 abbrev pub arm_of : Arm → t.Expression × t.Block
 arm_of x = (expression_of x.condition, block_of x.block)
@@ -11,3 +17,9 @@ arm_of x = (expression_of x.condition, block_of x.block)
 abbrev pub right_of : RightSide → t.Initial
 right_of (right.Expression x) = t.Value (expression_of x)
 right_of (right.Call x) = t.Result (call_of x)
+
+abbrev pub head_in : Head → ForHead
+head_in x = record { start = first_of x.first; condition = option_map expression_of x.condition; last = option_map assignment_of x.last }
+
+abbrev pub for_head_of : Box Head Global → ForHead
+for_head_of x = head_in (box_value x)

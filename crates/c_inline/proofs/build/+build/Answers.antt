@@ -191,8 +191,8 @@ make_statements-returns t c =
     sym c.loop-statement.invariant.0 ∙ statements_all fs (whole fs) c.args.by c.args.statements.now c.loop-statement.statement-index
     c.loop-statement.kinds.items (f.statements_of c.loop-statement.made.items) c.loop-statement-test.false
 
-pub make_step-returns-in_ok-push-in-Some-clause-made : goal.make_step-returns-in_ok-push-in-Some-clause-made
-make_step-returns-in_ok-push-in-Some-clause-made t c =
+pub make_step-returns-in_ok-inner-in-Some-clause-made : goal.make_step-returns-in_ok-inner-in-Some-clause-made
+make_step-returns-in_ok-inner-in-Some-clause-made t c =
     let inner = c.in_ok-inner-in-Some.inner in
     on_ok_weaker c.push_begun.result
     (λ (rest : c.push_begun.new.waiting.items ≡ and_any c.push.new.self.items inner).
@@ -202,8 +202,8 @@ make_step-returns-in_ok-push-in-Some-clause-made t c =
     c.in_ok-push-in-Some.ensures.items rest c.in_ok-inner-in-Some.ensures.made)
     c.push_begun.ensures
 
-pub make_step-returns-in_ok-push-in-Some-clause-work : goal.make_step-returns-in_ok-push-in-Some-clause-work
-make_step-returns-in_ok-push-in-Some-clause-work t c =
+pub make_step-returns-in_ok-inner-in-Some-clause-work : goal.make_step-returns-in_ok-inner-in-Some-clause-work
+make_step-returns-in_ok-inner-in-Some-clause-work t c =
     let inner = c.in_ok-inner-in-Some.inner in
     on_ok_weaker c.push_begun.result
     (λ (rest : c.push_begun.new.waiting.items ≡ and_any c.push.new.self.items inner).

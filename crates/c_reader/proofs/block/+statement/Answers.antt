@@ -42,39 +42,14 @@ unfolding parse_for
 for_statement-returns-in_err-place t c =
     grind (arith, common_steps)
 
+pub for_statement-returns-in_err-head : goal.for_statement-returns-in_err-head
+unfolding parse_for
+for_statement-returns-in_err-head t c =
+    grind (arith, common_steps)
+
 pub for_statement-returns-in_err-mark : goal.for_statement-returns-in_err-mark
 unfolding parse_for
 for_statement-returns-in_err-mark t c =
-    grind (arith, common_steps)
-
-pub for_statement-returns-in_err-first : goal.for_statement-returns-in_err-first
-unfolding parse_for
-for_statement-returns-in_err-first t c =
-    grind (arith, common_steps)
-
-pub for_statement-returns-in_err-mark-2 : goal.for_statement-returns-in_err-mark-2
-unfolding parse_for
-for_statement-returns-in_err-mark-2 t c =
-    grind (arith, common_steps)
-
-pub for_statement-returns-in_err-condition : goal.for_statement-returns-in_err-condition
-unfolding parse_for
-for_statement-returns-in_err-condition t c =
-    grind (arith, common_steps)
-
-pub for_statement-returns-in_err-mark-3 : goal.for_statement-returns-in_err-mark-3
-unfolding parse_for
-for_statement-returns-in_err-mark-3 t c =
-    grind (arith, common_steps)
-
-pub for_statement-returns-in_err-last : goal.for_statement-returns-in_err-last
-unfolding parse_for
-for_statement-returns-in_err-last t c =
-    grind (arith, common_steps)
-
-pub for_statement-returns-in_err-mark-4 : goal.for_statement-returns-in_err-mark-4
-unfolding parse_for
-for_statement-returns-in_err-mark-4 t c =
     grind (arith, common_steps)
 
 pub for_statement-returns : goal.for_statement-returns
