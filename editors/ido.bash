@@ -5,7 +5,7 @@ _ido() {
     [[ ${COMP_WORDS[1]} == --explain ]] && ((COMP_CWORD > 1)) && at=2
     COMPREPLY=()
     if ((COMP_CWORD == at)); then
-        local words='compile list regions play image recover source'
+        local words='compile list regions play image recover source seeded make'
         ((at == 1)) && words+=' --explain --help --version'
         mapfile -t COMPREPLY < <(compgen -W "$words" -- "$current")
     fi

@@ -15,7 +15,7 @@ PUNCTUATORS = (
 SCRIPT_LETTERS = "s b f e c".split()
 SCHEDULE = "schedule"
 
-# Each command with the word behind it, its input and its output.
+# Each command with the words behind it, its input and its output.
 COMMANDS = (
     ("compile", "", "a source", "its object file"),
     ("list", "", "an object file", "the listing of its code"),
@@ -24,6 +24,8 @@ COMMANDS = (
     ("image", "", "a source, a line `%%`, a script", "the image file that a crash after that run would leave"),
     ("recover", "TURNS", "an image file", "the report of the run that goes on from it"),
     ("source", "", "a source, a line `%%`, a schedule", "the report of the source's own run"),
+    ("seeded", "SEED TURNS [CRASH]...", "a source", "the report of a run of it that is drawn from the seed"),
+    ("make", "N SEED", "no input", "a source of four threads, which make N rounds each"),
 )
 
 # Words that the script ./ido takes before a command.

@@ -1,9 +1,11 @@
 -- What `clap` tells of words.
-use Rattle.std.proofs.Common.{◌≡◌, refl, ℕ, ◌-◌, ◌^◌, ◌<◌, ◌≤◌, List, [], ◌∷◌, sym, ◌∙◌, ap, ap₂, subst, Bool}
-use Rattle.std.proofs.Common.{true, false, Option, Some, None, Result, Ok, Err, inl, inr, length, ◌==◌, arith}
+use Rattle.std.proofs.Common.{◌≡◌, refl, ℕ, ◌-◌, ◌^◌, ◌<◌, ◌≤◌, List, [], ◌∷◌, ◌++◌, sym, ◌∙◌, ap, ap₂, subst, Bool}
+use Rattle.std.proofs.Common.{true, false, Option, Some, None, Result, Ok, Err, inl, inr, length, ◌==◌, append_assoc, arith}
 use Rattle.std.proofs.lemmas.Bool.{eqb-true}
+use Rattle.std.proofs.lemmas.List.{append-nil}
 use Rattle.std.specs.Prelude.{option_and_then, option_map, Box, if◌then◌else◌}
 use Rattle.std.specs.Box.{box_value}
+use Rattle.std.specs.Result.{result_ok}
 use Rattle.std.specs.Str.Parse.{ParsesUnsigned, digits_value, without_leading_plus}
 use Rattle.clap.specs.Matches.{ReadsOne}
 use Rattle.clap.specs.Values.{IsUnsignedIn}
@@ -20,7 +22,7 @@ use Rattle.clap.specs.declared.parser.matches.ArgMatches.TheViews.{out-ArgMatche
 use Rattle.clap.specs.declared.parser.matches.SubCommand.{SubCommand}
 use Rattle.clap.proofs.OnLiterals.{clap_on_literals}
 use Rattle.clap.proofs.ValueTestLemmas.{accepts-Accepts, Accepts-accepts}
-use Rattle.ido_cli.specs.Commands.{command_by_name, command_of, number_of, table}
+use Rattle.ido_cli.specs.Commands.{command_by_name, command_of, number_of, numbers_of, table}
 use Rattle.ido_cli.specs.declared.command.Command as c
 
 simple : is_simple table ≡ true
@@ -33,33 +35,61 @@ free = refl
 
 -- ---- Numbers
 
-number_is : (text : Text) → IsUnsignedIn 0 (2 ^ 32 - 1) text → number_of text ≡ Some (digits_value 10 (without_leading_plus text))
-number_is text is =
-    let n = digits_value 10 (without_leading_plus text) in
-    ap (λ (b : Bool). let o : Option ℕ = if b then Some n else None in o) (Accepts-accepts false (parser.Unsigned 0 (2 ^ 32 - 1)) text is)
+module _ (bits : ℕ) (some : 0 < 2 ^ bits) (fits : 2 ^ bits ≤ 2 ^ 64) where
+  number_is : (text : Text) → IsUnsignedIn 0 (2 ^ bits - 1) text → number_of bits text ≡ Some (digits_value 10 (without_leading_plus text))
+  number_is text is =
+      let n = digits_value 10 (without_leading_plus text) in
+      ap (λ (b : Bool). let o : Option ℕ = if b then Some n else None in o) (Accepts-accepts false (parser.Unsigned 0 (2 ^ bits - 1)) text is)
 
-no_number : (text : Text) → (IsUnsignedIn 0 (2 ^ 32 - 1) text → ⊥) → number_of text ≡ None
-no_number text not = by (is_unsigned_in 0 (2 ^ 32 - 1) text) refl
-  where
-    by : (b : Bool) → is_unsigned_in 0 (2 ^ 32 - 1) text ≡ b → number_of text ≡ None
-    by true e = absurd (not (accepts-Accepts false (parser.Unsigned 0 (2 ^ 32 - 1)) text e))
-    by false e = ap (λ (b : Bool). let o : Option ℕ = if b then Some (digits_value 10 (without_leading_plus text)) else None in o) e
+  no_number : (text : Text) → (IsUnsignedIn 0 (2 ^ bits - 1) text → ⊥) → number_of bits text ≡ None
+  no_number text not = by (is_unsigned_in 0 (2 ^ bits - 1) text) refl
+    where
+      by : (b : Bool) → is_unsigned_in 0 (2 ^ bits - 1) text ≡ b → number_of bits text ≡ None
+      by true e = absurd (not (accepts-Accepts false (parser.Unsigned 0 (2 ^ bits - 1)) text e))
+      by false e = ap (λ (b : Bool). let o : Option ℕ = if b then Some (digits_value 10 (without_leading_plus text)) else None in o) e
 
--- what a text is read as that stands for a number of 32 bits
-pub read_number : {E : Type 0} (gives : Text → Result ℕ E → Type 0) → ((t : Text) (r : Result ℕ E) → gives t r → ParsesUnsigned 32 10 t r) →
-    (text : Text) (value : Option ℕ) → ReadsOne gives text value → value ≡ number_of text
-read_number gives parses text (Some n) read =
-    let parsed = parses text (Ok n) read in
-    ap Some parsed.1 ∙ sym (number_is text (parsed.0.0, omega (arith, parsed.0.1), omega arith, omega (arith, parsed.0.1)))
-read_number gives parses text None read =
-    let not = parses text (Err read.0) read.1 in
-    sym (no_number text (λ is. not (is.0, omega (arith, is.3))))
+  -- what a text is parsed as
+  pub parsed_number : {E : Type 0} (text : Text) (r : Result ℕ E) → ParsesUnsigned bits 10 text r → result_ok r ≡ number_of bits text
+  parsed_number text (Ok n) parsed =
+      ap Some parsed.1 ∙ sym (number_is text (parsed.0.0, omega (arith, parsed.0.1, fits), omega arith, omega (arith, parsed.0.1)))
+  parsed_number text (Err e) not = sym (no_number text (λ is. not (is.0, omega (arith, is.3, some))))
 
-pub read_turns : {E : Type 0} (gives : Text → Result ℕ E → Type 0) → ((t : Text) (r : Result ℕ E) → gives t r → ParsesUnsigned 32 10 t r) →
-    (text : Option Text) (value : Option ℕ) → (text ≡ None → value ≡ None) → ((t : Text) → text ≡ Some t → ReadsOne gives t value) →
-    value ≡ option_and_then number_of text
-read_turns gives parses None value none some = none refl
-read_turns gives parses (Some t) value none some = read_number gives parses t value (some t refl)
+  -- what a text is read as that stands for a number
+  pub read_number : {E : Type 0} (gives : Text → Result ℕ E → Type 0) → ((t : Text) (r : Result ℕ E) → gives t r → ParsesUnsigned bits 10 t r) →
+      (text : Text) (value : Option ℕ) → ReadsOne gives text value → value ≡ number_of bits text
+  read_number {E} gives parses text (Some n) read = parsed_number {E = E} text (Ok n) (parses text (Ok n) read)
+  read_number {E} gives parses text None read = parsed_number {E = E} text (Err read.0) (parses text (Err read.0) read.1)
+
+  pub read_named : {E : Type 0} (gives : Text → Result ℕ E → Type 0) → ((t : Text) (r : Result ℕ E) → gives t r → ParsesUnsigned bits 10 t r) →
+      (text : Option Text) (value : Option ℕ) → (text ≡ None → value ≡ None) → ((t : Text) → text ≡ Some t → ReadsOne gives t value) →
+      value ≡ option_and_then (number_of bits) text
+  read_named gives parses None value none some_is = none refl
+  read_named gives parses (Some t) value none some_is = read_number gives parses t value (some_is t refl)
+
+-- ---- Crash words
+
+-- numbers before those of texts
+abbrev pub after_numbers : List ℕ → Option (List ℕ) → Option (List ℕ)
+after_numbers ns o = option_map (λ ms. ns ++ ms) o
+
+after_one : (ns : List ℕ) (n : ℕ) (o : Option (List ℕ)) → after_numbers (ns ++ n ∷ []) o ≡ after_numbers ns (option_map (λ ms. n ∷ ms) o)
+after_one ns n None = refl
+after_one ns n (Some ms) = ap Some (append_assoc ns (n ∷ []) ms)
+
+pub number_more : (t : Text) (ts : List Text) (ns more : List ℕ) (n : ℕ) (all : Option (List ℕ)) → number_of 64 t ≡ Some n → more ≡ ns ++ n ∷ [] →
+    all ≡ after_numbers ns (numbers_of (t ∷ ts)) → all ≡ after_numbers more (numbers_of ts)
+number_more t ts ns more n all is more_is so_far =
+    so_far ∙ ap (λ (o : Option ℕ). after_numbers ns (option_and_then (λ n. option_map (λ ms. n ∷ ms) (numbers_of ts)) o)) is
+    ∙ sym (after_one ns n (numbers_of ts)) ∙ ap (λ ms. after_numbers ms (numbers_of ts)) (sym more_is)
+
+pub none_more : (t : Text) (ts : List Text) (ns : List ℕ) (all : Option (List ℕ)) → number_of 64 t ≡ None → all ≡ after_numbers ns (numbers_of (t ∷ ts)) →
+    None ≡ all
+none_more t ts ns all is so_far =
+    sym (so_far ∙ ap (λ (o : Option ℕ). after_numbers ns (option_and_then (λ n. option_map (λ ms. n ∷ ms) (numbers_of ts)) o)) is)
+
+pub no_more : (ts : List Text) (ns : List ℕ) (all : Option (List ℕ)) → ts ≡ [] → all ≡ after_numbers ns (numbers_of ts) → Some ns ≡ all
+no_more ts ns all none so_far =
+    sym (so_far ∙ ap (λ (ts : List Text). after_numbers ns (numbers_of ts)) none ∙ ap Some (append-nil ns))
 
 -- ---- Commands
 

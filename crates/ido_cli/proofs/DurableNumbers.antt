@@ -4,6 +4,7 @@ use Rattle.std.proofs.Common.{List, [], ◌∷◌, ◌++◌, length, map, drop, 
 use Rattle.std.specs.Prelude.{pos, slice_get, slice_index}
 use Rattle.std.proofs.lemmas.List.{append-nil, at_drop_more, drop_all, map-append}
 use Rattle.std.proofs.lemmas.Option.{slice_get_read}
+use Rattle.ido_base.specs.declared.limits.TheConstants.{MOST_VARIABLE_BYTES}
 use Rattle.ido_base.specs.declared.location.Shape.{Shape}
 use Rattle.ido_base.specs.Words.{Word, durable_value, word_at}
 use Rattle.ido_base.specs.Layout.{byte_number, start_from, variable_at, variables_base}
@@ -80,7 +81,7 @@ address_at xs addresses i address are l is = is ∙ are.each i (omega (arith, l,
 pub variable_fits : (xs : List declared.Variable) (addresses : List ℕ) (i address : ℕ) (x : declared.Variable) →
     HaveRoom (shapes (map variable_of xs)) → AreAddresses (shapes (map variable_of xs)) addresses → i < length xs → x ≡ get_or xs i x →
     address ≡ slice_index addresses i →
-    address - variables_base + bytes_of x.kind * elements_in x.length ≤ 65536
+    address - variables_base + bytes_of x.kind * elements_in x.length ≤ MOST_VARIABLE_BYTES
 variable_fits xs addresses i address x room are l is at =
     let vs = map variable_of xs in
     let there = there_is xs i x l is in

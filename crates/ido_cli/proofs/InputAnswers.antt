@@ -11,7 +11,7 @@ use Rattle.ido_cli.specs.declared.play.Asked.{Asked}
 use Rattle.ido_cli.specs.declared.play.Asked.TheVariants as asks
 use Rattle.ido_cli.specs.declared.said.Said.{Said}
 use Rattle.ido_cli.specs.Answers.{AnswerToInput, CommandAnswer, IsSourcePastLimits, ListAnswer, Refuses}
-use Rattle.ido_cli.specs.Answers.{ScriptedAnswer, SourceAnswer, no_object, past_limits, within_limits}
+use Rattle.ido_cli.specs.Answers.{ScriptedAnswer, SeededAnswer, SourceAnswer, no_object, past_limits, within_limits}
 use Rattle.ido_cli.specs.Inputs.{source_of}
 use Rattle.ido_cli.specs.links.RunRequests.{Says, command_asking, command_making}
 use Rattle.ido_cli.specs.Refusals.{line_at_byte, object_fault_code, object_fault_place}
@@ -32,6 +32,12 @@ pub made : {E : Type 0} (product : Product) (input : List ℕ) (r : Result Said 
 made products.Object input (Ok said) short answer = within_limits (λ long. omega (arith, short, long)) answer
 made products.Regions input (Ok said) short answer = within_limits (λ long. omega (arith, short, long)) answer
 made product input (Err e) short answer = tt
+
+pub draws : {E : Type 0} (seed turns : ℕ) (crashes input : List ℕ) (r : Result Said E) → length input ≤ MOST_SOURCE_BYTES
+    → IfOk r (λ said. SeededAnswer seed turns crashes input said.status said.output.items) →
+    IfOk r (λ said. AnswerToInput (command.Seeded seed turns crashes) input said.status said.output.items)
+draws seed turns crashes input (Ok said) short answer = within_limits (λ long. omega (arith, short, long)) answer
+draws seed turns crashes input (Err e) short answer = tt
 
 -- where the limit is past, whatever is made
 pub made_past : (product : Product) (input : List ℕ) (status : ℕ) (output : List ℕ) → MOST_SOURCE_BYTES < length input →

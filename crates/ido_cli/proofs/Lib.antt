@@ -19,6 +19,12 @@ mod PlayedRuns
 mod KeptStepsBounded
 mod RunImages
 mod Turns
+mod CompiledLimits
+mod CompiledImages
 mod RecoveredRuns
+mod DrawnLives
 mod ScriptAnswers
 mod RefusedSources
+mod RunImageAnswers
+mod RecoveredImages
+mod SameContents

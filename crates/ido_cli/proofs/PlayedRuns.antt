@@ -11,7 +11,8 @@ use Rattle.c_tree.specs.Source as m
 use Rattle.rv64_isa.specs.declared.object.Object.{Object}
 use Rattle.rv64_isa.specs.declared.object.Marks.{Marks}
 use Rattle.rv64_isa.specs.declared.object.Slot.{Slot}
-use Rattle.rv64_isa.specs.Machine.{World, after_event, after_events, numbers_from, start_of}
+use Rattle.rv64_isa.specs.Executables.{Executable}
+use Rattle.rv64_isa.specs.Machine.{World, after_event, after_events, machine_start, numbers_from, start_of}
 use Rattle.rv64_isa.specs.Frames.{IsWellFormedWorld}
 use Rattle.rv64_isa.specs.Programs.{program_of, slot_of}
 use Rattle.rv64_isa.specs.Schedule.{Steps, first_steps, steps_along}
@@ -26,13 +27,12 @@ use Rattle.variable_words.proofs.Public.{well_formed_placed}
 use Rattle.variable_words.specs.Variables.{durable_variables}
 use Rattle.source_machine.specs.Laws.{SizesStay}
 use Rattle.flat_compile.specs.TranslatedForms.{IsTranslated}
-use Rattle.compiler_correctness.specs.Translations.{first_world, world, steps}
+use Rattle.compiler_correctness.specs.Translations.{world, steps, translation_to}
 use Rattle.compiler_correctness.specs.Compilations.{IsCompilation}
 use Rattle.run_scripts.specs.Reports as r
 use Rattle.run_scripts.specs.Plays.{excess_at, script_events}
 use Rattle.run_scripts.specs.Scripts.{Line}
 use Rattle.run_tracker.specs.ObjectLives.{Course, LifeConfig, living, new_life, opening_of, steps_in, world_of}
-use Rattle.ido_compile.specs.CompileAnswers.{translation_to}
 use Rattle.ido_cli.specs.Plays.{IsRunBy, ScriptAnswer, beginning, events_by, too_long}
 use Rattle.ido_cli.specs.Refusals.{IsRefusedAt}
 use Rattle.ido_cli.specs.Reports.{machine_state, unsettled_harts}
@@ -66,7 +66,7 @@ pub as_many_threads : (flat : f.Flat) (object : Object) (marks : Marks) (cuts : 
     length object.code.items ≡ length flat.threads
 as_many_threads flat object marks cuts t =
     let y = t.system in
-    sym (length-map object.code.items (λ code. map slot_of code.items)) ∙ sym (ap length t.runs) ∙ t.is.count
+    sym (length-map object.code.items (λ code. map slot_of code.items)) ∙ sym (ap (λ (x : Executable). length x.program) t.runs) ∙ t.is.count
     ∙ ap length (ap (λ (g : Graph). g.threads) t.is.plan.lowered ∙ lowered_threads y.plan.flat) ∙ parts_count y.plan.flat.threads 0
     ∙ ap (λ (x : f.Flat). length x.threads) t.of_flat
 
@@ -85,7 +85,7 @@ module _ (flat : f.Flat) (object : Object) (marks : Marks) (cuts : Cuts) (life :
   pub same_world : world_of life ≡ world (translation_to flat object marks cuts) events
   same_world =
       ap (λ (x : LifeConfig). after_events x.program x.world life.journal) p.begins
-      ∙ ap (after_events (program_of object) (first_world (translation_to flat object marks cuts))) p.journal
+      ∙ ap (after_events (program_of object) (machine_start object)) p.journal
 
   pub same_steps : steps_in life ≡ steps (translation_to flat object marks cuts) events
   same_steps =

@@ -2,6 +2,7 @@
 use Rattle.std.proofs.Common.{◌≡◌, ℕ, ◌+◌, ◌-◌, ◌*◌, ◌/◌, ◌≤◌, List, [], ◌∷◌, ◌++◌, length, map, take, drop}
 use Rattle.std.proofs.Common.{replicate, ap, ap₂, sym, subst, ◌∙◌, arith, length-append, length-drop, length-take, Ok}
 use Rattle.std.proofs.lemmas.List.{length-map, length-replicate}
+use Rattle.ido_base.specs.declared.limits.TheConstants.{LOG_WORDS, VARIABLE_WORDS}
 use Rattle.ido_base.specs.declared.event.Event.{Event}
 use Rattle.ido_base.specs.declared.event.Event.TheVariants.{Crash}
 use Rattle.ido_base.specs.Layout.{spread_words, word_count}
@@ -18,10 +19,10 @@ use Rattle.flat_compile.specs.TranslatedForms.{IsTranslated}
 use Rattle.compiler_correctness.specs.Compilations.{IsCompilation}
 use Rattle.compiler_correctness.specs.Images.{Image, file_of, first_from, image_in, image_of, steps_from, world_from}
 use Rattle.compiler_correctness.specs.Laws.{ImagesAreCrashes}
-use Rattle.compiler_correctness.specs.Translations.{Translation, steps, world}
-use Rattle.image_checks.specs.declared.image.Image as i
-use Rattle.image_checks.specs.Images.{IsImageAnswer, whole}
-use Rattle.ido_compile.specs.CompileAnswers.{IsCompiled, translation_to}
+use Rattle.compiler_correctness.specs.Translations.{Translation, steps, world, translation_to}
+use Rattle.ido_cli.specs.declared.compiled_image.Image as i
+use Rattle.ido_cli.specs.CompiledImages.{IsImageAnswer, whole}
+use Rattle.ido_compile.specs.CompileAnswers.{IsCompiled}
 use Rattle.ido_compile.specs.Files.{FilesBegin}
 use Rattle.run_tracker.specs.ObjectLives.{Course, LifeConfig, life_from, living, opening_of, steps_in, world_of}
 use Rattle.ido_cli.specs.Legs.{IsLeg, most_leg_events}
@@ -48,11 +49,12 @@ after_crash crashes c is file journal status output told before left =
 
 -- ---- A life that begins with a file's words
 
-spread_size : (n threads : ℕ) (words : List ℕ) → n ≤ 8192 → length words ≡ n + 128 * threads → length (spread_words n words) ≡ word_count threads
+spread_size : (n threads : ℕ) (words : List ℕ) → n ≤ VARIABLE_WORDS → length words ≡ n + LOG_WORDS * threads →
+    length (spread_words n words) ≡ word_count threads
 unfolding spread_words
 spread_size n threads words few size =
     let front = take n words in
-    let zeros : List ℕ = replicate (8192 - n) 0 in
+    let zeros : List ℕ = replicate (VARIABLE_WORDS - n) 0 in
     let rest = drop n words in
     omega (
       arith,
@@ -60,7 +62,7 @@ spread_size n threads words few size =
       length-append zeros rest,
       length-append (front ++ zeros) rest,
       length-append front zeros,
-      length-replicate {A = ℕ} (8192 - n) 0,
+      length-replicate {A = ℕ} (VARIABLE_WORDS - n) 0,
       length-take n words,
       length-drop n words,
       few,
@@ -78,7 +80,7 @@ module _ (flat : f.Flat) (object : Object) (marks : Marks) (cuts : Cuts) (t : Is
   pub room_left : cap ≤ begun.cap
   room_left = omega (arith, ap (λ (x : Course). x.cap) is)
 
-  module _ (size : length file.words ≡ length object.initial.items / 8 + 128 * length object.code.items) where
+  module _ (size : length file.words ≡ length object.initial.items / 8 + LOG_WORDS * length object.code.items) where
     first : World
     first = machine_from object file.words []
 
@@ -97,7 +99,8 @@ module _ (flat : f.Flat) (object : Object) (marks : Marks) (cuts : Cuts) (t : Is
   -- ---- After its leg
 
   module _ (life : Course) (same : opening_of life ≡ opening_of begun) where
-    pub harts_after : length file.words ≡ length object.initial.items / 8 + 128 * length object.code.items → length (world_of life).harts ≡ length life.program
+    pub harts_after : length file.words ≡ length object.initial.items / 8 + LOG_WORDS * length object.code.items →
+        length (world_of life).harts ≡ length life.program
     harts_after size =
         let first = stands size in
         ap (λ (m : LifeConfig). length (after_events m.program m.world life.journal).harts) (same ∙ ap opening_of is)
@@ -110,10 +113,10 @@ module _ (flat : f.Flat) (object : Object) (marks : Marks) (cuts : Cuts) (t : Is
           same ∙ ap opening_of is
           ∙ ap (λ (w : World). let m : LifeConfig = record (recovering made file) { world = w } in m) (files flat object marks cuts file [])
 
-      same_world : world_of life ≡ world_from made (image_in made file) life.journal
+      pub same_world : world_of life ≡ world_from made (image_in made file) life.journal
       same_world = ap (λ (m : LifeConfig). after_events m.program m.world life.journal) opens
 
-      same_steps : steps_in life ≡ steps_from made (image_in made file) life.journal
+      pub same_steps : steps_in life ≡ steps_from made (image_in made file) life.journal
       same_steps = ap (λ (m : LifeConfig). steps_along m.marks m.program m.world life.journal (first_steps (length m.program) m.kept_before)) opens
 
       pub recovery : ImagesAreCrashes → IsCompilation made → (turns status : ℕ) (output : List ℕ) →

@@ -1,10 +1,12 @@
 -- What a crash would leave of a life that a script was played on.
 use Rattle.std.proofs.Common.{◌≡◌, ℕ, ◌+◌, ◌*◌, ◌/◌, ◌≤◌, List, [], length, map, take, drop, ap, sym, subst, ◌∙◌, arith}
 use Rattle.std.proofs.lemmas.List.{length-map}
+use Rattle.ido_base.specs.declared.limits.TheConstants.{LOG_WORDS, VARIABLE_WORDS}
 use Rattle.ido_base.specs.declared.event.Event.{Event}
 use Rattle.c_tree.specs.Flats as f
 use Rattle.rv64_isa.specs.declared.object.Object.{Object}
 use Rattle.rv64_isa.specs.declared.object.Marks.{Marks}
+use Rattle.rv64_isa.specs.Executables.{first_world}
 use Rattle.rv64_isa.specs.Machine.{World}
 use Rattle.rv64_isa.specs.Programs.{program_of, slot_of}
 use Rattle.rv64_isa.specs.Schedule.{Steps}
@@ -12,12 +14,13 @@ use Rattle.flow_graph.specs.declared.cuts.Cuts.{Cuts}
 use Rattle.flat_compile.specs.TranslatedForms.{IsTranslated}
 use Rattle.compiler_correctness.specs.Compilations.{IsCompilation}
 use Rattle.compiler_correctness.specs.Images.{file_of, image_of, variable_words}
-use Rattle.compiler_correctness.specs.Translations.{Translation, first_world, steps, world}
-use Rattle.crash_images.specs.Contents.{contents}
+use Rattle.compiler_correctness.specs.Translations.{Translation, steps, world, translation_to}
+use Rattle.crash_images.specs.Contents.{Contents, contents}
+use Rattle.crash_images.specs.ImageDecoder.{IsReadAs}
 use Rattle.crash_images.specs.ImageEncoder.{spelling}
 use Rattle.run_tracker.specs.ObjectLives.{Course, LifeConfig, left_words, steps_in, world_of}
-use Rattle.ido_compile.specs.CompileAnswers.{translation_to}
-use Rattle.ido_cli.specs.Images.{IsImageAfter, file_text}
+use Rattle.image_checks.specs.RunImages.{left_by, file_contents}
+use Rattle.ido_cli.specs.Images.{IsImageAfter}
 use Rattle.ido_cli.proofs.KeptStepsBounded.{kept_few}
 use Rattle.ido_cli.proofs.PlayedRuns.{HasPlayed, same_steps, same_world}
 
@@ -43,14 +46,14 @@ module _ (flat : f.Flat) (object : Object) (marks : Marks) (cuts : Cuts) (life :
   pub steps_few : length (steps_in life).kept ≤ length events
   steps_few =
       let c = made in
-      let few = kept_few c.marks c.program (first_world c) events (length c.program) [] in
+      let few = kept_few c.runs.marks c.runs.program (first_world c.runs) events (length c.runs.program) [] in
       omega (arith, ap length same_kept, few)
 
   module _ (t : IsTranslated flat object marks cuts) (compilation : IsCompilation made) where
-    pub variables_few : life.variable_words ≤ 8192
+    pub variables_few : life.variable_words ≤ VARIABLE_WORDS
     variables_few = omega (arith, same_variables, t.limits.bytes)
 
-    size : length left ≡ life.variable_words + 128 * length object.code.items
+    size : length left ≡ life.variable_words + LOG_WORDS * length object.code.items
     size =
         let harts = length-map object.code.items (λ code. map slot_of code.items) in
         omega (arith, ap length same_left, (compilation.in_file events).size, same_variables, harts)
@@ -61,14 +64,20 @@ module _ (flat : f.Flat) (object : Object) (marks : Marks) (cuts : Cuts) (life :
     pub logs_few : length left ≤ life.variable_words + 1024
     logs_few = omega (arith, size, t.limits.threads)
 
+  same_contents : (source : List ℕ) → contents source (take life.variable_words left) (drop life.variable_words left) (steps_in life).kept ≡
+      file_contents source made (left_by made events)
+  same_contents source =
+      ap (λ (n : ℕ). contents source (take n left) (drop n left) (steps_in life).kept) same_variables
+      ∙ ap (λ (ws : List ℕ). contents source (take (variable_words made) ws) (drop (variable_words made) ws) (steps_in life).kept) same_left
+      ∙ ap (λ (ks : List ℕ). let ws = (left_by made events).words in contents source (take (variable_words made) ws) (drop (variable_words made) ws) ks)
+      same_kept
+
   pub image_after : (source : List ℕ) (status : ℕ) (output : List ℕ) → status ≡ 0 →
       output ≡ spelling (contents source (take life.variable_words left) (drop life.variable_words left) (steps_in life).kept) →
+      IsReadAs (contents source (take life.variable_words left) (drop life.variable_words left) (steps_in life).kept) output →
       IsImageAfter source made events status output
-  image_after source status output done told = record {
+  image_after source status output done told read = record {
     status_is = done;
-    output_is = told
-        ∙ ap (λ (n : ℕ). spelling (contents source (take n left) (drop n left) (steps_in life).kept)) same_variables
-        ∙ ap (λ (ws : List ℕ). spelling (contents source (take (variable_words made) ws) (drop (variable_words made) ws) (steps_in life).kept)) same_left
-        ∙ ap (λ (ks : List ℕ). let ws = (file_of made (image_of made events)).words in
-        spelling (contents source (take (variable_words made) ws) (drop (variable_words made) ws) ks)) same_kept;
+    output_is = told ∙ ap spelling (same_contents source);
+    read_as = subst (λ (x : Contents). IsReadAs x output) (same_contents source) read;
   }

@@ -1,5 +1,5 @@
 -- What a run of the top call comes to.
-use Rattle.std.proofs.Common.{◌≡◌, ℕ, ◌+◌, ◌<◌, ◌⊎◌, List, [], ◌∷◌, length, replicate, Some, None, refl, sym, subst, arith, IfSome, inl, inr}
+use Rattle.std.proofs.Common.{◌≡◌, ℕ, ◌+◌, ◌<◌, ◌⊎◌, List, [], ◌∷◌, length, replicate, Some, None, true, false, refl, sym, subst, arith, IfSome, inl, inr}
 use Rattle.std.specs.declared.option.Option.{Option}
 use Rattle.std.proofs.lemmas.List.{length-replicate}
 use Rattle.std.specs.Prelude.{codes}
@@ -10,14 +10,14 @@ use Rattle.c_tree.specs.Flats as f
 use Rattle.compiler_correctness.specs.Translations.{Translation}
 use Rattle.ido_cli.specs.declared.command.Command.{Command}
 use Rattle.ido_cli.specs.declared.command.Command.TheVariants as command
-use Rattle.ido_cli.specs.Commands.{command_of}
+use Rattle.ido_cli.specs.Commands.{command_of, reads_input}
 use Rattle.ido_cli.specs.Runs.{RunAnswer, ran, stopped, run_state, status_by}
 use Rattle.ido_cli.specs.Images.{IsImageAfter}
 use Rattle.ido_cli.specs.Inputs.{source_of}
 use Rattle.ido_cli.specs.Plays.{IsRunBy, too_long, ran as ran_by}
 use Rattle.ido_cli.specs.Answers.{CompileAnswer, uncompiled, compiled, RegionsAnswer, uncut, cut, ScriptedAnswer}
 use Rattle.ido_cli.specs.Answers.{unplayed, no_script, of_script, SourceAnswer, unaccepted, no_schedule, of_schedule}
-use Rattle.ido_cli.specs.Answers.{CommandAnswer, ListAnswer, no_object, of_object, RecoverAnswer, no_image, of_image}
+use Rattle.ido_cli.specs.Answers.{CommandAnswer, ListAnswer, no_object, of_object, RecoverAnswer, no_image, of_image, SeededAnswer, undrawn, drawn}
 use Rattle.ido_cli.specs.Answers.{IsPastLimits, AnswerToInput, past_limits, within_limits, Answer, wrong_words, taken_words}
 use Rattle.ido_cli.specs.Answers.{IsAnswer, IsAnswered, Outside, answered, sink_failed}
 use Rattle.ido_cli.specs.Deliveries.{IsSaidToInput, IsDelivered, whole, broken}
@@ -27,26 +27,51 @@ use Rattle.ido_cli.specs.Deliveries.{IsSaidToInput, IsDelivered, whole, broken}
 some_longer : (n : ℕ) → (input : List ℕ) × (n < length input)
 some_longer n = (replicate (n + 1) 0, omega (arith, length-replicate {A = ℕ} (n + 1) 0))
 
-long_is_past : (c : Command) (input : List ℕ) → MOST_INPUT_BYTES < length input → IsPastLimits c input
-long_is_past command.Compile input long = omega (arith, long)
-long_is_past command.Regions input long = omega (arith, long)
-long_is_past command.Play input long = inl long
-long_is_past command.Source input long = inl long
-long_is_past command.List input long = long
-long_is_past command.Image input long = inl long
-long_is_past (command.Recover turns) input long = long
+long_is_past : (c : Command) (input : List ℕ) → reads_input c ≡ true → MOST_INPUT_BYTES < length input → IsPastLimits c input
+long_is_past command.Compile input reads long = omega (arith, long)
+long_is_past command.Regions input reads long = omega (arith, long)
+long_is_past command.Play input reads long = inl long
+long_is_past command.Source input reads long = inl long
+long_is_past command.List input reads long = long
+long_is_past command.Image input reads long = inl long
+long_is_past (command.Recover turns) input reads long = long
+long_is_past (command.Make rounds seed) input reads long = cc reads
+long_is_past (command.Seeded seed turns crashes) input reads long = omega (arith, long)
 
-pub said_to_long_input : (c : Command) (left : Option (List ℕ)) (said : Said) → IfSome left (λ bytes. MOST_INPUT_BYTES < length bytes) → said.status ≡ 6 →
-    said.output.items ≡ codes "refused limit\n" → IsSaidToInput c left said
-said_to_long_input c (Some bytes) said long status output =
-    record { input = bytes; told = refl; answer = past_limits (long_is_past c bytes long) (status, output) }
-said_to_long_input c None said long status output =
+pub said_to_long_input : (c : Command) (left : Option (List ℕ)) (said : Said) → reads_input c ≡ true → IfSome left (λ bytes. MOST_INPUT_BYTES < length bytes) →
+    said.status ≡ 6 → said.output.items ≡ codes "refused limit\n" → IsSaidToInput c left said
+said_to_long_input c (Some bytes) said reads long status output =
+    record { input = bytes; told = refl; answer = past_limits (long_is_past c bytes reads long) (status, output) }
+said_to_long_input c None said reads long status output =
     let some : (input : List ℕ) × (MOST_INPUT_BYTES < length input) = some_longer MOST_INPUT_BYTES in
-    record { input = some.0; told = tt; answer = past_limits (long_is_past c some.0 some.1) (status, output) }
+    record { input = some.0; told = tt; answer = past_limits (long_is_past c some.0 reads some.1) (status, output) }
 
 told_some : (left : Option (List ℕ)) → (input : List ℕ) × IfSome left (λ bytes. input ≡ bytes)
 told_some (Some bytes) = (bytes, refl)
 told_some None = ([], tt)
+
+-- ---- Commands that read no input
+
+any_input : (c : Command) (input other : List ℕ) (status : ℕ) (output : List ℕ) → reads_input c ≡ false → AnswerToInput c input status output →
+    AnswerToInput c other status output
+any_input command.Compile input other status output unread answer = cc unread
+any_input command.Regions input other status output unread answer = cc unread
+any_input command.Play input other status output unread answer = cc unread
+any_input command.Source input other status output unread answer = cc unread
+any_input command.List input other status output unread answer = cc unread
+any_input command.Image input other status output unread answer = cc unread
+any_input (command.Recover turns) input other status output unread answer = cc unread
+any_input (command.Make rounds seed) input other status output unread (past_limits past refused) = absurd past
+any_input (command.Make rounds seed) input other status output unread (within_limits within answer) = within_limits (λ past. past) answer
+any_input (command.Seeded seed turns crashes) input other status output unread answer = cc unread
+
+pub said_to_no_input : (c : Command) (left : Option (List ℕ)) (said : Said) → reads_input c ≡ false →
+    AnswerToInput c [] said.status said.output.items → IsSaidToInput c left said
+said_to_no_input c left said unread answer =
+    let some : (input : List ℕ) × IfSome left (λ bytes. input ≡ bytes) = told_some left in
+    record { input = some.0; told = some.1; answer = any_input c [] some.0 said.status said.output.items unread answer }
+
+-- ---- Words
 
 pub answer_to_wrong_words : (words : List (List ℕ)) (left : Option (List ℕ)) (status : ℕ) (output : List ℕ) → command_of words ≡ None → status ≡ 2 →
     output ≡ codes "refused words\n" → IsAnswer words left status output
@@ -78,11 +103,11 @@ of_source input status output (of_schedule flat is schedule read answer) h = of_
 
 of_compile : (source : List ℕ) (status : ℕ) (output : List ℕ) → CompileAnswer source status output → (status ≡ 4) ⊎ (status ≡ 7) → ⊥
 of_compile source status output (uncompiled found place is refused) h = not_four_or_seven status 1 refused.0 (inl (omega arith)) h
-of_compile source status output (compiled flat is object marks cuts made e told) h = not_four_or_seven status 0 e (inl (omega arith)) h
+of_compile source status output (compiled flat is c made e told) h = not_four_or_seven status 0 e (inl (omega arith)) h
 
 of_regions : (source : List ℕ) (status : ℕ) (output : List ℕ) → RegionsAnswer source status output → (status ≡ 4) ⊎ (status ≡ 7) → ⊥
 of_regions source status output (uncut found place is refused) h = not_four_or_seven status 1 refused.0 (inl (omega arith)) h
-of_regions source status output (cut flat is object marks cuts made e told) h = not_four_or_seven status 0 e (inl (omega arith)) h
+of_regions source status output (cut flat is c made e told) h = not_four_or_seven status 0 e (inl (omega arith)) h
 
 of_scripted : (Says : Translation → List Event → ℕ → List ℕ → Type 0) →
     ((c : Translation) (events : List Event) (status : ℕ) (output : List ℕ) → Says c events status output → (status ≡ 4) ⊎ (status ≡ 7) → ⊥) →
@@ -96,6 +121,11 @@ of_scripted Says others input status output (of_script flat is lines read c made
 of_recover : (turns : ℕ) (input : List ℕ) (status : ℕ) (output : List ℕ) → RecoverAnswer turns input status output → (status ≡ 4) ⊎ (status ≡ 7) → ⊥
 of_recover turns input status output (no_image error is e told) h = not_four_or_seven status 6 e (inr refl) h
 of_recover turns input status output (of_image image is recovery) h = by_unsettled _ status recovery.reported.status_is h
+
+of_seeded : (seed turns : ℕ) (crashes source : List ℕ) (status : ℕ) (output : List ℕ) → SeededAnswer seed turns crashes source status output →
+    (status ≡ 4) ⊎ (status ≡ 7) → ⊥
+of_seeded seed turns crashes source status output (undrawn found place is refused) h = not_four_or_seven status 1 refused.0 (inl (omega arith)) h
+of_seeded seed turns crashes source status output (drawn flat is c made run) h = by_unsettled _ status run.reported.status_is h
 
 of_list : (input : List ℕ) (status : ℕ) (output : List ℕ) → ListAnswer input status output → (status ≡ 4) ⊎ (status ≡ 7) → ⊥
 of_list input status output (no_object fault read e told) h = not_four_or_seven status 6 e (inr refl) h
@@ -111,6 +141,8 @@ of_command command.List input status output answer h = of_list input status outp
 of_command command.Image input status output answer h =
     of_scripted (IsImageAfter (source_of input)) (λ c events s o image. not_four_or_seven s 0 image.status_is (inl (omega arith))) input status output answer h
 of_command (command.Recover turns) input status output answer h = of_recover turns input status output answer h
+of_command (command.Make rounds seed) input status output answer h = not_four_or_seven status 0 answer.status_is (inl (omega arith)) h
+of_command (command.Seeded seed turns crashes) input status output answer h = of_seeded seed turns crashes input status output answer h
 
 of_input : (c : Command) (input : List ℕ) (status : ℕ) (output : List ℕ) → AnswerToInput c input status output → (status ≡ 4) ⊎ (status ≡ 7) → ⊥
 of_input c input status output (past_limits past refused) h = not_four_or_seven status 6 refused.0 (inr refl) h

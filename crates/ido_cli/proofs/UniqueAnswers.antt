@@ -13,6 +13,7 @@ use Rattle.c_tree.specs.declared.rule.Rule as r
 use Rattle.flow_graph.specs.Refusals.{IsAccepted, IsRefusedBy}
 use Rattle.compiler_correctness.specs.Translations.{Translation}
 use Rattle.ido_cli.specs.Commands.{command_of}
+use Rattle.ido_cli.specs.Draws.{IsGenerated}
 use Rattle.ido_cli.specs.Images.{IsImageAfter}
 use Rattle.ido_cli.specs.Plays.{IsRunBy, ScriptAnswer, too_long, ran as ran_by}
 use Rattle.ido_cli.specs.Refusals.{IsRefusedAt, code_of, fault_code, fault_place, line_at, line_at_byte, line_at_step, object_fault_code, object_fault_place}
@@ -24,6 +25,7 @@ use Rattle.ido_cli.specs.Runs.{RunAnswer, ran, stopped, status_by}
 use Rattle.ido_cli.specs.Inputs.{source_of, rest_of}
 use Rattle.ido_cli.specs.Answers.{CommandAnswer, CompileAnswer, uncompiled, compiled, RegionsAnswer, uncut, cut, PlayAnswer}
 use Rattle.ido_cli.specs.Answers.{ScriptedAnswer, unplayed, no_script, of_script, ImageAnswer, RecoverAnswer, no_image, of_image}
+use Rattle.ido_cli.specs.Answers.{SeededAnswer, undrawn, drawn}
 use Rattle.ido_cli.specs.Answers.{SourceAnswer, unaccepted, no_schedule, of_schedule, rest_begins, ListAnswer, no_object}
 use Rattle.ido_cli.specs.Answers.{of_object, AnswerToInput, IsPastLimits, past_limits, within_limits, wrong_words, taken_words}
 use Rattle.ido_compile.specs.Verdicts.{OneFlat, OneFault, NotBoth}
@@ -103,6 +105,12 @@ module _ (one_flat : OneFlat) (one_fault : OneFault) (not_both : NotBoth) (one_s
       let same : x ≡ y = cc both in
       (e ∙ sym h, told ∙ ap (λ z. listing z.code) same ∙ sym more)
 
+  -- ---- A source that is made
+
+  one_generated : (rounds seed status other : ℕ) (output written : List ℕ) → IsGenerated rounds seed status output → IsGenerated rounds seed other written →
+      Same status other output written
+  one_generated rounds seed status other output written told more = (told.status_is ∙ sym more.status_is, told.output_is ∙ sym more.output_is)
+
   -- ---- A refused source
 
   one_refusal : (text : List ℕ) (status other : ℕ) (output written : List ℕ) → status ≡ 1 → Verdict text status output → Verdict text other written →
@@ -123,11 +131,16 @@ module _ (one_flat : OneFlat) (one_fault : OneFault) (not_both : NotBoth) (one_s
 
   of_compile : (text : List ℕ) (status : ℕ) (output : List ℕ) → CompileAnswer text status output → Verdict text status output
   of_compile text status output (uncompiled found place is told) = breaks found place is told
-  of_compile text status output (compiled flat is object marks cuts made e told) = keeps flat is (λ one. omega (arith, e, one))
+  of_compile text status output (compiled flat is x made e told) = keeps flat is (λ one. omega (arith, e, one))
 
   of_regions : (text : List ℕ) (status : ℕ) (output : List ℕ) → RegionsAnswer text status output → Verdict text status output
   of_regions text status output (uncut found place is told) = breaks found place is told
-  of_regions text status output (cut flat is object marks cuts made e told) = keeps flat is (λ one. omega (arith, e, one))
+  of_regions text status output (cut flat is x made e told) = keeps flat is (λ one. omega (arith, e, one))
+
+  of_seeded : (seed turns : ℕ) (crashes text : List ℕ) (status : ℕ) (output : List ℕ) → SeededAnswer seed turns crashes text status output →
+      Verdict text status output
+  of_seeded seed turns crashes text status output (undrawn found place is told) = breaks found place is told
+  of_seeded seed turns crashes text status output (drawn flat is c made run) = keeps flat is (not_by_unsettled _ status run.reported.status_is)
 
   module _ (Says : Translation → List Event → ℕ → List ℕ → Type 0)
       (others : (c : Translation) (events : List Event) (status : ℕ) (output : List ℕ) → Says c events status output → status ≡ 1 → ⊥) where
@@ -207,6 +220,16 @@ module _ (one_flat : OneFlat) (one_fault : OneFault) (not_both : NotBoth) (one_s
   one_within (command.Recover turns) input status other output written within (breaks_rule one) told more =
       absurd (not_of_recover turns input status output told one)
   one_within (command.Recover turns) input status other output written within (misspelled takes flat is x bad) told more = absurd takes
+  one_within (command.Make rounds seed) input status other output written within (plain n) told more =
+      one_generated rounds seed status other output written told more
+  one_within (command.Make rounds seed) input status other output written within (breaks_rule one) told more =
+      one_generated rounds seed status other output written told more
+  one_within (command.Make rounds seed) input status other output written within (misspelled takes flat is x bad) told more = absurd takes
+  one_within (command.Seeded seed turns crashes) input status other output written within (plain n) told more = absurd n
+  one_within (command.Seeded seed turns crashes) input status other output written within (breaks_rule one) told more =
+      one_refusal input status other output written one (of_seeded seed turns crashes input status output told)
+      (of_seeded seed turns crashes input other written more)
+  one_within (command.Seeded seed turns crashes) input status other output written within (misspelled takes flat is x bad) told more = absurd takes
   one_within command.Source input status other output written within (plain n) told more = one_source input status other output written told more
   one_within command.Source input status other output written within (breaks_rule one) told more = one_source input status other output written told more
   one_within command.Source input status other output written within (misspelled takes flat is x bad) told more =

@@ -1,9 +1,9 @@
 -- What the definitions compute.
-use Rattle.std.specs.Prelude.{◌≡◌, [], ◌∷◌, Some, None, refl, codes}
+use Rattle.std.specs.Prelude.{◌≡◌, [], ◌∷◌, Some, None, refl, codes, replicate}
 use Rattle.ido_cli.specs.Inputs.{source_of, rest_of, after_mark}
 use Rattle.clap.proofs.OnLiterals.{clap_on_literals}
 use Rattle.ido_cli.specs.declared.command.Command.TheVariants as command
-use Rattle.ido_cli.specs.Commands.{command_of}
+use Rattle.ido_cli.specs.Commands.{command_of, crashes_of}
 
 -- ---- Inputs
 
@@ -88,6 +88,49 @@ no_minus_after = refl
 turns_once : command_of (codes "ido" ∷ codes "recover" ∷ codes "1" ∷ codes "1" ∷ []) ≡ None
 unfolding command_of clap_on_literals
 turns_once = refl
+
+make_is_taken : command_of (codes "ido" ∷ codes "make" ∷ codes "10000" ∷ codes "4294967295" ∷ []) ≡ Some (command.Make 10000 4294967295)
+unfolding command_of clap_on_literals
+make_is_taken = refl
+
+no_rounds : command_of (codes "ido" ∷ codes "make" ∷ codes "0" ∷ codes "1" ∷ []) ≡ None
+unfolding command_of clap_on_literals
+no_rounds = refl
+
+no_more_rounds : command_of (codes "ido" ∷ codes "make" ∷ codes "10001" ∷ codes "1" ∷ []) ≡ None
+unfolding command_of clap_on_literals
+no_more_rounds = refl
+
+no_greater_seed : command_of (codes "ido" ∷ codes "make" ∷ codes "1" ∷ codes "4294967296" ∷ []) ≡ None
+unfolding command_of clap_on_literals
+no_greater_seed = refl
+
+seed_is_wanted : command_of (codes "ido" ∷ codes "make" ∷ codes "1" ∷ []) ≡ None
+unfolding command_of clap_on_literals
+seed_is_wanted = refl
+
+seeded_is_taken : command_of (codes "ido" ∷ codes "seeded" ∷ codes "18446744073709551615" ∷ codes "1000000" ∷ []) ≡ Some (command.Seeded 18446744073709551615 1000000 [])
+unfolding command_of clap_on_literals
+seeded_is_taken = refl
+
+crashes_are_taken : command_of (codes "ido" ∷ codes "seeded" ∷ codes "7" ∷ codes "0" ∷ codes "4000000" ∷ codes "0" ∷ codes "0" ∷ []) ≡ Some (command.Seeded 7 0 (4000000 ∷ 0 ∷ 0 ∷ []))
+unfolding command_of clap_on_literals
+crashes_are_taken = refl
+
+no_greater_seed_of_a_run : command_of (codes "ido" ∷ codes "seeded" ∷ codes "18446744073709551616" ∷ codes "1" ∷ []) ≡ None
+unfolding command_of clap_on_literals
+no_greater_seed_of_a_run = refl
+
+no_greater_crash : command_of (codes "ido" ∷ codes "seeded" ∷ codes "7" ∷ codes "0" ∷ codes "4000001" ∷ []) ≡ None
+unfolding command_of clap_on_literals
+no_greater_crash = refl
+
+crash_is_a_number : command_of (codes "ido" ∷ codes "seeded" ∷ codes "7" ∷ codes "0" ∷ codes "x" ∷ []) ≡ None
+unfolding command_of clap_on_literals
+crash_is_a_number = refl
+
+no_more_crashes : crashes_of (replicate 1001 (codes "1")) ≡ None
+no_more_crashes = refl
 
 frob_is_not : command_of (codes "ido" ∷ codes "frob" ∷ []) ≡ None
 unfolding command_of clap_on_literals

@@ -1,5 +1,5 @@
 -- What the program answers: a status and the bytes that it writes.
-use Rattle.std.specs.Prelude.{◌≡◌, ◌⊎◌, ℕ, ◌+◌, ◌-◌, ◌<◌, List, [], ◌++◌, length, Option, Some, None, Ok, Err, codes, IfSome, IsSome}
+use Rattle.std.specs.Prelude.{◌≡◌, ◌⊎◌, ℕ, ◌+◌, ◌-◌, ◌<◌, List, [], ◌++◌, length, Option, Some, None, Ok, Err, codes, IfSome, false}
 use Rattle.ido_base.specs.declared.event.Event.{Event}
 use Rattle.ido_base.specs.declared.place.Place.{Place}
 use Rattle.ido_base.specs.declared.limits.TheConstants.{MOST_INPUT_BYTES, MOST_SOURCE_BYTES}
@@ -7,19 +7,14 @@ use Rattle.ido_outside.specs.Causes.{Rose}
 use Rattle.ido_outside.specs.Sink.{Adds, AddsPrefix}
 use Rattle.c_tree.specs.Flats as f
 use Rattle.c_tree.specs.declared.rule.Rule as r
-use Rattle.rv64_isa.specs.declared.object.Object.{Object}
-use Rattle.rv64_isa.specs.declared.object.Marks.{Marks}
-use Rattle.flow_graph.specs.declared.cuts.Cuts.{Cuts}
-use Rattle.flow_graph.specs.IdempotentCuts.{boundaries_of}
 use Rattle.flow_graph.specs.Lowering.{lowered}
 use Rattle.flow_graph.specs.Refusals.{IsAccepted, IsRefusedBy}
-use Rattle.flat_compile.specs.TranslatedForms.{IsTranslated}
 use Rattle.compiler_correctness.specs.Translations.{Translation}
 use Rattle.compiler_correctness.specs.Images.{Image}
 use Rattle.file_fields.specs.Fields as fields
 use Rattle.image_checks.specs.declared.error.ImageError.{ImageError}
-use Rattle.image_checks.specs.declared.image.Image as i
-use Rattle.image_checks.specs.Images.{IsImageAnswer}
+use Rattle.ido_cli.specs.declared.compiled_image.Image as i
+use Rattle.ido_cli.specs.CompiledImages.{IsImageAnswer}
 use Rattle.object_format.specs.Contents.{Contents, contents_of}
 use Rattle.object_format.specs.ObjectDecoder as o
 use Rattle.object_format.specs.ObjectEncoder.{spelling}
@@ -29,7 +24,8 @@ use Rattle.run_scripts.specs.Scripts as e
 use Rattle.ido_compile.specs.CompileAnswers.{translation_in}
 use Rattle.ido_cli.specs.declared.command.Command.{Command}
 use Rattle.ido_cli.specs.declared.command.Command.TheVariants as command
-use Rattle.ido_cli.specs.Commands.{command_of}
+use Rattle.ido_cli.specs.Commands.{command_of, is_unread}
+use Rattle.ido_cli.specs.Draws.{IsGenerated, drawn_by}
 use Rattle.ido_cli.specs.Images.{IsImageAfter}
 use Rattle.ido_cli.specs.Inputs.{source_of, rest_of}
 use Rattle.ido_cli.specs.ObjectListing.{listing}
@@ -52,6 +48,8 @@ IsPastLimits command.Source input = IsSourcePastLimits input
 IsPastLimits command.List input = MOST_INPUT_BYTES < length input
 IsPastLimits command.Image input = IsSourcePastLimits input
 IsPastLimits (command.Recover turns) input = MOST_INPUT_BYTES < length input
+IsPastLimits (command.Make rounds seed) input = ⊥
+IsPastLimits (command.Seeded seed turns crashes) input = MOST_SOURCE_BYTES < length input
 
 -- a status and an output: `refused` and what is refused
 abbrev pub Refuses : (refused status : ℕ) → (what output : List ℕ) → Type 0
@@ -74,21 +72,21 @@ pub data SourceAnswer (input : List ℕ) (status : ℕ) (output : List ℕ) : Ty
 
 -- ---- `compile`
 
--- what a source is answered: the bytes of its object
+-- what a source is answered: the bytes of the object of a compilation
 pub data CompileAnswer (source : List ℕ) (status : ℕ) (output : List ℕ) : Type 0 where
   uncompiled : (found : r.Rule) (place : Place) → IsRefusedBy source found place → IsRefusedAt 1 (code_of found) source place.0 status output →
       CompileAnswer source status output
-  compiled : (flat : f.Flat) → IsAccepted source flat → (object : Object) (marks : Marks) (cuts : Cuts) → IsTranslated flat object marks cuts → status ≡ 0 →
-      output ≡ spelling (contents_of object) → CompileAnswer source status output
+  compiled : (flat : f.Flat) → IsAccepted source flat → (c : Translation) (is : IsTranslationOf flat c) → status ≡ 0 →
+      output ≡ spelling (contents_of is.object) → CompileAnswer source status output
 
 -- ---- `regions`
 
--- what a source is answered: the nodes of its graph, and the boundaries that are chosen among them
+-- what a source is answered: the nodes of its graph, and the boundaries of a compilation that are chosen among them
 pub data RegionsAnswer (source : List ℕ) (status : ℕ) (output : List ℕ) : Type 0 where
   uncut : (found : r.Rule) (place : Place) → IsRefusedBy source found place → IsRefusedAt 1 (code_of found) source place.0 status output →
       RegionsAnswer source status output
-  cut : (flat : f.Flat) → IsAccepted source flat → (object : Object) (marks : Marks) (cuts : Cuts) → IsTranslated flat object marks cuts → status ≡ 0 →
-      output ≡ regions source (lowered flat) (boundaries_of cuts) flat.threads → RegionsAnswer source status output
+  cut : (flat : f.Flat) → IsAccepted source flat → (c : Translation) → IsTranslationOf flat c → status ≡ 0 →
+      output ≡ regions source (lowered flat) c.boundaries flat.threads → RegionsAnswer source status output
 
 -- ---- `play` and `image`
 
@@ -110,6 +108,15 @@ PlayAnswer input status output = ScriptedAnswer IsRunBy input status output
 -- the bytes of the image that a crash after the run would leave
 abbrev pub ImageAnswer : (input : List ℕ) → (status : ℕ) → (output : List ℕ) → Type 0
 ImageAnswer input status output = ScriptedAnswer (IsImageAfter (source_of input)) input status output
+
+-- ---- `seeded`
+
+-- what a source is answered: the report of a drawn run of it
+pub data SeededAnswer (seed turns : ℕ) (crashes : List ℕ) (source : List ℕ) (status : ℕ) (output : List ℕ) : Type 0 where
+  undrawn : (found : r.Rule) (place : Place) → IsRefusedBy source found place → IsRefusedAt 1 (code_of found) source place.0 status output →
+      SeededAnswer seed turns crashes source status output
+  drawn : (flat : f.Flat) → IsAccepted source flat → (c : Translation) → IsTranslationOf flat c → IsRunBy c (drawn_by c seed turns crashes) status output →
+      SeededAnswer seed turns crashes source status output
 
 -- ---- `recover`
 
@@ -142,6 +149,8 @@ CommandAnswer command.Source input status output = SourceAnswer input status out
 CommandAnswer command.List input status output = ListAnswer input status output
 CommandAnswer command.Image input status output = ImageAnswer input status output
 CommandAnswer (command.Recover turns) input status output = RecoverAnswer turns input status output
+CommandAnswer (command.Make rounds seed) input status output = IsGenerated rounds seed status output
+CommandAnswer (command.Seeded seed turns crashes) input status output = SeededAnswer seed turns crashes input status output
 
 -- what an input of a command is answered
 pub data AnswerToInput (c : Command) (input : List ℕ) (status : ℕ) (output : List ℕ) : Type 0 where
@@ -191,8 +200,8 @@ pub record IsAnswer (words : List (List ℕ)) (left : Option (List ℕ)) (status
 pub data IsAnswered (words : List (List ℕ)) (o : Outside) (status : ℕ) : Type 0 where
   -- the answer, and all of it
   answered : (output : List ℕ) → IsAnswer words o.left status output → Adds o.written_before o.written output → IsAnswered words o status
-  -- words were taken, the source failed, and nothing was written
-  source_failed : IsSome (command_of words) → status ≡ 4 → Rose o.source_faults_before o.source_faults → Adds o.written_before o.written [] →
+  -- the words name a command that reads its input, the source failed, and nothing was written
+  source_failed : is_unread (command_of words) ≡ false → status ≡ 4 → Rose o.source_faults_before o.source_faults → Adds o.written_before o.written [] →
       IsAnswered words o status
   -- the sink failed, and a prefix of the answer was written
   sink_failed : (output : List ℕ) (answer : ℕ) → status ≡ 5 → Rose o.sink_faults_before o.sink_faults → IsAnswer words o.left answer output →

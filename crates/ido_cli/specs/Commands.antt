@@ -1,41 +1,102 @@
 -- The words of the command line: which command they name, as `clap` takes them.
-use Rattle.std.specs.Prelude.{ℕ, ◌^◌, ◌-◌, List, [], ◌∷◌, true, Option, Some, None, Bool, option_and_then, option_map, codes, nat_eq, if◌then◌else◌}
+use Rattle.std.specs.Prelude.{ℕ, ◌^◌, ◌-◌, List, [], ◌∷◌, length, true, false, not, Option, Some, None, Bool, option_and_then, option_map, unwrap_or, codes}
+use Rattle.std.specs.Prelude.{nat_eq, nat_lt, if◌then◌else◌}
 use Rattle.std.specs.Cmp.Lexicographic.{pointwise}
 use Rattle.std.specs.Str.Parse.{digits_value, without_leading_plus}
-use Rattle.clap.specs.Words.{App, Row, Rule, Shape, fault_of, new_rule, one_of, subcommand_of, with_subcommand}
+use Rattle.clap.specs.Words.{App, Row, Rule, Shape, all_of, fault_of, new_rule, one_of, subcommand_of, with_subcommand}
 use Rattle.clap.specs.Simple.{new_shape}
 use Rattle.clap.specs.ValueTests.{is_unsigned_in}
 use Rattle.clap.specs.Walk.{is_empty}
+use Rattle.clap.specs.declared.builder.action.ArgAction.TheVariants.{Append}
+use Rattle.clap.specs.declared.builder.value_parser.ValueParser as p
 use Rattle.clap.specs.declared.builder.value_parser.ValueParser.TheVariants as parser
 use Rattle.ido_cli.specs.declared.command.Command as c
 use Rattle.ido_cli.specs.declared.command.Command.TheVariants as command
 
--- turns that `recover` takes
+-- ---- What `clap` takes
+
+-- turns that `recover` and `seeded` take at most
 abbrev pub most_turns : ℕ
 most_turns = 1000000
 
--- a word of its own that is required, and is a number from 0 to the most turns
+-- rounds that `make` takes at most
+abbrev pub most_rounds : ℕ
+most_rounds = 10000
+
+-- a crash word at most, and how many of them at most
+abbrev pub most_crash : ℕ
+most_crash = 4000000
+
+abbrev pub most_crashes : ℕ
+most_crashes = 1000
+
+-- a word of its own that is required, and is a number that this parser takes
+abbrev pub number_rule : (name : List ℕ) → p.ValueParser → Rule
+number_rule name parser = record (new_rule name) { required = true; parser = Some parser }
+
 abbrev pub turns_rule : Rule
-turns_rule = record (new_rule (codes "TURNS")) { required = true; parser = Some (parser.Unsigned 0 most_turns) }
+turns_rule = number_rule (codes "TURNS") (parser.Unsigned 0 most_turns)
+
+-- any number of words, each a number
+abbrev pub crash_rule : Rule
+crash_rule = record (new_rule (codes "CRASH")) { action = Some Append; parser = Some (parser.Unsigned 0 most_crash) }
 
 abbrev pub recover_shape : Shape
 recover_shape = record (new_shape (codes "recover")) { rules = turns_rule ∷ [] }
 
--- one of the commands is required, and each but `recover` takes no word of its own
+abbrev pub make_shape : Shape
+make_shape = record (new_shape (codes "make")) {
+  rules = number_rule (codes "N") (parser.Unsigned 1 most_rounds) ∷ number_rule (codes "SEED") (parser.Unsigned 0 (2 ^ 32 - 1)) ∷ [];
+}
+
+abbrev pub seeded_shape : Shape
+seeded_shape = record (new_shape (codes "seeded")) {
+  rules = number_rule (codes "SEED") (parser.Unsigned 0 (2 ^ 64 - 1)) ∷ turns_rule ∷ crash_rule ∷ [];
+}
+
+-- one of the commands is required; each but the last three takes no word of its own
 abbrev pub table : App
 table =
     let top = record (new_shape (codes "ido")) { subcommand_required = true } in
     let one = with_subcommand (record { top = top; subs = [] }) (new_shape (codes "compile")) in
     let two = with_subcommand (with_subcommand one (new_shape (codes "list"))) (new_shape (codes "regions")) in
     let three = with_subcommand (with_subcommand two (new_shape (codes "play"))) (new_shape (codes "source")) in
-    with_subcommand (with_subcommand three (new_shape (codes "image"))) recover_shape
+    let four = with_subcommand (with_subcommand three (new_shape (codes "image"))) recover_shape in
+    with_subcommand (with_subcommand four make_shape) seeded_shape
 
--- the number of 32 bits that a text is read as: decimal digits, with a `+` before them or not
-abbrev pub number_of : (text : List ℕ) → Option ℕ
-number_of text = if is_unsigned_in 0 (2 ^ 32 - 1) text then Some (digits_value 10 (without_leading_plus text)) else None
+-- ---- Which command is named
 
-abbrev pub turns_in : List Row → Option ℕ
-turns_in rows = option_and_then number_of (one_of (codes "TURNS") rows)
+-- the number of so many bits that a text is read as: decimal digits, with a `+` before them or not
+abbrev pub number_of : (bits : ℕ) → (text : List ℕ) → Option ℕ
+number_of bits text = if is_unsigned_in 0 (2 ^ bits - 1) text then Some (digits_value 10 (without_leading_plus text)) else None
+
+-- that of the word of a name
+abbrev pub number_in : (bits : ℕ) → (name : List ℕ) → List Row → Option ℕ
+number_in bits name rows = option_and_then (number_of bits) (one_of name rows)
+
+-- the numbers of texts, where each is one
+abbrev pub numbers_of : List (List ℕ) → Option (List ℕ)
+numbers_of [] = Some []
+numbers_of (t ∷ ts) = option_and_then (λ n. option_map (λ ns. n ∷ ns) (numbers_of ts)) (number_of 64 t)
+
+-- crash words, of which there are at most so many
+abbrev pub crashes_of : List (List ℕ) → Option (List ℕ)
+crashes_of texts = if nat_lt most_crashes (length texts) then None else numbers_of texts
+
+abbrev pub crashes_in : List Row → Option (List ℕ)
+crashes_in rows = crashes_of (unwrap_or (all_of (codes "CRASH") rows) [])
+
+abbrev pub recover_in : List Row → Option c.Command
+recover_in rows = option_map (λ turns. command.Recover turns) (number_in 32 (codes "TURNS") rows)
+
+abbrev pub make_in : List Row → Option c.Command
+make_in rows =
+    option_and_then (λ rounds. option_map (λ seed. command.Make rounds seed) (number_in 32 (codes "SEED") rows)) (number_in 32 (codes "N") rows)
+
+abbrev pub seeded_in : List Row → Option c.Command
+seeded_in rows =
+    option_and_then (λ seed. option_and_then (λ turns. option_map (λ crashes. command.Seeded seed turns crashes) (crashes_in rows))
+    (number_in 32 (codes "TURNS") rows)) (number_in 64 (codes "SEED") rows)
 
 abbrev pub is_named : (name : List ℕ) → List ℕ → Bool
 is_named name word = pointwise nat_eq word name
@@ -49,9 +110,23 @@ command_by_name name rows =
     else if is_named (codes "play") name then Some command.Play
     else if is_named (codes "source") name then Some command.Source
     else if is_named (codes "image") name then Some command.Image
-    else if is_named (codes "recover") name then option_map (λ turns. command.Recover turns) (turns_in rows)
+    else if is_named (codes "recover") name then recover_in rows
+    else if is_named (codes "make") name then make_in rows
+    else if is_named (codes "seeded") name then seeded_in rows
     else None
 
 -- the command that the words name, the program's name first; none where `clap` finds a fault in them, or answers by its help
 unfoldable pub command_of : List (List ℕ) → Option c.Command
 command_of words = if is_empty (fault_of table words) then option_and_then (λ p. command_by_name p.0 p.1) (subcommand_of table words) else None
+
+-- ---- What is read
+
+-- the command reads its input
+abbrev pub reads_input : c.Command → Bool
+reads_input (command.Make rounds seed) = false
+reads_input _ = true
+
+-- nothing is read: the words aren't taken, or they name a command that reads no input
+abbrev pub is_unread : Option c.Command → Bool
+is_unread None = true
+is_unread (Some command) = not (reads_input command)

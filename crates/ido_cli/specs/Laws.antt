@@ -1,13 +1,19 @@
--- What words and an input are answered is at most one thing.
-use Rattle.std.specs.Prelude.{◌≡◌, ℕ, List, length, Option, Some, None}
+-- What words and an input are answered is at most one thing, and an image that `image` wrote is recovered from.
+use Rattle.std.specs.Prelude.{◌≡◌, ◌≤◌, ℕ, List, length, Option, Some, None}
+use Rattle.ido_base.specs.declared.event.Event.{Event}
+use Rattle.ido_base.specs.declared.limits.TheConstants.{MOST_EVENTS}
 use Rattle.c_tree.specs.Flats.{Flat}
 use Rattle.flow_graph.specs.Refusals.{IsAccepted}
+use Rattle.compiler_correctness.specs.Translations.{Translation}
 use Rattle.run_scripts.specs.Scripts.{Fault, Refused, read}
 use Rattle.ido_cli.specs.declared.command.Command.{Command}
 use Rattle.ido_cli.specs.declared.command.Command.TheVariants as command
 use Rattle.ido_cli.specs.Commands.{command_of}
+use Rattle.ido_cli.specs.Images.{IsImageAfter}
 use Rattle.ido_cli.specs.Inputs.{source_of, rest_of}
-use Rattle.ido_cli.specs.Answers.{Answer, IsPastLimits}
+use Rattle.ido_cli.specs.Plays.{IsTranslationOf}
+use Rattle.ido_cli.specs.Recoveries.{IsRecoveredRun}
+use Rattle.ido_cli.specs.Answers.{Answer, IsPastLimits, RecoverAnswer}
 
 -- what is written stands on no compilation
 abbrev pub IsPlain : Option Command → Type 0
@@ -19,6 +25,8 @@ IsPlain (Some command.Play) = ⊥
 IsPlain (Some command.Source) = Unit {0}
 IsPlain (Some command.Image) = ⊥
 IsPlain (Some (command.Recover turns)) = ⊥
+IsPlain (Some (command.Make rounds seed)) = Unit {0}
+IsPlain (Some (command.Seeded seed turns crashes)) = ⊥
 
 -- the command takes a script after its source
 abbrev pub TakesScript : Option Command → Type 0
@@ -30,6 +38,8 @@ TakesScript (Some command.Play) = Unit {0}
 TakesScript (Some command.Source) = ⊥
 TakesScript (Some command.Image) = Unit {0}
 TakesScript (Some (command.Recover turns)) = ⊥
+TakesScript (Some (command.Make rounds seed)) = ⊥
+TakesScript (Some (command.Seeded seed turns crashes)) = ⊥
 
 -- What is said stands on no compilation: the command compiles nothing, or what it is asked is refused before, since the input is past the limits, its source
 -- breaks
@@ -45,3 +55,9 @@ pub data IsUncompiled (c : Option Command) (input : List ℕ) (status : ℕ) : T
 abbrev pub OneAnswer : Type 0
 OneAnswer = (words : List (List ℕ)) (input : List ℕ) (status other : ℕ) (output written : List ℕ) → IsUncompiled (command_of words) input status
     → Answer words input status output → Answer words input other written → (status ≡ other) × (output ≡ written)
+
+-- what `image` writes of events of a source's translation, `recover` reads as what they left
+abbrev pub RunsAreRecovered : Type 0
+RunsAreRecovered = (source image : List ℕ) (flat : Flat) (c : Translation) (before : List Event) (turns status answer : ℕ) (output : List ℕ) →
+    IsAccepted source flat → IsTranslationOf flat c → length before ≤ MOST_EVENTS → IsImageAfter source c before status image →
+    RecoverAnswer turns image answer output → IsRecoveredRun source c before turns answer output

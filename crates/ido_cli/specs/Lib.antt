@@ -5,6 +5,9 @@ pub mod Inputs
 pub mod Reports
 pub mod Plays
 pub mod Images
+pub mod CompiledImages
+pub mod ImagesReadAgain
+pub mod Draws
 pub mod Legs
 pub mod Recoveries
 pub mod Regions
@@ -13,4 +16,5 @@ pub mod Instructions
 pub mod ObjectListing
 pub mod Answers
 pub mod Laws
+pub mod CompiledLives
 pub mod links

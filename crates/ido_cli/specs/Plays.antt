@@ -6,16 +6,16 @@ use Rattle.c_tree.specs.Flats as f
 use Rattle.c_tree.specs.Source.{start, after_from, is_between, runs_from}
 use Rattle.rv64_isa.specs.declared.object.Object.{Object}
 use Rattle.rv64_isa.specs.declared.object.Marks.{Marks}
+use Rattle.rv64_isa.specs.Executables.{first_world}
 use Rattle.flow_graph.specs.declared.cuts.Cuts.{Cuts}
 use Rattle.flat_compile.specs.TranslatedForms.{IsTranslated}
-use Rattle.compiler_correctness.specs.Translations.{Translation, first_world, world, steps}
+use Rattle.compiler_correctness.specs.Translations.{Translation, world, steps, translation_to}
 use Rattle.compiler_correctness.specs.Compilation.{AreSectionsKept}
 use Rattle.compiler_correctness.specs.Compilations.{IsCompilation}
 use Rattle.run_scripts.specs.Plays.{script_events, excess_at}
 use Rattle.run_scripts.specs.Reports.{report}
 use Rattle.run_scripts.specs.Scripts.{Line}
 use Rattle.run_tracker.specs.ObjectLives.{LifeConfig, living}
-use Rattle.ido_compile.specs.CompileAnswers.{translation_to}
 use Rattle.ido_cli.specs.Refusals.{IsRefusedAt}
 use Rattle.ido_cli.specs.Reports.{machine_state}
 use Rattle.ido_cli.specs.Runs.{IsReport, run_state}
@@ -31,7 +31,13 @@ pub record IsTranslationOf (flat : f.Flat) (c : Translation) : Type 0 where
 
 -- a translation's machine before any event
 abbrev pub beginning : Translation → LifeConfig
-beginning c = record { program = c.program; marks = c.marks; variable_words = length c.initial / 8; kept_before = []; world = first_world c }
+beginning c = record {
+  program = c.runs.program;
+  marks = c.runs.marks;
+  variable_words = length c.runs.initial / 8;
+  kept_before = [];
+  world = first_world c.runs;
+}
 
 -- the events that the lines make, one line after another, each by what the machine is before it
 abbrev pub events_by : Translation → List Line → List Event

@@ -6,14 +6,17 @@ ghost use Rattle.ido_cli.specs.Answers.{AnswerToInput, CommandAnswer};
 ghost use Rattle.ido_cli.specs.links.RunRequests.{command_asking, command_making};
 
 use crate::command::Command;
+use crate::crashes::Crashes;
 use crate::input::split;
 use crate::list::list_answer;
+use crate::make::make_answer;
 use crate::object::compile_answer;
 use crate::play::{Asked, scripted_answer};
 use crate::recover::recover_answer;
 use crate::refusal::refused;
 use crate::regions::regions_answer;
 use crate::said::Said;
+use crate::seeded::seeded_answer;
 use crate::source::source_answer;
 use ido_base::limits::MOST_SOURCE_BYTES;
 use ido_base::memory::OutOfMemory;
@@ -73,6 +76,22 @@ fn source_input(alloc: Global, input: &[u8]) -> Result<Said, OutOfMemory>
     source_answer(alloc, input, source, schedule)
 }
 
+/// The answer to an input of `seeded`.
+fn seeded_input(
+    alloc: Global,
+    input: &[u8],
+    seed: u64,
+    turns: u32,
+    crashes: &Crashes,
+) -> Result<Said, OutOfMemory>
+    ensures { IfOk result (λ said. AnswerToInput (command.Seeded seed turns crashes.now) input.now said.status said.output.items) }
+{
+    if input.len() > MOST_SOURCE_BYTES {
+        return refused(alloc, 6, b"refused limit\n");
+    }
+    seeded_answer(alloc, input, seed, turns, crashes.draws())
+}
+
 /// The answer to an input of a command.
 pub fn answer(alloc: Global, command: Command, input: &[u8]) -> Result<Said, OutOfMemory>
     requires { length input.now ≤ MOST_INPUT_BYTES }
@@ -86,5 +105,11 @@ pub fn answer(alloc: Global, command: Command, input: &[u8]) -> Result<Said, Out
         Command::Source => source_input(alloc, input),
         Command::Image => scripted_input(alloc, Asked::Image, input),
         Command::Recover { turns } => recover_answer(alloc, input, turns),
+        Command::Make { rounds, seed } => make_answer(alloc, rounds, seed),
+        Command::Seeded {
+            seed,
+            turns,
+            crashes,
+        } => seeded_input(alloc, input, seed, turns, &crashes),
     }
 }

@@ -1,18 +1,26 @@
 //! The words of the command line.
-ghost use Rattle.std.specs.Prelude.{◌≡◌, map, option_map, string_bytes, IfOk};
+ghost use Rattle.std.specs.Prelude.{◌≡◌, ◌-◌, ◌^◌, [], ◌∷◌, ◌++◌, false, map, option_map, string_bytes, IfOk, OnOk};
+ghost use Rattle.clap.specs.declared.builder.value_parser.ValueParser.TheVariants as parser;
 ghost use Rattle.clap.specs.Matches.{found_of};
 ghost use Rattle.clap.specs.Simple.{new_shape};
 ghost use Rattle.clap.specs.Walk.{rows_of};
-ghost use Rattle.clap.specs.Words.{app_of, with_subcommand};
-ghost use Rattle.ido_cli.specs.Commands.{command_by_name, command_of, recover_shape, table, turns_in};
+ghost use Rattle.clap.specs.Words.{app_of, rule_of, with_subcommand};
+ghost use Rattle.ido_cli.specs.Commands.{command_by_name, command_of, crash_rule, crashes_in, crashes_of, make_in, make_shape};
+ghost use Rattle.ido_cli.specs.Commands.{most_crash, most_rounds, most_turns, number_in, number_of};
+ghost use Rattle.ido_cli.specs.Commands.{number_rule, numbers_of, reads_input, recover_in, recover_shape, seeded_in, seeded_shape, table};
 
+use crate::crashes::Crashes;
+use clap::builder::ValueParser;
 use clap::error::ErrorKind;
-use clap::{Arg, ArgMatches};
+use clap::{Arg, ArgAction, ArgMatches};
 use ido_base::memory::OutOfMemory;
 use std::alloc::{AllocError, Global};
 
+/// Crash words at most.
+const MOST_CRASHES: usize = 1000;
+
 /// A command of the program.
-#[derive(Clone, Copy, PartialEq, Eq, Debug)]
+#[derive(Debug, Drop)]
 pub enum Command {
     /// Writes the object of a source.
     Compile,
@@ -27,7 +35,29 @@ pub enum Command {
     /// Writes what a crash after a script would leave.
     Image,
     /// Resumes what a crash has left, by so many turns of each hart, 0 to 1,000,000.
-    Recover { turns: u32 },
+    Recover {
+        turns: u32,
+    },
+    /// Writes the source of a seed, whose threads make so many rounds, 1 to 10,000.
+    Make {
+        rounds: u32,
+        seed: u32,
+    },
+    /// Runs a compiled source by what a seed draws: so many draws, 0 to 1,000,000, and crashes after some of them.
+    Seeded {
+        seed: u64,
+        turns: u32,
+        crashes: Crashes,
+    },
+}
+
+impl Command {
+    /// Whether it reads its input.
+    pub fn reads_input(&self) -> bool
+        ensures { result ≡ reads_input self.now }
+    {
+        !matches!(self, Command::Make { .. })
+    }
 }
 
 /// A table with one command more, which takes no word of its own.
@@ -41,6 +71,59 @@ fn with_command<'a>(
     table.subcommand(clap::Command::new(alloc, name))
 }
 
+/// A word that is required, and is a number that this parser takes.
+fn number_word<'a>(alloc: Global, name: &'a str, parser: ValueParser<'a>) -> Arg<'a>
+    ensures rule { rule_of result ≡ number_rule name.entry.now parser.entry }
+    ensures local { result.global ≡ false }
+{
+    Arg::new(alloc, name).required(true).value_parser(parser)
+}
+
+/// What takes a number of turns.
+fn turns_parser<'a>() -> ValueParser<'a>
+    ensures { result ≡ parser.Unsigned 0 most_turns }
+{
+    clap::value_parser!(u64).range(..=1_000_000)
+}
+
+/// What takes a number of rounds.
+fn rounds_parser<'a>() -> ValueParser<'a>
+    ensures { result ≡ parser.Unsigned 1 most_rounds }
+{
+    clap::value_parser!(u64).range(1..10_001)
+}
+
+/// What takes a number of 32 bits.
+fn short_parser<'a>() -> ValueParser<'a>
+    ensures { result ≡ parser.Unsigned 0 (2 ^ 32 - 1) }
+{
+    clap::value_parser!(u64).range(..=4_294_967_295)
+}
+
+/// What takes a number of 64 bits.
+fn long_parser<'a>() -> ValueParser<'a>
+    ensures { result ≡ parser.Unsigned 0 (2 ^ 64 - 1) }
+{
+    clap::value_parser!(u64)
+}
+
+/// What takes a crash word.
+fn crash_parser<'a>() -> ValueParser<'a>
+    ensures { result ≡ parser.Unsigned 0 most_crash }
+{
+    clap::value_parser!(u64).range(..=4_000_000)
+}
+
+/// Any number of words, each of them a crash word.
+fn crash_words<'a>(alloc: Global) -> Arg<'a>
+    ensures rule { rule_of result ≡ crash_rule }
+    ensures local { result.global ≡ false }
+{
+    Arg::new(alloc, "CRASH")
+        .action(ArgAction::Append)
+        .value_parser(crash_parser())
+}
+
 /// A table with the command `recover` more, which takes a number.
 fn with_recover<'a>(
     alloc: Global,
@@ -48,10 +131,32 @@ fn with_recover<'a>(
 ) -> Result<clap::Command<'a>, AllocError>
     ensures { IfOk result (λ c. app_of c ≡ with_subcommand (app_of table.entry) recover_shape) }
 {
-    let turns = Arg::new(alloc, "TURNS")
-        .required(true)
-        .value_parser(clap::value_parser!(u64).range(..=1_000_000));
+    let turns = number_word(alloc, "TURNS", turns_parser());
     table.subcommand(clap::Command::new(alloc, "recover").arg(turns)?)
+}
+
+/// A table with the command `make` more, which takes two numbers.
+fn with_make<'a>(alloc: Global, table: clap::Command<'a>) -> Result<clap::Command<'a>, AllocError>
+    ensures { IfOk result (λ c. app_of c ≡ with_subcommand (app_of table.entry) make_shape) }
+{
+    let rounds = number_word(alloc, "N", rounds_parser());
+    let seed = number_word(alloc, "SEED", short_parser());
+    let one = clap::Command::new(alloc, "make").arg(rounds)?;
+    let two = one.arg(seed)?;
+    table.subcommand(two)
+}
+
+/// A table with the command `seeded` more, which takes two numbers and any number of others.
+fn with_seeded<'a>(alloc: Global, table: clap::Command<'a>) -> Result<clap::Command<'a>, AllocError>
+    ensures { IfOk result (λ c. app_of c ≡ with_subcommand (app_of table.entry) seeded_shape) }
+{
+    let seed = number_word(alloc, "SEED", long_parser());
+    let turns = number_word(alloc, "TURNS", turns_parser());
+    let crashes = crash_words(alloc);
+    let one = clap::Command::new(alloc, "seeded").arg(seed)?;
+    let two = one.arg(turns)?;
+    let three = two.arg(crashes)?;
+    table.subcommand(three)
 }
 
 /// The commands, as `clap` takes them.
@@ -65,31 +170,135 @@ fn table<'a>(alloc: Global) -> Result<clap::Command<'a>, AllocError>
     let four = with_command(alloc, three, "play")?;
     let five = with_command(alloc, four, "source")?;
     let six = with_command(alloc, five, "image")?;
-    with_recover(alloc, six)
+    let seven = with_recover(alloc, six)?;
+    let eight = with_make(alloc, seven)?;
+    with_seeded(alloc, eight)
 }
 
-/// How many turns the words of `recover` give each hart.
-fn turns(matches: &ArgMatches) -> Option<u32>
-    ensures { result ≡ turns_in (rows_of (found_of matches.now)) }
+/// The number of 32 bits that a word of this name is.
+fn short_number(matches: &ArgMatches, name: &str) -> Option<u32>
+    ensures { result ≡ number_in 32 name.now (rows_of (found_of matches.now)) }
 {
-    matches.get_one::<u32>("TURNS")
+    matches.get_one::<u32>(name)
+}
+
+/// The number of 64 bits that a word of this name is.
+fn long_number(matches: &ArgMatches, name: &str) -> Option<u64>
+    ensures { result ≡ number_in 64 name.now (rows_of (found_of matches.now)) }
+{
+    matches.get_one::<u64>(name)
+}
+
+/// Adds a number.
+fn push(numbers: &mut Vec<u64>, number: u64) -> Result<(), OutOfMemory>
+    ensures { OnOk result (numbers.new.items ≡ numbers.old.items ++ number ∷ []) }
+{
+    numbers.push(number)?;
+    Ok(())
+}
+
+/// The number of 64 bits that a text is.
+fn number_of(text: &str) -> Option<u64>
+    ensures { result ≡ number_of 64 text.now }
+{
+    text.parse::<u64>().ok()
+}
+
+/// The numbers of 64 bits that texts are, where each of them is one.
+fn numbers_of(alloc: Global, texts: &[&str]) -> Result<Option<Vec<u64>>, OutOfMemory>
+    ensures { IfOk result (λ found. option_map (λ v. v.items) found ≡ numbers_of (map (λ t. t.now) texts.now)) }
+{
+    let mut numbers = Vec::new(alloc);
+    let mut rest = texts;
+    while let [text, after @ ..] = rest {
+        let Some(number) = number_of(text) else {
+            return Ok(None);
+        };
+        push(&mut numbers, number)?;
+        rest = after;
+    }
+    Ok(Some(numbers))
+}
+
+/// The crash words, where there are at most a thousand and each is a number.
+fn crashes_of(alloc: Global, texts: &[&str]) -> Result<Option<Crashes>, OutOfMemory>
+    ensures { IfOk result (λ found. found ≡ crashes_of (map (λ t. t.now) texts.now)) }
+{
+    if texts.len() > MOST_CRASHES {
+        return Ok(None);
+    }
+    match numbers_of(alloc, texts)? {
+        Some(draws) => Ok(Some(Crashes::new(draws))),
+        None => Ok(None),
+    }
+}
+
+/// The crash words among the words of `seeded`, if there are any.
+fn crashes_in(alloc: Global, matches: &ArgMatches) -> Result<Option<Crashes>, OutOfMemory>
+    ensures { IfOk result (λ found. found ≡ crashes_in (rows_of (found_of matches.now))) }
+{
+    match matches.get_raw("CRASH") {
+        Some(texts) => crashes_of(alloc, texts),
+        None => crashes_of(alloc, &[]),
+    }
+}
+
+/// The command `recover` by its words.
+fn recover_in(matches: &ArgMatches) -> Option<Command>
+    ensures { result ≡ recover_in (rows_of (found_of matches.now)) }
+{
+    let turns = short_number(matches, "TURNS")?;
+    Some(Command::Recover { turns })
+}
+
+/// The command `make` by its words.
+fn make_in(matches: &ArgMatches) -> Option<Command>
+    ensures { result ≡ make_in (rows_of (found_of matches.now)) }
+{
+    let rounds = short_number(matches, "N")?;
+    let seed = short_number(matches, "SEED")?;
+    Some(Command::Make { rounds, seed })
+}
+
+/// The command `seeded` by its words.
+fn seeded_in(alloc: Global, matches: &ArgMatches) -> Result<Option<Command>, OutOfMemory>
+    ensures { IfOk result (λ c. c ≡ seeded_in (rows_of (found_of matches.now))) }
+{
+    let Some(seed) = long_number(matches, "SEED") else {
+        return Ok(None);
+    };
+    let Some(turns) = short_number(matches, "TURNS") else {
+        return Ok(None);
+    };
+    match crashes_in(alloc, matches)? {
+        Some(crashes) => Ok(Some(Command::Seeded {
+            seed,
+            turns,
+            crashes,
+        })),
+        None => Ok(None),
+    }
 }
 
 /// The command of a name, by what its own words are.
-fn command_by_name(name: &str, matches: &ArgMatches) -> Option<Command>
-    ensures { result ≡ command_by_name name.now (rows_of (found_of matches.now)) }
+fn command_by_name(
+    alloc: Global,
+    name: &str,
+    matches: &ArgMatches,
+) -> Result<Option<Command>, OutOfMemory>
+    ensures { IfOk result (λ c. c ≡ command_by_name name.now (rows_of (found_of matches.now))) }
 {
     match name {
-        "compile" => Some(Command::Compile),
-        "list" => Some(Command::List),
-        "regions" => Some(Command::Regions),
-        "play" => Some(Command::Play),
-        "source" => Some(Command::Source),
-        "image" => Some(Command::Image),
-        "recover" => Some(Command::Recover {
-            turns: turns(matches)?,
-        }),
-        _ => None,
+        "compile" => Ok(Some(Command::Compile)),
+        "list" => Ok(Some(Command::List)),
+        "regions" => Ok(Some(Command::Regions)),
+        "play" => Ok(Some(Command::Play)),
+        "source" => Ok(Some(Command::Source)),
+        "image" => Ok(Some(Command::Image)),
+        "recover" => Ok(recover_in(matches)),
+        "make" => Ok(make_in(matches)),
+        "seeded" => seeded_in(alloc, matches),
+        _ => Ok(None),
     }
 }
 
@@ -99,7 +308,7 @@ pub fn command_of(alloc: Global, words: &[String]) -> Result<Option<Command>, Ou
 {
     match table(alloc)?.try_get_matches_from(words) {
         Ok(matches) => match matches.subcommand() {
-            Some((name, own)) => Ok(command_by_name(name, own)),
+            Some((name, own)) => command_by_name(alloc, name, own),
             None => Ok(None),
         },
         Err(error) => match error.kind() {

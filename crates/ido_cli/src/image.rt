@@ -2,6 +2,7 @@
 ghost use Rattle.std.specs.Prelude.{◌≡◌, ◌+◌, ◌/◌, ◌≤◌, drop, length, take, IfOk};
 ghost use Rattle.ido_base.specs.declared.limits.TheConstants.{MOST_SOURCE_BYTES, VARIABLE_WORDS, MOST_STEPS};
 ghost use Rattle.crash_images.specs.Contents.{contents, most_logs};
+ghost use Rattle.crash_images.specs.ImageDecoder.{IsReadAs};
 ghost use Rattle.crash_images.specs.ImageEncoder.{spelling};
 ghost use Rattle.run_tracker.specs.ObjectLives.{left_words, steps_in, world_of};
 
@@ -13,6 +14,7 @@ use rv64_isa::object::Object;
 use std::alloc::Global;
 
 /// The image that a crash would leave now of the life of a source's object.
+#[tactic(auto, using(crate::proofs::SameContents::read_as_same))]
 pub fn image(
     alloc: Global,
     source: &[u8],
@@ -30,6 +32,11 @@ pub fn image(
         let words = left_words life.now.variable_words (world_of life.now).words in
         said.output.items ≡ spelling (contents source.now
         (take life.now.variable_words words) (drop life.now.variable_words words) (steps_in life.now).kept)) }
+    // It is read again.
+    ensures again { IfOk result (λ said.
+        let words = left_words life.now.variable_words (world_of life.now).words in
+        IsReadAs (contents source.now
+        (take life.now.variable_words words) (drop life.now.variable_words words) (steps_in life.now).kept) said.output.items) }
 {
     let words = life.durable_words(alloc)?;
     let (variables, logs) = words.split_at(object.initial.len() / 8);

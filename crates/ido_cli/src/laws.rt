@@ -1,15 +1,49 @@
 //! Laws of what is answered: nothing is computed here.
-ghost use Rattle.ido_cli.specs.Laws.{OneAnswer};
+ghost use Rattle.ido_cli.specs.CompiledLives.{LivesAreCompiled, LivesOfFilesAreCompiled};
+ghost use Rattle.ido_cli.specs.ImagesReadAgain.{RunImagesAreRead};
+ghost use Rattle.ido_cli.specs.Laws.{OneAnswer, RunsAreRecovered};
 
-use ido_compile::laws::one_verdict;
+use compiler_correctness::laws::machines_record;
+use crash_simulation::laws::machines_resume;
+use ido_compile::laws::{files_begin, one_verdict};
+use image_checks::laws::runs_leave_no_fault;
 use source_machine::laws::one_stop;
 
 /// Words that don't ask for what stands on a compilation, and an input, have at most one answer: the status and the output of
-/// `source` and `list` are a function of the bytes that are read. So they are of every command where the source is refused.
-/// What `compile`, `regions`, `play`, `image` and `recover` say else is by some translation, and which one isn't said.
+/// `source` and `list` are a function of the bytes that are read, and those of `make` of its words. So they are of every command where
+/// the source is refused. What `compile`, `regions`, `play`, `image`, `recover` and `seeded` say else is by some translation, and which
+/// one isn't said.
 pub fn one_answer()
     ensures { OneAnswer }
 {
     one_verdict();
     one_stop();
+}
+
+/// A life that begins with the object and the marks of a compiled text, at its start or with the words and the schedule of a file, is a run of a compilation
+/// of that text, whatever events it makes: its machine and its steps are those of which all is promised.
+pub fn lives_are_compiled()
+    ensures starts { LivesAreCompiled }
+    ensures files { LivesOfFilesAreCompiled }
+{
+    files_begin();
+}
+
+/// What `write_image` makes of a run is read by `read_image` as what it is: the same source, words and schedule. It is refused
+/// only where the source is compiled to another translation than the one that ran.
+pub fn run_images_are_read()
+    ensures { RunImagesAreRead }
+{
+    one_verdict();
+    machines_resume();
+    machines_record();
+    runs_leave_no_fault();
+}
+
+/// An image that `image` wrote is read by `recover` as what the run has left: never refused, where the source is compiled to the same translation
+/// again. Then the run goes on after its last event, and what is said is what `play` says of the events, a crash, and a leg.
+pub fn runs_are_recovered()
+    ensures { RunsAreRecovered }
+{
+    run_images_are_read();
 }

@@ -3,6 +3,8 @@
 
 mod answer;
 mod command;
+mod compiled_image;
+mod crashes;
 mod durable;
 mod image;
 mod input;
@@ -11,6 +13,7 @@ pub mod laws;
 mod leg;
 mod list;
 mod listing;
+mod make;
 mod mnemonic;
 mod object;
 mod play;
@@ -19,9 +22,11 @@ mod refusal;
 mod regions;
 mod report;
 mod said;
+mod seeded;
 mod source;
 mod top;
 
+pub use compiled_image::{Image, read_image};
 pub use top::{alone, ido};
 
 #[cfg(test)]

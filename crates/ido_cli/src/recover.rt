@@ -9,6 +9,7 @@ ghost use Rattle.ido_cli.specs.Recoveries.{IsRecovery};
 ghost use Rattle.ido_cli.specs.Refusals.{image_line};
 ghost use Rattle.ido_compile.specs.CompileAnswers.{translation_in};
 
+use crate::compiled_image::{Image, read_image};
 use crate::leg::{MOST_LEG_EVENTS, leg};
 use crate::refusal::{
     VERSION_PLACE, refused, refused_at_byte, refused_at_register, refused_at_step,
@@ -21,7 +22,6 @@ use ido_base::memory::OutOfMemory;
 use ido_base::place::Place;
 use ido_compile::laws::files_begin;
 use image_checks::error::ImageError;
-use image_checks::image::{Image, read_image};
 use run_tracker::life::Life;
 use std::alloc::Global;
 

@@ -18,6 +18,7 @@ use flat_compile::translate;
 use flow_graph::cuts::Cuts;
 use flow_graph::graph::{Action, Graph, Node, Part};
 use ido_base::memory::OutOfMemory;
+use ido_compile::laws::translations_are_compilations;
 use ido_compile::{CompileError, checked, flatten};
 use std::alloc::Global;
 
@@ -128,6 +129,7 @@ fn source_regions(alloc: Global, source: &[u8]) -> Result<Vec<u8>, CompileError>
     requires { length source.now ≤ MOST_SOURCE_BYTES }
     ensures { IsRegionsAnswer source.now result }
 {
+    translations_are_compilations();
     let flat = flatten(alloc, source)?;
     let analysis = checked(alloc, source, &flat)?;
     let translated = translate(alloc, &analysis)?;

@@ -1,8 +1,8 @@
 //! The top calls.
-ghost use Rattle.std.specs.Prelude.{◌≡◌, ◌⊎◌, map, string_bytes, None, IfOk, IsErrOf, IsSome, IfSome};
+ghost use Rattle.std.specs.Prelude.{◌≡◌, ◌⊎◌, true, false, map, string_bytes, IfOk, IsErrOf, IsSome, IfSome};
 ghost use Rattle.ido_outside.specs.Causes.{Rose};
 ghost use Rattle.ido_cli.specs.Answers.{IsAnswer, IsAnswered, outside};
-ghost use Rattle.ido_cli.specs.Commands.{command_of};
+ghost use Rattle.ido_cli.specs.Commands.{command_of, is_unread, reads_input};
 ghost use Rattle.ido_cli.specs.Deliveries.{IsSaidToInput, IsDelivered};
 
 use crate::answer::answer;
@@ -35,12 +35,18 @@ impl From<OutOfMemory> for Unsaid {
     }
 }
 
-/// What is said to the input of a command.
-#[tactic(auto, using(crate::proofs::TopCallAnswers::said_to_long_input))]
+/// What is said to the input of a command, of which nothing is read where the command reads none.
+#[tactic(auto, using(crate::proofs::TopCallAnswers::said_to_long_input, crate::proofs::TopCallAnswers::said_to_no_input))]
 fn say_to_input<S: Source>(alloc: Global, command: Command, input: &mut S) -> Result<Said, Unsaid>
     ensures said { IfOk result (λ said. IsSaidToInput command (S.left input.old) said) }
     ensures failed { IsErrOf result Unsaid.Failed → Rose (S.faults input.old) (S.faults input.new) }
+    ensures read { IsErrOf result Unsaid.Failed → reads_input command ≡ true }
+    ensures unread { reads_input command ≡ false → input.new ≡ input.old }
 {
+    if !command.reads_input() {
+        let said = answer(alloc, command, &[])?;
+        return Ok(said);
+    }
     match read_all(alloc, input, MOST_INPUT_BYTES) {
         Ok(bytes) => {
             let said = answer(alloc, command, &bytes)?;
@@ -55,13 +61,13 @@ fn say_to_input<S: Source>(alloc: Global, command: Command, input: &mut S) -> Re
     }
 }
 
-/// What is said to the words and the input, of which nothing is read where the words aren't taken.
+/// What is said to the words and the input, of which nothing is read where the words aren't taken or their command reads none.
 fn say_to<S: Source>(alloc: Global, words: &[String], input: &mut S) -> Result<Said, Unsaid>
     ensures said { IfOk result (λ said.
         IsAnswer (map string_bytes words.now) (S.left input.old) said.status said.output.items) }
     ensures failed { IsErrOf result Unsaid.Failed → Rose (S.faults input.old) (S.faults input.new) }
-    ensures taken { IsErrOf result Unsaid.Failed → IsSome (command_of (map string_bytes words.now)) }
-    ensures unread { command_of (map string_bytes words.now) ≡ None → input.new ≡ input.old }
+    ensures read { IsErrOf result Unsaid.Failed → is_unread (command_of (map string_bytes words.now)) ≡ false }
+    ensures unread { is_unread (command_of (map string_bytes words.now)) ≡ true → input.new ≡ input.old }
 {
     match command_of(alloc, words)? {
         Some(command) => {
@@ -88,7 +94,7 @@ fn deliver<K: Sink>(said: &Said, output: &mut K) -> u8
 /// The status of a run, which writes what is said.
 fn serve<S: Source, K: Sink>(alloc: Global, words: &[String], input: &mut S, output: &mut K) -> u8
     ensures answered { IsAnswered (map string_bytes words.now) (outside S.left S.faults K.written K.faults input.old input.new output.old output.new) result }
-    ensures unread { command_of (map string_bytes words.now) ≡ None → input.new ≡ input.old }
+    ensures unread { is_unread (command_of (map string_bytes words.now)) ≡ true → input.new ≡ input.old }
     ensures unwritten { (result ≡ 4) ⊎ (result ≡ 7) → output.new ≡ output.old }
 {
     match say_to(alloc, words, input) {
@@ -102,8 +108,8 @@ fn serve<S: Source, K: Sink>(alloc: Global, words: &[String], input: &mut S, out
 /// status. It takes no runtime, and does whole every command that needs no threads; today that is
 /// every one, and `None` never comes.
 ///
-/// The input is read to its end, or to one byte past its limit, before anything is said of it, and
-/// the whole output is made before its first byte is written.
+/// The input is read to its end, or to one byte past its limit, before anything is said of it, but for
+/// `make`, which reads none; and the whole output is made before its first byte is written.
 pub fn alone<S: Source, K: Sink>(
     alloc: Global,
     words: &[String],
@@ -117,8 +123,8 @@ pub fn alone<S: Source, K: Sink>(
     ensures answered { IfSome result (λ status.
         IsAnswered (map string_bytes words.now) (outside S.left S.faults K.written K.faults input.old input.new output.old output.new) status) }
 
-    // For words that aren't taken the source isn't touched.
-    ensures unread { command_of (map string_bytes words.now) ≡ None → input.new ≡ input.old }
+    // For words that aren't taken, and for a command that reads no input, the source isn't touched.
+    ensures unread { is_unread (command_of (map string_bytes words.now)) ≡ true → input.new ≡ input.old }
 
     // At status 4 and 7 the sink isn't touched.
     ensures unwritten { IfSome result (λ status. (status ≡ 4) ⊎ (status ≡ 7) → output.new ≡ output.old) }
@@ -143,8 +149,8 @@ pub fn ido<R: Threads + Wait + Sync, S: Source, K: Sink, G: Gate + Sync>(
     // (`laws::one_answer`), but where it stands on a compilation.
     ensures answered { IsAnswered (map string_bytes words.now) (outside S.left S.faults K.written K.faults input.old input.new output.old output.new) result }
 
-    // For words that aren't taken the source isn't touched.
-    ensures unread { command_of (map string_bytes words.now) ≡ None → input.new ≡ input.old }
+    // For words that aren't taken, and for a command that reads no input, the source isn't touched.
+    ensures unread { is_unread (command_of (map string_bytes words.now)) ≡ true → input.new ≡ input.old }
 
     // At status 4 and 7 the sink isn't touched.
     ensures unwritten { (result ≡ 4) ⊎ (result ≡ 7) → output.new ≡ output.old }

@@ -3,28 +3,19 @@ use Rattle.std.specs.Prelude.{◌≡◌, ℕ, List, Result, Ok, Err}
 use Rattle.c_tree.specs.Flats.{Flat, flat_of}
 use Rattle.rv64_isa.specs.declared.object.Object.{Object}
 use Rattle.rv64_isa.specs.declared.object.Marks.{Marks}
-use Rattle.rv64_isa.specs.Programs.{program_of}
 use Rattle.flow_graph.specs.declared.cuts.Cuts.{Cuts}
-use Rattle.flow_graph.specs.IdempotentCuts.{boundaries_of}
 use Rattle.flow_graph.specs.Refusals.{IsAccepted, IsRefusedBy}
-use Rattle.compiler_correctness.specs.Translations.{Translation}
+use Rattle.compiler_correctness.specs.Translations.{Translation, translation_to}
 use Rattle.compiler_correctness.specs.Compilations.{IsCompilation}
-use Rattle.flat_compile.specs.TranslatedForms.{IsTranslated, IsResumable, node_marks, resume_marks}
+use Rattle.flat_compile.specs.TranslatedForms.{IsTranslated, IsResumable}
 use Rattle.ido_compile.specs.declared.compiler.Compiled.{Compiled}
 use Rattle.ido_compile.specs.declared.error.CompileError.{CompileError}
 use Rattle.ido_compile.specs.declared.error.CompileError.TheVariants as e
 
--- what a flat form is compiled to
-abbrev pub translation_to : Flat → Object → Marks → Cuts → Translation
-translation_to flat object marks cuts = record {
-  flat = flat;
-  program = program_of object;
-  mutexes = object.mutexes;
-  initial = object.initial.items;
-  marks = node_marks marks.threads.items;
-  resumes = resume_marks marks.threads.items;
-  boundaries = boundaries_of cuts;
-}
+-- what is translated does what the source does, whatever happens
+abbrev pub TranslationsAreCompilations : Type 0
+TranslationsAreCompilations = (flat : Flat) (object : Object) (marks : Marks) (cuts : Cuts) → IsTranslated flat object marks cuts →
+    IsCompilation (translation_to flat object marks cuts)
 
 abbrev pub translation_in : Compiled → Translation
 translation_in c = translation_to (flat_of c.flat) c.translated.object c.translated.marks c.translated.cuts

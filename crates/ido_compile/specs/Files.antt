@@ -7,7 +7,7 @@ use Rattle.rv64_isa.specs.declared.object.Marks.{Marks}
 use Rattle.rv64_isa.specs.Machine.{machine_from}
 use Rattle.flow_graph.specs.declared.cuts.Cuts.{Cuts}
 use Rattle.compiler_correctness.specs.Images.{Image, image_in, world_from}
-use Rattle.ido_compile.specs.CompileAnswers.{translation_to}
+use Rattle.compiler_correctness.specs.Translations.{translation_to}
 
 -- the machine of an object that begins with a file's words is the one of the image that stands in it
 abbrev pub FilesBegin : Type 0

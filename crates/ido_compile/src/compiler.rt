@@ -8,8 +8,8 @@ ghost use Rattle.ido_compile.specs.links.FrontEndAnswers.{IsTranslationAnswer};
 
 use crate::checking::{checked, flatten};
 use crate::error::CompileError;
+use crate::laws::translations_are_compilations;
 use c_tree::flat::Flat;
-use compiler_correctness::laws::systems_are_compilations;
 use flat_compile::{Translated, translate};
 use ido_base::memory::OutOfMemory;
 use std::alloc::Global;
@@ -48,7 +48,7 @@ pub fn compile(alloc: Global, text: &[u8]) -> Result<Compiled, CompileError>
     requires { length text.now ≤ MOST_SOURCE_BYTES }
     ensures { IsCompileAnswer text.now result }
 {
-    systems_are_compilations();
+    translations_are_compilations();
     let flat = flatten(alloc, text)?;
     let translated = object_of(alloc, text, &flat)?;
     let text = copied(alloc, text)?;

@@ -1,9 +1,11 @@
 //! Laws of what a text comes to: nothing is computed here.
+ghost use Rattle.ido_compile.specs.CompileAnswers.{TranslationsAreCompilations};
 ghost use Rattle.ido_compile.specs.Files.{FilesBegin};
 ghost use Rattle.ido_compile.specs.Verdicts.{NotBoth, OneFault, OneFlat};
 
 use c_reader::laws::one_reading;
 use c_typer::laws::one_first;
+use compiler_correctness::laws::systems_are_compilations;
 
 /// A text is accepted with one flat form or refused by one rule, at one place, and never both.
 /// That a text has one translation isn't said.
@@ -14,6 +16,13 @@ pub fn one_verdict()
 {
     one_reading();
     one_first();
+}
+
+/// What is translated of a flat form is a compilation of it.
+pub fn translations_are_compilations()
+    ensures { TranslationsAreCompilations }
+{
+    systems_are_compilations();
 }
 
 /// The machine of an object that begins with the words of an image file is the one of the image that stands in it.

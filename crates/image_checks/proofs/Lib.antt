@@ -1,3 +1,4 @@
+pub mod Public
 mod ScheduleLaws
 mod Forms
 mod Elements
@@ -5,7 +6,7 @@ mod Banks
 mod Points
 mod Tables
 mod Masks
-mod CompiledLimits
 mod States
-mod ImageAnswers
 mod OneFault
+mod LeftLogs
+mod LeftFiles

@@ -3,6 +3,7 @@ use Rattle.std.proofs.Common.{◌≡◌, ℕ, ◌/◌, ◌%◌, ◌<◌, ◌≤�
 use Rattle.std.specs.Prelude.{slice_index}
 use Rattle.std.proofs.lemmas.Bool.{eqb-true}
 use Rattle.std.proofs.Math.Nat.{div-eq_of_lt, pow-le-pow_right}
+use Rattle.image_checks.specs.declared.limits.TheConstants.{MASK_BITS}
 use Rattle.ido_base.specs.Locks.{has_lock}
 use Rattle.memory_layout.specs.declared.point.Point.{Point}
 use Rattle.memory_layout.specs.declared.point.Point.TheVariants.{Idle, At}
@@ -15,7 +16,7 @@ mask_word : (p : Point) (logs : List ℕ) (thread : ℕ) → AreWords logs → m
 mask_word Idle logs thread h = lit< tt
 mask_word (At address bank) logs thread h = h _
 
-none_high : (mask lock : ℕ) → mask < 2 ^ 64 → 64 ≤ lock → has_lock mask lock ≡ true → ⊥
+none_high : (mask lock : ℕ) → mask < 2 ^ 64 → MASK_BITS ≤ lock → has_lock mask lock ≡ true → ⊥
 none_high mask lock word high has =
     let more : 2 ^ 64 ≤ 2 ^ lock = pow-le-pow_right (lit< tt) high in
     let none : mask / 2 ^ lock ≡ 0 = div-eq_of_lt (omega (arith, word, more)) in
@@ -24,5 +25,5 @@ none_high mask lock word high has =
     cc (sym odd ∙ even)
 
 -- no thread holds a mutex whose number is too high for a mask
-pub no_holder : (logs : List ℕ) (thread lock : ℕ) → AreWords logs → 64 ≤ lock → ¬ (HoldsLock logs thread lock)
+pub no_holder : (logs : List ℕ) (thread lock : ℕ) → AreWords logs → MASK_BITS ≤ lock → ¬ (HoldsLock logs thread lock)
 no_holder logs thread lock words high = none_high (mask_in logs thread) lock (mask_word (point_in logs thread) logs thread words) high

@@ -136,7 +136,7 @@ module _ (logs : List ℕ) (threads : ℕ) where
   two_shared : (lock first second : ℕ) → AreFirstTwo logs threads lock first second → ¬ (IsUnshared logs threads lock)
   two_shared lock first second two none = none first second two.apart two.within two.first_holds two.second_holds
 
-  unshared : (x : ImageError) → ((lock : ℕ) → IsUnshared logs threads lock) → ¬ (IsMutexFault logs threads x)
+  pub unshared : (x : ImageError) → ((lock : ℕ) → IsUnshared logs threads lock) → ¬ (IsMutexFault logs threads x)
   unshared x none (shared lock first second two least) = two_shared lock first second two (none lock)
 
   not_later : (lock a b c d : ℕ) → AreFirstTwo logs threads lock a b → AreFirstTwo logs threads lock c d → ¬ (b < d)

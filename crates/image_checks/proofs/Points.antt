@@ -11,7 +11,7 @@ use Rattle.image_checks.specs.declared.error.ImageError.{ImageError}
 use Rattle.flat_compile.specs.ResumePlaces.{resumes_at}
 use Rattle.image_checks.specs.Logs.{point_in}
 use Rattle.image_checks.specs.Checks.{resume_at, IsRight, IsBankFault, IsResumableLog, IsLogFault, resumed, of_bank}
-use Rattle.image_checks.specs.links.Tables.{HaveSlots, AllHaveSlots}
+use Rattle.image_checks.specs.ResumeSlots.{HaveSlots, AllHaveSlots}
 
 -- what holds of all places holds of the one that is found
 pub found_slots : (resumes : List Resume) (address : ℕ) (r : Resume) → AllHaveSlots resumes → resume_at resumes address ≡ Some r → HaveSlots r.live.items

@@ -77,15 +77,6 @@ pub record IsSoFar (runs : List Run) (i : ℕ) (steps : List ℕ) (last : Option
   pub last_is : (k : ℕ) (run : Run) → k + 1 ≡ i → slice_get runs k ≡ Some run → last ≡ Some run.thread
   pub none : i ≡ 0 → last ≡ None
 
-pub begins_so : (runs : List Run) (steps : List ℕ) → steps ≡ [] → IsSoFar runs 0 steps None
-begins_so runs steps e = record {
-  is = e;
-  few = omega (arith, ap length e);
-  merged = record { steps = λ k run lt. absurd (omega arith); threads = λ k run next lt. absurd (omega arith) };
-  last_is = λ k run e. absurd (omega arith);
-  none = λ e. refl;
-}
-
 module _ (runs : List Run) (i : ℕ) (steps : List ℕ) (last : Option ℕ) (run : Run) (so : IsSoFar runs i steps last)
     (here : slice_get runs i ≡ Some run) where
   is_here : (k : ℕ) (other : Run) → k ≡ i → slice_get runs k ≡ Some other → other ≡ run

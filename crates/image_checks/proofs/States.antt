@@ -14,7 +14,7 @@ use Rattle.image_checks.specs.Schedules.{IsSchedule}
 use Rattle.image_checks.specs.Checks.{AreSound, IsThreadFault, IsUnshared, IsMutexFault, of_schedule}
 use Rattle.image_checks.specs.links.Errors as errors
 use Rattle.image_checks.specs.links.PrefixBeforeFault.{TellsFault}
-use Rattle.image_checks.specs.links.States.{IsStateAnswer, sound, faulty, no_memory}
+use Rattle.image_checks.specs.StateAnswers.{IsStateAnswer, sound, faulty, no_memory}
 
 -- ---- The same lists
 

@@ -14,7 +14,7 @@ use Rattle.recovered_threads.specs.RecordDescriptions.{Codes}
 use Rattle.flat_compile.specs.declared.resumes.LiveLocal.{LiveLocal}
 use Rattle.flat_compile.specs.declared.resumes.Resume.{Resume}
 use Rattle.flat_compile.specs.ResumePlaces.{IsFound, AreResumes, IsResumeTable, resumes_at}
-use Rattle.image_checks.specs.links.Tables.{HaveSlots, AllHaveSlots, TablesHaveSlots}
+use Rattle.image_checks.specs.ResumeSlots.{HaveSlots, AllHaveSlots, TablesHaveSlots}
 use Rattle.image_checks.proofs.Points.{table_at}
 
 all_small : AllByRecursion (λ (n : ℕ). n < 32) LOCALS

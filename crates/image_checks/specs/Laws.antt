@@ -1,11 +1,19 @@
--- What stands after a source is well formed, or has one fault.
-use Rattle.std.specs.Prelude.{◌≡◌, List, Vec}
+-- What stands after a source is well formed, or has one fault; and what a run of the source has left has none.
+use Rattle.std.specs.Prelude.{◌≡◌, ◌≤◌, ℕ, List, length, Vec}
 use Rattle.std.specs.Global.{Global}
+use Rattle.ido_base.specs.declared.event.Event.{Event}
+use Rattle.ido_base.specs.declared.limits.TheConstants.{MOST_STEPS}
 use Rattle.c_tree.specs.Flats.{Flat}
+use Rattle.rv64_isa.specs.declared.object.Object.{Object}
+use Rattle.rv64_isa.specs.declared.object.Marks.{Marks}
+use Rattle.flow_graph.specs.declared.cuts.Cuts.{Cuts}
 use Rattle.flat_compile.specs.declared.resumes.Resume.{Resume}
-use Rattle.image_checks.specs.declared.error.ImageError.{ImageError}
+use Rattle.flat_compile.specs.TranslatedForms.{IsResumable}
+use Rattle.compiler_correctness.specs.Translations.{translation_to}
 use Rattle.crash_images.specs.Contents.{State}
+use Rattle.image_checks.specs.declared.error.ImageError.{ImageError}
 use Rattle.image_checks.specs.Checks.{IsWellFormedState, IsStateFault}
+use Rattle.image_checks.specs.RunImages.{left_by, file_state}
 
 abbrev pub OneFault : Type 0
 OneFault = (flat : Flat) (table : List (Vec Resume Global)) (s : State) (one other : ImageError) →
@@ -14,3 +22,11 @@ OneFault = (flat : Flat) (table : List (Vec Resume Global)) (s : State) (one oth
 abbrev pub NoneIfSound : Type 0
 NoneIfSound = (flat : Flat) (table : List (Vec Resume Global)) (s : State) (error : ImageError) →
     IsWellFormedState flat table s → ¬ (IsStateFault flat table s error)
+
+-- ---- Images that runs leave
+
+-- nothing is at fault in what a crash leaves of a run, where its table tells where the translation's threads are resumed
+abbrev pub RunsLeaveNoFault : Type 0
+RunsLeaveNoFault = (flat : Flat) (object : Object) (marks : Marks) (cuts : Cuts) (table : List (Vec Resume Global)) (events : List Event) →
+    IsResumable flat object marks cuts table → let c = translation_to flat object marks cuts in
+    length (left_by c events).kept ≤ MOST_STEPS → IsWellFormedState flat table (file_state c (left_by c events))

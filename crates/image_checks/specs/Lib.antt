@@ -2,6 +2,8 @@ pub use Rattle.crash_images.specs.Contents
 pub mod Schedules
 pub mod Logs
 pub mod Checks
-pub mod Images
+pub mod ResumeSlots
+pub mod StateAnswers
+pub mod RunImages
 pub mod Laws
 pub mod links

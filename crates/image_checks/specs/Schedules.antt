@@ -1,5 +1,5 @@
 -- The schedule that the runs of an image tell, and its first fault. Steps count from 1, and runs from 0.
-use Rattle.std.specs.Prelude.{◌≡◌, ◌≢◌, ◌+◌, ◌<◌, ◌≤◌, ℕ, List, length, slice_get, take, Some, true}
+use Rattle.std.specs.Prelude.{◌≡◌, ◌+◌, ◌<◌, ◌≤◌, ℕ, List, length, slice_get, take, Some, true}
 use Rattle.ido_base.specs.declared.limits.TheConstants.{MOST_STEPS}
 use Rattle.c_tree.specs.Flats.{Flat}
 use Rattle.c_tree.specs.Source.{start, runs_from}

@@ -5,7 +5,6 @@ use crate::schedules::ScheduleFault;
 use file_fields::error::ReadError;
 use ido_base::memory::OutOfMemory;
 use ido_base::place::Place;
-use ido_compile::CompileError;
 use thiserror::Error;
 
 /// The first fault of bytes, in the order of these variants.
@@ -24,7 +23,7 @@ pub enum ImageError {
     #[error("another source")]
     Source,
     /// The image ends there, and more bytes follow.
-    #[error("bytes behind the end")]
+    #[error("bytes past the end")]
     Rest(Place),
     /// The thread can't be resumed at its point.
     #[error("no point of thread {thread}")]
@@ -71,19 +70,6 @@ impl From<OutOfMemory> for ImageError {
 
     fn from(_: OutOfMemory) -> Self {
         ImageError::Memory
-    }
-}
-
-impl From<CompileError> for ImageError {
-    ghost use Rattle.image_checks.specs.links.Errors.{of_compile};
-
-    ghost from_gives = { λ x e. e ≡ of_compile x };
-
-    fn from(error: CompileError) -> Self {
-        match error {
-            CompileError::Refused(_) => ImageError::Source,
-            CompileError::Memory => ImageError::Memory,
-        }
     }
 }
 

@@ -2,11 +2,11 @@
 #![tactic(auto)]
 
 pub mod error;
-pub mod image;
 pub mod laws;
 mod limits;
 mod logs;
 mod mutexes;
 mod schedules;
 mod slots;
+pub mod state;
 mod threads;

@@ -8,7 +8,7 @@ ghost use Rattle.memory_layout.specs.Variables.{AreAddresses};
 ghost use Rattle.crash_images.specs.Contents.{log_words};
 ghost use Rattle.image_checks.specs.Checks.{HasLocals, HasAddress, IsFirstWrong, IsRight, IsBankFault};
 ghost use Rattle.image_checks.specs.Checks.{resume_at, IsResumableLog, IsLogFault, AreSound, IsThreadFault};
-ghost use Rattle.image_checks.specs.links.Tables.{HaveSlots, AllHaveSlots, TablesHaveSlots};
+ghost use Rattle.image_checks.specs.ResumeSlots.{HaveSlots, AllHaveSlots, TablesHaveSlots};
 
 use crate::error::ImageError;
 use crate::limits::BANK_SLOTS;

@@ -9,4 +9,9 @@ mod MergedRuns
 mod RunLaws
 mod GoalSteps
 mod ScheduleReader
+mod DrawnRuns
+mod FourNumbers
+mod GeneratedTexts
+mod JournalLines
+mod MadeEvents
 mod Worked

@@ -1,6 +1,11 @@
 -- What the definitions compute.
-use Rattle.std.specs.Prelude.{◌≡◌, [], ◌∷◌, refl, codes, pos, negsuc}
+use Rattle.std.specs.Prelude.{◌≡◌, [], ◌∷◌, ◌++◌, refl, codes, pos, negsuc}
 use Rattle.std.specs.Fmt.{digits}
+use Rattle.rand_core.specs.Steps.{first_words}
+use Rattle.ido_base.specs.declared.event.Event.TheVariants as events
+use Rattle.run_scripts.specs.Draws.{drawn_event, drawn_run, events_from}
+use Rattle.run_scripts.specs.GeneratedSources.{generated_source, mutex_item, section_line, thread_head, thread_item, variable_item}
+use Rattle.run_scripts.specs.Journals.{command_text, journal_text}
 use Rattle.run_scripts.specs.Reports.{variable_line, element_text, ended_line, ended_lines, schedule_line, run_text, hart_text, unsettled_line}
 use Rattle.run_scripts.specs.Scripts as s
 use Rattle.run_scripts.specs.declared.script.Command.TheVariants.{Point, Evict}
@@ -114,3 +119,54 @@ return_at_the_end = refl
 two_spaces : s.read 1 (codes "s  0 1") ≡ s.Refused (s.BadWord 2)
 unfolding s.read
 two_spaces = refl
+
+-- ---- Drawn runs
+
+nothing_is_drawn : drawn_run 7 0 [] 1 1 ≡ []
+unfolding drawn_run events_from first_words
+nothing_is_drawn = refl
+
+steps_and_evictions : drawn_run 0 4 [] 2 3 ≡ events.Evict 1046 168 ∷ events.Step 1 ∷ events.Evict 0 93 ∷ events.Step 1 ∷ []
+unfolding drawn_run events_from first_words drawn_event
+steps_and_evictions = refl
+
+crashes_among_draws : drawn_run 7 3 (0 ∷ 2 ∷ 3 ∷ 2 ∷ 4 ∷ []) 2 3
+    ≡ events.Crash ∷ events.Step 1 ∷ events.Step 0 ∷ events.Crash ∷ events.Crash ∷ events.Step 0 ∷ events.Crash ∷ []
+unfolding drawn_run events_from first_words drawn_event
+crashes_among_draws = refl
+
+nothing_without_threads : drawn_run 7 3 (0 ∷ []) 0 3 ≡ []
+unfolding drawn_run
+nothing_without_threads = refl
+
+-- ---- Sources that are made
+
+one_round : generated_source 1 0
+    ≡ codes "mutex m0;\nmutex m1;\nmutex m2;\nmutex m3;\n"
+    ++ codes "persistent(m0) long a0[16];\npersistent(m1) long a1[16];\npersistent(m2) long a2[16];\npersistent(m3) long a3[16];\n"
+    ++ codes "thread t0 {\n  for (int i = 0; i < 1; i++) {\n    lock(m0); a0[i & 15] += 1; unlock(m0);\n    lock(m1); a1[i & 15] += 6; unlock(m1);\n"
+    ++ codes "    lock(m2); a2[i & 15] += 2; unlock(m2);\n    lock(m3); a3[i & 15] += 7; unlock(m3);\n  }\n}\n"
+    ++ codes "thread t1 {\n  for (int i = 0; i < 1; i++) {\n    lock(m1); a1[i & 15] += 4; unlock(m1);\n    lock(m2); a2[i & 15] += 9; unlock(m2);\n"
+    ++ codes "    lock(m3); a3[i & 15] += 5; unlock(m3);\n    lock(m0); a0[i & 15] += 1; unlock(m0);\n  }\n}\n"
+    ++ codes "thread t2 {\n  for (int i = 0; i < 1; i++) {\n    lock(m2); a2[i & 15] += 7; unlock(m2);\n    lock(m3); a3[i & 15] += 3; unlock(m3);\n"
+    ++ codes "    lock(m0); a0[i & 15] += 8; unlock(m0);\n    lock(m1); a1[i & 15] += 4; unlock(m1);\n  }\n}\n"
+    ++ codes "thread t3 {\n  for (int i = 0; i < 1; i++) {\n    lock(m3); a3[i & 15] += 1; unlock(m3);\n    lock(m0); a0[i & 15] += 6; unlock(m0);\n"
+    ++ codes "    lock(m1); a1[i & 15] += 2; unlock(m1);\n    lock(m2); a2[i & 15] += 7; unlock(m2);\n  }\n}\n"
+unfolding generated_source mutex_item variable_item thread_item thread_head section_line digits
+one_round = refl
+
+-- ---- Journals
+
+events_by_line : journal_text (codes "mutex m;") (
+    events.Step 0 ∷ events.Step 0 ∷ events.Step 10 ∷ events.Crash ∷ events.Crash ∷ events.Step 10 ∷ events.Evict 1024 255 ∷ events.Step 10 ∷ []
+    ) ≡ codes "mutex m;\n%%\ns 0 2\ns 10 1\nc\nc\ns 10 1\ne 1024 255\ns 10 1\n"
+unfolding journal_text command_text digits
+events_by_line = refl
+
+source_that_ends_a_line : journal_text (codes "mutex m;\n") [] ≡ codes "mutex m;\n%%\n"
+unfolding journal_text
+source_that_ends_a_line = refl
+
+source_without_text : journal_text [] [] ≡ codes "\n%%\n"
+unfolding journal_text
+source_without_text = refl

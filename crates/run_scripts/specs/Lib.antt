@@ -1,3 +1,6 @@
+pub mod Draws
+pub mod GeneratedSources
+pub mod Journals
 pub mod Pieces
 pub mod Plays
 pub mod Reports

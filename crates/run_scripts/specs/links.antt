@@ -4,3 +4,4 @@ pub mod Goals
 pub mod ReportViews
 pub mod RunViews
 pub mod WordLengths
+pub mod JournalSteps

@@ -1,7 +1,11 @@
-//! What is read and written around a run: schedules, scripts and their play on a core, and the report of a
-//! state.
+//! What is read and written around a run: schedules, scripts and their play on a core, drawn runs, journals, and the report of
+//! a state; and sources that are made of numbers.
 #![tactic(auto)]
 
+pub mod draw;
+pub mod events;
+pub mod generated;
+pub mod journal;
 mod number;
 mod piece;
 pub mod play;

@@ -31,7 +31,7 @@ pub struct Reported {
 }
 
 /// Adds bytes.
-fn put(report: &mut Vec<u8>, bytes: &[u8]) -> Result<(), OutOfMemory>
+pub(crate) fn put(report: &mut Vec<u8>, bytes: &[u8]) -> Result<(), OutOfMemory>
     ensures { OnOk result (report.new.items ≡ report.old.items ++ bytes.now) }
 {
     report.extend_from_slice(bytes)?;

@@ -1,6 +1,4 @@
--- Faults of fields, of sources and of schedules, as faults of an image.
-use Rattle.ido_compile.specs.declared.error.CompileError.{CompileError}
-use Rattle.ido_compile.specs.declared.error.CompileError.TheVariants as compiling
+-- Faults of fields and of schedules, as faults of an image.
 use Rattle.file_fields.specs.declared.error.ReadError.{ReadError}
 use Rattle.file_fields.specs.declared.error.ReadError.TheVariants as read
 use Rattle.image_checks.specs.declared.schedules.ScheduleFault.{ScheduleFault}
@@ -15,11 +13,6 @@ of_read (read.Cut place) = e.Cut place
 of_read (read.Field place) = e.Source
 of_read (read.Rest place) = e.Rest place
 of_read read.Memory = e.Memory
-
--- any rule that the source breaks
-abbrev pub of_compile : CompileError → ImageError
-of_compile (compiling.Refused refusal) = e.Source
-of_compile compiling.Memory = e.Memory
 
 abbrev pub of_schedule : ScheduleFault → ImageError
 of_schedule (schedule.Step step) = e.Schedule step

@@ -2,6 +2,7 @@ use Rattle.std.proofs.Common.{◌≤◌, ◌+◌, ◌-◌, ℕ, List, ap, arith,
 use Rattle.std.proofs.lemmas.List.{length-map}
 use Rattle.std.proofs.lemmas.Result.{IfOk-weaker}
 use Rattle.std.specs.Prelude.{codes}
+use Rattle.ido_base.specs.declared.limits.TheConstants.{MOST_EVENTS}
 use Rattle.c_tree.specs.Flats.{flat_of, thread_of}
 use Rattle.rv64_isa.specs.Programs.{slot_of}
 use Rattle.run_scripts.specs.links.ScriptViews as scripts
@@ -19,16 +20,16 @@ use Rattle.ido_cli.proofs.RefusedSchedules.{both_ok}
 use Rattle.ido_cli.proofs.play.script_answer.Goals as goal
 
 pub play-requires-clause-lines : goal.play-requires-clause-lines
-play-requires-clause-lines c =
+play-requires-clause-lines c = λ _.
     let object = c.args.compiled.now.translated.object in
     all_doable (length object.code.items) (length c.in_ok-life.life.program) c.args.script.now.lines.items
     (sym (length-map object.code.items (λ code. map slot_of code.items)) ∙ ap (λ (life : Course). length life.program) (sym c.in_ok-life.ensures))
     c.requires.doable
 
 pub play-requires-clause-room : goal.play-requires-clause-room
-play-requires-clause-room c =
-    let least : 4000000 ≤ 4000000 - 0 = omega arith in
-    subst (λ (life : Course). 4000000 ≤ life.cap - length life.journal) (sym c.in_ok-life.ensures) least
+play-requires-clause-room c = λ _.
+    let least : MOST_EVENTS ≤ MOST_EVENTS - 0 = omega arith in
+    subst (λ (life : Course). MOST_EVENTS ≤ life.cap - length life.journal) (sym c.in_ok-life.ensures) least
 
 pub say-requires-clause-few : goal.say-requires-clause-few
 say-requires-clause-few c =
@@ -48,7 +49,7 @@ say-requires-clause-harts c =
     let x = c.args.compiled.now in
     let y = x.translated in
     let lines = map scripts.line_of c.args.script.now.lines.items in
-    let played = has_played (flat_of x.flat) y.object y.marks y.cuts lines 4000000 4000000 c.in_ok-life.life c.in_ok-life.ensures c.play.new.core
+    let played = has_played (flat_of x.flat) y.object y.marks y.cuts lines MOST_EVENTS MOST_EVENTS c.in_ok-life.life c.in_ok-life.ensures c.play.new.core
     c.play.ensures.opening c.play.ensures.events c.in-Ok.ensures.whole in
     harts_of_life (flat_of x.flat) y.object y.marks y.cuts c.play.new.core _ played
 
@@ -58,7 +59,8 @@ image-requires-clause-variables c =
     let y = x.translated in
     let flat = flat_of x.flat in
     let lines = map scripts.line_of c.args.script.now.lines.items in
-    let played = has_played flat y.object y.marks y.cuts lines 4000000 4000000 c.in_ok-life.life c.in_ok-life.ensures c.play.new.core c.play.ensures.opening
+    let played = has_played flat y.object y.marks y.cuts lines MOST_EVENTS MOST_EVENTS c.in_ok-life.life c.in_ok-life.ensures c.play.new.core
+    c.play.ensures.opening
     c.play.ensures.events c.in-Ok.ensures.whole in
     variables_few flat y.object y.marks y.cuts c.play.new.core _ played c.requires.translated c.requires.compilation
 
@@ -68,7 +70,8 @@ image-requires-clause-object c =
     let y = x.translated in
     let flat = flat_of x.flat in
     let lines = map scripts.line_of c.args.script.now.lines.items in
-    let played = has_played flat y.object y.marks y.cuts lines 4000000 4000000 c.in_ok-life.life c.in_ok-life.ensures c.play.new.core c.play.ensures.opening
+    let played = has_played flat y.object y.marks y.cuts lines MOST_EVENTS MOST_EVENTS c.in_ok-life.life c.in_ok-life.ensures c.play.new.core
+    c.play.ensures.opening
     c.play.ensures.events c.in-Ok.ensures.whole in
     same_variables flat y.object y.marks y.cuts c.play.new.core _ played
 
@@ -78,7 +81,8 @@ image-requires-clause-within c =
     let y = x.translated in
     let flat = flat_of x.flat in
     let lines = map scripts.line_of c.args.script.now.lines.items in
-    let played = has_played flat y.object y.marks y.cuts lines 4000000 4000000 c.in_ok-life.life c.in_ok-life.ensures c.play.new.core c.play.ensures.opening
+    let played = has_played flat y.object y.marks y.cuts lines MOST_EVENTS MOST_EVENTS c.in_ok-life.life c.in_ok-life.ensures c.play.new.core
+    c.play.ensures.opening
     c.play.ensures.events c.in-Ok.ensures.whole in
     variables_within flat y.object y.marks y.cuts c.play.new.core _ played c.requires.translated c.requires.compilation
 
@@ -88,7 +92,8 @@ image-requires-clause-logs c =
     let y = x.translated in
     let flat = flat_of x.flat in
     let lines = map scripts.line_of c.args.script.now.lines.items in
-    let played = has_played flat y.object y.marks y.cuts lines 4000000 4000000 c.in_ok-life.life c.in_ok-life.ensures c.play.new.core c.play.ensures.opening
+    let played = has_played flat y.object y.marks y.cuts lines MOST_EVENTS MOST_EVENTS c.in_ok-life.life c.in_ok-life.ensures c.play.new.core
+    c.play.ensures.opening
     c.play.ensures.events c.in-Ok.ensures.whole in
     logs_few flat y.object y.marks y.cuts c.play.new.core _ played c.requires.translated c.requires.compilation
 
@@ -98,9 +103,10 @@ image-requires-clause-schedule c =
     let y = x.translated in
     let flat = flat_of x.flat in
     let lines = map scripts.line_of c.args.script.now.lines.items in
-    let played = has_played flat y.object y.marks y.cuts lines 4000000 4000000 c.in_ok-life.life c.in_ok-life.ensures c.play.new.core c.play.ensures.opening
+    let played = has_played flat y.object y.marks y.cuts lines MOST_EVENTS MOST_EVENTS c.in_ok-life.life c.in_ok-life.ensures c.play.new.core
+    c.play.ensures.opening
     c.play.ensures.events c.in-Ok.ensures.whole in
-    let fit = fits flat y.object y.marks y.cuts lines 4000000 4000000 c.in_ok-life.life c.in_ok-life.ensures c.in-Ok.ensures.whole in
+    let fit = fits flat y.object y.marks y.cuts lines MOST_EVENTS MOST_EVENTS c.in_ok-life.life c.in_ok-life.ensures c.in-Ok.ensures.whole in
     omega (arith, fit, steps_few flat y.object y.marks y.cuts c.play.new.core _ played)
 
 pub returns-in-Report : goal.returns-in-Report
@@ -110,9 +116,9 @@ returns-in-Report c =
     let flat = flat_of x.flat in
     let lines = map scripts.line_of c.args.script.now.lines.items in
     let life = c.play.new.core in
-    let played = has_played flat y.object y.marks y.cuts lines 4000000 4000000 c.in_ok-life.life c.in_ok-life.ensures life c.play.ensures.opening
+    let played = has_played flat y.object y.marks y.cuts lines MOST_EVENTS MOST_EVENTS c.in_ok-life.life c.in_ok-life.ensures life c.play.ensures.opening
     c.play.ensures.events c.in-Ok.ensures.whole in
-    let fit = fits flat y.object y.marks y.cuts lines 4000000 4000000 c.in_ok-life.life c.in_ok-life.ensures c.in-Ok.ensures.whole in
+    let fit = fits flat y.object y.marks y.cuts lines MOST_EVENTS MOST_EVENTS c.in_ok-life.life c.in_ok-life.ensures c.in-Ok.ensures.whole in
     IfOk-weaker c.say.result _ _
     (λ said is.
     ran fit (subst (λ (asked : Asked). Says asked x.text.items (translation_in x) (events_by (translation_in x) lines) said.status said.output.items)
@@ -126,16 +132,16 @@ returns-in-Ok c =
     let flat = flat_of x.flat in
     let lines = map scripts.line_of c.args.script.now.lines.items in
     let life = c.play.new.core in
-    let played = has_played flat y.object y.marks y.cuts lines 4000000 4000000 c.in_ok-life.life c.in_ok-life.ensures life c.play.ensures.opening
+    let played = has_played flat y.object y.marks y.cuts lines MOST_EVENTS MOST_EVENTS c.in_ok-life.life c.in_ok-life.ensures life c.play.ensures.opening
     c.play.ensures.events c.in-Ok.ensures.whole in
-    let fit = fits flat y.object y.marks y.cuts lines 4000000 4000000 c.in_ok-life.life c.in_ok-life.ensures c.in-Ok.ensures.whole in
+    let fit = fits flat y.object y.marks y.cuts lines MOST_EVENTS MOST_EVENTS c.in_ok-life.life c.in_ok-life.ensures c.in-Ok.ensures.whole in
     IfOk-weaker c.image.result _ _
     (λ said both.
     ran fit (subst (λ (asked : Asked). Says asked x.text.items (translation_in x) (events_by (translation_in x) lines) said.status said.output.items)
     (sym c.in-Image.is)
     (subst (λ (text : List ℕ). IsImageAfter text (translation_in x) (events_by (translation_in x) lines) said.status said.output.items) c.deref.ensures.value
-    (image_after flat y.object y.marks y.cuts life _ played c.deref.result.now said.status said.output.items both.0 both.1))))
-    (both_ok c.image.result _ _ c.image.ensures.status c.image.ensures.output)
+    (image_after flat y.object y.marks y.cuts life _ played c.deref.result.now said.status said.output.items both.0 both.1.0 both.1.1))))
+    (both_ok c.image.result _ _ c.image.ensures.status (both_ok c.image.result _ _ c.image.ensures.output c.image.ensures.again))
 
 pub returns : goal.returns
 returns c =
@@ -145,7 +151,7 @@ returns c =
     let lines = map scripts.line_of c.args.script.now.lines.items in
     let input = c.args.input.now in
     let begins = c.args.begins in
-    let some = passed_at flat y.object y.marks y.cuts lines 4000000 4000000 c.in_ok-life.life c.in_ok-life.ensures c.in-Err.many.line.0
+    let some = passed_at flat y.object y.marks y.cuts lines MOST_EVENTS MOST_EVENTS c.in_ok-life.life c.in_ok-life.ensures c.in-Err.many.line.0
     c.in-Err.ensures.excess in
     IfOk-weaker c.refused_at.result _ _
     (λ said both.

@@ -7,6 +7,7 @@ use Rattle.flow_graph.specs.Lowering.{lowered}
 use Rattle.flat_compile.specs.TranslatedForms.{IsTranslated}
 use Rattle.ido_compile.specs.declared.error.CompileError.TheVariants as error
 use Rattle.ido_compile.proofs.Public.{by_error}
+use Rattle.compiler_correctness.specs.Translations.{translation_to}
 use Rattle.ido_cli.specs.Answers.{cut}
 use Rattle.ido_cli.specs.Regions.{regions}
 use Rattle.ido_cli.specs.links.Regions.{IsRegionsAnswer}
@@ -45,7 +46,16 @@ pub returns : goal.returns
 returns c =
     let made = c.in_ok-translated.translated in
     let same = c.in_ok-analysis.ensures.of_flat in
-    cut (flat_of c.in_ok-flat.flat) c.in_ok-analysis.ensures.answer.0 made.object made.marks made.cuts
-    (subst (λ (x : Flat). IsTranslated (flat_of x) made.object made.marks made.cuts) same c.in_ok-translated.ensures.translated) refl
+    let flat = flat_of c.in_ok-flat.flat in
+    let is = subst (λ (x : Flat). IsTranslated (flat_of x) made.object made.marks made.cuts) same c.in_ok-translated.ensures.translated in
+    cut flat c.in_ok-analysis.ensures.answer.0 (translation_to flat made.object made.marks made.cuts)
+    (record {
+      object = made.object;
+      marks = made.marks;
+      cuts = made.cuts;
+      translated = is;
+      compilation = c.translations_are_compilations.ensures flat made.object made.marks made.cuts is;
+      is = refl;
+    }) refl
     (subst (λ (x : Flat). c.in_ok-output.output.items ≡ regions c.args.source.now (lowered (flat_of x)) (boundaries_of made.cuts) (flat_of x).threads)
     same c.in_ok-output.ensures)

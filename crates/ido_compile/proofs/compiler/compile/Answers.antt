@@ -3,7 +3,6 @@ use Rattle.c_tree.specs.Flats.{flat_of}
 use Rattle.ido_compile.specs.CompileAnswers.{IsCompileAnswer}
 use Rattle.ido_compile.specs.declared.error.CompileError.TheVariants as error
 use Rattle.ido_compile.proofs.FrontEndChecks.{by_error, uncompiled}
-use Rattle.ido_compile.proofs.Translations.{is_compilation}
 use Rattle.ido_compile.proofs.compiler.compile.Goals as goal
 
 pub returns-in_err-flat : goal.returns-in_err-flat
@@ -32,5 +31,5 @@ returns c =
       accepted = is.0;
       translated = is.1.0;
       resumable = is.1.1;
-      compilation = is_compilation c.systems_are_compilations.ensures flat made.object made.marks made.cuts is.1.0;
+      compilation = c.translations_are_compilations.ensures flat made.object made.marks made.cuts is.1.0;
     }

@@ -1,5 +1,6 @@
 use Rattle.std.proofs.Common.{arith, ⊎_elim}
 use Rattle.std.proofs.lemmas.Bool.{cases_lt}
+use Rattle.image_checks.specs.declared.limits.TheConstants.{MASK_BITS}
 use borrow.Author.Count.{below_more}
 use Rattle.image_checks.specs.Checks.{IsUnshared, shared}
 use Rattle.image_checks.proofs.Masks.{no_holder}
@@ -15,4 +16,4 @@ pub returns : goal.returns
 returns c lock = ⊎_elim
     (λ low. c.loop-lock.invariant lock (omega arith))
     (λ high one other apart within holds. absurd (no_holder c.args.logs.now one lock (λ i. (c.type_inv.logs i).fits) high holds))
-    (cases_lt lock 64)
+    (cases_lt lock MASK_BITS)

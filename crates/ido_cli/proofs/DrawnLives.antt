@@ -1,0 +1,33 @@
+-- A life that known events are made on.
+use Rattle.std.proofs.Common.{◌≡◌, ℕ, ◌-◌, ◌≤◌, List, ◌++◌, length, map, sym, ap, ◌∙◌, subst, arith}
+use Rattle.std.proofs.lemmas.List.{length-map}
+use Rattle.std.specs.Prelude.{All}
+use Rattle.ido_base.specs.declared.event.Event.{Event}
+use Rattle.ido_base.specs.Cores.{IsValid}
+use Rattle.rv64_isa.specs.Machine.{IsEviction}
+use Rattle.rv64_isa.specs.declared.object.Object.{Object}
+use Rattle.rv64_isa.specs.declared.object.Marks.{Marks}
+use Rattle.rv64_isa.specs.Programs.{slot_of}
+use Rattle.run_tracker.specs.ObjectLives.{Course, new_life, opening_of}
+use Rattle.ido_cli.proofs.PlayedRuns.{HasPlayed}
+
+-- what is valid at so many harts
+pub all_valid : (harts many : ℕ) (es others : List Event) → es ≡ others → many ≡ harts → All (IsValid many (IsEviction many)) others →
+    All (IsValid harts (IsEviction harts)) es
+all_valid harts many es others are same valid =
+    subst (λ (n : ℕ). All (IsValid n (IsEviction n)) es) same (subst (λ (xs : List Event). All (IsValid many (IsEviction many)) xs) (sym are) valid)
+
+module _ (object : Object) (marks : Marks) (cap : ℕ) (old : Course) (is : old ≡ new_life object marks cap) where
+  pub many_harts : length old.program ≡ length object.code.items
+  many_harts = ap (λ (x : Course). length x.program) is ∙ length-map object.code.items (λ code. map slot_of code.items)
+
+  pub room_for : (count : ℕ) → count ≤ cap → count ≤ old.cap - length old.journal
+  room_for count fits =
+      let enough : count ≤ cap - 0 = omega (arith, fits) in
+      subst (λ (x : Course). count ≤ x.cap - length x.journal) (sym is) enough
+
+  pub has_made : (life : Course) (es : List Event) → opening_of life ≡ opening_of old → life.journal ≡ old.journal ++ es → HasPlayed object marks life es
+  has_made life es opening journal = record {
+    begins = opening ∙ ap opening_of is;
+    journal = journal ∙ ap (λ (x : Course). x.journal ++ es) is;
+  }

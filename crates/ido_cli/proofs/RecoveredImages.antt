@@ -1,0 +1,62 @@
+-- What `recover` says of the image of a run.
+use Rattle.std.proofs.Common.{◌≡◌, ℕ, ◌≤◌, List, [], length, ap₂, sym, subst, arith, Result, Ok, Err, Some}
+use Rattle.std.proofs.lemmas.Option.{none-some}
+use Rattle.ido_base.specs.declared.event.Event.{Event}
+use Rattle.ido_base.specs.declared.limits.TheConstants.{MOST_EVENTS, MOST_STEPS}
+use Rattle.c_tree.specs.Flats.{Flat}
+use Rattle.rv64_isa.specs.declared.object.Object.{Object}
+use Rattle.rv64_isa.specs.declared.object.Marks.{Marks}
+use Rattle.rv64_isa.specs.Executables.{first_world}
+use Rattle.flow_graph.specs.declared.cuts.Cuts.{Cuts}
+use Rattle.flow_graph.specs.Refusals.{IsAccepted}
+use Rattle.flat_compile.specs.TranslatedForms.{IsTranslated}
+use Rattle.compiler_correctness.specs.Images as left
+use Rattle.compiler_correctness.specs.Translations.{Translation, translation_to}
+use Rattle.ido_compile.specs.CompileAnswers.{translation_in}
+use Rattle.image_checks.specs.declared.error.ImageError.{ImageError}
+use Rattle.image_checks.specs.RunImages.{left_by}
+use Rattle.ido_cli.specs.declared.compiled_image.Image.{Image}
+use Rattle.ido_cli.specs.CompiledImages.{IsImageAnswer}
+use Rattle.ido_cli.specs.ImagesReadAgain.{IsReadAgain, again, elsewhere, no_memory, RunImagesAreRead}
+use Rattle.ido_cli.specs.Answers.{RecoverAnswer, no_image, of_image, file_in}
+use Rattle.ido_cli.specs.Images.{IsImageAfter}
+use Rattle.ido_cli.specs.Laws.{RunsAreRecovered}
+use Rattle.ido_cli.specs.Recoveries.{IsRecovery, IsRecoveredRun, recovered, refused}
+use Rattle.ido_cli.specs.Refusals.{image_line}
+use Rattle.ido_cli.proofs.KeptStepsBounded.{kept_few}
+
+module _ (law : RunImagesAreRead) (source image : List ℕ) (flat : Flat) (object : Object) (marks : Marks) (cuts : Cuts) (before : List Event)
+    (turns status answer : ℕ) (output : List ℕ) (accepted : IsAccepted source flat) (t : IsTranslated flat object marks cuts)
+    (short : length before ≤ MOST_EVENTS) (written : IsImageAfter source (translation_to flat object marks cuts) before status image) where
+  abbrev c : Translation
+  c = translation_to flat object marks cuts
+
+  abbrev Recovered : Type 0
+  Recovered = IsRecoveredRun source c before turns answer output
+
+  few : length (left_by c before).kept ≤ MOST_STEPS
+  few = let kept = kept_few c.runs.marks c.runs.program (first_world c.runs) before (length c.runs.program) [] in omega (arith, kept, short)
+
+  read : (result : Result Image ImageError) → IsImageAnswer image result → IsReadAgain source c (left_by c before) result
+  read result told = law source image flat object marks cuts before result accepted t few written.read_as told
+
+  not_read : (error : ImageError) → answer ≡ 6 → image_line error ≡ Some output → IsReadAgain source c (left_by c before) (Err error) → Recovered
+  not_read error six line (elsewhere d x is differs fault) = refused d x is differs fault six line
+  not_read error six line no_memory = absurd (none-some output line)
+
+  is_read : (found : Image) → IsRecovery (translation_in found.compiled) (file_in found) turns answer output →
+      IsReadAgain source c (left_by c before) (Ok found) → Recovered
+  is_read found recovery (again x is words schedule) =
+      let file_is : file_in x ≡ left_by c before =
+      ap₂ (λ (ws ks : List ℕ). let z : left.Image = record { words = ws; kept = ks } in z) words schedule in
+      recovered x.compiled is (subst (λ (z : left.Image). IsRecovery (translation_in x.compiled) z turns answer output) file_is recovery)
+
+  by : RecoverAnswer turns image answer output → Recovered
+  by (no_image error told six line) = not_read error six line (read (Err error) told)
+  by (of_image found told recovery) = is_read found recovery (read (Ok found) told)
+
+pub runs_are_recovered : RunImagesAreRead → RunsAreRecovered
+runs_are_recovered law source image flat c before turns status answer output accepted of short written told =
+    subst (λ (z : Translation). IsRecoveredRun source z before turns answer output) (sym of.is)
+    (by law source image flat of.object of.marks of.cuts before turns status answer output accepted of.translated short
+    (subst (λ (z : Translation). IsImageAfter source z before status image) of.is written) told)

@@ -1,0 +1,199 @@
+-- What bytes are answered that spell the file of a run.
+use Rattle.std.proofs.Common.{◌≡◌, ℕ, ◌≤◌, List, ◌++◌, length, map, ap, sym, subst, ◌∙◌, Result, Ok, Err}
+use Rattle.std.proofs.lemmas.List.{length-map, take-append-drop}
+use Rattle.ido_base.specs.declared.event.Event.{Event}
+use Rattle.ido_base.specs.declared.limits.TheConstants.{MOST_STEPS}
+use Rattle.ido_base.specs.Layout.{aligned_up, end_from}
+use Rattle.c_tree.specs.Flats.{Flat, flat_of}
+use Rattle.c_tree.specs.WellFormed.{shape_of}
+use Rattle.rv64_isa.specs.declared.object.Object.{Object}
+use Rattle.rv64_isa.specs.declared.object.Marks.{Marks}
+use Rattle.rv64_isa.specs.Executables.{Executable}
+use Rattle.rv64_isa.specs.Programs.{slot_of}
+use Rattle.flow_graph.specs.declared.cuts.Cuts.{Cuts}
+use Rattle.flow_graph.specs.Lowering.{lowered}
+use Rattle.flow_graph.specs.Nodes.{Graph}
+use Rattle.flow_graph.specs.Refusals.{IsAccepted, IsRefusedBy}
+use Rattle.file_fields.specs.Fields.{Fault, ◌>>=◌}
+use Rattle.file_fields.proofs.Public.{bind_ok, ok_is}
+use Rattle.run_scripts.specs.Runs.{schedule_of}
+use Rattle.run_scripts.proofs.Public.{each_step}
+use Rattle.crash_simulation.specs.AccountRelation.{MachinesResume}
+use Rattle.compiler_correctness.specs.Images as left
+use Rattle.compiler_correctness.specs.Laws.{MachinesRecord}
+use Rattle.compiler_correctness.specs.Images.{variable_words}
+use Rattle.compiler_correctness.specs.Translations.{Translation, translation_to}
+use Rattle.flat_compile.specs.TranslatedForms.{IsTranslated}
+use Rattle.ido_compile.specs.declared.compiler.Compiled.{Compiled}
+use Rattle.ido_compile.specs.CompileAnswers.{IsCompiled, translation_in}
+use Rattle.ido_compile.specs.Verdicts.{NotBoth, OneFlat}
+use Rattle.crash_images.specs.Contents.{Contents, State}
+use Rattle.crash_images.specs.ImageDecoder.{IsReadAs, image_at, source_at, state_at}
+use Rattle.image_checks.specs.declared.error.ImageError.{ImageError}
+use Rattle.ido_cli.specs.declared.compiled_image.Image.{Image}
+use Rattle.image_checks.specs.Checks.{IsStateFault, IsUnshared, of_thread, of_mutexes, of_schedule}
+use Rattle.ido_cli.specs.CompiledImages.{size_of, threads_of, BeginsCompiled, HasState, IsImage, IsImageAnswer, whole, no_source, refused, no_state, unsound}
+use Rattle.ido_cli.specs.CompiledImages as answers
+use Rattle.image_checks.specs.Laws.{RunsLeaveNoFault}
+use Rattle.image_checks.specs.Schedules.{IsAtFault}
+use Rattle.image_checks.specs.RunImages.{left_by, file_contents, file_state}
+use Rattle.ido_cli.specs.ImagesReadAgain.{IsReadAgain, again, elsewhere, RunImagesAreRead}
+use Rattle.ido_cli.specs.ImagesReadAgain as reads
+use Rattle.image_checks.proofs.Public.{IsWhole, left_is_whole, none_if_sound, unshared, schedule_faultless}
+
+not_both_ways : {A : Type 0} (found : Result A Fault) (x : A) (fault : Fault) → found ≡ Ok x → found ≡ Err fault → ⊥
+not_both_ways {A = A} found x fault ok err = let both : ◌≡◌ {A = Result A Fault} (Ok x) (Err fault) = sym ok ∙ err in cc
+
+-- ---- What all translations of a flat form have in common
+
+module _ (flat : Flat) (object : Object) (marks : Marks) (cuts : Cuts) (t : IsTranslated flat object marks cuts) where
+  initial_size : length object.initial.items ≡ aligned_up (end_from 0 (map shape_of flat.variables)) 8
+  initial_size =
+      ap (λ (x : Executable). length x.initial) (sym t.runs) ∙ t.is.initial.size
+      ∙ ap (λ (x : Flat). aligned_up (end_from 0 (map shape_of x.variables)) 8) t.of_flat
+
+  thread_number : length object.code.items ≡ length (lowered flat).threads
+  thread_number =
+      sym (length-map object.code.items (λ code. map slot_of code.items)) ∙ sym (ap (λ (x : Executable). length x.program) t.runs) ∙ t.is.count
+      ∙ ap (λ (g : Graph). length g.threads) t.is.plan.lowered ∙ ap (λ (x : Flat). length (lowered x).threads) t.of_flat
+
+module _ (one_flat : OneFlat) (not_both : NotBoth) (no_fault : RunsLeaveNoFault) (source bytes : List ℕ) (flat : Flat) (object : Object) (marks : Marks)
+    (cuts : Cuts) (events : List Event) (accepted : IsAccepted source flat) (t : IsTranslated flat object marks cuts)
+    (most : length (left_by (translation_to flat object marks cuts) events).kept ≤ MOST_STEPS)
+    (spelled : IsReadAs (file_contents source (translation_to flat object marks cuts) (left_by (translation_to flat object marks cuts) events)) bytes)
+    (is_whole : IsWhole flat (length object.code.items) (length object.initial.items)
+    (file_state (translation_to flat object marks cuts) (left_by (translation_to flat object marks cuts) events))) where
+  abbrev c : Translation
+  c = translation_to flat object marks cuts
+
+  abbrev file : left.Image
+  file = left_by c events
+
+  abbrev state : State
+  state = file_state c file
+
+  abbrev size : ℕ
+  size = length object.initial.items
+
+  abbrev threads : ℕ
+  threads = length object.code.items
+
+  abbrev Read : Result Image ImageError → Type 0
+  Read answer = IsReadAgain source c file answer
+
+  -- ---- The bytes
+
+  record Begins : Type 0 where
+    rest : List ℕ
+    begins : source_at bytes ≡ Ok (source, rest)
+    after : state_at (length bytes) size threads rest ≡ Ok state
+
+  begun : Begins
+  unfolding image_at
+  begun =
+      let o : Contents = file_contents source c file in
+      let all : image_at size threads bytes ≡ Ok o =
+      subst (λ (k : ℕ). image_at k threads bytes ≡ Ok o) is_whole.variables (spelled threads is_whole.logs) in
+      let a = bind_ok (source_at bytes) (λ x. state_at (length bytes) size threads x.1 >>= λ s. Ok (record { source = x.0; state = s })) o all in
+      let b = bind_ok (state_at (length bytes) size threads a.0.1) (λ s. Ok (record { source = a.0.0; state = s })) o a.2 in
+      let made : Contents = record { source = a.0.0; state = b.0 } in
+      let same : made ≡ o = ok_is made o b.2 in
+      record {
+        rest = a.0.1;
+        begins = a.1 ∙ ap (λ (x : Contents). Ok (x.source, a.0.1)) same;
+        after = b.1 ∙ ap (λ (x : Contents). Ok x.state) same;
+      }
+
+  -- ---- The source, compiled
+
+  module _ (d : Compiled) (b : BeginsCompiled bytes d) where
+    same_bytes : ◌≡◌ {A = List ℕ × List ℕ} (b.source, b.rest) (source, begun.rest)
+    same_bytes = ok_is (b.source, b.rest) (source, begun.rest) (sym b.begins ∙ begun.begins)
+
+    compiled : IsCompiled source d
+    compiled = subst (λ (text : List ℕ). IsCompiled text d) (ap (λ (x : List ℕ × List ℕ). x.0) same_bytes) b.compiled
+
+    same_rest : b.rest ≡ begun.rest
+    same_rest = ap (λ (x : List ℕ × List ℕ). x.1) same_bytes
+
+    same_flat : flat_of d.flat ≡ flat
+    same_flat = one_flat source (flat_of d.flat) flat compiled.accepted accepted
+
+    same_size : size_of d ≡ size
+    same_size =
+        let x = d.translated in
+        initial_size (flat_of d.flat) x.object x.marks x.cuts compiled.translated
+        ∙ ap (λ (y : Flat). aligned_up (end_from 0 (map shape_of y.variables)) 8) same_flat ∙ sym (initial_size flat object marks cuts t)
+
+    same_threads : threads_of d ≡ threads
+    same_threads =
+        let x = d.translated in
+        thread_number (flat_of d.flat) x.object x.marks x.cuts compiled.translated ∙ ap (λ (y : Flat). length (lowered y).threads) same_flat
+        ∙ sym (thread_number flat object marks cuts t)
+
+    found : state_at (length bytes) (size_of d) (threads_of d) b.rest ≡ Ok state
+    found =
+        ap (λ (k : ℕ). state_at (length bytes) k (threads_of d) b.rest) same_size ∙ ap (λ (k : ℕ). state_at (length bytes) size k b.rest) same_threads
+        ∙ ap (state_at (length bytes) size threads) same_rest ∙ begun.after
+
+  -- ---- Answers
+
+  state_is : (d : Compiled) (x : State) (has : HasState bytes d x) → x ≡ state
+  state_is d x has = ok_is x state (sym has.state ∙ found d has.source)
+
+  image_read : (image : Image) → IsImage bytes image → Read (Ok image)
+  image_read image is =
+      let same : is.state ≡ state = state_is image.compiled is.state is.is in
+      again image (compiled image.compiled is.is.source)
+      (is.words ∙ ap (λ (x : State). x.variables ++ x.logs) same ∙ take-append-drop (variable_words c) file.words)
+      (is.schedule ∙ ap (λ (x : State). schedule_of x.runs) same ∙ each_step file.kept)
+
+  not_here : (fault : Fault) (answer : Result Image ImageError) → source_at bytes ≡ Err fault → Read answer
+  not_here fault answer e = absurd (not_both_ways (source_at bytes) (source, begun.rest) fault begun.begins e)
+
+  not_after : (d : Compiled) (b : BeginsCompiled bytes d) (fault : Fault) (answer : Result Image ImageError) →
+      state_at (length bytes) (size_of d) (threads_of d) b.rest ≡ Err fault → Read answer
+  not_after d b fault answer e =
+      absurd (not_both_ways (state_at (length bytes) (size_of d) (threads_of d) b.rest) state fault (found d b) e)
+
+  module _ (d : Compiled) (is : IsCompiled source d) (flat_is : flat_of d.flat ≡ flat) (threads_are : threads_of d ≡ threads) where
+    -- by the same translation nothing is at fault
+    none : translation_in d ≡ c → (error : ImageError) → ¬ (IsStateFault (flat_of d.flat) d.translated.resumes.items state error)
+    none same error fault =
+        let x = d.translated in
+        let few : length (left_by (translation_in d) events).kept ≤ MOST_STEPS =
+        subst (λ (z : Translation). length (left_by z events).kept ≤ MOST_STEPS) (sym same) most in
+        let sound = no_fault (flat_of d.flat) x.object x.marks x.cuts x.resumes.items events is.resumable few in
+        none_if_sound (flat_of d.flat) x.resumes.items (file_state (translation_in d) (left_by (translation_in d) events)) error sound
+        (subst (λ (z : Translation). IsStateFault (flat_of d.flat) x.resumes.items (file_state z (left_by z events)) error) (sym same) fault)
+
+    table_is : length d.translated.resumes.items ≡ threads
+    table_is = let r = is.resumable in r.are.count ∙ sym r.translated.is.count ∙ ap (λ (x : Executable). length x.program) r.translated.runs
+        ∙ length-map d.translated.object.code.items (λ code. map slot_of code.items) ∙ threads_are
+
+    fault_read : (error : ImageError) → IsStateFault (flat_of d.flat) d.translated.resumes.items state error → Read (Err error)
+    fault_read error (of_thread x f) = elsewhere d x is (λ same. none same x (of_thread x f)) f
+    fault_read error (of_mutexes x sound f) =
+        absurd (unshared state.logs (length d.translated.resumes.items) x
+        (λ lock. subst (λ (k : ℕ). IsUnshared state.logs k lock) (sym table_is) (is_whole.unshared lock)) f)
+    fault_read error (of_schedule step sound apart f) =
+        absurd (schedule_faultless flat state.runs (schedule_of state.runs) is_whole.schedule step
+        (subst (λ (x : Flat). IsAtFault x state.runs step) flat_is f.is))
+
+  read : (answer : Result Image ImageError) → IsImageAnswer bytes answer → Read answer
+  read answer (whole image is) = image_read image is
+  read answer (no_source fault e) = not_here fault _ e
+  read answer (refused other rest rule place begins broken) =
+      let same : ◌≡◌ {A = List ℕ × List ℕ} (other, rest) (source, begun.rest) = ok_is (other, rest) (source, begun.rest) (sym begins ∙ begun.begins) in
+      absurd (not_both source flat rule place accepted
+      (subst (λ (text : List ℕ). IsRefusedBy text rule place) (ap (λ (x : List ℕ × List ℕ). x.0) same) broken))
+  read answer (no_state d fault b e) = not_after d b fault _ e
+  read answer (unsound d x error has fault) =
+      fault_read d (compiled d has.source) (same_flat d has.source) (same_threads d has.source) error
+      (subst (λ (z : State). IsStateFault (flat_of d.flat) d.translated.resumes.items z error) (state_is d x has) fault)
+  read answer answers.no_memory = reads.no_memory
+
+pub run_images_are_read : OneFlat → NotBoth → MachinesResume → MachinesRecord → RunsLeaveNoFault → RunImagesAreRead
+run_images_are_read one_flat not_both machines records no_fault source bytes flat object marks cuts events answer accepted t most spelled told =
+    read one_flat not_both no_fault source bytes flat object marks cuts events accepted t most spelled
+    (left_is_whole flat object marks cuts t events machines records most) answer told

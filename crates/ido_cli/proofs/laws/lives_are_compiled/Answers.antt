@@ -1,0 +1,28 @@
+use Rattle.std.proofs.Common.{refl}
+use Rattle.c_tree.specs.Flats.{flat_of}
+use Rattle.run_tracker.specs.ObjectLives.{life_from}
+use Rattle.ido_cli.proofs.PlayedRuns as played
+use Rattle.ido_cli.proofs.RecoveredRuns as recovered
+use Rattle.ido_cli.proofs.laws.lives_are_compiled.Goals as goal
+
+pub returns-clause-starts : goal.returns-clause-starts
+returns-clause-starts c text x cap life is begins =
+    let flat = flat_of x.flat in
+    let y = x.translated in
+    let all : played.HasPlayed y.object y.marks life life.journal = record { begins = begins; journal = refl } in
+    record {
+      compilation = is.compilation;
+      world_is = played.same_world flat y.object y.marks y.cuts life life.journal all;
+      steps_are = played.same_steps flat y.object y.marks y.cuts life life.journal all;
+    }
+
+pub returns-clause-files : goal.returns-clause-files
+returns-clause-files c text x file cap life is begins =
+    let flat = flat_of x.flat in
+    let y = x.translated in
+    let begun = life_from y.object y.marks file.words file.kept cap in
+    record {
+      compilation = is.compilation;
+      world_is = recovered.same_world flat y.object y.marks y.cuts is.translated file cap begun refl life begins c.files_begin.ensures;
+      steps_are = recovered.same_steps flat y.object y.marks y.cuts is.translated file cap begun refl life begins c.files_begin.ensures;
+    }

@@ -1,0 +1,83 @@
+use Rattle.std.proofs.Common.{◌≡◌, ℕ, ◌+◌, ◌/◌, ◌≤◌, List, length, sym, ap, ap₂, ◌∙◌, subst, arith}
+use Rattle.std.proofs.lemmas.List.{length-map}
+use Rattle.std.proofs.lemmas.Result.{IfOk-weaker}
+use Rattle.ido_base.specs.declared.event.Event.{Event}
+use Rattle.c_tree.specs.Flats.{flat_of, thread_of}
+use Rattle.run_scripts.specs.Draws.{drawn_run}
+use Rattle.run_scripts.proofs.Public.{run_valid}
+use Rattle.ido_compile.specs.CompileAnswers.{translation_in}
+use Rattle.ido_cli.specs.Draws.{drawn_by}
+use Rattle.ido_cli.specs.Plays.{IsRunBy}
+use Rattle.ido_cli.proofs.PlayedRuns.{as_many_threads, harts_of_life, has_room, run_by}
+use Rattle.ido_cli.proofs.DrawnLives.{all_valid, has_made, many_harts, room_for}
+use Rattle.ido_cli.proofs.seeded.drawn_answer.Goals as goal
+
+pub draw-requires-clause-threads : goal.draw-requires-clause-threads
+draw-requires-clause-threads c =
+    omega (arith, c.len-threads.ensures, c.args.compiled.now.translated.object.code.ok, c.requires.translated.limits.threads)
+
+pub draw-requires-clause-lines : goal.draw-requires-clause-lines
+draw-requires-clause-lines c =
+    let few : c.len-bytes.result ≤ 65536 =
+    omega (arith, c.len-bytes.ensures, c.args.compiled.now.translated.object.initial.ok, c.requires.translated.limits.bytes) in
+    omega (arith, few)
+
+pub make_events-requires-clause-valid : goal.make_events-requires-clause-valid
+make_events-requires-clause-valid c = λ _.
+    let y = c.args.compiled.now.translated in
+    let many : c.len-threads.result ≡ length y.object.code.items = omega (arith, c.len-threads.ensures, y.object.code.ok) in
+    let harts = many_harts y.object y.marks c.len-count.result c.in_ok-life.life c.in_ok-life.ensures in
+    let few : c.len-threads.result ≤ 8 = omega (arith, many, c.requires.translated.limits.threads) in
+    let bytes : c.len-bytes.result ≤ 65536 = omega (arith, c.len-bytes.ensures, y.object.initial.ok, c.requires.translated.limits.bytes) in
+    let within : (c.len-bytes.result + 63) / 64 ≤ 1024 = omega (arith, bytes) in
+    all_valid (length c.in_ok-life.life.program) c.len-threads.result c.deref.result.now _ (c.deref.ensures.value ∙ c.in_ok-events.ensures) (many ∙ sym harts)
+    (run_valid c.args.seed c.from.result c.args.crashes.now c.len-threads.result ((c.len-bytes.result + 63) / 64) few within)
+
+pub make_events-requires-clause-room : goal.make_events-requires-clause-room
+make_events-requires-clause-room c = λ _.
+    let y = c.args.compiled.now.translated in
+    room_for y.object y.marks c.len-count.result c.in_ok-life.life c.in_ok-life.ensures (length c.deref.result.now)
+    (omega (arith, ap length c.deref.ensures.value, c.len-count.ensures, c.in_ok-events.events.ok))
+
+pub say-requires-clause-few : goal.say-requires-clause-few
+say-requires-clause-few c =
+    let x = c.args.compiled.now in
+    let y = x.translated in
+    let threads = as_many_threads (flat_of x.flat) y.object y.marks y.cuts c.requires.translated in
+    omega (arith, c.requires.translated.limits.threads, threads, length-map x.flat.threads.items thread_of)
+
+pub say-requires-clause-room : goal.say-requires-clause-room
+say-requires-clause-room c =
+    let x = c.args.compiled.now in
+    let y = x.translated in
+    has_room (flat_of x.flat) y.object y.marks y.cuts c.requires.translated
+
+pub say-requires-clause-harts : goal.say-requires-clause-harts
+say-requires-clause-harts c =
+    let x = c.args.compiled.now in
+    let y = x.translated in
+    let life = c.make_events.new.core in
+    let made = has_made y.object y.marks c.len-count.result c.in_ok-life.life c.in_ok-life.ensures life c.deref.result.now c.make_events.ensures.opening
+    c.make_events.ensures.history in
+    harts_of_life (flat_of x.flat) y.object y.marks y.cuts life c.deref.result.now made
+
+pub returns : goal.returns
+returns c =
+    let x = c.args.compiled.now in
+    let y = x.translated in
+    let flat = flat_of x.flat in
+    let life = c.make_events.new.core in
+    let crashes = c.args.crashes.now in
+    let made = has_made y.object y.marks c.len-count.result c.in_ok-life.life c.in_ok-life.ensures life c.deref.result.now c.make_events.ensures.opening
+    c.make_events.ensures.history in
+    let counted : c.len-threads.result ≡ length y.object.code.items = omega (arith, c.len-threads.ensures, y.object.code.ok) in
+    let threads : c.len-threads.result ≡ length flat.threads = counted ∙ as_many_threads flat y.object y.marks y.cuts c.requires.translated in
+    let bytes : c.len-bytes.result ≡ length y.object.initial.items = omega (arith, c.len-bytes.ensures, y.object.initial.ok) in
+    let drawn : c.deref.result.now ≡ drawn_by (translation_in x) c.args.seed c.args.turns crashes =
+    c.deref.ensures.value ∙ c.in_ok-events.ensures
+    ∙ ap (λ (n : ℕ). drawn_run c.args.seed n crashes c.len-threads.result ((c.len-bytes.result + 63) / 64)) c.from.ensures
+    ∙ ap₂ (λ (t b : ℕ). drawn_run c.args.seed c.args.turns crashes t ((b + 63) / 64)) threads bytes in
+    IfOk-weaker c.say.result _ _
+    (λ said is.
+    subst (λ (es : List Event). IsRunBy (translation_in x) es said.status said.output.items) drawn
+    (run_by flat y.object y.marks y.cuts life c.deref.result.now made c.requires.compilation said.status said.output.items is)) c.say.ensures

@@ -1,0 +1,292 @@
+-- What a crash leaves of the logs of a compiled program: each thread can be resumed by its own, and no two hold one mutex.
+use Rattle.std.proofs.Common.{◌≡◌, ◌≢◌, inl, inr, refl, ℕ, ◌+◌, ◌-◌, ◌/◌, ◌<◌, ◌≤◌, List, [], ◌∷◌, length, map, drop, ap, sym, subst, ◌∙◌, arith}
+use Rattle.std.proofs.Common.{cond, get_or, Option, Some, None, get_or-drop}
+use Rattle.std.specs.Prelude.{slice_get, slice_index, slice_index_or, Contains, ◌==◌, pos, Vec}
+use Rattle.std.specs.Global.{Global}
+use Rattle.std.proofs.lemmas.Bool.{cases_Bool, cases_lt, cond-true, cond-false, eqb-true, eqb-false, ne_eqb, le-ltb}
+use Rattle.std.proofs.lemmas.List.{get_or-map, get_or_past, length-map}
+use Rattle.std.proofs.lemmas.List.Elements.{Contains-get_or}
+use Rattle.std.proofs.lemmas.Option.{same_Some, slice_get_within}
+use Rattle.ido_base.specs.declared.event.Event.TheVariants.{Crash}
+use Rattle.ido_base.specs.declared.location.Location.{Location}
+use Rattle.ido_base.specs.Layout.{variables_base, logs_base, word_number, point_at, slot_at, variable_at}
+use Rattle.ido_base.specs.Locks.{has_lock}
+use Rattle.ido_base.specs.Words.{Word, word_of, word_at, durable_value}
+use Rattle.ido_ints.specs.declared.kinds.Kind.{Kind}
+use Rattle.c_tree.specs.Flats as f
+use Rattle.c_tree.specs.Source as m
+use Rattle.c_tree.specs.Source.{Pending}
+use Rattle.c_tree.specs.WellFormed.{shape_of}
+use Rattle.c_ranges.specs.RunInvariants.{IsThreadOf}
+use Rattle.c_ranges.proofs.Public.{zip_found}
+use Rattle.memory_layout.specs.declared.log.TheConstants.{MASK_SLOT}
+use Rattle.memory_layout.specs.declared.point.Point.{Point}
+use Rattle.memory_layout.specs.declared.point.Point.TheVariants.{Idle, At}
+use Rattle.memory_layout.specs.Points.{point_of}
+use Rattle.memory_layout.specs.Roles.{pending_address}
+use Rattle.rv64_isa.specs.Rows.{read}
+use Rattle.rv64_isa.specs.Machine.{World, after_event, bank_of, durable_at, resume_of}
+use Rattle.flow_graph.specs.Actions.{FlowState, graph_start, seen_by}
+use Rattle.flow_graph.specs.IdempotentCuts.{stores}
+use Rattle.flow_graph.specs.Liveness.{NodeAt}
+use Rattle.flow_graph.specs.Lowering.{lowered, threads_nodes}
+use Rattle.flow_graph.specs.Nodes.{Action, Eval, Store, Test, Lock, Unlock, End, Graph, Node}
+use Rattle.flow_graph.specs.Paths.{LiesInWritten, stored_element}
+use Rattle.flow_graph.proofs.Public.{Good, ShapedAs, found_in, good_after, good_start, node_shaped, nodes_at}
+use Rattle.log_states.specs.LogInvariant.{LogInv}
+use Rattle.log_states.specs.Logs.{Record, IsRecorded, nothing_recorded, slots_of, value_of}
+use Rattle.log_states.specs.Machines.{config_of}
+use Rattle.log_states.proofs.Public.{contains_first, contains_later, crashes_standing, durable_is, ends}
+use Rattle.hart_runs.proofs.Public.{crashes_step}
+use Rattle.thread_code.specs.Plans.{Plan, Thread, IsNodeOf, mask_before, of_address, of_local}
+use Rattle.thread_code.specs.RegistersAtNodes.{HasPending, IsPendingIn}
+use Rattle.recovered_threads.specs.RecordDescriptions.{Code, Describes, IsInside, ResumesAt, at_chosen, past_lock, past_unlock, between, inside, locks_of}
+use Rattle.recovered_threads.proofs.Public.{records_are_apart}
+use Rattle.crash_simulation.specs.AbstractRuns.{kept_of}
+use Rattle.crash_simulation.specs.SimulationRelation.{Simulates}
+use Rattle.crash_simulation.specs.Systems.{System, IsSystem, flat_of, thread_count}
+use Rattle.crash_simulation.proofs.Public.{left, left_describes, left_point, log_of, orderly, owes_here}
+use Rattle.flat_compile.specs.declared.resumes.LiveLocal.{LiveLocal}
+use Rattle.flat_compile.specs.declared.resumes.Resume.{Resume}
+use Rattle.flat_compile.specs.ResumePlaces.{Spot, Before, After, IsSpot, address_in, goes_on_at, IsLiveLocal, AreResumes, IsResumeTable, resumes_at}
+use Rattle.flat_compile.specs.ResumePlaces as places
+use Rattle.flat_compile.proofs.Public.{HasEntry, entry_at, node_there}
+use Rattle.image_checks.specs.Logs.{logged, point_in, slot_in, mask_by, mask_in}
+use Rattle.image_checks.specs.Checks.{HasLocal, HasLocals, HasAddress, IsRight, resume_at, IsResumableLog, idle, resumed}
+use Rattle.image_checks.specs.Checks.{AreSound, IsUnshared}
+
+-- ---- Durable words of the logs
+
+abbrev pub logs_left : List Word → List ℕ
+logs_left words = drop 8192 (map durable_value words)
+
+durable_there : (words : List Word) (i : ℕ) → get_or (map durable_value words) i 0 ≡ durable_value (word_at words i)
+durable_there words i = elim (cases_lt i (length words)) [
+  | inl within ↦ get_or-map durable_value words i (word_of 0) 0 within
+  | inr past ↦
+      let none : word_at words i ≡ word_of 0 = get_or_past words i (word_of 0) past in
+      get_or_past (map durable_value words) i 0 (omega (arith, past, length-map words durable_value)) ∙ sym (ap durable_value none)
+]
+
+logged_is : (words : List Word) (address : ℕ) → logs_base ≤ address → logged (logs_left words) address ≡ durable_at words address
+logged_is words address above =
+    let i = (address - logs_base) / 8 in
+    let number : word_number address ≡ 8192 + i =
+    ap (λ b. cond b (address - variables_base) (65536 + (address - logs_base)) / 8) (le-ltb address logs_base above) ∙ omega arith in
+    get_or-drop 8192 (map durable_value words) i 0 ∙ durable_there words (8192 + i) ∙ ap (λ (k : ℕ). durable_value (word_at words k)) (sym number)
+
+-- ---- A place where a thread is resumed
+
+record Place (p : Plan) (code : Code p) (node address : ℕ) : Type 0 where
+  spot : Spot
+  is : IsSpot p code.thread spot
+  at : address_in code.is.places spot ≡ address
+  goes_on : goes_on_at spot ≡ node
+
+place : (p : Plan) (code : Code p) (node address : ℕ) → (own : IsNodeOf code.thread node) → ResumesAt p code node address →
+    Place p code node address
+place p code node address own (at_chosen chosen) =
+    record { spot = Before node; is = places.at_chosen node own chosen; at = refl; goes_on = refl }
+place p code node address own (past_lock from mutex is from_own there locks) =
+    record { spot = After from node; is = places.past_lock from mutex node is from_own there locks; at = refl; goes_on = refl }
+place p code node address own (past_unlock from mutex is from_own there unlocks holds) =
+    record { spot = After from node; is = places.past_unlock from mutex node is from_own there unlocks holds; at = refl; goes_on = refl }
+
+-- ---- The log of a thread
+
+module _ (y : System) (s : IsSystem y) (w : World) (stands : Simulates y s w) where
+  abbrev logs : List ℕ
+  logs = logs_left w.words
+
+  abbrev after : World
+  after = after_event y.runs.program w Crash
+
+  abbrev kept : FlowState
+  kept = kept_of y stands.before_commit.abstract
+
+  -- what is pending in the kept state lies where it should
+  kept_good : Good (flat_of y) kept
+  kept_good =
+      good_after (flat_of y) stands.before_commit.abstract.schedule s.plan.formed (graph_start (lowered (flat_of y)) (flat_of y))
+      (good_start (flat_of y) s.plan.formed)
+
+  module _ (n : ℕ) (below : n < thread_count y) where
+    abbrev code : Code y.plan
+    code = s.codes.each n below
+
+    abbrev t : Thread
+    t = code.thread
+
+    abbrev r : Record
+    r = left y s w stands n
+
+    standing : LogInv n nothing_recorded r after []
+    standing =
+        let c = stands.before_commit.ghosts n in
+        crashes_standing y.runs.program n c.old c.new w c.rest (s.count ∙ sym stands.before_commit.count) (log_of y s w stands n below)
+
+    recorded : IsRecorded n r after.words
+    recorded = ends n nothing_recorded r (config_of after standing.hart []) standing.log refl
+
+    logged_point : logged logs (point_at n) ≡ r.point
+    logged_point = logged_is w.words (point_at n) (omega arith) ∙ left_point y s w stands n below
+
+    is_idle : r.point ≡ 0 → point_in logs n ≡ Idle
+    is_idle none = ap point_of (logged_point ∙ none)
+
+    is_at : r.point ≢ 0 → point_in logs n ≡ At (resume_of r.point) (bank_of r.point)
+    is_at some = ap point_of logged_point ∙ cond-false (r.point == 0) Idle (At (resume_of r.point) (bank_of r.point)) (ne_eqb r.point 0 some)
+
+    value_there : (slot : ℕ) → r.point ≢ 0 → Contains (0 ∷ r.live) slot → slot_in logs n (bank_of r.point) slot ≡ value_of r slot
+    value_there slot some c =
+        let address = slot_at n (bank_of r.point) slot in
+        let listed : Contains (slots_of r) slot =
+        subst (λ (slots : List ℕ). Contains slots slot) (sym (cond-false (r.point == 0) [] (0 ∷ r.live) (ne_eqb r.point 0 some))) c in
+        let same : durable_value (word_at after.words (word_number address)) ≡ durable_value (word_at w.words (word_number address)) =
+        ap durable_value ((crashes_step y.runs.program w).words (word_number address)) in
+        logged_is w.words address (omega arith) ∙ sym same
+        ∙ durable_is (word_at after.words (word_number address)) (value_of r slot) (recorded.bank slot listed)
+
+    mask_there : r.point ≢ 0 → slot_in logs n (bank_of r.point) MASK_SLOT ≡ r.mask
+    mask_there some = value_there 0 some (contains_first 0 r.live)
+
+    register_there : (register : ℕ) → r.point ≢ 0 → Contains r.live register → slot_in logs n (bank_of r.point) register ≡ read r.registers register
+    register_there register some c =
+        let keepable = standing.log.follows.new_is.live register c in
+        value_there register some (contains_later 0 r.live register c)
+        ∙ cond-false (register == 0) r.mask (read r.registers register) (ne_eqb register 0 (λ e. omega (arith, e, keepable.is_register)))
+
+    -- its locks are those of its record
+    masked : mask_in logs n ≡ locks_of r
+    masked = elim (cases_Bool (r.point == 0)) [
+      | inl none ↦ ap (λ (p : Point). mask_by p logs n) (is_idle (eqb-true r.point 0 none)) ∙ sym (cond-true (r.point == 0) 0 r.mask none)
+      | inr some ↦
+          let is : r.point ≢ 0 = eqb-false r.point 0 some in
+          ap (λ (p : Point). mask_by p logs n) (is_at is) ∙ mask_there is ∙ sym (cond-false (r.point == 0) 0 r.mask some)
+    ]
+
+    -- ---- In a section
+
+    module _ (i : IsInside y.plan code kept r) where
+      abbrev at : ℕ
+      at = i.graph_thread.at
+
+      kept_there : (register : ℕ) → Contains (code.is.places.live at) register → Contains r.live register
+      kept_there register c = subst (λ (live : List ℕ). Contains live register) (sym i.live) c
+
+      local_right : (l : LiveLocal) → IsLiveLocal y.plan t at l → HasLocal logs n (bank_of r.point) l
+      local_right l live =
+          let register = slice_index t.registers l.local in
+          let c = kept_there register ((code.is.kept at i.own register).1 (of_local l.local l.kind live.kind_is live.live)) in
+          let carried = i.enters.locals l.local l.kind live.kind_is live.live in
+          record {
+            number = slice_index_or i.graph_thread.locals l.local (pos 0);
+            held = carried.held;
+            is = ap (λ (k : ℕ). slot_in logs n (bank_of r.point) k) live.register_is ∙ register_there register i.point c ∙ carried.form;
+          }
+
+      -- ---- Where a store is pending
+
+      module _ (is : Node) (there : NodeAt y.plan.graph at is) where
+        abbrev Has : Type 0
+        Has = HasAddress (flat_of y).variables logs n (bank_of r.point) is.writes
+
+        flat_there : NodeAt (lowered (flat_of y)) at is
+        flat_there = subst (λ (g : Graph). NodeAt g at is) s.plan.lowered there
+
+        here : slice_get (threads_nodes (flat_of y).threads 0) at ≡ Some is
+        here = nodes_at (flat_of y) at is flat_there
+
+        shaped : (a : Action) → is.action ≡ a → ShapedAs (threads_nodes (flat_of y).threads 0) is a
+        shaped a does = subst (λ (z : Action). ShapedAs (threads_nodes (flat_of y).threads 0) is z) does (node_shaped (flat_of y) at is here)
+
+        none : is.writes ≡ None → Has
+        none e = subst (λ (o : Option Location). HasAddress (flat_of y).variables logs n (bank_of r.point) o) (sym e) tt
+
+        stored : (variable next : ℕ) (kind : Kind) → is.action ≡ Store variable kind next → Has
+        stored variable next kind does =
+            let good = kept_good in
+            let owed = owes_here (flat_of y) s.plan.formed kept good.source t.number good.matches i.graph_thread i.there is flat_there
+            (record { variable = variable; kind = kind; next = next; is = does }) in
+            let store : Pending = owed.0 in
+            let owes = good.owes t.number i.graph_thread store i.there owed.1 in
+            let lies : LiesInWritten is.writes (stored_element store) =
+            subst (λ (z : Node). LiesInWritten z.writes (stored_element store)) (same_Some owes.node is (sym owes.here ∙ here)) owes.lies in
+            let pending : HasPending y.plan store variable kind r.registers =
+            subst (λ (a : Action). IsPendingIn y.plan a (seen_by kept i.graph_thread) r.registers) does (i.enters.pending is there) store owed.1 in
+            let c = kept_there pending_address ((code.is.kept at i.own pending_address).1 (of_address (stores is variable kind next there does))) in
+            let source = found_in good.source.threads t.number
+            (let l = slice_get_within kept.graph_threads t.number i.graph_thread i.there in let count = good.matches.count in omega (arith, l, count)) in
+            let match = good.matches.each t.number i.graph_thread source.0 i.there source.1 in
+            let own = zip_found (λ (u : f.Thread) (z : m.Thread). IsThreadOf (flat_of y) u.locals z) (flat_of y).threads good.source.threads t.number source.0
+            good.formed.threads source.1 in
+            let ranged = own.related.pending store (sym match.pending ∙ owed.1) in
+            let location = lies.location in
+            let variable_is : store.variable ≡ location.variable = sym lies.lies.variable in
+            subst (λ (o : Option Location). HasAddress (flat_of y).variables logs n (bank_of r.point) o) (sym lies.of) (record {
+              there = subst (λ (k : ℕ). k < length (flat_of y).variables) variable_is
+                  (slice_get_within (flat_of y).variables store.variable ranged.it ranged.found);
+              element = store.element;
+              from = lies.lies.from_lo;
+              to = lies.lies.to_hi;
+              is = register_there pending_address i.point c ∙ pending.address
+                  ∙ ap (λ (k : ℕ). variable_at (map shape_of (flat_of y).variables) k store.element) variable_is;
+            })
+
+        written : (a : Action) → is.action ≡ a → Has
+        written (Eval target value next) does = none (shaped (Eval target value next) does).writes
+        written (Store variable kind next) does = stored variable next kind does
+        written (Test condition holds fails) does = none (shaped (Test condition holds fails) does).writes
+        written (Lock mutex next) does = none (shaped (Lock mutex next) does)
+        written (Unlock mutex next) does = none (shaped (Unlock mutex next) does)
+        written End does = none (shaped End does)
+
+      -- ---- By the entry of its table
+
+      resumable_inside : (rs : List Resume) → AreResumes y.plan t code.program code.is rs → IsResumableLog (flat_of y).variables rs logs n
+      resumable_inside rs are =
+          let address = resume_of r.point in
+          let bank = bank_of r.point in
+          let q = place y.plan code at address i.own i.resumes in
+          let e : HasEntry y.plan t s.plan code.of code.program code.is rs q.spot = entry_at y.plan t s.plan code.of code.program code.is rs are q.spot q.is in
+          let entry : Resume = e.entry in
+          let first : resume_at rs address ≡ Some entry = subst (λ (k : ℕ). resume_at rs k ≡ Some entry) q.at e.first in
+          let node : entry.node ≡ at = e.node_is ∙ q.goes_on in
+          let is = node_there y.plan s.plan t code.of at i.own in
+          let pending : entry.pending ≡ is.0.writes =
+          e.found.pending_is is.0 (subst (λ (k : ℕ). NodeAt y.plan.graph k is.0) (sym node) is.1) in
+          let locals : HasLocals logs n bank entry.live.items = λ k d within.
+          let l : LiveLocal = get_or entry.live.items k d in
+          local_right l (subst (λ (z : ℕ). IsLiveLocal y.plan t z l) node ((e.found.live l).0 (Contains-get_or entry.live.items k d within))) in
+          let right : IsRight (flat_of y).variables logs n bank entry = record {
+            mask = mask_there i.point ∙ i.mask ∙ sym (e.found.mask_is ∙ ap (mask_before y.plan t) node);
+            locals = locals;
+            address =
+                subst (λ (o : Option Location). HasAddress (flat_of y).variables logs n bank o) (sym pending)
+                (written is.0 is.1 is.0.action refl);
+          } in
+          resumed address bank entry (is_at i.point) first right
+
+    resumable_by : (rs : List Resume) → AreResumes y.plan t code.program code.is rs → Describes y.plan code kept r →
+        IsResumableLog (flat_of y).variables rs logs n
+    resumable_by rs are (between none point) = idle (is_idle point)
+    resumable_by rs are (inside some i) = resumable_inside i rs are
+
+    pub resumable : (rs : List Resume) → AreResumes y.plan t code.program code.is rs → IsResumableLog (flat_of y).variables rs logs n
+    resumable rs are = resumable_by rs are (left_describes y s w stands n below)
+
+  -- ---- All logs
+
+  pub are_sound : (table : List (Vec Resume Global)) → IsResumeTable y.plan s.codes table → AreSound (flat_of y).variables table logs
+  are_sound table is thread within =
+      let below : thread < thread_count y = subst (λ (k : ℕ). thread < k) is.count within in
+      resumable thread below (resumes_at table thread) (is.each thread below)
+
+  pub are_unshared : (lock : ℕ) → IsUnshared logs (thread_count y) lock
+  are_unshared lock one other apart within here there =
+      let below : one < thread_count y = omega (arith, apart, within) in
+      let same = records_are_apart y.plan s.codes kept (left y s w stands) s.plan (orderly y s stands.before_commit.abstract) (left_describes y s w stands)
+      one other lock below within
+      (ap (λ (mask : ℕ). has_lock mask lock) (sym (masked one below)) ∙ here)
+      (ap (λ (mask : ℕ). has_lock mask lock) (sym (masked other within)) ∙ there) in
+      omega (arith, same, apart)

@@ -1,0 +1,41 @@
+//! Whether a run can go on from what an image has after its source.
+ghost use Rattle.std.specs.Prelude.{◌≡◌, ◌*◌, ◌≤◌, length, map};
+ghost use Rattle.ido_base.specs.declared.limits.TheConstants.{MOST_THREADS};
+ghost use Rattle.c_tree.specs.Flats.{flat_of};
+ghost use Rattle.c_tree.specs.WellFormed.{shape_of};
+ghost use Rattle.memory_layout.specs.Variables.{HaveRoom};
+ghost use Rattle.crash_images.specs.Contents.{log_words};
+ghost use Rattle.crash_images.specs.links.Views.{state_of};
+ghost use Rattle.image_checks.specs.ResumeSlots.{TablesHaveSlots};
+ghost use Rattle.image_checks.specs.StateAnswers.{IsStateAnswer};
+
+use crate::error::ImageError;
+use crate::mutexes::check_mutexes;
+use crate::schedules::schedule_of;
+use crate::threads::check_logs;
+use c_tree::flat::Flat;
+use crash_images::state::State;
+use flat_compile::resumes::Resume;
+use std::alloc::Global;
+use variable_words::places::addresses;
+
+/// The schedule of what stands after a source with this flat form, of whose threads each may be resumed at its places in the table; or
+/// the first fault there: by thread a point, a mask, a register; a mutex in two masks; a step of the schedule.
+pub fn check_state(
+    alloc: Global,
+    flat: &Flat,
+    table: &[Vec<Resume>],
+    state: &State,
+) -> Result<Vec<u32>, ImageError>
+    requires room { HaveRoom (map shape_of (flat_of flat.now).variables) }
+    requires slots { TablesHaveSlots table.now }
+    requires few { length table.now ≤ MOST_THREADS }
+    requires logs { length state.now.logs.items ≡ log_words * length table.now }
+    ensures { IsStateAnswer (flat_of flat.now) table.now (state_of state.now) result }
+{
+    let addresses = addresses(alloc, &flat.variables)?;
+    check_logs(&flat.variables, &addresses, table, &state.logs)?;
+    check_mutexes(&state.logs, table.len() as u32)?;
+    let schedule = schedule_of(alloc, flat, &state.runs)?;
+    Ok(schedule)
+}

@@ -1,0 +1,6 @@
+use Rattle.std.proofs.Common.{Global, Vec, ap, ◌∙◌, ℕ}
+use Rattle.run_scripts.proofs.GeneratedTexts.{variable_pieces}
+use Rattle.run_scripts.proofs.generated.variable_item.Goals as goal
+
+pub returns : goal.returns
+returns c = ap (λ (v : Vec ℕ Global). v.items) c.into_bytes.ensures.value ∙ c.in_ok-text.ensures.ok ∙ variable_pieces c.args.variable

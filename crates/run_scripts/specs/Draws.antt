@@ -1,0 +1,40 @@
+-- Drawn runs: the events that the words of a generator make.
+use Rattle.std.specs.Prelude.{ℕ, ◌+◌, ◌-◌, ◌*◌, ◌/◌, ◌%◌, ◌^◌, List, [], ◌∷◌, ◌++◌, replicate, count_by, nat_lt, ◌==◌, if◌then◌else◌}
+use Rattle.rand_core.specs.Steps.{first_words}
+use Rattle.rand_xoshiro.specs.SplitMix64.{mix_u64}
+use Rattle.ido_base.specs.declared.event.Event.{Event}
+use Rattle.ido_base.specs.declared.event.Event.TheVariants.{Step, Evict, Crash}
+use Rattle.ido_base.specs.declared.limits.TheConstants.{LOG_LINES, VARIABLE_LINES}
+
+-- the line that a word of 64 bits draws, of so many lines of variables and of the logs of so many threads
+abbrev pub drawn_line : (threads lines word : ℕ) → ℕ
+drawn_line threads lines word =
+    let k = word / 2 ^ 8 % (lines + LOG_LINES * threads) in
+    if nat_lt k lines then k else VARIABLE_LINES + (k - lines)
+
+-- the words of that line that it draws
+abbrev pub drawn_mask : (word : ℕ) → ℕ
+drawn_mask word = word / 2 ^ 40 % 256
+
+-- the event that a word draws: one word of sixteen draws an eviction, each other a step
+unfoldable pub drawn_event : (threads lines word : ℕ) → Event
+drawn_event threads lines word =
+    if word % 16 == 15 then Evict (drawn_line threads lines word) (drawn_mask word) else Step (word / 2 ^ 8 % threads)
+
+-- crashes after so many draws: one for each crash word that is this number
+abbrev pub crashes_at : (crashes : List ℕ) → (draws : ℕ) → List Event
+crashes_at crashes draws = replicate (count_by (λ c. c == draws) crashes) Crash
+
+-- the events from so many draws on, of which these are the words of the further ones
+unfoldable pub events_from : (crashes : List ℕ) → (threads lines draws : ℕ) → (words : List ℕ) → List Event
+events_from crashes threads lines draws [] = crashes_at crashes draws
+events_from crashes threads lines draws (w ∷ ws) =
+    crashes_at crashes draws ++ drawn_event threads lines w ∷ events_from crashes threads lines (draws + 1) ws
+
+-- the first so many words of SplitMix64 from a seed on
+abbrev pub drawn_words : (seed turns : ℕ) → List ℕ
+drawn_words seed turns = first_words mix_u64 turns seed
+
+-- so many draws, at so many threads and lines of variables; a crash word that is greater than that brings none. Without threads nothing is drawn.
+unfoldable pub drawn_run : (seed turns : ℕ) → (crashes : List ℕ) → (threads lines : ℕ) → List Event
+drawn_run seed turns crashes threads lines = if threads == 0 then [] else events_from crashes threads lines 0 (drawn_words seed turns)
