@@ -109,11 +109,13 @@ seed_is_wanted : command_of (codes "ido" ∷ codes "make" ∷ codes "1" ∷ []) 
 unfolding command_of clap_on_literals
 seed_is_wanted = refl
 
-seeded_is_taken : command_of (codes "ido" ∷ codes "seeded" ∷ codes "18446744073709551615" ∷ codes "1000000" ∷ []) ≡ Some (command.Seeded 18446744073709551615 1000000 [])
+seeded_is_taken : command_of (codes "ido" ∷ codes "seeded" ∷ codes "18446744073709551615" ∷ codes "1000000" ∷ []) ≡
+    Some (command.Seeded 18446744073709551615 1000000 [])
 unfolding command_of clap_on_literals
 seeded_is_taken = refl
 
-crashes_are_taken : command_of (codes "ido" ∷ codes "seeded" ∷ codes "7" ∷ codes "0" ∷ codes "4000000" ∷ codes "0" ∷ codes "0" ∷ []) ≡ Some (command.Seeded 7 0 (4000000 ∷ 0 ∷ 0 ∷ []))
+crashes_are_taken : command_of (codes "ido" ∷ codes "seeded" ∷ codes "7" ∷ codes "0" ∷ codes "4000000" ∷ codes "0" ∷ codes "0" ∷ []) ≡
+    Some (command.Seeded 7 0 (4000000 ∷ 0 ∷ 0 ∷ []))
 unfolding command_of clap_on_literals
 crashes_are_taken = refl
 
