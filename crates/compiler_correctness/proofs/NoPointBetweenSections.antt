@@ -209,8 +209,8 @@ module _ (y : System) (s : IsSystem y) (w : World) (stands : Simulates y s w) (n
           ended = sym (source.now_matches.each n thread.graph_thread found.0 walks found.1).ended ∙ (phase Ended is).0.execution;
         }
 
-  pub recorded_zero : record_of w.words n ≡ 0 → durable_point w.words n ≡ 0
-  recorded_zero e =
+  pub no_locks : record_of w.words n ≡ [] → durable_point w.words n ≡ 0
+  no_locks e =
       left_point y s w stands n below
       ∙ (points_have_locks y.plan code (kept_of y b) (left y s w stands n) s.plan (orderly y s b) (left_describes y s w stands n below)).0
       (sym (recorded_is y s w stands n below) ∙ e)
@@ -224,5 +224,5 @@ machines_are_whole machines y s events h hart there =
       ended = λ is. subst (λ (z : m.State). HasEnded z h) (sym (now_is y s _ _ resumes)) (ended_now y s _ stands h below hart there is);
       no_live_point = live_outside y s _ stands h below hart there;
       no_durable_point = durable_outside y s _ stands h below hart there;
-      recorded = recorded_zero y s _ stands h below;
+      recorded = no_locks y s _ stands h below;
     }

@@ -11,7 +11,7 @@ use Rattle.flow_graph.specs.Actions.{FlowState}
 use Rattle.log_states.specs.Logs.{Record, point_in, IsRecorded}
 use Rattle.log_states.specs.Stages.{LogConfig, LogIs, Stage, Writing, Written, Pointed, PointQueued, Over, is_committed}
 use Rattle.log_states.specs.Machines.{config_of}
-use Rattle.log_states.proofs.Public.{durable_is, point_is}
+use Rattle.log_states.proofs.Public.{durable_is, log_facts}
 use Rattle.recovered_threads.specs.RecordDescriptions.{Code, Describes}
 use Rattle.crash_simulation.specs.Systems.{System, IsSystem, thread_count}
 use Rattle.crash_simulation.specs.AbstractRuns.{kept_of, now_of}
@@ -33,7 +33,7 @@ module _ (thread : ℕ) (old new : Record) (m : LogConfig) (l : LogIs thread old
     | inl committed ↦
         let durable : durable_point m.words thread ≡ old.point = durable_is (point_in m.words thread) old.point h.point in
         let new_is : durable_point m.words thread ≡ new.point =
-        point_is thread old new m l ∙ ap (λ (r : Record). r.point) (cond-true (is_committed thread m) new old committed) in
+        log_facts.record_follows_locks.point thread old new m l ∙ ap (λ (r : Record). r.point) (cond-true (is_committed thread m) new old committed) in
         inl (h.point.live ∙ (sym durable ∙ new_is))
     | inr not_yet ↦ inr (h.point.live, not_yet)
   ]

@@ -46,7 +46,7 @@ module _ (y : System) (s : IsSystem y) (w : World) (stands : Simulates y s w) wh
   record_held : (n : ℕ) → n < thread_count y → (lock : ℕ) →
       (has_lock (record_of w.words n) lock ≡ true) ↔ (slice_get (kept_of y b).holders lock ≡ Some (Some n))
   record_held n below lock =
-      subst (λ (mask : ℕ). (has_lock mask lock ≡ true) ↔ (slice_get (kept_of y b).holders lock ≡ Some (Some n))) (sym (recorded_is n below))
+      subst (λ (locks : List ℕ). (has_lock locks lock ≡ true) ↔ (slice_get (kept_of y b).holders lock ≡ Some (Some n))) (sym (recorded_is n below))
       (subst (λ (k : ℕ). (has_lock (locks_of (left y s w stands n)) lock ≡ true) ↔ (slice_get (kept_of y b).holders lock ≡ Some (Some k)))
       (s.codes.number n below)
       (locks_are_held y.plan (s.codes.each n below) (kept_of y b) (left y s w stands n) s.plan (orderly y s b) (left_describes y s w stands n below) lock))
@@ -56,8 +56,8 @@ module _ (y : System) (s : IsSystem y) (w : World) (stands : Simulates y s w) wh
   records_apart g h lock gb hb other mine = elim (cases_Bool (has_lock (record_of w.words g) lock)) [
     | inl also ↦
         absurd (other (records_are_apart y.plan s.codes (kept_of y b) (left y s w stands) s.plan (orderly y s b) (left_describes y s w stands) g h lock gb hb
-        (ap (λ (mask : ℕ). has_lock mask lock) (sym (recorded_is g gb)) ∙ also)
-        (ap (λ (mask : ℕ). has_lock mask lock) (sym (recorded_is h hb)) ∙ mine)))
+        (ap (λ (locks : List ℕ). has_lock locks lock) (sym (recorded_is g gb)) ∙ also)
+        (ap (λ (locks : List ℕ). has_lock locks lock) (sym (recorded_is h hb)) ∙ mine)))
     | inr isnt ↦ isnt
   ]
 

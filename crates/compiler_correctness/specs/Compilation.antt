@@ -1,5 +1,5 @@
 -- What a compiled program is held to, after whatever events: steps of all harts, evictions and crashes in any order.
-use Rattle.std.specs.Prelude.{◌≡◌, ◌≢◌, ◌⊎◌, ◌↔◌, ℕ, ◌+◌, ◌<◌, ◌≤◌, List, ◌++◌, length, Contains, slice_get, Some, None, Bool, true, false}
+use Rattle.std.specs.Prelude.{◌≡◌, ◌≢◌, ◌⊎◌, ◌↔◌, ℕ, ◌+◌, ◌<◌, ◌≤◌, List, [], ◌++◌, length, Contains, slice_get, Some, None, Bool, true, false}
 use Rattle.ido_base.specs.declared.event.Event.{Event}
 use Rattle.ido_base.specs.declared.event.Event.TheVariants.{Step}
 use Rattle.ido_base.specs.declared.event.Reply.TheVariants.{Moved, Stuck}
@@ -147,7 +147,7 @@ pub record IsWhole (c : Translation) (events : List Event) (h : ℕ) (hart : Har
   pub no_live_point : IsOutside (world c events) h hart → live_at (world c events).words (point_at h) ≡ 0
   pub no_durable_point : IsOutside (world c events) h hart → durable_point (world c events).words h ≡ 0
   -- a hart whose record has no lock has no durable point
-  pub recorded : record_of (world c events).words h ≡ 0 → durable_point (world c events).words h ≡ 0
+  pub recorded : record_of (world c events).words h ≡ [] → durable_point (world c events).words h ≡ 0
 
 abbrev pub AreWhole : Translation → List Event → Type 0
 AreWhole c events = (h : ℕ) (hart : Hart) → slice_get (world c events).harts h ≡ Some hart → IsWhole c events h hart

@@ -328,7 +328,7 @@ module _ (p : Plan) (code : Code p) (s : FlowState) (bank resume : ℕ) (x : Lis
     own = i.own;
     point = i.point;
     resumes = i.resumes;
-    mask = i.mask;
+    locks = i.locks;
     live = i.live;
     bank = bank;
     enters = subst (λ (v : GraphThread). Enters p code.thread v.at (seen_by s v) bank x)

@@ -28,7 +28,7 @@ use Rattle.std.proofs.lemmas.List.{append-nil}
 use Rattle.log_states.specs.Stages.{LogConfig, is_committed, is_store}
 use Rattle.log_states.specs.Machines.{config_of}
 use Rattle.log_states.specs.Logs.{point_in}
-use Rattle.log_states.proofs.Public.{committed_after_fence, committed_where_durable}
+use Rattle.log_states.proofs.Public.{log_facts, committed_where_durable}
 use Rattle.hart_runs.specs.Calls.{IsInPhase}
 use Rattle.thread_runs.specs.CodeFragments.{ExitPoint, Arrives, Keeps, Asks, Took, Gives, Ends}
 use Rattle.recovered_threads.specs.RecordDescriptions.{Code}
@@ -77,7 +77,7 @@ module _ (y : System) (s : IsSystem y) (w : World) (b : AbstractRun y) (code : C
   durable : (v e : ℕ) → Writes b.config.kept u (attempt_of b.config u).done v e → IsStable (history_at b.config.memory v e) (number_at (now b.config) v e)
   durable v e writes =
       let one = t.flushed v e writes in
-      let fenced = committed_after_fence u c.old c.new (config_of w t.log.hart c.rest) t.log.log sooner in
+      let fenced = log_facts.bank_before_point.fenced u c.old c.new (config_of w t.log.hart c.rest) t.log.log sooner in
       since_settles x b.config u v e one.position (invariant y s b) writes one.since (one.fenced not_yet fenced)
 
   settled_before : IsBeforeBoundary x y.plan.boundaries (kept_of y b) b.config u → IsSettled b.config u (slice_set b.config.attempts u no_attempt)

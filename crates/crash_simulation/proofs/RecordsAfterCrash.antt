@@ -7,7 +7,7 @@ use Rattle.log_states.specs.Logs.{Record}
 use Rattle.log_states.specs.Stages.{LogConfig, is_committed, left_by_crash}
 use Rattle.log_states.specs.Machines.{config_of}
 use Rattle.log_states.specs.LogInvariant.{LogInv}
-use Rattle.log_states.proofs.Public.{point_is, ends_committed}
+use Rattle.log_states.proofs.Public.{log_facts, ends_committed}
 use Rattle.recovered_threads.specs.RecordDescriptions.{Code, Describes, AllDescribe}
 use Rattle.crash_simulation.specs.Systems.{System, IsSystem, thread_count}
 use Rattle.crash_simulation.specs.AbstractRuns.{AbstractRun, kept_of}
@@ -55,4 +55,4 @@ module _ (y : System) (s : IsSystem y) (w : World) (stands : Simulates y s w) wh
   pub left_point : (n : ℕ) → n < thread_count y → durable_point w.words n ≡ (left n).point
   left_point n below =
       let c = stands.before_commit.ghosts n in
-      point_is n c.old c.new (record { words = w.words; queue = (log_of n below).hart.queue; rest = c.rest }) (log_of n below).log
+      log_facts.record_follows_locks.point n c.old c.new (record { words = w.words; queue = (log_of n below).hart.queue; rest = c.rest }) (log_of n below).log

@@ -1,21 +1,22 @@
 -- What the steps of recovery do.
 use Rattle.std.proofs.Common.{◌≡◌, ◌≢◌, ◌⊎◌, inl, inr, ℕ, zero, suc, ◌+◌, ◌<◌, List, [], ◌∷◌, length, map, refl}
 use Rattle.std.proofs.Common.{ap, arith, sym, ◌∙◌, subst, get_or, Bool, true, false, Option, Some, None, add-zero}
-use Rattle.std.specs.Prelude.{slice_get, not, ◌==◌, ◌&&◌}
-use Rattle.std.proofs.lemmas.Bool.{cond_both, eqb-true, and_parts}
+use Rattle.std.specs.Prelude.{slice_get, not, ◌==◌}
+use Rattle.std.proofs.lemmas.Bool.{cond_both, eqb-true}
 use Rattle.ido_base.specs.declared.event.Event.TheVariants.{Step}
 use Rattle.ido_base.specs.declared.event.Reply.TheVariants.{Still}
-use Rattle.ido_base.specs.Locks.{is_held_by, has_lock, missing_from}
+use Rattle.ido_base.specs.Locks.{is_held_by, is_missing, has_lock, first_missing}
 use Rattle.rv64_isa.specs.declared.object.Slot.{Slot}
 use Rattle.rv64_isa.specs.declared.phase.Phase.{Phase}
 use Rattle.rv64_isa.specs.declared.phase.Phase.TheVariants.{Take, Wait, Resume, Run, Done, Ended}
 use Rattle.rv64_isa.specs.Machine.{Hart, World, moved, taken, waited, taking_from, is_taking, record_of}
 use Rattle.rv64_isa.specs.Machine.{durable_point, resume_of, resumed_register, numbers_from, happens}
+use Rattle.ido_base.proofs.Public.{has_cases, has_first, has_later}
 use Rattle.hart_runs.specs.Calls.{IsInPhase, IsRecorded, TakesLocks, AwaitsOthers, ResumesHart}
 use Rattle.hart_runs.proofs.OtherEventsKeepRuns.{moved_harts_begin}
 use Rattle.hart_runs.proofs.Worlds.{none_some, some_same, took, by_phase}
 
--- ---- The least lock that is missing
+-- ---- The first lock that is missing
 
 held_by_is : (h : ℕ) (holder : Option ℕ) → is_held_by h holder ≡ true → holder ≡ Some h
 held_by_is h None e = absurd (let no : false ≡ true = e in cc)
@@ -28,66 +29,71 @@ not_true : (b : Bool) → not b ≡ true → b ≡ false
 not_true true e = sym e
 not_true false e = refl
 
--- none is missing: the hart holds each lock of the mask
-HoldsAll : (at : ℕ) → List (Option ℕ) → (mask h : ℕ) → Type 0
-HoldsAll at holders mask h = (lock : ℕ) (holder : Option ℕ) → slice_get holders lock ≡ Some holder → has_lock mask (at + lock) ≡ true → holder ≡ Some h
+not_false : (b : Bool) → not b ≡ false → b ≡ true
+not_false true e = refl
+not_false false e = sym e
 
--- one is: it is in the mask, and the hart doesn't hold it
-record IsMissing (at : ℕ) (holders : List (Option ℕ)) (mask h lock : ℕ) : Type 0 where
-  place : ℕ
-  lock_is : lock ≡ at + place
+-- none is missing: the hart holds each of the locks
+HoldsAll : List (Option ℕ) → (locks : List ℕ) → (h : ℕ) → Type 0
+HoldsAll holders locks h = (lock : ℕ) (holder : Option ℕ) → slice_get holders lock ≡ Some holder → has_lock locks lock ≡ true → holder ≡ Some h
+
+-- one is: it is among the locks, and the hart doesn't hold it
+record IsMissing (holders : List (Option ℕ)) (locks : List ℕ) (h lock : ℕ) : Type 0 where
   holder : Option ℕ
-  there : slice_get holders place ≡ Some holder
-  mask_has : has_lock mask lock ≡ true
+  there : slice_get holders lock ≡ Some holder
+  among : has_lock locks lock ≡ true
   other : is_held_by h holder ≡ false
 
-Missing : (at : ℕ) → List (Option ℕ) → (mask h : ℕ) → Option ℕ → Type 0
-Missing at holders mask h None = HoldsAll at holders mask h
-Missing at holders mask h (Some lock) = IsMissing at holders mask h lock
+Missing : List (Option ℕ) → (locks : List ℕ) → (h : ℕ) → Option ℕ → Type 0
+Missing holders locks h None = HoldsAll holders locks h
+Missing holders locks h (Some lock) = IsMissing holders locks h lock
 
-later_missing : (at : ℕ) (o : Option ℕ) (holders : List (Option ℕ)) (mask h : ℕ) (found : Option ℕ) → (has_lock mask at && not (is_held_by h o)) ≡ false →
-    Missing (at + 1) holders mask h found →
-    Missing at (o ∷ holders) mask h found
-unfolding Missing HoldsAll
-later_missing at o holders mask h None e m = first
+-- whether a lock is missing, by what is said of its holder
+missing_by : (h : ℕ) → Option (Option ℕ) → Bool
+missing_by h (Some holder) = not (is_held_by h holder)
+missing_by h None = false
+
+missing_is : (holders : List (Option ℕ)) (h lock : ℕ) → is_missing holders h lock ≡ missing_by h (slice_get holders lock)
+unfolding missing_by
+missing_is holders h lock = by (slice_get holders lock)
   where
-    held : (b c : Bool) → (b && not c) ≡ false → b ≡ true → c ≡ true
-    held true true e h = refl
-    held true false e h = sym e
-    held false c e h = absurd (let no : false ≡ true = h in cc)
+    by : (slot : Option (Option ℕ)) → (elim slot [ Some holder ↦ not (is_held_by h holder) | None ↦ false ]) ≡ missing_by h slot
+    by None = refl
+    by (Some holder) = refl
 
-    first : (lock : ℕ) (holder : Option ℕ) → slice_get (o ∷ holders) lock ≡ Some holder → has_lock mask (at + lock) ≡ true → holder ≡ Some h
-    first zero holder there has =
-        sym (some_same o holder there) ∙ held_by_is h o
-        (held (has_lock mask at) (is_held_by h o) e (subst (λ (n : ℕ). has_lock mask n ≡ true) (add-zero at) has))
-    first (suc lock) holder there has =
-        let same : at + suc lock ≡ at + 1 + lock = omega arith in
-        m lock holder there (subst (λ (n : ℕ). has_lock mask n ≡ true) same has)
-later_missing at o holders mask h (Some lock) e m = record {
-  place = suc m.place;
-  lock_is = (let k : lock ≡ at + 1 + m.place = m.lock_is in omega (arith, k));
-  holder = m.holder;
-  there = m.there;
-  mask_has = m.mask_has;
-  other = m.other;
-}
+module _ (holders : List (Option ℕ)) (h : ℕ) where
+  -- a lock that isn't missing is the hart's, where it exists
+  is_own : (lock : ℕ) (holder : Option ℕ) → is_missing holders h lock ≡ false → slice_get holders lock ≡ Some holder → holder ≡ Some h
+  unfolding missing_by
+  is_own lock holder e there = held_by_is h holder (not_false (is_held_by h holder) (sym (ap (missing_by h) there) ∙ (sym (missing_is holders h lock) ∙ e)))
 
-missing : (at : ℕ) (holders : List (Option ℕ)) (mask h : ℕ) → Missing at holders mask h (missing_from at holders mask h)
-unfolding Missing HoldsAll
-missing at [] mask h = λ lock holder there has. absurd (none_some holder there)
-missing at (o ∷ holders) mask h =
-    cond_both (has_lock mask at && not (is_held_by h o)) (Some at) (missing_from (at + 1) holders mask h) (λ (x : Option ℕ). Missing at (o ∷ holders) mask h x)
-    (λ e. let p = and_parts (has_lock mask at) (not (is_held_by h o)) e in
-    record { place = 0; lock_is = sym (add-zero at); holder = o; there = refl; mask_has = p.0; other = not_true (is_held_by h o) p.1 })
-    (λ e. later_missing at o holders mask h (missing_from (at + 1) holders mask h) e (missing (at + 1) holders mask h))
+  found_by : (lock : ℕ) (locks : List ℕ) (slot : Option (Option ℕ)) → slice_get holders lock ≡ slot → missing_by h slot ≡ true →
+      IsMissing holders (lock ∷ locks) h lock
+  unfolding missing_by
+  found_by lock locks None at e = absurd (let no : false ≡ true = e in cc)
+  found_by lock locks (Some o) at e = record { holder = o; there = at; among = has_first lock locks; other = not_true (is_held_by h o) e }
+
+  later_missing : (lock : ℕ) (locks : List ℕ) (found : Option ℕ) → is_missing holders h lock ≡ false → Missing holders locks h found →
+      Missing holders (lock ∷ locks) h found
+  unfolding Missing HoldsAll
+  later_missing lock locks None e m = λ other holder there has. elim (has_cases other lock locks has) [
+    | inl same ↦ is_own lock holder e (ap (λ (n : ℕ). slice_get holders n) same ∙ there)
+    | inr among ↦ m other holder there among
+  ]
+  later_missing lock locks (Some other) e m = record { holder = m.holder; there = m.there; among = has_later lock locks other m.among; other = m.other }
+
+  missing : (locks : List ℕ) → Missing holders locks h (first_missing holders locks h)
+  unfolding Missing HoldsAll
+  missing [] = λ lock holder there has. absurd (let no : false ≡ true = has in cc)
+  missing (lock ∷ locks) =
+      cond_both (is_missing holders h lock) (Some lock) (first_missing holders locks h) (λ (x : Option ℕ). Missing holders (lock ∷ locks) h x)
+      (λ e. found_by lock locks (slice_get holders lock) refl (sym (missing_is holders h lock) ∙ e))
+      (λ e. later_missing lock locks (first_missing holders locks h) e (missing locks))
 
 -- ---- Take
 
 module _ (program : List (List Slot)) (w : World) (h : ℕ) (i : IsInPhase w h Take) where
-  abbrev mask : ℕ
-  mask = record_of w.words h
-
-  takes_by : happens program w (Step h) ≡ taken w h i.hart (missing_from 0 w.holders (record_of w.words h) h)
+  takes_by : happens program w (Step h) ≡ taken w h i.hart (first_missing w.holders (record_of w.words h) h)
   takes_by = by_phase program w h i.hart i.here Take i.phase_is
 
   by_holder : (lock : ℕ) (holder : Option ℕ) → IsRecorded w h lock holder → is_held_by h holder ≡ false →
@@ -95,17 +101,14 @@ module _ (program : List (List Slot)) (w : World) (h : ℕ) (i : IsInPhase w h T
   by_holder lock None r other e = TakesLocks.takes_one lock r (e ∙ ap (λ (x : Option (Option ℕ)). took w h i.hart lock x) r.there)
   by_holder lock (Some g) r other e = TakesLocks.is_kept_from lock g r (not_held h g other) (e ∙ ap (λ (x : Option (Option ℕ)). took w h i.hart lock x) r.there)
 
-  by_missing : (found : Option ℕ) → Missing 0 w.holders (record_of w.words h) h found → happens program w (Step h) ≡ taken w h i.hart found →
+  by_missing : (found : Option ℕ) → Missing w.holders (record_of w.words h) h found → happens program w (Step h) ≡ taken w h i.hart found →
       TakesLocks program w h i.hart
   unfolding Missing HoldsAll
-  by_missing None m e = TakesLocks.has_all (λ lock holder r.
-      m lock holder r.there (subst (λ (n : ℕ). has_lock (record_of w.words h) n ≡ true) (let z : lock ≡ 0 + lock = omega arith in z) r.mask)) e
-  by_missing (Some lock) m e =
-      let same : m.place ≡ lock = (let z : lock ≡ 0 + m.place = m.lock_is in omega (arith, z)) in
-      by_holder lock m.holder (record { mask = m.mask_has; there = subst (λ (n : ℕ). slice_get w.holders n ≡ Some m.holder) same m.there }) m.other e
+  by_missing None m e = TakesLocks.has_all (λ lock holder r. m lock holder r.there r.among) e
+  by_missing (Some lock) m e = by_holder lock m.holder (record { among = m.among; there = m.there }) m.other e
 
   pub takes_step : TakesLocks program w h i.hart
-  takes_step = by_missing (missing_from 0 w.holders (record_of w.words h) h) (missing 0 w.holders (record_of w.words h) h) takes_by
+  takes_step = by_missing (first_missing w.holders (record_of w.words h) h) (missing w.holders h (record_of w.words h)) takes_by
 
 -- ---- Wait
 

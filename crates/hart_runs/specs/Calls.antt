@@ -41,7 +41,7 @@ pub record IsInPhase (w : World) (h : ℕ) (phase : Phase) : Type 0 where
 
 -- a lock of the thread's record, and the hart that holds it, or none
 pub record IsRecorded (w : World) (h lock : ℕ) (holder : Option ℕ) : Type 0 where
-  pub mask : has_lock (record_of w.words h) lock ≡ true
+  pub among : has_lock (record_of w.words h) lock ≡ true
   pub there : slice_get w.holders lock ≡ Some holder
 
 -- a step of a hart that takes locks

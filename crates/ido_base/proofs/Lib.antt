@@ -3,3 +3,6 @@ mod Worked
 mod Growth
 mod Parts
 mod Cores
+mod Masks
+mod LockLists
+mod WorkedLocks

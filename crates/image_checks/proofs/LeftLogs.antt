@@ -10,7 +10,8 @@ use Rattle.std.proofs.lemmas.Option.{same_Some, slice_get_within}
 use Rattle.ido_base.specs.declared.event.Event.TheVariants.{Crash}
 use Rattle.ido_base.specs.declared.location.Location.{Location}
 use Rattle.ido_base.specs.Layout.{variables_base, logs_base, word_number, point_at, slot_at, variable_at}
-use Rattle.ido_base.specs.Locks.{has_lock}
+use Rattle.ido_base.specs.Locks.{has_lock, locks_in, mask_with}
+use Rattle.ido_base.proofs.Public.{no_locks}
 use Rattle.ido_base.specs.Words.{Word, word_of, word_at, durable_value}
 use Rattle.ido_ints.specs.declared.kinds.Kind.{Kind}
 use Rattle.c_tree.specs.Flats as f
@@ -38,7 +39,8 @@ use Rattle.log_states.specs.Logs.{Record, IsRecorded, nothing_recorded, slots_of
 use Rattle.log_states.specs.Machines.{config_of}
 use Rattle.log_states.proofs.Public.{contains_first, contains_later, crashes_standing, durable_is, ends}
 use Rattle.hart_runs.proofs.Public.{crashes_step}
-use Rattle.thread_code.specs.Plans.{Plan, Thread, IsNodeOf, mask_before, of_address, of_local}
+use Rattle.thread_code.specs.Plans.{Plan, Thread, IsNodeOf, set_before, mask_before, of_address, of_local}
+use Rattle.thread_code.proofs.Public.{mask_with_held}
 use Rattle.thread_code.specs.RegistersAtNodes.{HasPending, IsPendingIn}
 use Rattle.recovered_threads.specs.RecordDescriptions.{Code, Describes, IsInside, ResumesAt, at_chosen, past_lock, past_unlock, between, inside, locks_of}
 use Rattle.recovered_threads.proofs.Public.{records_are_apart}
@@ -147,22 +149,24 @@ module _ (y : System) (s : IsSystem y) (w : World) (stands : Simulates y s w) wh
         logged_is w.words address (omega arith) ∙ sym same
         ∙ durable_is (word_at after.words (word_number address)) (value_of r slot) (recorded.bank slot listed)
 
-    mask_there : r.point ≢ 0 → slot_in logs n (bank_of r.point) MASK_SLOT ≡ r.mask
+    mask_there : r.point ≢ 0 → slot_in logs n (bank_of r.point) MASK_SLOT ≡ mask_with r.locks
     mask_there some = value_there 0 some (contains_first 0 r.live)
 
     register_there : (register : ℕ) → r.point ≢ 0 → Contains r.live register → slot_in logs n (bank_of r.point) register ≡ read r.registers register
     register_there register some c =
         let keepable = standing.log.follows.new_is.live register c in
         value_there register some (contains_later 0 r.live register c)
-        ∙ cond-false (register == 0) r.mask (read r.registers register) (ne_eqb register 0 (λ e. omega (arith, e, keepable.is_register)))
+        ∙ cond-false (register == 0) (mask_with r.locks) (read r.registers register) (ne_eqb register 0 (λ e. omega (arith, e, keepable.is_register)))
 
     -- its locks are those of its record
-    masked : mask_in logs n ≡ locks_of r
-    masked = elim (cases_Bool (r.point == 0)) [
-      | inl none ↦ ap (λ (p : Point). mask_by p logs n) (is_idle (eqb-true r.point 0 none)) ∙ sym (cond-true (r.point == 0) 0 r.mask none)
+    logged_locks : locks_in (mask_in logs n) ≡ locks_of r
+    logged_locks = elim (cases_Bool (r.point == 0)) [
+      | inl none ↦ ap (λ (p : Point). locks_in (mask_by p logs n)) (is_idle (eqb-true r.point 0 none))
+          ∙ (no_locks ∙ sym (cond-true (r.point == 0) [] r.locks none))
       | inr some ↦
           let is : r.point ≢ 0 = eqb-false r.point 0 some in
-          ap (λ (p : Point). mask_by p logs n) (is_at is) ∙ mask_there is ∙ sym (cond-false (r.point == 0) 0 r.mask some)
+          ap (λ (p : Point). locks_in (mask_by p logs n)) (is_at is)
+          ∙ (ap locks_in (mask_there is) ∙ (standing.log.follows.new_is.locks ∙ sym (cond-false (r.point == 0) [] r.locks some)))
     ]
 
     -- ---- In a section
@@ -259,7 +263,8 @@ module _ (y : System) (s : IsSystem y) (w : World) (stands : Simulates y s w) wh
           let l : LiveLocal = get_or entry.live.items k d in
           local_right l (subst (λ (z : ℕ). IsLiveLocal y.plan t z l) node ((e.found.live l).0 (Contains-get_or entry.live.items k d within))) in
           let right : IsRight (flat_of y).variables logs n bank entry = record {
-            mask = mask_there i.point ∙ i.mask ∙ sym (e.found.mask_is ∙ ap (mask_before y.plan t) node);
+            mask = mask_there i.point ∙ (ap mask_with i.locks
+                ∙ (mask_with_held (set_before y.plan t at) ∙ sym (e.found.mask_is ∙ ap (mask_before y.plan t) node)));
             locals = locals;
             address =
                 subst (λ (o : Option Location). HasAddress (flat_of y).variables logs n bank o) (sym pending)
@@ -287,6 +292,6 @@ module _ (y : System) (s : IsSystem y) (w : World) (stands : Simulates y s w) wh
       let below : one < thread_count y = omega (arith, apart, within) in
       let same = records_are_apart y.plan s.codes kept (left y s w stands) s.plan (orderly y s stands.before_commit.abstract) (left_describes y s w stands)
       one other lock below within
-      (ap (λ (mask : ℕ). has_lock mask lock) (sym (masked one below)) ∙ here)
-      (ap (λ (mask : ℕ). has_lock mask lock) (sym (masked other within)) ∙ there) in
+      (ap (λ (locks : List ℕ). has_lock locks lock) (sym (logged_locks one below)) ∙ here)
+      (ap (λ (locks : List ℕ). has_lock locks lock) (sym (logged_locks other within)) ∙ there) in
       omega (arith, same, apart)

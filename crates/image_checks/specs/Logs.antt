@@ -1,7 +1,7 @@
 -- What the words of logs say: of each thread its point, and the slots of a bank.
 use Rattle.std.specs.Prelude.{◌≡◌, ℕ, ◌-◌, ◌/◌, List, slice_index, true}
 use Rattle.ido_base.specs.Layout.{logs_base, point_at, slot_at}
-use Rattle.ido_base.specs.Locks.{has_lock}
+use Rattle.ido_base.specs.Locks.{has_lock, locks_in}
 use Rattle.memory_layout.specs.declared.log.TheConstants.{MASK_SLOT}
 use Rattle.memory_layout.specs.declared.point.Point.{Point}
 use Rattle.memory_layout.specs.declared.point.Point.TheVariants.{Idle, At}
@@ -28,4 +28,4 @@ abbrev pub mask_in : (logs : List ℕ) → (thread : ℕ) → ℕ
 mask_in logs thread = mask_by (point_in logs thread) logs thread
 
 abbrev pub HoldsLock : (logs : List ℕ) → (thread lock : ℕ) → Type 0
-HoldsLock logs thread lock = has_lock (mask_in logs thread) lock ≡ true
+HoldsLock logs thread lock = has_lock (locks_in (mask_in logs thread)) lock ≡ true

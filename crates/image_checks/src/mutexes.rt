@@ -1,6 +1,6 @@
 //! Mutexes that two threads hold.
 ghost use Rattle.std.specs.Prelude.{◌≡◌, ◌↔◌, ◌*◌, ◌<◌, ◌≤◌, ◌^◌, ℕ, length, IsTrue, MatchOption, MatchResult};
-ghost use Rattle.ido_base.specs.Locks.{has_lock};
+ghost use Rattle.ido_base.specs.Locks.{has_lock, locks_in};
 ghost use Rattle.crash_images.specs.Contents.{log_words};
 ghost use Rattle.image_checks.specs.Logs.{HoldsLock};
 ghost use Rattle.image_checks.specs.Checks.{AreFirstTwo, IsUnshared, IsMutexFault};
@@ -13,7 +13,7 @@ use crate::logs::mask_in;
 /// Whether the mask has the mutex.
 fn has_lock(mask: u64, lock: u32) -> bool
     requires { lock < MASK_BITS }
-    ensures { result ≡ has_lock mask lock }
+    ensures { result ≡ has_lock (locks_in mask) lock }
 {
     (mask >> lock) % 2 == 1
 }

@@ -1,21 +1,46 @@
 -- The search for a lock that is missing goes on to the next lock.
-use Rattle.std.proofs.Common.{◌≡◌, ℕ, ◌+◌, ◌/◌, ◌%◌, ◌^◌, ◌<◌, List, drop, length, Option, None, false, ◌==◌, ◌&&◌, not, slice_index_or, refl, add-one}
-use Rattle.std.proofs.lemmas.Nat.{shr-shr}
+use Rattle.std.proofs.Common.{◌≡◌, ℕ, zero, suc, ◌+◌, ◌/◌, ◌%◌, ◌^◌, ◌<◌, ◌≤◌, List, [], ◌∷◌, drop, length, Option, Some, None, true, false, ◌==◌, ◌&&◌}
+use Rattle.std.proofs.Common.{not, slice_index_or, refl, sym, add-one, arith}
 use Rattle.std.proofs.Math.Seq.{drop-cons}
-use Rattle.ido_base.specs.Locks.{is_held_by, has_lock, missing_from}
+use Rattle.ido_base.specs.Locks.{is_held_by, first_missing, locks_in}
+use Rattle.ido_base.proofs.Public.{first_of_mask, missing_from}
 
--- the mask without its lowest bits loses one more
-pub halved : (mask lock : ℕ) → mask / 2 ^ lock / 2 ≡ mask / 2 ^ (lock + 1)
-halved mask lock = shr-shr mask lock 1
+-- a lock that isn't missing is passed over, and the mask's bits go one down
+passed_over : (holders : List (Option ℕ)) (rest hart lock : ℕ) → lock < length holders →
+    ((rest % 2 == 1) && not (is_held_by hart (slice_index_or holders lock None))) ≡ false →
+    missing_from lock (drop lock holders) rest hart ≡ missing_from (lock + 1) (drop (lock + 1) holders) (rest / 2) hart
+passed_over holders rest hart lock within here = rw (drop-cons holders lock None within) (rw here (rw add-one refl))
 
--- a lock that isn't missing is passed over
-pub passed_over : (holders : List (Option ℕ)) (mask hart lock : ℕ) → lock < length holders →
-    (has_lock mask lock && not (is_held_by hart (slice_index_or holders lock None))) ≡ false →
-    missing_from lock (drop lock holders) mask hart ≡ missing_from (lock + 1) (drop (lock + 1) holders) mask hart
-passed_over holders mask hart lock within here = rw (drop-cons holders lock None within) (rw here (rw add-one refl))
-
--- a lock that isn't missing is passed over, by the list that is gone over and the mask that is left
-pub goes_on : (holders shown : List (Option ℕ)) (mask hart lock rest : ℕ) → shown ≡ holders → lock < length shown → rest ≡ mask / 2 ^ lock →
+-- the same, by the list that is gone over
+pub goes_on : (holders shown : List (Option ℕ)) (rest hart lock : ℕ) → shown ≡ holders → lock < length shown →
     ((rest % 2 == 1) && not (is_held_by hart (slice_index_or shown lock None))) ≡ false →
-    missing_from lock (drop lock holders) mask hart ≡ missing_from (lock + 1) (drop (lock + 1) holders) mask hart
-goes_on holders shown mask hart lock rest same within is here = passed_over holders mask hart lock (rw same at within) (rw same at (rw is at here))
+    missing_from lock (drop lock holders) rest hart ≡ missing_from (lock + 1) (drop (lock + 1) holders) (rest / 2) hart
+goes_on holders shown rest hart lock same within here = passed_over holders rest hart lock (rw same at within) (rw same at here)
+
+-- it ends at one that is
+pub found_there : (holders shown : List (Option ℕ)) (rest hart lock : ℕ) → shown ≡ holders → lock < length shown →
+    ((rest % 2 == 1) && not (is_held_by hart (slice_index_or shown lock None))) ≡ true →
+    missing_from lock (drop lock holders) rest hart ≡ Some lock
+found_there holders shown rest hart lock same within here = stops holders rest hart lock (rw same at within) (rw same at here)
+  where
+    stops : (holders : List (Option ℕ)) (rest hart lock : ℕ) → lock < length holders →
+        ((rest % 2 == 1) && not (is_held_by hart (slice_index_or holders lock None))) ≡ true → missing_from lock (drop lock holders) rest hart ≡ Some lock
+    stops holders rest hart lock within here = rw (drop-cons holders lock None within) (rw here refl)
+
+-- or past the last one
+pub none_there : (holders shown : List (Option ℕ)) (rest hart lock : ℕ) → shown ≡ holders → length shown ≤ lock →
+    missing_from lock (drop lock holders) rest hart ≡ None
+none_there holders shown rest hart lock same past = ends lock lock holders rest hart (rw same at past)
+  where
+    ends : (at lock : ℕ) (holders : List (Option ℕ)) (rest hart : ℕ) → length holders ≤ lock → missing_from at (drop lock holders) rest hart ≡ None
+    ends at lock [] rest hart past = nothing at lock rest hart
+      where
+        nothing : (at lock rest hart : ℕ) → missing_from at (drop lock []) rest hart ≡ None
+        nothing at zero rest hart = refl
+        nothing at (suc lock) rest hart = refl
+    ends at zero (holder ∷ holders) rest hart past = absurd (let z : ⊥ = omega (arith, past) in z)
+    ends at (suc lock) (holder ∷ holders) rest hart past = ends at lock holders rest hart (omega (arith, past))
+
+-- what is found along the holders is the first of the mask's locks that is missing
+pub first_along : (holders : List (Option ℕ)) (mask hart : ℕ) → mask < 2 ^ 64 → missing_from 0 holders mask hart ≡ first_missing holders (locks_in mask) hart
+first_along holders mask hart below = sym (first_of_mask holders hart mask below)

@@ -1,7 +1,7 @@
 //! The table of lock holders.
 ghost use Rattle.std.specs.Prelude.{◌≡◌, ◌<◌, ◌%◌, ◌==◌, ◌&&◌, not, ℕ, Option, Some, None, length, replicate, slice_get, slice_set, IfOk, IfSome, IsTrue, ◌↔◌};
 ghost use Rattle.std.specs.Bool.{OnTrue, OnFalse};
-ghost use Rattle.ido_base.specs.Locks.{is_held_by, least_held, holds_none, missing_from};
+ghost use Rattle.ido_base.specs.Locks.{is_held_by, least_held, holds_none, first_missing, locks_in};
 
 use ido_base::locks::is_held_by;
 use ido_base::memory::OutOfMemory;
@@ -108,7 +108,7 @@ impl LockTable {
     /// The least lock of the mask (bit i stands for lock i) that the hart doesn't hold. Bits without a lock
     /// don't count.
     pub fn least_missing(&self, mask: u64, hart: u32) -> Option<u32>
-        ensures value { result ≡ missing_from 0 self.now mask hart }
+        ensures value { result ≡ first_missing self.now (locks_in mask) hart }
         ensures within { IfSome result (λ lock. lock < length self.now) }
     {
         let mut rest = mask;

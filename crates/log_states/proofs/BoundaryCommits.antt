@@ -55,7 +55,7 @@ crashed_at words j = elim (cases_lt j (length words)) [
       ∙ ap after_crash (sym (get_or_past words j (word_of 0) past))
 ]
 
-crashed_is : (words : List Word) (j value : ℕ) → durable_value (word_at words j) ≡ value → IsDurable (word_at (crashed words) j) value
+pub crashed_is : (words : List Word) (j value : ℕ) → durable_value (word_at words j) ≡ value → IsDurable (word_at (crashed words) j) value
 crashed_is words j value e = subst (λ (w : Word). IsDurable w value) (sym (crashed_at words j))
     (subst (λ (n : ℕ). IsDurable (after_crash (word_at words j)) n) e (crashed_durable (word_at words j)))
 

@@ -1,12 +1,14 @@
 -- How a boundary begins, and what its record says.
-use Rattle.std.proofs.Common.{◌≡◌, ◌≢◌, ℕ, ◌+◌, ◌-◌, ◌*◌, ◌%◌, ◌^◌, ◌<◌, List, [], ◌∷◌, ◌++◌, map, refl, ap, arith, sym, ◌∙◌, Bool, true, false, eqb}
+use Rattle.std.proofs.Common.{◌≡◌, ◌≢◌, ℕ, ◌+◌, ◌-◌, ◌*◌, ◌%◌, ◌^◌, ◌<◌, List, [], ◌∷◌, ◌++◌, map, refl, ap, arith, sym, ◌∙◌, subst, Bool, true, false, eqb}
 use Rattle.std.specs.List.{Contains}
 use Rattle.std.proofs.Common.{◌≤◌, inl, inr, true}
 use Rattle.std.specs.Prelude.{nat_le, not, ◌==◌, ◌&&◌, ◌||◌}
 use Rattle.memory_layout.specs.Roles.{is_local}
 use Rattle.std.proofs.lemmas.Bool.{or_cases, and_parts, leb-true, eqb-true}
 use Rattle.std.proofs.lemmas.Bool.{cond_both, cond-true, cond-false, eqb-false, eq-eqb, ne_eqb}
+use Rattle.ido_base.specs.Locks.{locks_in, mask_with}
 use Rattle.ido_base.specs.Layout.{slot_at}
+use Rattle.ido_base.proofs.Public.{mask_of_locks}
 use Rattle.rv64_isa.specs.Rows.{Effect, Stores, Cleans, read}
 use Rattle.rv64_isa.specs.Machine.{bank_of}
 use Rattle.boundary_code.specs.Boundaries.{Boundary, lines_in_use, bank_effects, commit_effects, boundary_effects}
@@ -81,29 +83,35 @@ map_same {A} f g (x ∷ xs) same =
     ap (λ (y : A). y ∷ map f xs) (same x (contains_first x xs)) ∙ ap (λ (ys : List A). g x ∷ ys) (map_same f g xs (λ y c. same y (contains_later x xs y c)))
 
 -- with a bank of this number, where the point isn't 0
-banked : (b : Boundary) (bank point : ℕ) (x : List ℕ) → ((register : ℕ) → Contains b.live register → IsKeepable register) → point ≢ 0 → bank_of point ≡ bank →
-    bank_effects b bank x ++ commit_effects b.thread point ≡ effects_of b.thread (record { point = point; mask = b.mask; live = b.live; registers = x })
+banked : (b : Boundary) (bank point : ℕ) (x : List ℕ) → b.mask < 2 ^ 64 →
+    ((register : ℕ) → Contains b.live register → IsKeepable register) → point ≢ 0 → bank_of point ≡ bank →
+    bank_effects b bank x ++ commit_effects b.thread point
+    ≡ effects_of b.thread (record { point = point; locks = locks_in b.mask; live = b.live; registers = x })
 unfolding effects_of
-banked b bank point x live some is =
-    let r : Record = record { point = point; mask = b.mask; live = b.live; registers = x } in
+banked b bank point x small live some is =
+    let r : Record = record { point = point; locks = locks_in b.mask; live = b.live; registers = x } in
     let slots : slots_of r ≡ 0 ∷ b.live = cond-false (eqb point 0) [] (0 ∷ b.live) (ne_eqb point 0 some) in
     let stores : map (λ s. Stores (slot_at b.thread (bank_of point) s) 8 (read x s)) b.live ≡ map
     (λ s. Stores (slot_at b.thread (bank_of point) s) 8 (value_of r s)) b.live =
     map_same (λ s. Stores (slot_at b.thread (bank_of point) s) 8 (read x s)) (λ s. Stores (slot_at b.thread (bank_of point) s) 8 (value_of r s)) b.live
     (λ s c. ap (λ (n : ℕ). Stores (slot_at b.thread (bank_of point) s) 8 n)
-    (sym (cond-false (eqb s 0) b.mask (read x s) (ne_eqb s 0 (λ none. omega (arith, none, (live s c).is_register)))))) in
+    (sym (cond-false (eqb s 0) (mask_with (locks_in b.mask)) (read x s) (ne_eqb s 0 (λ none. omega (arith, none, (live s c).is_register)))))) in
     ap (λ (k : ℕ). bank_effects b k x ++ commit_effects b.thread point) (sym is)
-    ∙ ap (λ (es : List Effect). (Stores (slot_at b.thread (bank_of point) 0) 8 b.mask ∷ es ++ map
+    ∙ ap (λ (k : ℕ). (Stores (slot_at b.thread (bank_of point) 0) 8 k ∷ map (λ s. Stores (slot_at b.thread (bank_of point) s) 8 (read x s)) b.live ++ map
+    (λ line. Cleans (slot_at b.thread (bank_of point) (8 * line))) (lines_in_use (0 ∷ b.live))) ++ commit_effects b.thread point)
+    (sym (mask_of_locks b.mask small))
+    ∙ ap (λ (es : List Effect). (Stores (slot_at b.thread (bank_of point) 0) 8 (mask_with (locks_in b.mask)) ∷ es ++ map
     (λ line. Cleans (slot_at b.thread (bank_of point) (8 * line))) (lines_in_use (0 ∷ b.live))) ++ commit_effects b.thread point) stores
     ∙ ap (λ (ss : List ℕ). stores_of b.thread r ss ++ cleans_of b.thread r (lines_in_use ss) ++ commit_effects b.thread point) (sym slots)
 
 -- with none
-unbanked : (b : Boundary) (x : List ℕ) → commit_effects b.thread 0 ≡ effects_of b.thread (record { point = 0; mask = b.mask; live = b.live; registers = x })
+unbanked : (b : Boundary) (x : List ℕ) →
+    commit_effects b.thread 0 ≡ effects_of b.thread (record { point = 0; locks = locks_in b.mask; live = b.live; registers = x })
 unfolding effects_of
 unbanked b x = refl
 
 with_point : Boundary → List ℕ → ℕ → Record
-with_point b x point = record { point = point; mask = b.mask; live = b.live; registers = x }
+with_point b x point = record { point = point; locks = locks_in b.mask; live = b.live; registers = x }
 
 boundary_does : (b : Boundary) (bank resume : ℕ) (x : List ℕ) → IsRecoverable b resume x → bank < 2 →
     boundary_effects b bank resume x ≡ effects_of b.thread (recorded_by b bank resume x)
@@ -118,7 +126,7 @@ boundary_does b bank resume x r below = by (eqb b.mask 0) refl
         let same : (recorded_by b bank resume x).point ≡ (resume + bank) % 2 ^ 64 = cond-false (eqb b.mask 0) 0 ((resume + bank) % 2 ^ 64) e in
         let says = point_says b bank resume x r below (eqb-false b.mask 0 e) in
         cond-false (eqb b.mask 0) (commit_effects b.thread 0) (bank_effects b bank x ++ commit_effects b.thread ((resume + bank) % 2 ^ 64)) e
-        ∙ banked b bank ((resume + bank) % 2 ^ 64) x r.live (λ none. says.0 (same ∙ none)) (ap bank_of (sym same) ∙ says.1)
+        ∙ banked b bank ((resume + bank) % 2 ^ 64) x r.mask r.live (λ none. says.0 (same ∙ none)) (ap bank_of (sym same) ∙ says.1)
         ∙ ap (λ (p : ℕ). effects_of b.thread (with_point b x p)) (sym same)
 
 -- ---- The beginning
@@ -137,7 +145,8 @@ writing_begins thread new m is rest = record {
 is_record : (b : Boundary) (bank resume : ℕ) (x : List ℕ) → IsRecoverable b resume x → IsRecord (recorded_by b bank resume x)
 is_record b bank resume x r = record {
   point = cond_both (eqb b.mask 0) 0 ((resume + bank) % 2 ^ 64) (λ n. n < 2 ^ 64) (λ _. omega arith) (λ _. omega arith);
-  mask = r.mask;
+  mask = subst (λ (n : ℕ). n < 2 ^ 64) (sym (mask_of_locks b.mask r.mask)) r.mask;
+  locks = ap locks_in (mask_of_locks b.mask r.mask);
   live = r.live;
   registers = r.registers;
 }

@@ -5,6 +5,7 @@ use Rattle.std.proofs.lemmas.List.{append-nil}
 use Rattle.std.specs.List.{Contains}
 use Rattle.ido_base.specs.Words.{Word, Entry, word_at, last_position, live_value, with_value, stored}
 use Rattle.ido_base.specs.Growth.{AreChanged, PersistsThrough}
+use Rattle.ido_base.specs.Locks.{mask_with}
 use Rattle.ido_base.specs.Layout.{point_at, slot_at, byte_number, word_number}
 use Rattle.ido_base.proofs.Public.{reach_stays, stores_change}
 use Rattle.rv64_isa.specs.Rows.{Stores, Cleans, Fences, read}
@@ -24,7 +25,8 @@ use Rattle.log_states.proofs.UnstoredLogStays.{slot_below, has_point, slot_index
 pub value_below : (r : Record) (slot : ℕ) → IsRecord r → Contains (slots_of r) slot → value_of r slot < 2 ^ 64
 value_below r slot is = cond_both (eqb r.point 0) [] (0 ∷ r.live) (λ slots. Contains slots slot → value_of r slot < 2 ^ 64)
     (λ _ c. absurd (contains_none slot c))
-    (λ _ c. cond_both (eqb slot 0) r.mask (read r.registers slot) (λ n. n < 2 ^ 64) (λ _. is.mask) (λ other. elim (contains_cases 0 r.live slot c) [
+    (λ _ c. cond_both (eqb slot 0) (mask_with r.locks) (read r.registers slot) (λ n. n < 2 ^ 64) (λ _. is.mask)
+    (λ other. elim (contains_cases 0 r.live slot c) [
       | inl zeroth ↦ absurd (eqb-false slot 0 other zeroth)
       | inr more ↦ is.registers slot more
     ]))

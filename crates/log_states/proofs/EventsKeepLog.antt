@@ -5,6 +5,7 @@ use Rattle.ido_base.specs.Growth.{AreChanged, ArePersisted, IsPersisted, AreEntr
 use Rattle.ido_base.specs.Layout.{byte_number}
 use Rattle.ido_base.proofs.Public.{entries_stay, reach_stays, stores_change, write_backs_raise, changed_by_persisted, persisted_refl}
 use Rattle.boundary_code.specs.Boundaries.{commit_effects}
+use Rattle.ido_base.proofs.Public.{no_locks}
 use Rattle.log_states.specs.Logs.{Record, IsRecord, HasLog, IsUnstored, IsRecorded, log_word}
 use Rattle.log_states.specs.Stages.{LogConfig, stores_of, cleans_of, Stored, Cleaned, Fenced, Drained, Elsewhere, Stage, Writing, Written, Pointed, PointQueued}
 use Rattle.log_states.specs.Stages.{Over, LogIs}
@@ -100,6 +101,7 @@ rests thread r m done log entries is h = record {
     old_is = record {
       point = omega arith;
       mask = omega arith;
+      locks = no_locks;
       live = λ slot c. absurd (contains_none slot c);
       registers = λ slot c. absurd
           (contains_none slot c);

@@ -14,5 +14,6 @@ mod Machines
 mod BoundaryEffectsInLog
 mod StoresOutsideLog
 mod LogInvariantHolds
+mod FactsByName
 mod Worked
 mod BoundaryCommits

@@ -1,15 +1,14 @@
 -- What crates above may use of this crate's proofs, passed on from one place. Declares nothing.
-pub use Rattle.log_states.proofs.BoundaryCommits.{begins_uncommitted, committed_after_fence, committed_where_durable, ends_committed, point_is}
-pub use Rattle.log_states.proofs.BoundaryCommits.{point_store_is_last, stays_committed}
+pub use Rattle.log_states.proofs.BoundaryCommits.{begins_uncommitted, committed_where_durable, ends_committed, point_store_is_last, stays_committed}
 pub use Rattle.log_states.proofs.BoundaryEffectsInLog.{boundaries_stay_in}
 pub use Rattle.log_states.proofs.BoundaryStarts.{offset_follows, point_says}
 pub use Rattle.log_states.proofs.EventsKeepLog.{ends, keeps}
+pub use Rattle.log_states.proofs.FactsByName.{log_facts}
 pub use Rattle.log_states.proofs.FencesMakeDurable.{boundaries_fence}
 pub use Rattle.log_states.proofs.Heads.{address_of, not_done}
 pub use Rattle.log_states.proofs.Lists.{contains_cases, contains_first, contains_later, contains_none}
 pub use Rattle.log_states.proofs.LogInvariantHolds.{begins_standing, crashes_standing, evictions_keep, own_steps_keep, starts_standing, steps_keep}
-pub use Rattle.log_states.proofs.Machines.{crashes_crash, evictions_move, own_steps_move, steps_move}
+pub use Rattle.log_states.proofs.Machines.{evictions_move, own_steps_move, steps_move}
 pub use Rattle.log_states.proofs.Numbers.{byte_of_log, logs_are_apart, variables_are_apart, word_of_point}
-pub use Rattle.log_states.proofs.RecoveredRecords.{crashes_resume, record_is_resumed}
 pub use Rattle.log_states.proofs.StoresOutsideLog.{one_effect, stores_nothing, stores_to_variable}
 pub use Rattle.log_states.proofs.Words.{durable_is, word_beside}

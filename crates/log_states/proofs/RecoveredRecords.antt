@@ -5,10 +5,12 @@ use Rattle.std.specs.List.{Contains}
 use Rattle.std.proofs.lemmas.Bool.{cases_lt, cases_Bool, cond_both, cond-true, cond-false, eqb-false, ne_eqb}
 use Rattle.std.proofs.lemmas.List.{get_or-map, get_or-append_right, get_or_past, length-map}
 use Rattle.ido_base.specs.Words.{Word, word_of, word_at, crashed}
+use Rattle.ido_base.specs.Locks.{locks_in, mask_with}
 use Rattle.ido_base.specs.Layout.{slot_at, point_at, bank_bytes, word_number, initial_words, words_of_bytes}
 use Rattle.rv64_isa.specs.Rows.{read}
 use Rattle.rv64_isa.specs.Machine.{durable_point, durable_at, bank_of, record_of, recorded, resumed_register, numbers_from, start_of}
 use Rattle.rv64_isa.proofs.Public.{starts_simulate}
+use Rattle.ido_base.proofs.Public.{no_locks}
 use Rattle.log_states.specs.Logs.{Record, value_of, IsRecord, log_word, IsWord, IsDurable, IsRecorded}
 use Rattle.log_states.specs.Stages.{is_committed, left_by_crash}
 use Rattle.log_states.specs.Laws.{ResumesRecord, RecordIsResumed, CrashesResume, StartsEmpty}
@@ -36,11 +38,11 @@ module _ (thread : ℕ) (r : Record) (words : List Word) (is : IsRecord r) (h : 
       ∙ durable_is (word_at words (word_number (slot_at thread (bank_of r.point) slot))) (value_of r slot)
       (h.bank slot (subst (λ (slots : List ℕ). Contains slots slot) (sym (cond-false (eqb r.point 0) [] (0 ∷ r.live) (ne_eqb r.point 0 some))) c))
 
-  locks : record_of words thread ≡ cond (eqb r.point 0) 0 r.mask
-  locks = ap (λ (n : ℕ). cond (eqb n 0) 0 (recorded words thread 0)) has_point ∙ elim (cases_Bool (eqb r.point 0)) [
-    | inl none ↦ cond-true (eqb r.point 0) 0 (recorded words thread 0) none ∙ sym (cond-true (eqb r.point 0) 0 r.mask none)
-    | inr some ↦ cond-false (eqb r.point 0) 0 (recorded words thread 0) some ∙ kept 0 (eqb-false r.point 0 some) (contains_first 0 r.live)
-        ∙ sym (cond-false (eqb r.point 0) 0 r.mask some)
+  locks : record_of words thread ≡ cond (eqb r.point 0) [] r.locks
+  locks = ap (λ (n : ℕ). cond (eqb n 0) [] (locks_in (recorded words thread 0))) has_point ∙ elim (cases_Bool (eqb r.point 0)) [
+    | inl none ↦ cond-true (eqb r.point 0) [] (locks_in (recorded words thread 0)) none ∙ sym (cond-true (eqb r.point 0) [] r.locks none)
+    | inr some ↦ cond-false (eqb r.point 0) [] (locks_in (recorded words thread 0)) some
+        ∙ (ap locks_in (kept 0 (eqb-false r.point 0 some) (contains_first 0 r.live)) ∙ (is.locks ∙ sym (cond-false (eqb r.point 0) [] r.locks some)))
   ]
 
   register : r.point ≢ 0 → (slot : ℕ) → Contains r.live slot → resumed_register words thread slot ≡ read r.registers slot
@@ -49,7 +51,7 @@ module _ (thread : ℕ) (r : Record) (words : List Word) (is : IsRecord r) (h : 
       let zeroth : eqb slot 0 ≡ false = ne_eqb slot 0 (λ e. omega (arith, e, k.is_register)) in
       cond-false (eqb slot 0) 0 (cond (eqb slot 3) (256 * bank_of (durable_point words thread)) (recorded words thread slot)) zeroth
       ∙ cond-false (eqb slot 3) (256 * bank_of (durable_point words thread)) (recorded words thread slot) (ne_eqb slot 3 k.not_offset)
-      ∙ kept slot some (contains_later 0 r.live slot c) ∙ cond-false (eqb slot 0) r.mask (read r.registers slot) zeroth
+      ∙ kept slot some (contains_later 0 r.live slot c) ∙ cond-false (eqb slot 0) (mask_with r.locks) (read r.registers slot) zeroth
 
   row_at : (slot : ℕ) → slot < 32 → get_or (map (resumed_register words thread) (numbers_from 0 32)) slot 0 ≡ resumed_register words thread slot
   row_at slot below = let e : 0 + slot ≡ slot = omega arith in mapped (resumed_register words thread) 0 32 slot below ∙ ap (resumed_register words thread) e
@@ -108,7 +110,13 @@ pub starts_empty : StartsEmpty
 unfolding start_of
 starts_empty program locks thread initial inside =
     let s = starts_simulate program locks initial in (
-      record { point = omega arith; mask = omega arith; live = λ slot c. absurd (contains_none slot c); registers = λ slot c. absurd (contains_none slot c) },
+      record {
+        point = omega arith;
+        mask = omega arith;
+        locks = no_locks;
+        live = λ slot c. absurd (contains_none slot c);
+        registers = λ slot c. absurd (contains_none slot c);
+      },
       record {
         exists = omega (arith, s.0.size, s.1, inside);
         each = λ i below. subst (λ (w : Word). IsWord w) (sym (word_zero (length program) initial (log_word thread i)

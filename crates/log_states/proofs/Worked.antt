@@ -4,6 +4,7 @@ use Rattle.std.proofs.Common.{◌≡◌, ℕ, zero, suc, ◌+◌, ◌*◌, ◌/�
 use Rattle.std.specs.Prelude.{slice_set, if◌then◌else◌}
 use Rattle.ido_base.specs.Words.{Word, word_of, entry_of, stored, evicted, crashed}
 use Rattle.ido_base.specs.Growth.{drained_all}
+use Rattle.ido_base.specs.Locks.{locks_in, mask_with}
 use Rattle.ido_base.specs.Layout.{byte_number, line_bytes, log_lines, variable_lines}
 use Rattle.rv64_isa.specs.Rows.{Effect, Continues, Loads, Stores, Cleans, Fences, Calls}
 use Rattle.rv64_isa.specs.Machine.{durable_point, record_of, resume_of, resumed_register}
@@ -51,12 +52,13 @@ first = record { words = replicate (8 * (variable_lines + log_lines)) (word_of 0
 with_eviction : Bool → LogConfig → LogConfig
 with_eviction evicts m = if evicts then record { words = evicted m.words 1024 1; queue = m.queue; rest = m.rest } else m
 
--- what a crash leaves: the point, the locks, x8, x9 and the bank's offset
+-- what a crash leaves: the point, the mask of the locks, x8, x9 and the bank's offset
 left : LogConfig → List ℕ
 left m = left_in (crashed m.words)
   where
     left_in : List Word → List ℕ
-    left_in words = durable_point words 0 ∷ record_of words 0 ∷ resumed_register words 0 8 ∷ resumed_register words 0 9 ∷ resumed_register words 0 3 ∷ []
+    left_in words =
+        durable_point words 0 ∷ mask_with (record_of words 0) ∷ resumed_register words 0 8 ∷ resumed_register words 0 9 ∷ resumed_register words 0 3 ∷ []
 
 evicted_after : (count : ℕ) → Bool → LogConfig
 unfolding after first effects with_eviction
@@ -75,13 +77,13 @@ counts = 0 ∷ 1 ∷ 2 ∷ 3 ∷ 4 ∷ 5 ∷ 6 ∷ 7 ∷ 8 ∷ 9 ∷ []
 -- with no eviction the last fence commits
 without_evictions : map (λ count. left (evicted_after count false)) counts ≡
     nothing ∷ nothing ∷ nothing ∷ nothing ∷ nothing ∷ nothing ∷ nothing ∷ nothing ∷ nothing ∷ everything ∷ []
-unfolding left evicted_after after made first effects b registers with_eviction nothing everything counts
+unfolding left locks_in evicted_after after made first effects b registers with_eviction nothing everything counts
 without_evictions = refl
 
 -- with an eviction, the boundary may be committed as soon as the point is stored
 with_evictions : map (λ count. left (evicted_after count true)) counts ≡
     nothing ∷ nothing ∷ nothing ∷ nothing ∷ nothing ∷ nothing ∷ nothing ∷ everything ∷ everything ∷ everything ∷ []
-unfolding left evicted_after after made first effects b registers with_eviction nothing everything counts
+unfolding left locks_in evicted_after after made first effects b registers with_eviction nothing everything counts
 with_evictions = refl
 
 uncommitted_without : map
@@ -100,7 +102,7 @@ resumes_there = refl
 
 -- with no first fence, an eviction makes the point durable before its bank
 no_first_fence : left (with_eviction true (after 6 (take 5 effects ++ drop 6 effects) first)) ≡ 0x1_0041 ∷ 0 ∷ 0 ∷ 0 ∷ 256 ∷ []
-unfolding left after made first effects b registers with_eviction
+unfolding left locks_in after made first effects b registers with_eviction
 no_first_fence = refl
 
 -- the next boundary holds locks 0 and 1, and an eviction makes its mask durable before its point is stored
@@ -112,10 +114,10 @@ mask_evicted line m = record { words = evicted m.words line 1; queue = m.queue; 
 
 -- where the next mask is in the other bank, its eviction changes nothing
 other_bank : left (mask_evicted 1025 (after 1 (next 0) (evicted_after 9 false))) ≡ everything
-unfolding left evicted_after after made first effects b registers with_eviction next mask_evicted everything
+unfolding left locks_in evicted_after after made first effects b registers with_eviction next mask_evicted everything
 other_bank = refl
 
 -- where the next mask is in the same bank, the old point would have the new mask
 same_bank : left (mask_evicted 1029 (after 1 (next 1) (evicted_after 9 false))) ≡ 0x1_0041 ∷ 3 ∷ 7 ∷ 5 ∷ 256 ∷ []
-unfolding left evicted_after after made first effects b registers with_eviction next mask_evicted
+unfolding left locks_in evicted_after after made first effects b registers with_eviction next mask_evicted
 same_bank = refl

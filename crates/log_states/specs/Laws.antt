@@ -3,6 +3,7 @@ use Rattle.std.specs.Prelude.{◌≡◌, ◌≢◌, ◌⊎◌, ℕ, ◌+◌, ◌
 use Rattle.std.specs.Prelude.{if◌then◌else◌}
 use Rattle.std.specs.List.{Contains, list_any}
 use Rattle.ido_base.specs.Words.{Word, Entry, word_at, last_position, stored, crashed}
+use Rattle.ido_base.specs.Locks.{locks_in}
 use Rattle.ido_base.specs.Growth.{Stable, AreEntries, PersistsThrough}
 use Rattle.ido_base.specs.Layout.{variables_base, variable_lines, line_bytes, bank_bytes, log_lines, point_at, byte_number}
 use Rattle.rv64_isa.specs.declared.object.Slot.{Slot}
@@ -18,7 +19,7 @@ use Rattle.log_states.specs.Stages.{LogConfig, Moves, LogSteps, LogIs, fences_ah
 
 -- what a boundary records, in the bank of this number
 abbrev pub recorded_by : Boundary → (bank resume : ℕ) → (registers : List ℕ) → Record
-recorded_by b bank resume x = record { point = if b.mask == 0 then 0 else (resume + bank) % 2 ^ 64; mask = b.mask; live = b.live; registers = x }
+recorded_by b bank resume x = record { point = if b.mask == 0 then 0 else (resume + bank) % 2 ^ 64; locks = locks_in b.mask; live = b.live; registers = x }
 
 -- a boundary that can be recovered from: it resumes at an instruction, and keeps registers of 64 bits that have a slot
 pub record IsRecoverable (b : Boundary) (resume : ℕ) (x : List ℕ) : Type 0 where
@@ -174,7 +175,7 @@ resumed_registers words thread = map (resumed_register words thread) (numbers_fr
 pub record ResumesRecord (thread : ℕ) (r : Record) (words : List Word) : Type 0 where
   pub point : durable_point words thread ≡ r.point
   pub live_point : live_at words (point_at thread) ≡ r.point
-  pub locks : record_of words thread ≡ (if r.point == 0 then 0 else r.mask)
+  pub locks : record_of words thread ≡ (if r.point == 0 then [] else r.locks)
   pub registers : r.point ≢ 0 → (register : ℕ) → Contains r.live register → read (resumed_registers words thread) register ≡ read r.registers register
   pub bank : IsAtRecord r (bank_of r.point) (resumed_registers words thread)
 

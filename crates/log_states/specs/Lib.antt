@@ -3,3 +3,4 @@ pub mod Stages
 pub mod Machines
 pub mod Laws
 pub mod LogInvariant
+pub mod LogFacts

@@ -2,6 +2,7 @@
 use Rattle.std.specs.Prelude.{◌≡◌, ◌≢◌, ℕ, ◌+◌, ◌*◌, ◌^◌, ◌<◌, ◌≤◌, List, [], ◌∷◌, length, slice_index, ◌==◌, if◌then◌else◌}
 use Rattle.std.specs.List.{Contains}
 use Rattle.ido_base.specs.Words.{Word, word_at, last_position, live_value}
+use Rattle.ido_base.specs.Locks.{locks_in, mask_with}
 use Rattle.ido_base.specs.Growth.{IsPersisted}
 use Rattle.ido_base.specs.Layout.{log_lines, word_count, word_number, point_at, slot_at}
 use Rattle.rv64_isa.specs.Rows.{read}
@@ -12,22 +13,22 @@ use Rattle.memory_layout.specs.Roles.{bank_offset}
 pub record Record : Type 0 where
   -- 0: nothing is recorded; else a resume address plus the number of a bank
   pub point : ℕ
-  -- the locks held after the boundary, bit i for lock i
-  pub mask : ℕ
+  -- the locks held after the boundary, in the order in which recovery takes them
+  pub locks : List ℕ
   -- the registers that it keeps
   pub live : List ℕ
   pub registers : List ℕ
 
 -- the record between sections
 abbrev pub nothing_recorded : Record
-nothing_recorded = record { point = 0; mask = 0; live = []; registers = [] }
+nothing_recorded = record { point = 0; locks = []; live = []; registers = [] }
 
--- the slots that it keeps: slot 0 is the mask, slot r register r
+-- the slots that it keeps: slot 0 is the mask of its locks, slot r register r
 abbrev pub slots_of : Record → List ℕ
 slots_of r = if r.point == 0 then [] else 0 ∷ r.live
 
 abbrev pub value_of : Record → (slot : ℕ) → ℕ
-value_of r slot = if slot == 0 then r.mask else read r.registers slot
+value_of r slot = if slot == 0 then mask_with r.locks else read r.registers slot
 
 -- a slot of a bank, but not that of x0, which is the mask's, nor that of the bank offset, which the point gives
 pub record IsKeepable (slot : ℕ) : Type 0 where
@@ -38,7 +39,9 @@ pub record IsKeepable (slot : ℕ) : Type 0 where
 -- values of 64 bits, in slots that a bank has
 pub record IsRecord (r : Record) : Type 0 where
   pub point : r.point < 2 ^ 64
-  pub mask : r.mask < 2 ^ 64
+  -- the locks are those of a mask
+  pub mask : mask_with r.locks < 2 ^ 64
+  pub locks : locks_in (mask_with r.locks) ≡ r.locks
   pub live : (slot : ℕ) → Contains r.live slot → IsKeepable slot
   pub registers : (slot : ℕ) → Contains r.live slot → read r.registers slot < 2 ^ 64
 

@@ -5,6 +5,7 @@ ghost use Rattle.log_states.specs.Laws.{LogsAreApart, OffsetFollows, PointIs, Po
 ghost use Rattle.log_states.specs.Laws.{Rests, SlotsAreIn, StartsEmpty, StaysCommitted, StaysRecorded, StoresElsewhere, VariablesAreApart};
 ghost use Rattle.log_states.specs.Machines.{BoundariesStayIn, CrashesCrash, EvictionsMove, LogEffectsGo, OwnStepsMove};
 ghost use Rattle.log_states.specs.Machines.{StepsMove, StoresNothing, StoresToOtherLog, StoresToVariable};
+ghost use Rattle.log_states.specs.LogFacts.{LogFacts};
 ghost use Rattle.log_states.specs.LogInvariant.{BeginsStanding, CrashesStanding, EvictionsKeep, OwnStepsKeep, StartsStanding, StepsKeep};
 
 /// A log on its way from one record to the next: a boundary begins from any record, whose bank it leaves alone; every event
@@ -81,6 +82,12 @@ pub fn steps_apart()
     ensures nothing { StoresNothing }
     ensures variable { StoresToVariable }
     ensures boundary { StoresToOtherLog }
+{}
+
+/// What recovery rests on: a bank is durable before a point names it, and is kept as long as one does; what was kept in registers is resumed; and the
+/// durable record has the locks of the last boundary that is committed.
+pub fn facts()
+    ensures { LogFacts }
 {}
 
 /// A thread's log in a machine stands from the start on, whatever happens: when a boundary begins, at each of its instructions, at every other

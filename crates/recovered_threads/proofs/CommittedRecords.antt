@@ -16,7 +16,7 @@ use Rattle.thread_code.specs.RegistersAtNodes.{IsPendingIn, Enters}
 use Rattle.thread_code.specs.NodeCodeEffects.{keeping}
 use Rattle.recovered_threads.specs.RecordDescriptions.{Code, IsOrderly, ResumesAt, Describes, between, inside}
 use Rattle.recovered_threads.specs.Laws.{AtBoundary, CommitsDescribe, OthersDescribe}
-use Rattle.recovered_threads.proofs.RecordedLocks.{mask_is, none_where}
+use Rattle.recovered_threads.proofs.RecordedLocks.{mask_is, mask_has_locks, none_where}
 use Rattle.recovered_threads.proofs.Boundaries.{boundaries_recover}
 
 module _ (p : Plan) (code : Code p) (kept : FlowState) (bank resume : ℕ) (x : List ℕ) (plan : IsPlan p) (orderly : IsOrderly p kept)
@@ -45,7 +45,7 @@ module _ (p : Plan) (code : Code p) (kept : FlowState) (bank resume : ℕ) (x : 
           own = k.own;
           point = says.0;
           resumes = subst (λ (a : ℕ). ResumesAt p code k.graph_thread.at a) (sym says.2) (k.resumes mask);
-          mask = refl;
+          locks = mask_has_locks p kept plan orderly code.thread code.of k.graph_thread k.there k.own;
           live = refl;
           bank = bank;
           enters = k.enters;
@@ -88,7 +88,7 @@ others_describe p code kept after r (inside some i) graph_threads held = inside 
   own = i.own;
   point = i.point;
   resumes = i.resumes;
-  mask = i.mask;
+  locks = i.locks;
   live = i.live;
   bank = i.bank;
   enters = enters_on p code kept after i.graph_thread i.graph_thread.at i.bank r.registers i.enters;

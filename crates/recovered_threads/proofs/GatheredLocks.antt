@@ -17,7 +17,7 @@ use Rattle.recovered_threads.specs.RecordDescriptions.{Code, Codes, IsOrderly, D
 use Rattle.recovered_threads.specs.RecoveryStates.{Gathers, AreGathering}
 use Rattle.recovered_threads.specs.Laws.{GatheredAreKept, ReadyAsKept, PointsSettle}
 use Rattle.recovered_threads.proofs.ChangedWorlds.{same_there}
-use Rattle.recovered_threads.proofs.RecordedLocks.{locks_are_held, between_locks, zero_has, held_is, holds_none_is}
+use Rattle.recovered_threads.proofs.RecordedLocks.{locks_are_held, between_locks, held_is, holds_none_is}
 
 -- ---- Who holds what
 
@@ -46,7 +46,7 @@ module _ (p : Plan) (codes : Codes p) (kept : FlowState) (w : World) (records : 
   not_free n lock hart here has there Resume is g = g
   not_free n lock hart here has there Run is g = g
   not_free n lock hart here has there Done is g =
-      true≢false (sym has ∙ (ap (λ (mask : ℕ). has_lock mask lock) (between_locks (records n) g) ∙ zero_has lock))
+      true≢false (sym has ∙ ap (λ (locks : List ℕ). has_lock locks lock) (between_locks (records n) g))
   not_free n lock hart here has there Ended is g = g
 
   same_holder : (lock : ℕ) (x y : Option ℕ) → slice_get w.holders lock ≡ Some x → slice_get kept.holders lock ≡ Some y → x ≡ y

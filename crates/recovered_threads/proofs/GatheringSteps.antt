@@ -12,7 +12,7 @@ use Rattle.rv64_isa.specs.Machine.{Hart, World, after_event, reply_to, record_of
 use Rattle.rv64_isa.proofs.Public.{get-set_same, get-set_other}
 use Rattle.log_states.specs.Logs.{Record, nothing_recorded}
 use Rattle.log_states.specs.Machines.{config_of}
-use Rattle.log_states.proofs.Public.{ends, record_is_resumed}
+use Rattle.log_states.proofs.Public.{ends, log_facts}
 use Rattle.hart_runs.specs.Calls.{IsInPhase, TakesLocks, has_all, takes_one, is_kept_from, AwaitsOthers, all_have, one_takes, ResumesHart}
 use Rattle.hart_runs.proofs.Public.{takes_step, waits_step, resumes_step}
 use Rattle.recovered_threads.specs.RecordDescriptions.{locks_of}
@@ -23,7 +23,7 @@ use Rattle.recovered_threads.proofs.ChangedWorlds.{same_there, same_or_other, ch
 -- the locks that recovery reads are the record's
 pub record_locks : (w : World) (h : ℕ) (r : Record) → HasRecord w h r → record_of w.words h ≡ locks_of r
 record_locks w h r s =
-    (record_is_resumed h r w.words s.log.follows.new_is (ends h nothing_recorded r (config_of w s.hart []) s.log refl)).locks
+    (log_facts.registers_resumed.between h r w.words s.log.follows.new_is (ends h nothing_recorded r (config_of w s.hart []) s.log refl)).locks
 
 -- what a hart gathers, where it goes on to hold what it held
 pub gathers_on : (w v : World) (h : ℕ) (r : Record) (phase : Phase) → (HoldsAll w h r → HoldsAll v h r) → Gathers w h r phase → Gathers v h r phase
@@ -62,10 +62,10 @@ module _ (program : List (List Slot)) (w : World) (records : ℕ → Record) (h 
   inside = slice_get_within w.harts h i.hart i.here
 
   own : (lock : ℕ) → has_lock (record_of w.words h) lock ≡ true → has_lock (locks_of (records h)) lock ≡ true
-  own lock has = ap (λ (mask : ℕ). has_lock mask lock) (sym (record_locks w h (records h) (gathering.logs h inside))) ∙ has
+  own lock has = ap (λ (locks : List ℕ). has_lock locks lock) (sym (record_locks w h (records h) (gathering.logs h inside))) ∙ has
 
   recorded : (lock : ℕ) → has_lock (locks_of (records h)) lock ≡ true → has_lock (record_of w.words h) lock ≡ true
-  recorded lock has = ap (λ (mask : ℕ). has_lock mask lock) (record_locks w h (records h) (gathering.logs h inside)) ∙ has
+  recorded lock has = ap (λ (locks : List ℕ). has_lock locks lock) (record_locks w h (records h) (gathering.logs h inside)) ∙ has
 
   some : (records h).point ≢ 0
   some = subst (λ (phase : Phase). Gathers w h (records h) phase) i.phase_is (gathering.each h i.hart i.here)
@@ -129,14 +129,14 @@ module _ (program : List (List Slot)) (w : World) (records : ℕ → Record) (h 
 
   takes_by : TakesLocks program w h i.hart → (reply_to program w (Step h) ≡ Moved) × AreGathering (after_event program w (Step h)) records
   takes_by (has_all all does) =
-      let mine : HoldsAll w h (records h) = λ lock holder there has. all lock holder (record { mask = recorded lock has; there = there }) in
+      let mine : HoldsAll w h (records h) = λ lock holder there has. all lock holder (record { among = recorded lock has; there = there }) in
       leads program w (has_them mine) h Moved (λ (v : World). AreGathering v records) does (has_them_gathers mine)
   takes_by (takes_one lock r does) =
-      leads program w (taken lock (own lock r.mask) r.there) h Moved (λ (v : World). AreGathering v records) does
-      (taken_gathers lock (own lock r.mask) r.there)
+      leads program w (taken lock (own lock r.among) r.there) h Moved (λ (v : World). AreGathering v records) does
+      (taken_gathers lock (own lock r.among) r.there)
   takes_by (is_kept_from lock g r other does) =
       let theirs = gathering.held lock g r.there in
-      absurd (other (apart g h lock theirs.exists inside theirs.has (own lock r.mask)))
+      absurd (other (apart g h lock theirs.exists inside theirs.has (own lock r.among)))
 
 pub takes_never_wait : TakesNeverWait
 takes_never_wait program w records h gathering apart i = takes_by program w records h gathering apart i (takes_step program w h i)

@@ -12,7 +12,7 @@ use Rattle.flow_graph.specs.Actions.{FlowState, graph_start}
 use Rattle.log_states.specs.Logs.{Record, nothing_recorded}
 use Rattle.log_states.specs.Stages.{is_committed, left_by_crash}
 use Rattle.log_states.specs.Machines.{config_of}
-use Rattle.log_states.proofs.Public.{point_is, ends_committed, starts_standing, crashes_standing}
+use Rattle.log_states.proofs.Public.{log_facts, ends_committed, starts_standing, crashes_standing}
 use Rattle.thread_code.specs.Plans.{Plan}
 use Rattle.recovered_threads.specs.RecordDescriptions.{Code, Codes, Describes, AllDescribe}
 use Rattle.recovered_threads.specs.RecoveryStates.{HasRecord}
@@ -53,7 +53,7 @@ starts_describe program locks initial p codes count n below =
 pub durable_locks_are_held : DurableLocksAreHeld
 unfolding left
 durable_locks_are_held p code kept w plan orderly t lock =
-    subst (λ (mask : ℕ). (has_lock mask lock ≡ true) ↔ (slice_get kept.holders lock ≡ Some (Some code.thread.number)))
+    subst (λ (locks : List ℕ). (has_lock locks lock ≡ true) ↔ (slice_get kept.holders lock ≡ Some (Some code.thread.number)))
     (sym (logs_have_locks code.thread.number t.old t.new w t.rest t.log))
     (locks_are_held p code kept (left p code kept w t) plan orderly t.describes lock)
 
@@ -98,7 +98,7 @@ module _ (p : Plan) (codes : Codes p) (kept : FlowState) (w : World) (describe :
       let t = describe n below in
       let k = (codes.each n below).thread.number in
       subst (λ (m : ℕ). durable_point w.words m ≡ (left p (codes.each n below) kept w t).point) (codes.number n below)
-      (point_is k t.old t.new (config_of w t.log.hart t.rest) t.log.log)
+      (log_facts.record_follows_locks.point k t.old t.new (config_of w t.log.hart t.rest) t.log.log)
       ∙ ap (λ (r : Record). r.point) (sym (record_is n below))
 
   -- the logs, by the numbers of harts

@@ -1,17 +1,17 @@
 -- The locks of a thread's record are those that it holds in the kept state.
-use Rattle.std.proofs.Common.{◌≡◌, ◌≢◌, ◌↔◌, ℕ, zero, suc, ◌+◌, ◌-◌, ◌*◌, ◌==◌, List, [], ◌∷◌, refl, ap, arith, sym, ◌∙◌, cond, Bool, true, false}
+use Rattle.std.proofs.Common.{◌≡◌, ◌≢◌, ◌↔◌, ℕ, zero, suc, ◌+◌, ◌-◌, ◌*◌, ◌≤◌, ◌==◌, List, [], ◌∷◌, length, refl, ap, arith, sym, ◌∙◌, cond, Bool, true, false}
 use Rattle.std.proofs.Common.{Option, Some, None, is_none}
 use Rattle.std.specs.Prelude.{slice_get, slice_index_or}
 use Rattle.std.proofs.lemmas.Bool.{true≢false, cond-false, eqb-true, ne_eqb}
-use Rattle.std.proofs.lemmas.Nat.Bits.{bit_at-zero}
+use Rattle.std.proofs.lemmas.List.{length-map}
 use Rattle.std.proofs.lemmas.Option.{none-some, same_Some, slice_get_within, get_or_from_slice_get}
-use Rattle.ido_base.specs.Locks.{is_held_by, held_from, holds_none, has_lock}
+use Rattle.ido_base.specs.Locks.{is_held_by, held_from, holds_none, has_lock, locks_in}
 use Rattle.c_tree.specs.Source as m
 use Rattle.c_tree.specs.LockDiscipline.{Held, holds}
 use Rattle.source_machine.specs.Mutexes.{held_by}
 use Rattle.lock_discipline.specs.Masks.{mask_of}
 use Rattle.lock_discipline.specs.HeldSetsByStep.{AreSetsOf, HeldBefore}
-use Rattle.lock_discipline.proofs.Public.{bit, bit_at-mask_of, held_is_held}
+use Rattle.lock_discipline.proofs.Public.{held_is_held}
 use Rattle.flow_graph.specs.declared.graph.Part.{Part}
 use Rattle.flow_graph.specs.Nodes.{Graph}
 use Rattle.flow_graph.specs.Lowering.{parts}
@@ -19,19 +19,13 @@ use Rattle.flow_graph.specs.Lockstep.{GraphThreadMatches}
 use Rattle.flow_graph.specs.Actions.{GraphThread, FlowState}
 use Rattle.flow_graph.proofs.Public.{found_in, lowered_threads}
 use Rattle.log_states.specs.Logs.{Record}
-use Rattle.thread_code.specs.Plans.{Plan, Thread, IsThread, IsNodeOf, IsPlan, mask_before}
+use Rattle.thread_code.specs.Plans.{Plan, Thread, IsThread, IsNodeOf, IsPlan, locks_held, set_before, locks_before, mask_before}
+use Rattle.thread_code.proofs.Public.{has_held, mask_has_held, mask_of_none, none_in_mask}
 use Rattle.recovered_threads.specs.RecordDescriptions.{Code, IsOrderly, Describes, between, inside, locks_of}
 use Rattle.recovered_threads.specs.Laws.{LocksAreHeld, PointsHaveLocks, RecordsAreApart}
 use Rattle.recovered_threads.proofs.NodesBeforeSteps.{left_at, standing_at}
 
--- ---- Masks and holders
-
-bit_is : (b : Bool) → (bit b == 1) ≡ b
-bit_is true = refl
-bit_is false = refl
-
-mask_has : (h : Held) (lock : ℕ) → has_lock (mask_of h) lock ≡ holds h lock
-mask_has h lock = ap (λ (n : ℕ). n == 1) (bit_at-mask_of h lock) ∙ bit_is (holds h lock)
+-- ---- Sets and holders
 
 pub held_is : (n : ℕ) (holder : Option ℕ) → is_held_by n holder ≡ true → holder ≡ Some n
 held_is n None e = absurd (true≢false (sym e))
@@ -47,10 +41,10 @@ holds_is n (o ∷ holders) zero =
     (λ e. ap (λ (x : Option ℕ). Some x) (held_is n o e), λ e. ap (λ (x : Option ℕ). is_held_by n x) (same_Some o (Some n) e) ∙ is_own n)
 holds_is n (o ∷ holders) (suc lock) = holds_is n holders lock
 
-pub mask_holds : (n : ℕ) (holders : List (Option ℕ)) (lock : ℕ) →
-    (has_lock (mask_of (held_by n holders)) lock ≡ true) ↔ (slice_get holders lock ≡ Some (Some n))
-mask_holds n holders lock =
-    (λ e. (holds_is n holders lock).0 (sym (mask_has (held_by n holders) lock) ∙ e), λ e. mask_has (held_by n holders) lock ∙ (holds_is n holders lock).1 e)
+locks_hold : (n : ℕ) (holders : List (Option ℕ)) (lock : ℕ) →
+    (has_lock (locks_held (held_by n holders)) lock ≡ true) ↔ (slice_get holders lock ≡ Some (Some n))
+locks_hold n holders lock =
+    (λ e. (holds_is n holders lock).0 (sym (has_held (held_by n holders) lock) ∙ e), λ e. has_held (held_by n holders) lock ∙ (holds_is n holders lock).1 e)
 
 zero_twice : (k : ℕ) → (k == 0) ≡ (0 + 2 * k == 0)
 zero_twice zero = refl
@@ -72,14 +66,15 @@ none_is at n (o ∷ holders) = by (is_held_by n o) (none_is (at + 1) n holders)
 pub none_where : (n : ℕ) (holders : List (Option ℕ)) → holds_none holders n ≡ (mask_of (held_by n holders) == 0)
 none_where n holders = none_is 0 n holders
 
-pub zero_has : (lock : ℕ) → has_lock 0 lock ≡ false
-zero_has lock = ap (λ (n : ℕ). n == 1) (bit_at-zero lock)
+-- and has no locks
+no_locks_where : (n : ℕ) (holders : List (Option ℕ)) → holds_none holders n ≡ true → locks_held (held_by n holders) ≡ []
+no_locks_where n holders none =
+    none_in_mask 0 (held_by n holders) (eqb-true (mask_of (held_by n holders)) 0 (sym (none_where n holders) ∙ none))
 
 -- who holds none holds this one neither
 pub holds_none_is : (n : ℕ) (holders : List (Option ℕ)) (lock : ℕ) → holds_none holders n ≡ true → slice_get holders lock ≡ Some (Some n) → ⊥
 holds_none_is n holders lock none there =
-    let zero_is : mask_of (held_by n holders) ≡ 0 = eqb-true (mask_of (held_by n holders)) 0 (sym (none_where n holders) ∙ none) in
-    true≢false (sym ((mask_holds n holders lock).1 there) ∙ (ap (λ (mask : ℕ). has_lock mask lock) zero_is ∙ zero_has lock))
+    true≢false (sym ((locks_hold n holders lock).1 there) ∙ ap (λ (locks : List ℕ). has_lock locks lock) (no_locks_where n holders none))
 
 -- ---- The set before a node
 
@@ -96,8 +91,8 @@ module _ (p : Plan) (kept : FlowState) (plan : IsPlan p) (orderly : IsOrderly p 
   part_is : slice_get (parts p.flat.threads 0) t.number ≡ Some t.part
   part_is = ap (λ (ps : List Part). slice_get ps t.number) (sym (ap (λ (g : Graph). g.threads) plan.lowered ∙ lowered_threads p.flat)) ∙ is.nodes
 
-  pub mask_is : mask_before p t graph_thread.at ≡ mask_of (held_by t.number kept.holders)
-  mask_is =
+  set_is : set_before p t graph_thread.at ≡ held_by t.number kept.holders
+  set_is =
       let n = t.number in
       let step = graph_thread.at - t.part.first in
       let thread = found.0 in
@@ -108,30 +103,42 @@ module _ (p : Plan) (kept : FlowState) (plan : IsPlan p) (orderly : IsOrderly p 
       let held : Held = held_by n orderly.source.holders in
       let before : HeldBefore p.flat is.text step held =
       (held_is_held p.flat orderly.source n step is.text thread held of.disciplined orderly.keeps found.1 left).1 refl in
-      let set_is : slice_get sets.0 step ≡ Some held = (of.exactly step held).1 before in
-      ap (λ (table : List Held). mask_of (slice_index_or table step [])) (get_or_from_slice_get p.held n sets.0 [] sets.1)
-      ∙ (ap mask_of (get_or_from_slice_get sets.0 step held [] set_is) ∙ ap (λ (os : List (Option ℕ)). mask_of (held_by n os)) (sym orderly.matches.holders))
+      let there_is : slice_get sets.0 step ≡ Some held = (of.exactly step held).1 before in
+      ap (λ (table : List Held). slice_index_or table step []) (get_or_from_slice_get p.held n sets.0 [] sets.1)
+      ∙ (get_or_from_slice_get sets.0 step held [] there_is ∙ ap (λ (os : List (Option ℕ)). held_by n os) (sym orderly.matches.holders))
+
+  pub mask_is : mask_before p t graph_thread.at ≡ mask_of (held_by t.number kept.holders)
+  mask_is = ap mask_of set_is
+
+  pub locks_is : locks_before p t graph_thread.at ≡ locks_held (held_by t.number kept.holders)
+  locks_is = ap locks_held set_is
+
+  pub few_held : length (held_by t.number kept.holders) ≤ 64
+  few_held = omega (arith, length-map kept.holders (λ o. is_held_by t.number o), orderly.locks, plan.formed.shared.mutexes)
+
+  -- the mask before the node has these locks
+  pub mask_has_locks : locks_in (mask_before p t graph_thread.at) ≡ locks_before p t graph_thread.at
+  mask_has_locks = ap locks_in mask_is ∙ (mask_has_held (held_by t.number kept.holders) few_held ∙ sym locks_is)
 
 -- ---- Records
 
-pub between_locks : (r : Record) → r.point ≡ 0 → locks_of r ≡ 0
-between_locks r none = ap (λ (point : ℕ). cond (point == 0) 0 r.mask) none
+pub between_locks : (r : Record) → r.point ≡ 0 → locks_of r ≡ []
+between_locks r none = ap (λ (point : ℕ). cond (point == 0) [] r.locks) none
 
-pub inside_locks : (r : Record) → r.point ≢ 0 → locks_of r ≡ r.mask
-inside_locks r some = cond-false (r.point == 0) 0 r.mask (ne_eqb r.point 0 some)
+pub inside_locks : (r : Record) → r.point ≢ 0 → locks_of r ≡ r.locks
+inside_locks r some = cond-false (r.point == 0) [] r.locks (ne_eqb r.point 0 some)
 
 module _ (p : Plan) (code : Code p) (kept : FlowState) (r : Record) (plan : IsPlan p) (orderly : IsOrderly p kept) where
-  pub locks_are : Describes p code kept r → locks_of r ≡ mask_of (held_by code.thread.number kept.holders)
-  locks_are (between none point) =
-      between_locks r point ∙ sym (eqb-true (mask_of (held_by code.thread.number kept.holders)) 0 (sym (none_where code.thread.number kept.holders) ∙ none))
+  pub locks_are : Describes p code kept r → locks_of r ≡ locks_held (held_by code.thread.number kept.holders)
+  locks_are (between none point) = between_locks r point ∙ sym (no_locks_where code.thread.number kept.holders none)
   locks_are (inside some i) =
-      inside_locks r i.point ∙ (i.mask ∙ mask_is p kept plan orderly code.thread code.of i.graph_thread i.there i.own)
+      inside_locks r i.point ∙ (i.locks ∙ locks_is p kept plan orderly code.thread code.of i.graph_thread i.there i.own)
 
 pub locks_are_held : LocksAreHeld
 locks_are_held p code kept r plan orderly describes lock =
     let same = locks_are p code kept r plan orderly describes in
-    let held = mask_holds code.thread.number kept.holders lock in
-    (λ e. held.0 (sym (ap (λ (mask : ℕ). has_lock mask lock) same) ∙ e), λ e. ap (λ (mask : ℕ). has_lock mask lock) same ∙ held.1 e)
+    let held = locks_hold code.thread.number kept.holders lock in
+    (λ e. held.0 (sym (ap (λ (locks : List ℕ). has_lock locks lock) same) ∙ e), λ e. ap (λ (locks : List ℕ). has_lock locks lock) same ∙ held.1 e)
 
 pub records_are_apart : RecordsAreApart
 records_are_apart p codes kept records plan orderly describe g h lock gb hb eg eh =
@@ -144,7 +151,8 @@ pub points_have_locks : PointsHaveLocks
 points_have_locks p code kept r plan orderly (between none point) = (λ e. point, λ e. between_locks r point)
 points_have_locks p code kept r plan orderly (inside some i) = (
   λ e.
-      let is : mask_of (held_by code.thread.number kept.holders) ≡ 0 = sym (locks_are p code kept r plan orderly (inside some i)) ∙ e in
+      let is : mask_of (held_by code.thread.number kept.holders) ≡ 0 =
+      mask_of_none 0 (held_by code.thread.number kept.holders) (sym (locks_are p code kept r plan orderly (inside some i)) ∙ e) in
       absurd (true≢false (ap (λ (mask : ℕ). mask == 0) (sym is) ∙ (sym (none_where code.thread.number kept.holders) ∙ some))),
   λ e. absurd (i.point e),
 )

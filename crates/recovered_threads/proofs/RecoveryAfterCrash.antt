@@ -4,16 +4,13 @@ use Rattle.std.specs.Prelude.{slice_get}
 use Rattle.std.proofs.lemmas.Bool.{true≢false, cond-true}
 use Rattle.std.proofs.lemmas.Option.{none-some, slice_get_within}
 use Rattle.ido_base.specs.declared.event.Event.TheVariants.{Crash}
-use Rattle.ido_base.specs.Words.{Word, word_at, durable_value, crashed as crashed_words}
-use Rattle.ido_base.specs.Layout.{word_number, point_at, slot_at}
 use Rattle.rv64_isa.specs.declared.object.Slot.{Slot}
 use Rattle.rv64_isa.specs.declared.phase.Phase.TheVariants.{Take, Done}
-use Rattle.rv64_isa.specs.Machine.{Hart, World, after_event, after_crash_of, happens, fresh_hart, phase_after_crash, durable_point, numbers_from, record_of}
-use Rattle.rv64_isa.specs.Machine.{durable_at, bank_of}
+use Rattle.rv64_isa.specs.Machine.{Hart, World, after_event, after_crash_of, happens, fresh_hart, phase_after_crash, durable_point, numbers_from}
 use Rattle.log_states.specs.Logs.{Record, nothing_recorded}
 use Rattle.log_states.specs.Stages.{is_committed}
 use Rattle.log_states.specs.Machines.{config_of}
-use Rattle.log_states.proofs.Public.{point_is, ends_committed, crashes_standing, crashes_crash, crashes_resume}
+use Rattle.log_states.proofs.Public.{log_facts, ends_committed, crashes_standing}
 use Rattle.hart_runs.specs.Laws.{IsCrashed}
 use Rattle.hart_runs.proofs.Public.{crashes_step}
 use Rattle.recovered_threads.specs.RecoveryStates.{HasRecord, Gathers, AreGathering}
@@ -70,7 +67,8 @@ module _ (program : List (List Slot)) (w : World) (records : ℕ → Record) (co
 
 pub crashes_gather : CrashesGather
 crashes_gather program w old new records rest count logs left = gathers program w records count
-    (λ h below. point_is h (old h) (new h) (config_of w (logs h below).hart (rest h)) (logs h below).log ∙ ap (λ (r : Record). r.point) (sym (left h below)))
+    (λ h below. log_facts.record_follows_locks.point h (old h) (new h) (config_of w (logs h below).hart (rest h)) (logs h below).log
+    ∙ ap (λ (r : Record). r.point) (sym (left h below)))
     (λ h below. subst (λ (r : Record). HasRecord (after_event program w Crash) h r) (sym (left h below))
     (crashes_standing program h (old h) (new h) w (rest h) count (logs h below)))
 
@@ -82,19 +80,5 @@ crashes_again program w records count gathering =
 
 -- ---- What the durable log has
 
-durable_same : (w : World) (j : ℕ) → durable_value (word_at (crashed_words w.words) j) ≡ durable_value (word_at w.words j)
-durable_same w j =
-    ap (λ (ws : List Word). durable_value (word_at ws j)) (sym (crashes_crash [] w)) ∙ ap (λ (x : Word). durable_value x) ((crashes_step [] w).words j)
-
-point_same : (w : World) (thread : ℕ) → durable_point (crashed_words w.words) thread ≡ durable_point w.words thread
-point_same w thread = durable_same w (word_number (point_at thread))
-
-record_same : (w : World) (thread : ℕ) → record_of (crashed_words w.words) thread ≡ record_of w.words thread
-record_same w thread =
-    ap (λ (n : ℕ). cond (n == 0) 0 (durable_at (crashed_words w.words) (slot_at thread (bank_of n) 0))) (point_same w thread)
-    ∙ ap (λ (n : ℕ). cond (durable_point w.words thread == 0) 0 n)
-    (durable_same w (word_number (slot_at thread (bank_of (durable_point w.words thread)) 0)))
-
 pub logs_have_locks : LogsHaveLocks
-logs_have_locks thread old new w rest s =
-    sym (record_same w thread) ∙ (crashes_resume thread old new (config_of w s.hart rest) s.log).locks
+logs_have_locks thread old new w rest s = log_facts.record_follows_locks.locks thread old new (config_of w s.hart rest) s.log

@@ -10,7 +10,7 @@ use Rattle.boundary_code.specs.Boundaries.{AtBank}
 use Rattle.log_states.specs.Logs.{Record, nothing_recorded, IsRecord}
 use Rattle.log_states.specs.Machines.{config_of}
 use Rattle.log_states.specs.Laws as log
-use Rattle.log_states.proofs.Public.{ends, record_is_resumed}
+use Rattle.log_states.proofs.Public.{ends, log_facts}
 use Rattle.hart_runs.specs.Calls as runs
 use Rattle.hart_runs.proofs.Public.{moved_harts_begin, resumes_step}
 use Rattle.flow_graph.specs.Actions.{FlowState, seen_by}
@@ -42,7 +42,7 @@ module _ (program : List (List Slot)) (p : Plan) (code : Code p) (kept : FlowSta
   is_record = ready.log.log.follows.new_is
 
   recovered : log.ResumesRecord h r w.words
-  recovered = record_is_resumed h r w.words is_record (ends h nothing_recorded r (config_of w ready.log.hart []) ready.log.log refl)
+  recovered = log_facts.registers_resumed.between h r w.words is_record (ends h nothing_recorded r (config_of w ready.log.hart []) ready.log.log refl)
 
   step : runs.ResumesHart program w h i.hart
   step = resumes_step program w h i

@@ -13,22 +13,23 @@ use Rattle.log_states.specs.Logs.{Record, nothing_recorded}
 use Rattle.log_states.specs.Stages.{is_committed}
 use Rattle.log_states.specs.Machines.{config_of}
 use Rattle.log_states.proofs.Public.{starts_standing}
+use Rattle.thread_code.specs.Plans.{locks_held}
 use Rattle.recovered_threads.specs.RecordDescriptions.{locks_of}
 use Rattle.recovered_threads.specs.RecoveryStates.{HoldsAll, HoldsOnly, Gathers, AreGathering}
 use Rattle.recovered_threads.proofs.RecoveryAfterCrash.{crashes_gather}
 
 -- a point in the second bank, with locks 0 and 2
 abbrev two_locks : Record
-two_locks = record { point = 4097; mask = 5; live = 8 ∷ []; registers = [] }
+two_locks = record { point = 4097; locks = 0 ∷ 2 ∷ []; live = 8 ∷ []; registers = [] }
 
-locks_two : locks_of two_locks ≡ 5
+locks_two : locks_of two_locks ≡ 0 ∷ 2 ∷ []
 locks_two = refl
 
-locks_none : locks_of nothing_recorded ≡ 0
+locks_none : locks_of nothing_recorded ≡ []
 locks_none = refl
 
 -- what is left of a record without a point has no locks
-locks_old : locks_of (record two_locks { point = 0 }) ≡ 0
+locks_old : locks_of (record two_locks { point = 0 }) ≡ []
 locks_old = refl
 
 bank_two : bank_of two_locks.point ≡ 1
@@ -37,7 +38,10 @@ bank_two = refl
 resumes_two : resume_of two_locks.point ≡ 4096
 resumes_two = refl
 
--- the mask of what a thread holds
+-- what a thread holds, as its locks and as a mask
+holds_two : locks_held (held_by 3 (Some 3 ∷ Some 1 ∷ Some 3 ∷ None ∷ [])) ≡ 0 ∷ 2 ∷ []
+holds_two = refl
+
 mask_two : mask_of (held_by 3 (Some 3 ∷ Some 1 ∷ Some 3 ∷ None ∷ [])) ≡ 5
 mask_two = refl
 

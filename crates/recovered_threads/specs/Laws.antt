@@ -1,5 +1,5 @@
 -- What follows from what the records of threads say of the kept state.
-use Rattle.std.specs.Prelude.{◌≡◌, ◌≢◌, ◌⊎◌, ◌↔◌, ℕ, ◌-◌, ◌%◌, ◌^◌, ◌<◌, List, length, slice_get, Option, Some, None, true, false}
+use Rattle.std.specs.Prelude.{◌≡◌, ◌≢◌, ◌⊎◌, ◌↔◌, ℕ, ◌-◌, ◌%◌, ◌^◌, ◌<◌, List, [], length, slice_get, Option, Some, None, true, false}
 use Rattle.ido_base.specs.declared.event.Event.{Event}
 use Rattle.ido_base.specs.declared.event.Event.TheVariants.{Step, Crash}
 use Rattle.ido_base.specs.declared.event.Reply.TheVariants.{Moved}
@@ -53,7 +53,7 @@ LocksAreHeld = (p : Plan) (code : Code p) (kept : FlowState) (r : Record) → Is
 -- a record has no locks exactly where it has no point
 abbrev pub PointsHaveLocks : Type 0
 PointsHaveLocks = (p : Plan) (code : Code p) (kept : FlowState) (r : Record) → IsPlan p → IsOrderly p kept → Describes p code kept r →
-    (locks_of r ≡ 0) ↔ (r.point ≡ 0)
+    (locks_of r ≡ []) ↔ (r.point ≡ 0)
 
 -- at each moment of a boundary they are what the durable log has, and a crash would leave
 abbrev pub LogsHaveLocks : Type 0

@@ -1,5 +1,5 @@
 -- What the records of threads' logs say of the kept state.
-use Rattle.std.specs.Prelude.{◌≡◌, ◌≢◌, ℕ, ◌<◌, length, slice_get, Some, true, false, ◌==◌, if◌then◌else◌}
+use Rattle.std.specs.Prelude.{◌≡◌, ◌≢◌, ℕ, ◌<◌, List, [], length, slice_get, Some, true, false, ◌==◌, if◌then◌else◌}
 use Rattle.ido_base.specs.Locks.{holds_none}
 use Rattle.c_tree.specs.Source as m
 use Rattle.source_machine.specs.Discipline.{StateKeeps}
@@ -11,7 +11,7 @@ use Rattle.flow_graph.specs.Lockstep.{Matches}
 use Rattle.flow_graph.specs.IdempotentCuts.{IsChosen}
 use Rattle.flow_graph.specs.Liveness.{NodeAt}
 use Rattle.log_states.specs.Logs.{Record}
-use Rattle.thread_code.specs.Plans.{Plan, Thread, IsThread, IsNodeOf, mask_before}
+use Rattle.thread_code.specs.Plans.{Plan, Thread, IsThread, IsNodeOf, locks_before, mask_before}
 use Rattle.thread_code.specs.RegistersAtNodes.{Enters}
 use Rattle.thread_code.specs.Programs.{IsThreadCode}
 
@@ -38,9 +38,9 @@ pub record IsOrderly (p : Plan) (s : FlowState) : Type 0 where
 
 -- ---- Records
 
--- the locks of a record, bit i for lock i
-abbrev pub locks_of : Record → ℕ
-locks_of r = if r.point == 0 then 0 else r.mask
+-- the locks of a record
+abbrev pub locks_of : Record → List ℕ
+locks_of r = if r.point == 0 then [] else r.locks
 
 -- after the boundary at which a thread stands at the node, it is resumed at this address
 pub data ResumesAt (p : Plan) (code : Code p) (node : ℕ) : (address : ℕ) → Type 0 where
@@ -58,7 +58,7 @@ pub record IsInside (p : Plan) (code : Code p) (kept : FlowState) (r : Record) :
   pub own : IsNodeOf code.thread graph_thread.at
   pub point : r.point ≢ 0
   pub resumes : ResumesAt p code graph_thread.at (resume_of r.point)
-  pub mask : r.mask ≡ mask_before p code.thread graph_thread.at
+  pub locks : r.locks ≡ locks_before p code.thread graph_thread.at
   pub live : r.live ≡ code.is.places.live graph_thread.at
   -- the registers are those at the boundary, where the point was in a bank before
   pub bank : ℕ

@@ -1,7 +1,9 @@
 -- A point says at once what the machine's definitions say apart: where recovery goes on, and the bank.
-use Rattle.std.proofs.Common.{◌≡◌, ℕ, ◌-◌, ◌*◌, ◌%◌, ◌<◌, ◌==◌, eqb, List, Bool, true, false, refl, sym, ◌∙◌, ap, arith, if◌then◌else◌}
+use Rattle.std.proofs.Common.{◌≡◌, ℕ, ◌-◌, ◌*◌, ◌%◌, ◌<◌, ◌==◌, eqb, List, [], Bool, true, false, refl, sym, ◌∙◌, ap, arith, if◌then◌else◌}
 use Rattle.std.proofs.lemmas.Bool.{cond-true, cond-false, eq-eqb, ne_eqb}
 use Rattle.ido_base.specs.Layout.{bank_bytes, slot_at}
+use Rattle.ido_base.specs.Locks.{locks_in}
+use Rattle.ido_base.proofs.Public.{no_locks}
 use Rattle.ido_base.specs.Words.{Word}
 use Rattle.memory_layout.specs.declared.point.Point.TheVariants.{Idle, At}
 use Rattle.memory_layout.specs.Points.{point_of}
@@ -45,13 +47,13 @@ bank-below word = omega (arith, bank-is word)
 -- ---- What a thread's log says durably, by its point
 
 module _ (words : List Word) (hart : ℕ) where
-  pub idle_record : durable_point words hart ≡ 0 → 0 ≡ record_of words hart
-  idle_record none = sym (cond-true (eqb (durable_point words hart) 0) 0 _ (eq-eqb _ 0 none))
+  pub idle_record : durable_point words hart ≡ 0 → locks_in 0 ≡ record_of words hart
+  idle_record none = no_locks ∙ sym (cond-true (eqb (durable_point words hart) 0) [] _ (eq-eqb _ 0 none))
 
   pub kept_record : (address bank mask : ℕ) → IsPointTo (durable_point words hart) address bank → mask ≡ durable_at words (slot_at hart bank 0) →
-      mask ≡ record_of words hart
+      locks_in mask ≡ record_of words hart
   kept_record address bank mask at is =
-      is ∙ ap (λ (b : ℕ). durable_at words (slot_at hart b 0)) at.in_bank ∙ sym (cond-false (eqb (durable_point words hart) 0) 0 _ at.other)
+      ap locks_in (is ∙ ap (λ (b : ℕ). durable_at words (slot_at hart b 0)) at.in_bank) ∙ sym (cond-false (eqb (durable_point words hart) 0) [] _ at.other)
 
   pub register_0 : (r : ℕ) → r ≡ 0 → 0 ≡ resumed_register words hart r
   register_0 r zero_ = sym (ap (resumed_register words hart) zero_)

@@ -4,7 +4,7 @@ use Rattle.std.proofs.Common.{slice_get, slice_set, Option, Some, None, is_some,
 use Rattle.ido_base.specs.declared.event.Reply.{Reply}
 use Rattle.ido_base.specs.declared.event.Reply.TheVariants.{Moved, Waits, Barrier, Still}
 use Rattle.ido_base.specs.Cores.{is_idle}
-use Rattle.ido_base.specs.Locks.{missing_from}
+use Rattle.ido_base.specs.Locks.{first_missing, locks_in}
 use Rattle.ido_base.specs.Words.{Word}
 use Rattle.line_memory.specs.declared.memory.LineMemory.{LineMemory}
 use Rattle.line_memory.specs.links.MemoryRepresentation.{Represents}
@@ -22,23 +22,23 @@ use Rattle.resume_recovery.specs.links.LeastLockTaker.{taking_among}
 -- ---- Take
 
 -- the lock that a hart lacks, by the record that was read and the table
-missing_is : (number mask : ℕ) (parts : Parts) (w : World) (model : HartModel) → mask ≡ record_of w.words number → PartsStand parts number w model →
-    missing_from 0 w.holders (record_of w.words number) number ≡ missing_from 0 parts.locks mask number
+missing_is : (number mask : ℕ) (parts : Parts) (w : World) (model : HartModel) → locks_in mask ≡ record_of w.words number → PartsStand parts number w model →
+    first_missing w.holders (record_of w.words number) number ≡ first_missing parts.locks (locks_in mask) number
 missing_is number mask parts w model is s =
-    ap (λ (holders : List (Option ℕ)). missing_from 0 holders (record_of w.words number) number) s.holders
-    ∙ ap (λ (m : ℕ). missing_from 0 parts.locks m number) (sym is)
+    ap (λ (holders : List (Option ℕ)). first_missing holders (record_of w.words number) number) s.holders
+    ∙ ap (λ (ls : List ℕ). first_missing parts.locks ls number) (sym is)
 
 module _ (number mask : ℕ) (hart : Hart) (memory : LineMemory) (locks : List (Option ℕ))
-    (is_record : (words : List Word) → Represents memory words → mask ≡ record_of words number) where
+    (is_record : (words : List Word) → Represents memory words → locks_in mask ≡ record_of words number) where
   -- the hart lacks a lock that has a holder
-  pub take_waits : (lock holder : ℕ) → missing_from 0 locks mask number ≡ Some lock → slice_get locks lock ≡ Some (Some holder) →
-      IsStep (λ w model. taken w number model (missing_from 0 w.holders (record_of w.words number) number)) number
+  pub take_waits : (lock holder : ℕ) → first_missing locks (locks_in mask) number ≡ Some lock → slice_get locks lock ≡ Some (Some holder) →
+      IsStep (λ w model. taken w number model (first_missing w.holders (record_of w.words number) number)) number
       (record { phase = Take; hart = hart; memory = memory; locks = locks }) (record { phase = Take; hart = hart; memory = memory; locks = locks })
       (Waits lock holder)
   take_waits lock holder lacks held = record {
     each = λ w model s.
         let parts : Parts = record { phase = Take; hart = hart; memory = memory; locks = locks } in
-        let found : missing_from 0 w.holders (record_of w.words number) number ≡ Some lock =
+        let found : first_missing w.holders (record_of w.words number) number ≡ Some lock =
         missing_is number mask parts w model (is_record w.words s.words) s ∙ lacks in
         let there : slice_get w.holders lock ≡ Some (Some holder) = ap (λ (holders : List (Option ℕ)). slice_get holders lock) s.holders ∙ held in
         subst (λ (o : Option ℕ). PartsEnd parts (Waits lock holder) number w (taken w number model o)) (sym found)
@@ -46,15 +46,15 @@ module _ (number mask : ℕ) (hart : Hart) (memory : LineMemory) (locks : List (
   }
 
   -- the hart lacks a lock that is free
-  pub take_takes : (lock : ℕ) (locks' : List (Option ℕ)) → missing_from 0 locks mask number ≡ Some lock → slice_get locks lock ≡ Some None →
+  pub take_takes : (lock : ℕ) (locks' : List (Option ℕ)) → first_missing locks (locks_in mask) number ≡ Some lock → slice_get locks lock ≡ Some None →
       locks' ≡ slice_set locks lock (Some number) →
-      IsStep (λ w model. taken w number model (missing_from 0 w.holders (record_of w.words number) number)) number
+      IsStep (λ w model. taken w number model (first_missing w.holders (record_of w.words number) number)) number
       (record { phase = Take; hart = hart; memory = memory; locks = locks }) (record { phase = Take; hart = hart; memory = memory; locks = locks' }) Moved
   take_takes lock locks' lacks free is = record {
     each = λ w model s.
         let parts : Parts = record { phase = Take; hart = hart; memory = memory; locks = locks } in
         let after : Parts = record { phase = Take; hart = hart; memory = memory; locks = locks' } in
-        let found : missing_from 0 w.holders (record_of w.words number) number ≡ Some lock =
+        let found : first_missing w.holders (record_of w.words number) number ≡ Some lock =
         missing_is number mask parts w model (is_record w.words s.words) s ∙ lacks in
         let there : slice_get w.holders lock ≡ Some None = ap (λ (holders : List (Option ℕ)). slice_get holders lock) s.holders ∙ free in
         let holders : slice_set w.holders lock (Some number) ≡ locks' = ap (λ (hs : List (Option ℕ)). slice_set hs lock (Some number)) s.holders ∙ sym is in

@@ -1,5 +1,6 @@
 //! What a thread's log says durably: the point, and its bank.
 ghost use Rattle.std.specs.Prelude.{◌≡◌, ◌<◌, ℕ, List, map};
+ghost use Rattle.ido_base.specs.Locks.{locks_in};
 ghost use Rattle.ido_base.specs.Words.{Word};
 ghost use Rattle.line_memory.specs.links.MemoryRepresentation.{Represents, threads_of};
 ghost use Rattle.memory_layout.specs.Points.{point_of};
@@ -42,10 +43,10 @@ pub fn resume_address(hart: u32, memory: &LineMemory) -> u64
     }
 }
 
-/// The mask of the locks that the hart held at its durable point; 0 where that is idle.
+/// The mask of the locks that the hart held at its durable point (bit i stands for lock i); 0 where that is idle.
 pub fn record_of(hart: u32, memory: &LineMemory) -> u64
     requires { hart < threads_of memory.now }
-    ensures { (words : List Word) → Represents memory.now words → result ≡ record_of words hart }
+    ensures { (words : List Word) → Represents memory.now words → locks_in result ≡ record_of words hart }
 {
     match point_of(hart, memory) {
         Point::Idle => 0,

@@ -1,7 +1,7 @@
 //! The step of a hart in recovery.
 ghost use Rattle.std.specs.Prelude.{◌≡◌, ◌<◌, ◌^◌, ℕ, List, Option, length, slice_set};
 ghost use Rattle.ido_base.specs.Cores.{is_idle};
-ghost use Rattle.ido_base.specs.Locks.{missing_from};
+ghost use Rattle.ido_base.specs.Locks.{first_missing};
 ghost use Rattle.line_memory.specs.declared.memory.LineMemory.{LineMemory};
 ghost use Rattle.line_memory.specs.links.MemoryRepresentation.{Represents, threads_of};
 ghost use Rattle.rv64_isa.specs.declared.object.Slot.{Slot};
@@ -23,7 +23,7 @@ use rv64_isa::phase::Phase;
 /// on to wait for the others. The phase that it comes to, and the reply.
 fn take(hart: u32, memory: &LineMemory, locks: &mut LockTable) -> (Phase, Reply)
     requires { hart < threads_of memory.now }
-    ensures step { (it : Hart) → IsStep (λ w model. taken w hart model (missing_from 0 w.holders (record_of w.words hart) hart)) hart
+    ensures step { (it : Hart) → IsStep (λ w model. taken w hart model (first_missing w.holders (record_of w.words hart) hart)) hart
         (record { phase = Take; hart = it; memory = memory.now; locks = locks.old })
         (record { phase = result.0; hart = it; memory = memory.now; locks = locks.new }) result.1 }
     ensures locks { length locks.new ≡ length locks.old }
@@ -67,7 +67,7 @@ fn resume(number: u32, hart: &mut Hart, memory: &LineMemory) -> (Phase, Reply)
 fn take_waits(hart: u32, memory: &LineMemory, locks: &LockTable) -> bool
     requires { hart < threads_of memory.now }
     ensures { (w : World) (model : HartModel) → Represents memory.now w.words → w.holders ≡ locks.now →
-        result ≡ is_idle (taken w hart model (missing_from 0 w.holders (record_of w.words hart) hart)).1 }
+        result ≡ is_idle (taken w hart model (first_missing w.holders (record_of w.words hart) hart)).1 }
 {
     match locks.least_missing(record_of(hart, memory), hart) {
         None => false,

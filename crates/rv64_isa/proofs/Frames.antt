@@ -9,7 +9,7 @@ use Rattle.ido_base.specs.declared.event.Event.{Event}
 use Rattle.ido_base.specs.declared.event.Event.TheVariants.{Step, Evict, Crash}
 use Rattle.ido_base.specs.declared.event.Reply.TheVariants.{Waits}
 use Rattle.ido_base.specs.Words.{Word, Entry, entry_of, stored, drained, evicted, word_of, durable_value}
-use Rattle.ido_base.specs.Locks.{is_held_by, least_held, missing_from}
+use Rattle.ido_base.specs.Locks.{is_held_by, least_held, first_missing}
 use Rattle.ido_base.specs.Layout.{in_range, aligned, byte_number, word_count, initial_words, words_of_bytes, variables_base, logs_base}
 use Rattle.ido_base.specs.Growth.{AreChanged, ArePersisted, IsEntry, AreEntries}
 use Rattle.ido_base.proofs.Public.{changed_refl, changed_by_persisted, stores_change, evictions_raise, write_backs_raise, entries_stay, entries_append}
@@ -273,7 +273,7 @@ module _ (program : List (List Slot)) (h : ℕ) (w : World) (sound : IsWellForme
       settles h w outcome.0 (executes h w hart here (sound.queues h hart here) sound.size (fetched program h hart.pc)) (slice_get outcome.0.harts h) refl
 
   by_phase : (hart : Hart) → slice_get w.harts h ≡ Some hart → (phase : Phase) → OwnQueueStays h w (phase_step program w h hart phase).0
-  by_phase hart here Take = takes h w hart here (sound.queues h hart here) sound.size (missing_from 0 w.holders (record_of w.words h) h)
+  by_phase hart here Take = takes h w hart here (sound.queues h hart here) sound.size (first_missing w.holders (record_of w.words h) h)
   by_phase hart here Wait = waits h w hart here (sound.queues h hart here) sound.size (taking_from 0 w.harts)
   by_phase hart here Resume = moves h w hart here (sound.queues h hart here) sound.size _ refl
   by_phase hart here Run = runs hart here

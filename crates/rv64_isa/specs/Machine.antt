@@ -9,7 +9,7 @@ use Rattle.ido_base.specs.declared.event.Cause.{Cause}
 use Rattle.ido_base.specs.declared.event.Cause.TheVariants.{Illegal, Outside, Unaligned, NoCode, NoCall, NoLock, NotHeld, EndHolding}
 use Rattle.ido_base.specs.Words.{Word, Entry, word_of, word_at, live_value, durable_value, loaded, stored, entry_of, drained, evicted}
 use Rattle.ido_base.specs.Cores.{IsValid}
-use Rattle.ido_base.specs.Locks.{is_held_by, least_held, holds_none, missing_from}
+use Rattle.ido_base.specs.Locks.{is_held_by, least_held, holds_none, first_missing, locks_in}
 use Rattle.ido_base.specs.Layout.{in_range, aligned, byte_number, word_number, point_at, slot_at}
 use Rattle.ido_base.specs.Layout.{bank_bytes, line_bytes, line_count, initial_words, spread_words}
 use Rattle.rv64_isa.specs.declared.object.Object.{Object}
@@ -147,9 +147,9 @@ resume_of point = point - point % 2
 abbrev pub recorded : List Word → (thread slot : ℕ) → ℕ
 recorded words thread slot = durable_at words (slot_at thread (bank_of (durable_point words thread)) slot)
 
--- the record of a thread: the mask of the locks that it held at its durable point
-abbrev pub record_of : List Word → (thread : ℕ) → ℕ
-record_of words thread = if durable_point words thread == 0 then 0 else recorded words thread 0
+-- the record of a thread: the locks that it held at its durable point, in the order in which recovery takes them
+abbrev pub record_of : List Word → (thread : ℕ) → List ℕ
+record_of words thread = if durable_point words thread == 0 then [] else locks_in (recorded words thread 0)
 
 -- takes the lock, or waits for it
 abbrev pub taken : World → ℕ → Hart → Option ℕ → Outcome
@@ -212,7 +212,7 @@ run_step program w h hart =
 
 -- a step of hart h, by its phase
 abbrev pub phase_step : List (List Slot) → World → ℕ → Hart → Phase → Outcome
-phase_step program w h hart Take = taken w h hart (missing_from 0 w.holders (record_of w.words h) h)
+phase_step program w h hart Take = taken w h hart (first_missing w.holders (record_of w.words h) h)
 phase_step program w h hart Wait = waited w h hart (taking_from 0 w.harts)
 phase_step program w h hart Resume = resumed w h hart
 phase_step program w h hart Run = run_step program w h hart

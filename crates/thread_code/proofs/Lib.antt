@@ -1,3 +1,4 @@
 pub mod Public
+mod HeldLocks
 mod KeptRegistersAtNodes
 mod Locals

@@ -1,11 +1,12 @@
 -- What the code of threads is made of.
-use Rattle.std.specs.Prelude.{◌≡◌, ◌↔◌, ℕ, ◌-◌, ◌<◌, ◌≤◌, List, [], map, length, slice_get, slice_index, slice_index_or, Contains, Some, None, Bool}
+use Rattle.std.specs.Prelude.{◌≡◌, ◌↔◌, ℕ, ◌+◌, ◌-◌, ◌<◌, ◌≤◌, List, [], ◌∷◌, map, length, slice_get, slice_index, slice_index_or, Contains, Some, None, Bool}
+use Rattle.std.specs.Prelude.{if◌then◌else◌}
 use Rattle.ido_base.specs.Layout.{variable_at}
 use Rattle.ido_ints.specs.declared.kinds.Kind.{Kind}
 use Rattle.c_tree.specs.Flats as f
 use Rattle.c_tree.specs.WellFormed.{shape_of, IsWellFormed}
 use Rattle.c_tree.specs.Temporaries.{price_fault}
-use Rattle.c_tree.specs.LockDiscipline.{numbers_below}
+use Rattle.c_tree.specs.LockDiscipline.{Held, numbers_below}
 use Rattle.memory_layout.specs.declared.roles.TheConstants.{LOCALS}
 use Rattle.memory_layout.specs.Roles.{pending_address, pending_value}
 use Rattle.lock_discipline.specs.Masks.{mask_of}
@@ -58,9 +59,28 @@ homes p t = record {
   registers = t.registers;
 }
 
--- the locks held before a node of the thread, bit i for lock i
+-- ---- Held locks
+
+-- the numbers of the held locks, ascending, where the first of the set is lock `at`
+abbrev pub locks_held_from : (at : ℕ) → Held → List ℕ
+locks_held_from at [] = []
+locks_held_from at (b ∷ held) = if b then at ∷ locks_held_from (at + 1) held else locks_held_from (at + 1) held
+
+abbrev pub locks_held : Held → List ℕ
+locks_held held = locks_held_from 0 held
+
+-- the set held before a node of the thread
+abbrev pub set_before : Plan → Thread → (node : ℕ) → Held
+set_before p t node = slice_index_or (slice_index_or p.held t.number []) (node - t.part.first) []
+
+-- the locks held there, and bit i for lock i
+abbrev pub locks_before : Plan → Thread → (node : ℕ) → List ℕ
+locks_before p t node = locks_held (set_before p t node)
+
 abbrev pub mask_before : Plan → Thread → (node : ℕ) → ℕ
-mask_before p t node = mask_of (slice_index_or (slice_index_or p.held t.number []) (node - t.part.first) [])
+mask_before p t node = mask_of (set_before p t node)
+
+-- ---- Registers to keep
 
 -- a register that is live at the node's entry: a live local's, or before a store those of what it stores
 pub data IsKept (p : Plan) (t : Thread) (node : ℕ) : (register : ℕ) → Type 0 where

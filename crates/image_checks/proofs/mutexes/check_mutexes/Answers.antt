@@ -15,5 +15,5 @@ loop-lock-preserved c = below_more (IsUnshared c.args.logs.now c.args.threads) c
 pub returns : goal.returns
 returns c lock = ⊎_elim
     (λ low. c.loop-lock.invariant lock (omega arith))
-    (λ high one other apart within holds. absurd (no_holder c.args.logs.now one lock (λ i. (c.type_inv.logs i).fits) high holds))
+    (λ high one other apart within holds. absurd (no_holder c.args.logs.now one lock high holds))
     (cases_lt lock MASK_BITS)

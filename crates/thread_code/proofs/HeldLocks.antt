@@ -1,0 +1,82 @@
+-- The numbers of held locks, and the mask that has a bit for each.
+use Rattle.std.proofs.Common.{◌≡◌, ℕ, zero, suc, ◌+◌, ◌*◌, ◌/◌, ◌%◌, ◌^◌, ◌<◌, ◌≤◌, ◌==◌, ◌||◌, List, [], ◌∷◌, length, refl, ap, ap₂, arith, ◌∙◌, cond}
+use Rattle.std.proofs.Common.{Bool, true, false, pow-suc}
+use Rattle.std.proofs.lemmas.Bool.{or_left, ne_eqb, eq-eqb}
+use Rattle.ido_base.specs.Locks.{has_lock, locks_from, locks_in, mask_with}
+use Rattle.c_tree.specs.LockDiscipline.{Held, holds}
+use Rattle.lock_discipline.specs.Masks.{mask_of}
+use Rattle.thread_code.specs.Plans.{locks_held_from, locks_held}
+
+-- ---- The mask
+
+lowest : (b : Bool) (m : ℕ) → ((cond b 1 0 + 2 * m) % 2 == 1) ≡ b
+lowest true m = let e : (1 + 2 * m) % 2 ≡ 1 = omega arith in ap (λ (n : ℕ). n == 1) e
+lowest false m = let e : (0 + 2 * m) % 2 ≡ 0 = omega arith in ap (λ (n : ℕ). n == 1) e
+
+half : (b : Bool) (m : ℕ) → (cond b 1 0 + 2 * m) / 2 ≡ m
+half true m = omega arith
+half false m = omega arith
+
+along : (at bits : ℕ) (held : Held) → length held ≤ bits → locks_from at bits (mask_of held) ≡ locks_held_from at held
+along at zero [] few = refl
+along at zero (b ∷ held) few = absurd (let z : ⊥ = omega (arith, few) in z)
+along at (suc bits) [] few = along (at + 1) bits [] (omega arith)
+along at (suc bits) (b ∷ held) few =
+    ap₂ (λ (odd : Bool) (more : ℕ). cond odd (at ∷ locks_from (at + 1) bits more) (locks_from (at + 1) bits more))
+    (lowest b (mask_of held)) (half b (mask_of held))
+    ∙ ap (λ (more : List ℕ). cond b (at ∷ more) more) (along (at + 1) bits held (omega (arith, few)))
+
+-- the locks of a set's mask are those that it holds
+pub mask_has_held : (held : Held) → length held ≤ 64 → locks_in (mask_of held) ≡ locks_held held
+unfolding locks_in
+mask_has_held held few = along 0 64 held few
+
+-- and the mask with these locks is the set's
+next_power : (at : ℕ) → 2 ^ (at + 1) ≡ 2 ^ at * 2
+next_power at = let s : at + 1 ≡ suc at = omega arith in ap (λ (n : ℕ). 2 ^ n) s ∙ pow-suc 2 at
+
+with_held_from : (at : ℕ) (held : Held) → mask_with (locks_held_from at held) ≡ mask_of held * 2 ^ at
+with_held_from at [] = let e : 0 ≡ 0 * 2 ^ at = omega arith in e
+with_held_from at (true ∷ held) =
+    ap (λ (k : ℕ). 2 ^ at + k) (with_held_from (at + 1) held ∙ ap (λ (p : ℕ). mask_of held * p) (next_power at))
+    ∙ (let e : 2 ^ at + mask_of held * (2 ^ at * 2) ≡ (1 + 2 * mask_of held) * 2 ^ at = omega arith in e)
+with_held_from at (false ∷ held) =
+    with_held_from (at + 1) held ∙ (ap (λ (p : ℕ). mask_of held * p) (next_power at)
+    ∙ (let e : mask_of held * (2 ^ at * 2) ≡ (0 + 2 * mask_of held) * 2 ^ at = omega arith in e))
+
+pub mask_with_held : (held : Held) → mask_with (locks_held held) ≡ mask_of held
+mask_with_held held = with_held_from 0 held ∙ (let e : mask_of held * 1 ≡ mask_of held = omega arith in e)
+
+-- there is none exactly where the mask is 0
+pub none_in_mask : (at : ℕ) (held : Held) → mask_of held ≡ 0 → locks_held_from at held ≡ []
+none_in_mask at [] e = refl
+none_in_mask at (true ∷ held) e = absurd (let z : ⊥ = omega (arith, e) in z)
+none_in_mask at (false ∷ held) e = none_in_mask (at + 1) held (omega (arith, e))
+
+pub mask_of_none : (at : ℕ) (held : Held) → locks_held_from at held ≡ [] → mask_of held ≡ 0
+mask_of_none at [] e = refl
+mask_of_none at (true ∷ held) e = cc
+mask_of_none at (false ∷ held) e = let z : mask_of held ≡ 0 = mask_of_none (at + 1) held e in omega (arith, z)
+
+-- ---- Each lock
+
+none_before : (at : ℕ) (held : Held) (lock : ℕ) → lock < at → has_lock (locks_held_from at held) lock ≡ false
+none_before at [] lock below = refl
+none_before at (true ∷ held) lock below =
+    ap (λ (b : Bool). b || has_lock (locks_held_from (at + 1) held) lock) (ne_eqb at lock (λ e. omega (arith, e, below)))
+    ∙ none_before (at + 1) held lock (omega (arith, below))
+none_before at (false ∷ held) lock below = none_before (at + 1) held lock (omega (arith, below))
+
+has_from : (at : ℕ) (held : Held) (k : ℕ) → has_lock (locks_held_from at held) (at + k) ≡ holds held k
+has_from at [] k = refl
+has_from at (true ∷ held) zero =
+    or_left (at == at + 0) (has_lock (locks_held_from (at + 1) held) (at + 0)) (eq-eqb at (at + 0) (let z : at ≡ at + 0 = omega arith in z))
+has_from at (false ∷ held) zero = none_before (at + 1) held (at + 0) (omega arith)
+has_from at (true ∷ held) (suc k) =
+    ap (λ (b : Bool). b || has_lock (locks_held_from (at + 1) held) (at + suc k)) (ne_eqb at (at + suc k) (λ e. omega (arith, e)))
+    ∙ (ap (λ (n : ℕ). has_lock (locks_held_from (at + 1) held) n) (let z : at + suc k ≡ at + 1 + k = omega arith in z) ∙ has_from (at + 1) held k)
+has_from at (false ∷ held) (suc k) =
+    ap (λ (n : ℕ). has_lock (locks_held_from (at + 1) held) n) (let z : at + suc k ≡ at + 1 + k = omega arith in z) ∙ has_from (at + 1) held k
+
+pub has_held : (held : Held) (lock : ℕ) → has_lock (locks_held held) lock ≡ holds held lock
+has_held held lock = ap (λ (n : ℕ). has_lock (locks_held held) n) (let z : lock ≡ 0 + lock = omega arith in z) ∙ has_from 0 held lock
