@@ -2,6 +2,7 @@
 ghost use Rattle.std.specs.Prelude.{◌≡◌, [], length, IfOk};
 
 use ido_base::event::Event;
+use ido_base::machine::Core;
 use ido_base::memory::OutOfMemory;
 use run_tracker::life::Life;
 use rv64_isa::object::{Marks, Object, ThreadMarks};
@@ -13,7 +14,7 @@ const AGAIN: u32 = 0x6f;
 
 /// Two threads without marks, which go on for ever.
 fn life_of(alloc: Global) -> Result<Life, OutOfMemory>
-    ensures threads { IfOk result (λ life. length life.program ≡ 2) }
+    ensures threads { IfOk result (λ life. length life.runs.program ≡ 2) }
     ensures none { IfOk result (λ life. life.journal ≡ []) }
     ensures room { IfOk result (λ life. life.cap ≡ 8) }
 {
@@ -64,5 +65,20 @@ fn a_journal(rt: HostRuntime) -> Result<(), Fail> {
         .as_slice()
     );
     assert_eq!(rt; life.room(), 0);
+    Ok(())
+}
+
+/// The number of events of a core that may be handed to a thread.
+fn events_of_handed<C: Core + Send + Drop>(core: C) -> u64
+    ensures { result ≡ length (C.history core) }
+{
+    core.events()
+}
+
+#[test]
+fn a_life_may_be_handed_to_a_thread(rt: HostRuntime) -> Result<(), Fail> {
+    let mut life = life_of(rt.alloc())?;
+    life.event(Event::Step(1));
+    assert_eq!(rt; events_of_handed(life), 1);
     Ok(())
 }

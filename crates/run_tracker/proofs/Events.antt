@@ -33,20 +33,20 @@ pub along_more : (marks : List (List ℕ)) (program : List (List Slot)) (w : Wor
 along_more marks program w [] event s = refl
 along_more marks program w (e ∷ es) event s = along_more marks program (after_event program w e) es event (steps_after marks program w e s)
 
-pub played_is : (m : LifeConfig) (events : List Event) → played living m events ≡ record m { world = after_events m.program m.world events }
+pub played_is : (m : LifeConfig) (events : List Event) → played living m events ≡ record m { world = after_events m.runs.program m.world events }
 played_is m [] = refl
-played_is m (e ∷ es) = played_is (record m { world = after_event m.program m.world e }) es
+played_is m (e ∷ es) = played_is (record m { world = after_event m.runs.program m.world e }) es
 
 pub points_more : (m : LifeConfig) (events : List Event) (event : Event) (h : ℕ)
     → point_stores living m (events ++ event ∷ []) h
-    ≡ point_stores living m events h + cond (stores_point m.program (after_events m.program m.world events) event h) 1 0
+    ≡ point_stores living m events h + cond (stores_point m.runs.program (after_events m.runs.program m.world events) event h) 1 0
 points_more m events event h =
     passed_count-more living (λ (n : LifeConfig). living.stores_point n h) m events event
     ∙ ap (λ (n : LifeConfig). point_stores living m events h + cond (living.stores_point n h event) 1 0) (played_is m events)
 
 pub fences_more : (m : LifeConfig) (events : List Event) (event : Event) (h : ℕ)
     → finished_fences living m (events ++ event ∷ []) h
-    ≡ finished_fences living m events h + cond (finishes_fence m.program (after_events m.program m.world events) event h) 1 0
+    ≡ finished_fences living m events h + cond (finishes_fence m.runs.program (after_events m.runs.program m.world events) event h) 1 0
 fences_more m events event h =
     passed_count-more living (λ (n : LifeConfig). living.finishes_fence n h) m events event
     ∙ ap (λ (n : LifeConfig). finished_fences living m events h + cond (living.finishes_fence n h event) 1 0) (played_is m events)

@@ -1,10 +1,11 @@
 -- A life stands after an event.
-use Rattle.std.proofs.Common.{◌≡◌, ℕ, ◌+◌, ◌/◌, ◌<◌, ◌≤◌, ◌^◌, List, [], ◌∷◌, ◌++◌, length}
-use Rattle.std.proofs.Common.{map, slice_index, Bool, cond, ap, sym, subst, ◌∙◌, arith, length-append}
+use Rattle.std.proofs.Common.{◌≡◌, ℕ, ◌+◌, ◌<◌, ◌≤◌, ◌^◌, List, [], ◌∷◌, ◌++◌, length}
+use Rattle.std.proofs.Common.{slice_index, Bool, cond, ap, sym, subst, ◌∙◌, arith, length-append}
 use Rattle.std.specs.Vec.{vec_capacity, vec_len}
 use Rattle.ido_base.specs.declared.event.Event.{Event}
 use Rattle.ido_base.specs.Cores.{point_stores, finished_fences}
 use Rattle.rv64_isa.specs.declared.object.Slot.{Slot}
+use Rattle.rv64_isa.specs.Executables.{node_marks}
 use Rattle.rv64_isa.specs.Frames.{IsWellFormedWorld}
 use Rattle.rv64_isa.proofs.Public.{queues_stand}
 use Rattle.rv64_isa.specs.Machine.{World, IsValidEvent, after_event}
@@ -19,7 +20,7 @@ use Rattle.run_tracker.specs.links.AccountRepresentation.{AccountInv, AreOpen, A
 use Rattle.run_tracker.specs.links.SignTables.{AreTables}
 use Rattle.run_tracker.specs.ObjectLives.{Course, world_of, steps_in, with_event, living, opening_of}
 use Rattle.run_tracker.specs.links.LifeParts.{AreCounted, HaveCounted, HasCounts}
-use Rattle.run_tracker.specs.links.LifeRepresentation.{course_of, opening_by, AreCounts, LifeInv}
+use Rattle.run_tracker.specs.links.LifeRepresentation.{course_of, executable_by, opening_by, AreCounts, LifeInv}
 use Rattle.run_tracker.proofs.Events.{after_more, along_more, points_more, fences_more, harts-after, weight-after, ordered-after}
 use Rattle.run_tracker.proofs.EventCounts.{passed-few}
 use Rattle.run_tracker.proofs.StepsStayOpen.{open-after}
@@ -50,7 +51,7 @@ module _ (life : Inside) (stands : LifeInv life) where
       (same : program_in machine ≡ program_in life.machine) (events : events_of machine ≡ events_of life.machine + 1)
       (world : RepresentsMachine machine (after_event (program_in life.machine) (world_of (course_of life)) event))
       (steps : AccountInv account
-      (steps_after (map (λ a. a.items) life.addresses.items) (program_in life.machine) (world_of (course_of life)) event (steps_in (course_of life))))
+      (steps_after (node_marks life.marks.threads.items) (program_in life.machine) (world_of (course_of life)) event (steps_in (course_of life))))
       (counted : HaveCounted life.counts counts (program_in life.machine) (world_of (course_of life)) event)
       (journal_is : journal ≡ record life.journal { events = life.journal.events ++ event ∷ [] })
       (kept_room : vec_capacity account.kept ≡ vec_capacity life.account.kept) (stores_room : vec_capacity account.stores ≡ vec_capacity life.account.stores)
@@ -58,9 +59,7 @@ module _ (life : Inside) (stands : LifeInv life) where
     pub course_is : course_of (record life { machine = machine; account = account; journal = journal; counts = counts }) ≡ with_event (course_of life) event
     course_is =
         let at : List (List Slot) → List Event → Course = λ p j. record {
-          program = p;
-          marks = map (λ a. a.items) life.addresses.items;
-          variable_words = length life.initial.items / 8;
+          runs = executable_by p life;
           kept_before = life.before.items;
           opening = opening_by p life.mutexes life.initial.items life.left;
           journal = j;
@@ -72,8 +71,8 @@ module _ (life : Inside) (stands : LifeInv life) where
     world_is = after_more (program_in life.machine) (course_of life).opening life.journal.events event
 
     steps_are : steps_in (with_event (course_of life) event)
-        ≡ steps_after (map (λ a. a.items) life.addresses.items) (program_in life.machine) (world_of (course_of life)) event (steps_in (course_of life))
-    steps_are = along_more (map (λ a. a.items) life.addresses.items) (program_in life.machine) (course_of life).opening life.journal.events event _
+        ≡ steps_after (node_marks life.marks.threads.items) (program_in life.machine) (world_of (course_of life)) event (steps_in (course_of life))
+    steps_are = along_more (node_marks life.marks.threads.items) (program_in life.machine) (course_of life).opening life.journal.events event _
 
     -- what is so of the course with the event is so of the new one
     moved : (P : Course → Type 0) → P (with_event (course_of life) event) →
@@ -98,36 +97,36 @@ module _ (life : Inside) (stands : LifeInv life) where
           moved (λ (x : Course). IsWellFormedWorld (world_of x))
           (subst IsWellFormedWorld (sym world_is) (queues_stand (program_in life.machine) (world_of (course_of life)) event (sym hart_count) stands.sound).0);
       events = omega (arith, events, stands.events, longer);
-      tables = subst (λ (p : List (List Slot)). AreTables life.tables.items p (map (λ a. a.items) life.addresses.items)) (sym same) stands.tables;
+      tables = subst (λ (p : List (List Slot)). AreTables life.tables.items p (node_marks life.marks.threads.items)) (sym same) stands.tables;
       marked = stands.marked ∙ ap length (sym same);
       account = moved (λ (x : Course). AccountInv account (steps_in x)) (subst (AccountInv account) (sym steps_are) steps);
       harts =
-          sym steps.count ∙ harts-after (map (λ a. a.items) life.addresses.items) (program_in life.machine) (world_of (course_of life)) event
+          sym steps.count ∙ harts-after (node_marks life.marks.threads.items) (program_in life.machine) (world_of (course_of life)) event
           (steps_in (course_of life)) ∙ steps_count ∙ ap length (sym same);
       ordered = moved (λ (x : Course). AreOrdered (world_of x).words (steps_in x))
           (subst (λ (w : World). AreOrdered w.words (steps_in (with_event (course_of life) event))) (sym world_is)
           (subst (AreOrdered (after_event (program_in life.machine) (world_of (course_of life)) event).words) (sym steps_are)
-          (ordered-after (map (λ a. a.items) life.addresses.items) (program_in life.machine) (world_of (course_of life)) event (steps_in (course_of life))
+          (ordered-after (node_marks life.marks.threads.items) (program_in life.machine) (world_of (course_of life)) event (steps_in (course_of life))
           stands.sound stands.ordered)));
       are_open = moved (λ (x : Course). AreOpen (world_of x).words (steps_in x))
           (subst (λ (w : World). AreOpen w.words (steps_in (with_event (course_of life) event))) (sym world_is)
           (subst (AreOpen (after_event (program_in life.machine) (world_of (course_of life)) event).words) (sym steps_are)
-          (open-after (map (λ a. a.items) life.addresses.items) (program_in life.machine) (world_of (course_of life)) event (steps_in (course_of life)))));
+          (open-after (node_marks life.marks.threads.items) (program_in life.machine) (world_of (course_of life)) event (steps_in (course_of life)))));
       light = moved (λ (x : Course). weight (steps_in x) ≤ length life.before.items + length journal.events)
           (subst (λ (s : Steps). weight s ≤ length life.before.items + length journal.events) (sym steps_are)
           (omega (
             arith,
-            weight-after (map (λ a. a.items) life.addresses.items) (program_in life.machine) (world_of (course_of life)) event
+            weight-after (node_marks life.marks.threads.items) (program_in life.machine) (world_of (course_of life)) event
                 (steps_in (course_of life)) valid_steps,
             stands.light,
             longer,
           )));
-      points = moved (λ (x : Course). AreCounts counts.points.items (length x.program) (point_stores living (opening_of x) x.journal))
+      points = moved (λ (x : Course). AreCounts counts.points.items (length x.runs.program) (point_stores living (opening_of x) x.journal))
           (counts_are life.counts.points.items counts.points.items (point_stores living (opening_of (course_of life)) life.journal.events)
           (point_stores living (opening_of (course_of life)) (life.journal.events ++ event ∷ []))
           (λ h. stores_point (program_in life.machine) (world_of (course_of life)) event h) stands.points counted.points
           (λ h. points_more (opening_of (course_of life)) life.journal.events event h));
-      fences = moved (λ (x : Course). AreCounts counts.fences.items (length x.program) (finished_fences living (opening_of x) x.journal))
+      fences = moved (λ (x : Course). AreCounts counts.fences.items (length x.runs.program) (finished_fences living (opening_of x) x.journal))
           (counts_are life.counts.fences.items counts.fences.items (finished_fences living (opening_of (course_of life)) life.journal.events)
           (finished_fences living (opening_of (course_of life)) (life.journal.events ++ event ∷ []))
           (λ h. finishes_fence (program_in life.machine) (world_of (course_of life)) event h) stands.fences counted.fences

@@ -1,5 +1,5 @@
 -- A life stands after the steps that it adopts.
-use Rattle.std.proofs.Common.{◌≡◌, ℕ, ◌+◌, ◌/◌, ◌<◌, ◌≤◌, List, [], ◌++◌, length, replicate, map}
+use Rattle.std.proofs.Common.{◌≡◌, ℕ, ◌+◌, ◌<◌, ◌≤◌, List, [], ◌++◌, length, replicate}
 use Rattle.std.proofs.Common.{slice_get, slice_index_or, Some, ap, sym, subst, ◌∙◌, arith, length-append}
 use Rattle.std.proofs.lemmas.List.{length-replicate}
 use Rattle.std.specs.Vec.{vec_capacity, vec_len}
@@ -8,6 +8,7 @@ use Rattle.ido_base.specs.declared.event.Event.TheVariants.{Step}
 use Rattle.ido_base.specs.Cores.{point_stores, finished_fences}
 use Rattle.rv64_isa.specs.declared.object.Slot.{Slot}
 use Rattle.rv64_isa.specs.declared.phase.Phase.TheVariants.{Run}
+use Rattle.rv64_isa.specs.Executables.{node_marks}
 use Rattle.rv64_isa.specs.Frames.{IsWellFormedWorld}
 use Rattle.rv64_isa.specs.Machine.{Hart, World, with_hart}
 use Rattle.rv64_isa.specs.Schedule.{Steps}
@@ -24,16 +25,16 @@ use Rattle.run_tracker.specs.links.SignTables.{AreTables}
 use Rattle.run_tracker.specs.links.LocalRepresentation.{marks_passed, with_more_begun}
 use Rattle.run_tracker.specs.LocalRuns.{with_steps}
 use Rattle.run_tracker.specs.ObjectLives.{Course, living, opening_of, steps_in, world_of}
-use Rattle.run_tracker.specs.links.LifeRepresentation.{course_of, opening_by, AreCounts, LifeInv}
+use Rattle.run_tracker.specs.links.LifeRepresentation.{course_of, executable_by, opening_by, AreCounts, LifeInv}
 use Rattle.run_tracker.proofs.LifeAfterEvent.{hart_count, steps_count}
-use Rattle.run_tracker.proofs.LocalRuns.{IsAhead, is_ahead}
+use Rattle.run_tracker.proofs.LocalRuns.{HasRunLocally, has_run_locally}
 use Rattle.run_tracker.proofs.MoreBegun.{length-more, open-more, ordered-more, weight-more}
 
 module _ (life : Inside) (stands : LifeInv life) (h made passed : ℕ) (hart : Hart) (s : LocalState) (machine : Machine) (account : Account) (journal : Recorded)
     (exists : h < length (program_in life.machine)) (there : slice_get (world_of (course_of life)).harts h ≡ Some hart)
     (running : 0 < made → hart.phase ≡ Run)
     (run : local_run (placed_code (program_in life.machine) h) (local_state_of hart) made ≡ Some s)
-    (passed_is : passed ≡ marks_passed (slice_index_or (map (λ a. a.items) life.addresses.items) h []) (placed_code (program_in life.machine) h)
+    (passed_is : passed ≡ marks_passed (slice_index_or (node_marks life.marks.threads.items) h []) (placed_code (program_in life.machine) h)
     (local_state_of hart) made) (few : passed ≤ made) (room : length life.journal.events + made ≤ life.cap)
     (same : program_in machine ≡ program_in life.machine) (events : events_of machine ≡ events_of life.machine + made)
     (world : RepresentsMachine machine (with_hart (world_of (course_of life)) h (with_local_state hart s)))
@@ -49,9 +50,7 @@ module _ (life : Inside) (stands : LifeInv life) (h made passed : ℕ) (hart : H
   pub course_steps : course_of (record life { machine = machine; account = account; journal = journal }) ≡ with_steps (course_of life) h made
   course_steps =
       let at : List (List Slot) → List Event → Course = λ p j. record {
-        program = p;
-        marks = map (λ a. a.items) life.addresses.items;
-        variable_words = length life.initial.items / 8;
+        runs = executable_by p life;
         kept_before = life.before.items;
         opening = opening_by p life.mutexes life.initial.items life.left;
         journal = j;
@@ -59,8 +58,8 @@ module _ (life : Inside) (stands : LifeInv life) (h made passed : ℕ) (hart : H
       } in
       ap (λ (p : List (List Slot)). at p journal.events) same ∙ ap (λ (j : Recorded). at (program_in life.machine) j.events) journal_is
 
-  ahead : IsAhead (course_of life) h hart made s
-  ahead = is_ahead (course_of life) h hart there stands.are_open stands.sound (sym (hart_count life stands)) made s running run
+  ahead : HasRunLocally (course_of life) h hart made s
+  ahead = has_run_locally (course_of life) h hart there stands.are_open stands.sound (sym (hart_count life stands)) made s running run
 
   steps_new : steps_in (with_steps before h made) ≡ with_more_begun h passed (steps_in before)
   steps_new = ahead.steps ∙ ap (λ (k : ℕ). with_more_begun h k (steps_in before)) (sym passed_is)
@@ -94,7 +93,7 @@ module _ (life : Inside) (stands : LifeInv life) (h made passed : ℕ) (hart : H
     machine = moved (λ (x : Course). RepresentsMachine machine (world_of x)) (subst (RepresentsMachine machine) (sym ahead.world) world);
     sound = moved (λ (x : Course). IsWellFormedWorld (world_of x)) ahead.sound;
     events = omega (arith, events, stands.events, longer);
-    tables = subst (λ (p : List (List Slot)). AreTables life.tables.items p (map (λ a. a.items) life.addresses.items)) (sym same) stands.tables;
+    tables = subst (λ (p : List (List Slot)). AreTables life.tables.items p (node_marks life.marks.threads.items)) (sym same) stands.tables;
     marked = stands.marked ∙ ap length (sym same);
     account = on_words (λ w t. AccountInv account t) steps;
     harts = sym steps.count ∙ length-more h passed (steps_in before) ∙ steps_count life stands ∙ ap length (sym same);
@@ -102,10 +101,10 @@ module _ (life : Inside) (stands : LifeInv life) (h made passed : ℕ) (hart : H
     are_open = on_words (λ w t. AreOpen w.words t) (open-more (world_of before).words h passed (steps_in before) stands.are_open);
     light = on_words (λ w t. weight t ≤ length life.before.items + length journal.events)
         (omega (arith, weight-more h passed (steps_in before) within, stands.light, longer, few));
-    points = moved (λ (x : Course). AreCounts life.counts.points.items (length x.program) (point_stores living (opening_of x) x.journal))
+    points = moved (λ (x : Course). AreCounts life.counts.points.items (length x.runs.program) (point_stores living (opening_of x) x.journal))
         (same_counts life.counts.points.items (point_stores living (opening_of before) life.journal.events)
         (point_stores living (opening_of before) (with_steps before h made).journal) stands.points ahead.points);
-    fences = moved (λ (x : Course). AreCounts life.counts.fences.items (length x.program) (finished_fences living (opening_of x) x.journal))
+    fences = moved (λ (x : Course). AreCounts life.counts.fences.items (length x.runs.program) (finished_fences living (opening_of x) x.journal))
         (same_counts life.counts.fences.items (finished_fences living (opening_of before) life.journal.events)
         (finished_fences living (opening_of before) (with_steps before h made).journal) stands.fences ahead.fences);
     within = omega (arith, room, longer);

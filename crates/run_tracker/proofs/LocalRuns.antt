@@ -57,38 +57,39 @@ run_before code first few (suc most) s within e = elim (cases_eq few (suc most))
 ]
 
 -- the life after so many local instructions of hart h, by registers and pc after them
-pub record IsAhead (life : Course) (h : ℕ) (hart : Hart) (n : ℕ) (s : LocalState) : Type 0 where
+pub record HasRunLocally (life : Course) (h : ℕ) (hart : Hart) (n : ℕ) (s : LocalState) : Type 0 where
   pub world : world_of (with_steps life h n) ≡ with_hart (world_of life) h (with_local_state hart s)
   pub steps : steps_in (with_steps life h n)
-      ≡ with_more_begun h (marks_passed (slice_index_or life.marks h []) (placed_code life.program h) (local_state_of hart) n) (steps_in life)
+      ≡ with_more_begun h (marks_passed (slice_index_or life.runs.marks h []) (placed_code life.runs.program h) (local_state_of hart) n) (steps_in life)
   pub sound : IsWellFormedWorld (world_of (with_steps life h n))
-  pub count : length life.program ≡ length (world_of (with_steps life h n)).harts
+  pub count : length life.runs.program ≡ length (world_of (with_steps life h n)).harts
   pub points : (g : ℕ) → point_stores living (opening_of life) (with_steps life h n).journal g ≡ point_stores living (opening_of life) life.journal g
   pub fences : (g : ℕ) → finished_fences living (opening_of life) (with_steps life h n).journal g ≡ finished_fences living (opening_of life) life.journal g
 
 module _ (life : Course) (h : ℕ) (hart : Hart) (there : slice_get (world_of life).harts h ≡ Some hart)
     (is_open : AreOpen (world_of life).words (steps_in life)) (sound : IsWellFormedWorld (world_of life))
-    (count : length life.program ≡ length (world_of life).harts) where
+    (count : length life.runs.program ≡ length (world_of life).harts) where
   abbrev start_steps : Steps
-  start_steps = first_steps (length life.program) life.kept_before
+  start_steps = first_steps (length life.runs.program) life.kept_before
 
-  start : IsAhead life h hart zero (local_state_of hart)
+  start : HasRunLocally life h hart zero (local_state_of hart)
   start =
       let none : life.journal ++ [] ≡ life.journal = append-nil life.journal in
-      let world_same : world_of (with_steps life h zero) ≡ world_of life = ap (after_events life.program life.opening) none in
+      let world_same : world_of (with_steps life h zero) ≡ world_of life = ap (after_events life.runs.program life.opening) none in
       record {
         world =
             world_same
             ∙ ap (λ (hs : List Hart). record (world_of life) { harts = hs }) (sym (set_found (world_of life).harts h hart there));
-        steps = ap (λ (j : List Event). steps_along life.marks life.program life.opening j start_steps) none;
+        steps = ap (λ (j : List Event). steps_along life.runs.marks life.runs.program life.opening j start_steps) none;
         sound = subst IsWellFormedWorld (sym world_same) sound;
         count = count ∙ ap (λ (w : World). length w.harts) (sym world_same);
         points = λ g. ap (λ (j : List Event). point_stores living (opening_of life) j g) none;
         fences = λ g. ap (λ (j : List Event). finished_fences living (opening_of life) j g) none;
       }
 
-  module _ (running : hart.phase ≡ Run) (n : ℕ) (s t : LocalState) (ahead : IsAhead life h hart n s)
-      (run : local_run (placed_code life.program h) (local_state_of hart) n ≡ Some s) (local : local_step (placed_code life.program h) s ≡ Some t) where
+  module _ (running : hart.phase ≡ Run) (n : ℕ) (s t : LocalState) (ahead : HasRunLocally life h hart n s)
+      (run : local_run (placed_code life.runs.program h) (local_state_of hart) n ≡ Some s)
+      (local : local_step (placed_code life.runs.program h) s ≡ Some t) where
     abbrev w : World
     w = world_of (with_steps life h n)
 
@@ -104,17 +105,17 @@ module _ (life : Course) (h : ℕ) (hart : Hart) (there : slice_get (world_of li
     pub at_there : slice_get w.harts h ≡ Some at
     at_there = ap (λ (v : World). slice_get v.harts h) ahead.world ∙ found_set (world_of life).harts h hart at there
 
-    pub moves : reply_to life.program w (Step h) ≡ Moved
-    moves = reply_is life.program w h at t at_there running local
+    pub moves : reply_to life.runs.program w (Step h) ≡ Moved
+    moves = reply_is life.runs.program w h at t at_there running local
 
     open_now : AreOpen w.words (steps_in (with_steps life h n))
     open_now =
-        let passed = marks_passed (slice_index_or life.marks h []) (placed_code life.program h) (local_state_of hart) n in
+        let passed = marks_passed (slice_index_or life.runs.marks h []) (placed_code life.runs.program h) (local_state_of hart) n in
         subst (λ (v : World). AreOpen v.words (steps_in (with_steps life h n))) (sym ahead.world)
         (subst (AreOpen (world_of life).words) (sym ahead.steps) (open-more (world_of life).words h passed (steps_in life) is_open))
 
-    after : world_of (with_steps life h (suc n)) ≡ after_event life.program w (Step h)
-    after = ap (after_events life.program life.opening) more ∙ after_more life.program life.opening journal (Step h)
+    after : world_of (with_steps life h (suc n)) ≡ after_event life.runs.program w (Step h)
+    after = ap (after_events life.runs.program life.opening) more ∙ after_more life.runs.program life.opening journal (Step h)
 
     begun_more : (m : Bool) (passed : ℕ) → begun_if m h (with_more_begun h passed (steps_in life)) ≡ with_more_begun h (passed + cond m 1 0) (steps_in life)
     begun_more true passed =
@@ -124,24 +125,24 @@ module _ (life : Course) (h : ℕ) (hart : Hart) (there : slice_get (world_of li
         let none : passed ≡ passed + 0 = omega arith in
         ap (λ (k : ℕ). with_more_begun h k (steps_in life)) none
 
-    next : IsAhead life h hart (suc n) t
+    next : HasRunLocally life h hart (suc n) t
     next =
-        let marks : List ℕ = slice_index_or life.marks h [] in
-        let passed : ℕ = marks_passed marks (placed_code life.program h) (local_state_of hart) n in
-        let queues = queues_stand life.program w (Step h) ahead.count ahead.sound in
+        let marks : List ℕ = slice_index_or life.runs.marks h [] in
+        let passed : ℕ = marks_passed marks (placed_code life.runs.program h) (local_state_of hart) n in
+        let queues = queues_stand life.runs.program w (Step h) ahead.count ahead.sound in
         let gone : Hart = with_local_state hart t in
         let all : World = world_of life in
         record {
           world =
-              after ∙ world_is life.program w h at t at_there running local
+              after ∙ world_is life.runs.program w h at t at_there running local
               ∙ ap (λ (v : World). with_hart v h gone) ahead.world
               ∙ ap (λ (hs : List Hart). record all { harts = hs }) (set-set all.harts h at gone);
           steps =
-              ap (λ (j : List Event). steps_along life.marks life.program life.opening j start_steps) more
-              ∙ along_more life.marks life.program life.opening journal (Step h) start_steps
-              ∙ steps_are life.program w h at t at_there running local life.marks (steps_in (with_steps life h n)) open_now
-              ∙ ap (begun_if (is_mark life.marks h s.pc) h) ahead.steps
-              ∙ begun_more (is_mark life.marks h s.pc) passed
+              ap (λ (j : List Event). steps_along life.runs.marks life.runs.program life.opening j start_steps) more
+              ∙ along_more life.runs.marks life.runs.program life.opening journal (Step h) start_steps
+              ∙ steps_are life.runs.program w h at t at_there running local life.runs.marks (steps_in (with_steps life h n)) open_now
+              ∙ ap (begun_if (is_mark life.runs.marks h s.pc) h) ahead.steps
+              ∙ begun_more (is_mark life.runs.marks h s.pc) passed
               ∙ ap (λ (found : Option LocalState). with_more_begun h (passed + marks_at marks found) (steps_in life)) (sym run);
           sound = subst IsWellFormedWorld (sym after) queues.0;
           count = ahead.count ∙ sym queues.1 ∙ ap (λ (v : World). length v.harts) (sym after);
@@ -150,40 +151,40 @@ module _ (life : Course) (h : ℕ) (hart : Hart) (there : slice_get (world_of li
               ap (λ (j : List Event). point_stores living (opening_of life) j g) more
               ∙ points_more (opening_of life) journal (Step h) g
               ∙ ap (λ (b : Bool). point_stores living (opening_of life) journal g + cond b 1 0)
-              (no_point life.program w h at t at_there running local g) ∙ none ∙ ahead.points g;
+              (no_point life.runs.program w h at t at_there running local g) ∙ none ∙ ahead.points g;
           fences = λ g.
               let none : finished_fences living (opening_of life) journal g + 0 ≡ finished_fences living (opening_of life) journal g = omega arith in
               ap (λ (j : List Event). finished_fences living (opening_of life) j g) more
               ∙ fences_more (opening_of life) journal (Step h) g
               ∙ ap (λ (b : Bool). finished_fences living (opening_of life) journal g + cond b 1 0)
-              (no_fence life.program w h at t at_there running local g) ∙ none ∙ ahead.fences g;
+              (no_fence life.runs.program w h at t at_there running local g) ∙ none ∙ ahead.fences g;
         }
 
   -- after each number of them
-  pub is_ahead : (n : ℕ) (s : LocalState) → (0 < n → hart.phase ≡ Run) → local_run (placed_code life.program h) (local_state_of hart) n ≡ Some s →
-      IsAhead life h hart n s
-  is_ahead zero s running e =
+  pub has_run_locally : (n : ℕ) (s : LocalState) → (0 < n → hart.phase ≡ Run) → local_run (placed_code life.runs.program h) (local_state_of hart) n ≡ Some s →
+      HasRunLocally life h hart n s
+  has_run_locally zero s running e =
       let same : local_state_of hart ≡ s = cc in
-      subst (IsAhead life h hart zero) same start
-  is_ahead (suc n) s running e =
-      let before = instruction_before (placed_code life.program h) (local_state_of hart) n s e in
+      subst (HasRunLocally life h hart zero) same start
+  has_run_locally (suc n) s running e =
+      let before = instruction_before (placed_code life.runs.program h) (local_state_of hart) n s e in
       let runs : hart.phase ≡ Run = running (omega arith) in
-      next runs n before.0 s (is_ahead n before.0 (λ _. runs) before.1) before.1 before.2
+      next runs n before.0 s (has_run_locally n before.0 (λ _. runs) before.1) before.1 before.2
 
   -- each of them moves the hart, and none finds it stopped
   pub each_moves : (count : ℕ) (s : LocalState) → (0 < count → hart.phase ≡ Run) →
-      local_run (placed_code life.program h) (local_state_of hart) count ≡ Some s → EachMoves living (opening_of life) life.journal h count
+      local_run (placed_code life.runs.program h) (local_state_of hart) count ≡ Some s → EachMoves living (opening_of life) life.journal h count
   each_moves count s running run n below =
       let runs : hart.phase ≡ Run = running (omega (arith, below)) in
-      let upto = run_before (placed_code life.program h) (local_state_of hart) (suc n) count s (omega (arith, below)) run in
-      let before = instruction_before (placed_code life.program h) (local_state_of hart) n upto.0 upto.1 in
-      let ahead : IsAhead life h hart n before.0 = is_ahead n before.0 (λ _. runs) before.1 in
+      let upto = run_before (placed_code life.runs.program h) (local_state_of hart) (suc n) count s (omega (arith, below)) run in
+      let before = instruction_before (placed_code life.runs.program h) (local_state_of hart) n upto.0 upto.1 in
+      let ahead : HasRunLocally life h hart n before.0 = has_run_locally n before.0 (λ _. runs) before.1 in
       let played_to = played_is (opening_of life) (life.journal ++ replicate n (Step h)) in
       let stopped : Option Hart → Bool = λ found. elim found [
         | Some it ↦ is_stopped_phase it.phase
         | None ↦ false
       ] in (
-        ap (λ (m : LifeConfig). reply_to m.program m.world (Step h)) played_to ∙ moves runs n before.0 upto.0 ahead before.1 before.2,
+        ap (λ (m : LifeConfig). reply_to m.runs.program m.world (Step h)) played_to ∙ moves runs n before.0 upto.0 ahead before.1 before.2,
         ap (λ (m : LifeConfig). is_stopped m.world h) played_to ∙ ap stopped (at_there runs n before.0 upto.0 ahead before.1 before.2)
             ∙ ap is_stopped_phase runs,
       )

@@ -37,14 +37,14 @@ one_ahead run = record run { made = run.made + 1 }
 
 -- it runs ahead of hart h of a life that began so
 pub record IsLocalOf (m : LifeConfig) (h : ℕ) (run : LocalCourse) : Type 0 where
-  pub code : run.code ≡ placed_code m.program h
-  pub marks : run.marks ≡ slice_index_or m.marks h []
+  pub code : run.code ≡ placed_code m.runs.program h
+  pub marks : run.marks ≡ slice_index_or m.runs.marks h []
 
 -- it begins at hart h of a life, which is this one now
 abbrev pub local_at : Course → (h : ℕ) → Hart → LocalCourse
 local_at life h hart = record {
-  code = placed_code life.program h;
-  marks = slice_index_or life.marks h [];
+  code = placed_code life.runs.program h;
+  marks = slice_index_or life.runs.marks h [];
   phase = hart.phase;
   first = local_state_of hart;
   made = 0;

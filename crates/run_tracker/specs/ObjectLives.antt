@@ -6,22 +6,17 @@ use Rattle.ido_base.specs.Layout.{variable_lines}
 use Rattle.ido_base.specs.Cores.{Behaviour}
 use Rattle.rv64_isa.specs.declared.object.Object.{Object}
 use Rattle.rv64_isa.specs.declared.object.Marks.{Marks}
-use Rattle.rv64_isa.specs.declared.object.Slot.{Slot}
 use Rattle.rv64_isa.specs.declared.phase.Phase.{Phase}
 use Rattle.rv64_isa.specs.declared.phase.Phase.TheVariants.{Take, Wait, Resume, Run, Done, Ended}
-use Rattle.rv64_isa.specs.Programs.{program_of}
-use Rattle.rv64_isa.specs.Executables.{node_marks}
+use Rattle.rv64_isa.specs.Executables.{Executable, executable_of}
 use Rattle.rv64_isa.specs.Machine.{World, after_event, after_events, reply_to, machine_start, machine_from}
 use Rattle.rv64_isa.specs.Schedule.{Steps, stores_point, finishes_fence, first_steps, steps_along}
 
 -- ---- What a life is
 
 pub record Course : Type 0 where
-  pub program : List (List Slot)
-  -- of each thread the addresses of its marks
-  pub marks : List (List ℕ)
-  -- words of its variables
-  pub variable_words : ℕ
+  -- what its machine runs
+  pub runs : Executable
   -- the schedule that was kept before the first event
   pub kept_before : List ℕ
   -- the world before the first event
@@ -31,20 +26,22 @@ pub record Course : Type 0 where
   -- how many events it takes
   pub cap : ℕ
 
+-- words of its variables
+abbrev pub variable_words_in : Course → ℕ
+variable_words_in life = length life.runs.initial / 8
+
 -- the world now
 abbrev pub world_of : Course → World
-world_of life = after_events life.program life.opening life.journal
+world_of life = after_events life.runs.program life.opening life.journal
 
 -- the steps begun and kept by now
 abbrev pub steps_in : Course → Steps
-steps_in life = steps_along life.marks life.program life.opening life.journal (first_steps (length life.program) life.kept_before)
+steps_in life = steps_along life.runs.marks life.runs.program life.opening life.journal (first_steps (length life.runs.program) life.kept_before)
 
 -- the life of an object before any event, which begins at this world with this schedule kept
 abbrev pub life_at : Object → Marks → World → (kept : List ℕ) → (cap : ℕ) → Course
 life_at object marks world kept cap = record {
-  program = program_of object;
-  marks = node_marks marks.threads.items;
-  variable_words = length object.initial.items / 8;
+  runs = executable_of object marks;
   kept_before = kept;
   opening = world;
   journal = [];
@@ -69,11 +66,9 @@ left_words variable_words words = take variable_words (map durable_value words) 
 
 -- ---- A life as a core
 
--- a program with the world that it is at; and its marks, the words of its variables and the schedule that was kept before, which no event changes
+-- what a machine runs with the world that it is at, and the schedule that was kept before, which no event changes
 pub record LifeConfig : Type 0 where
-  pub program : List (List Slot)
-  pub marks : List (List ℕ)
-  pub variable_words : ℕ
+  pub runs : Executable
   pub kept_before : List ℕ
   pub world : World
 
@@ -94,18 +89,16 @@ is_stopped w h = elim (slice_get w.harts h) [
 
 abbrev pub living : Behaviour LifeConfig
 living = record {
-  next = λ m event. record m { world = after_event m.program m.world event };
-  reply = λ m event. reply_to m.program m.world event;
+  next = λ m event. record m { world = after_event m.runs.program m.world event };
+  reply = λ m event. reply_to m.runs.program m.world event;
   is_stopped = λ m h. is_stopped m.world h;
-  stores_point = λ m h event. stores_point m.program m.world event h;
-  finishes_fence = λ m h event. finishes_fence m.program m.world event h;
+  stores_point = λ m h event. stores_point m.runs.program m.world event h;
+  finishes_fence = λ m h event. finishes_fence m.runs.program m.world event h;
 }
 
 abbrev pub opening_of : Course → LifeConfig
 opening_of life = record {
-  program = life.program;
-  marks = life.marks;
-  variable_words = life.variable_words;
+  runs = life.runs;
   kept_before = life.kept_before;
   world = life.opening;
 }

@@ -12,7 +12,7 @@ ghost use Rattle.rv64_isa.specs.Programs.{program_of};
 ghost use Rattle.rv64_isa.specs.Frames.{IsWellFormedWorld};
 ghost use Rattle.rv64_isa.specs.Schedule.{is_settled, is_settled_hart};
 ghost use Rattle.hart_core.specs.Objects.{IsWithinLimits};
-ghost use Rattle.run_tracker.specs.ObjectLives.{Course, new_life, life_at, life_from, with_event, world_of, steps_in, left_words};
+ghost use Rattle.run_tracker.specs.ObjectLives.{Course, new_life, life_at, life_from, with_event, world_of, steps_in, left_words, variable_words_in};
 ghost use Rattle.run_tracker.specs.ObjectLives.{LifeConfig, is_stopped, is_stopped_phase, living, opening_of};
 ghost use Rattle.run_tracker.specs.LocalRuns.{IsLocalOf, IsAtBeginning, local_at, with_steps};
 ghost use Rattle.run_tracker.specs.links.LifeRepresentation.{opening_by};
@@ -21,7 +21,7 @@ use crate::account::Account;
 use crate::counts::Counts;
 use crate::journal::Journal;
 use crate::local::LocalRun;
-use crate::signs::{SignTable, nodes_of, tables_of};
+use crate::signs::{SignTable, copy_of, tables_of};
 use crate::stepping::make;
 use hart_core::local::ThreadCode;
 use ido_base::event::{Event, Reply};
@@ -41,10 +41,10 @@ use std::marker::Model;
 /// journal.
 #[derive(Debug, Drop)]
 pub struct Life {
-    /// The initial bytes of the variables, the number of mutexes and the marks' addresses are those of the object.
+    /// The initial bytes of the variables and the number of mutexes are those of the object, and the marks too.
     initial: Vec<u8>,
     mutexes: u32,
-    addresses: Vec<Vec<u64>>,
+    marks: Marks,
     /// What a crash left of the variables and logs, where the life begins after one.
     left: Option<Vec<u64>>,
     /// The schedule that was kept before the first event.
@@ -106,8 +106,8 @@ fn are_settled(machine: &Machine) -> bool
 
 /// The least hart whose next step would neither wait nor find that the hart is done or has ended.
 fn least_enabled(machine: &Machine) -> Option<u32>
-    ensures { (m : LifeConfig) → m.program ≡ program_in machine.now → RepresentsMachine machine.now m.world →
-        result ≡ least_enabled living m (length m.program) }
+    ensures { (m : LifeConfig) → m.runs.program ≡ program_in machine.now → RepresentsMachine machine.now m.world →
+        result ≡ least_enabled living m (length m.runs.program) }
 {
     for hart in 0..machine.harts() {
         if machine.is_enabled(hart) {
@@ -189,7 +189,7 @@ impl Life {
         Ok(Life {
             initial: object.initial.to_vec(alloc)?,
             mutexes: object.mutexes,
-            addresses: nodes_of(alloc, marks)?,
+            marks: copy_of(alloc, marks)?,
             left,
             before: before.to_vec(alloc)?,
             tables: tables_of(alloc, object, machine.program(), marks)?,
@@ -203,7 +203,7 @@ impl Life {
 
     /// The number of harts.
     pub fn harts(&self) -> u32
-        ensures { result ≡ length self.now.program }
+        ensures { result ≡ length self.now.runs.program }
     {
         self.machine.harts()
     }
@@ -245,7 +245,7 @@ impl Life {
 
     /// The hart holds something, or one of its points isn't 0.
     pub fn unsettled(&self, hart: u32) -> bool
-        requires { hart < length self.now.program }
+        requires { hart < length self.now.runs.program }
         ensures { result ≡ not (is_settled_hart (world_of self.now) hart) }
     {
         !is_settled_hart(&self.machine, hart)
@@ -253,7 +253,7 @@ impl Life {
 
     /// The value that a crash would leave in a word of a line.
     pub fn durable_word(&self, line: u32, word: u32) -> u64
-        requires exists { line < line_count (length self.now.program) }
+        requires exists { line < line_count (length self.now.runs.program) }
         requires word { word < 8 }
         ensures { result ≡ durable_value (word_at (world_of self.now).words (8 * line + word)) }
     {
@@ -262,7 +262,7 @@ impl Life {
 
     /// The newest value of a word of a line.
     pub fn live_word(&self, line: u32, word: u32) -> u64
-        requires exists { line < line_count (length self.now.program) }
+        requires exists { line < line_count (length self.now.runs.program) }
         requires word { word < 8 }
         ensures { result ≡ live_value (word_at (world_of self.now).words (8 * line + word)) }
     {
@@ -271,7 +271,7 @@ impl Life {
 
     /// What a crash would leave: the durable words of the variables and, after them, of the logs.
     pub fn durable_words(&self, alloc: Global) -> Result<Vec<u64>, OutOfMemory>
-        ensures { IfOk result (λ words. words.items ≡ left_words self.now.variable_words (world_of self.now).words) }
+        ensures { IfOk result (λ words. words.items ≡ left_words (variable_words_in self.now) (world_of self.now).words) }
     {
         let variables = (self.initial.len() / 8) as u32;
         let logs = LOG_WORDS * self.machine.harts();
@@ -284,9 +284,9 @@ impl Life {
     /// Makes an event.
     #[inline(always)]
     pub fn event(&mut self, event: Event) -> Reply
-        requires valid { IsValidEvent (length self.old.program) event }
+        requires valid { IsValidEvent (length self.old.runs.program) event }
         requires room { length self.old.journal < self.old.cap }
-        ensures reply { result ≡ reply_to self.old.program (world_of self.old) event }
+        ensures reply { result ≡ reply_to self.old.runs.program (world_of self.old) event }
         ensures life { self.new ≡ with_event self.old event }
     {
         self.journal.push(event);
@@ -301,20 +301,20 @@ impl Life {
 
     /// The least hart whose next step would be replied to neither by `Waits` nor by `Barrier` nor by `Still`.
     pub fn can_step(&self) -> Option<u32>
-        ensures { result ≡ least_enabled living (record (opening_of self.now) { world = world_of self.now }) (length self.now.program) }
+        ensures { result ≡ least_enabled living (record (opening_of self.now) { world = world_of self.now }) (length self.now.runs.program) }
     {
         least_enabled(&self.machine)
     }
 
     /// What runs ahead of a hart, begun at the hart as it is now.
     pub fn local(&self, alloc: Global, hart: u32) -> Result<LocalRun, OutOfMemory>
-        requires { hart < length self.now.program }
+        requires { hart < length self.now.runs.program }
         ensures hart { IfOk result (λ local. (it : Hart) → slice_get (world_of self.now).harts hart ≡ Some it → local ≡ local_at self.now hart it) }
         ensures own { IfOk result (λ local. IsLocalOf (opening_of self.now) hart local × (local.made ≡ 0)) }
     {
         Ok(LocalRun::new(
             ThreadCode::of(alloc, self.machine.program(), hart)?,
-            self.addresses[hart as usize].to_vec(alloc)?,
+            self.marks.threads[hart as usize].nodes.to_vec(alloc)?,
             self.tables[hart as usize].copy(alloc)?,
             self.machine.phase(hart),
             self.machine.local_state(hart),
@@ -323,7 +323,7 @@ impl Life {
 
     /// Begins what runs ahead of a hart again, at the hart as it is now. It takes no memory.
     pub fn refresh(&self, hart: u32, local: &mut LocalRun)
-        requires exists { hart < length self.now.program }
+        requires exists { hart < length self.now.runs.program }
         requires own { IsLocalOf (opening_of self.now) hart local.old }
         ensures hart { (it : Hart) → slice_get (world_of self.now).harts hart ≡ Some it → local.new ≡ local_at self.now hart it }
         ensures own { IsLocalOf (opening_of self.now) hart local.new × (local.new.made ≡ 0) }
@@ -333,7 +333,7 @@ impl Life {
 
     /// The hart has the registers, the pc and the phase of the local's beginning.
     fn is_at(&self, hart: u32, local: &LocalRun) -> bool
-        requires { hart < length self.now.program }
+        requires { hart < length self.now.runs.program }
         ensures { (it : Hart) → slice_get (world_of self.now).harts hart ≡ Some it → IsTrue result ↔ IsAtBeginning local.now it }
     {
         is_phase(self.machine.phase(hart), local.phase()) && self.machine.is_at(hart, local.first())
@@ -342,7 +342,7 @@ impl Life {
     /// Makes the steps by which a local is ahead: true exactly where the hart has still the registers, the pc and the phase of the
     /// local's beginning, else nothing changes. It takes constant time, however many steps they are.
     pub fn adopt(&mut self, hart: u32, local: &LocalRun) -> bool
-        requires exists { hart < length self.old.program }
+        requires exists { hart < length self.old.runs.program }
         requires own { IsLocalOf (opening_of self.old) hart local.now }
         requires room { local.now.made ≤ self.old.cap - length self.old.journal }
         ensures result { (it : Hart) → slice_get (world_of self.old).harts hart ≡ Some it → IsTrue result ↔ IsAtBeginning local.now it }
@@ -361,7 +361,7 @@ impl Life {
 
     /// The hart has ended, or its recovery is done.
     pub fn stopped(&self, hart: u32) -> bool
-        requires { hart < length self.now.program }
+        requires { hart < length self.now.runs.program }
         ensures { result ≡ is_stopped (world_of self.now) hart }
     {
         is_stopped_phase(self.machine.phase(hart))
@@ -369,7 +369,7 @@ impl Life {
 
     /// How often the hart has stored its point.
     pub fn points(&self, hart: u32) -> u64
-        requires { hart < length self.now.program }
+        requires { hart < length self.now.runs.program }
         ensures { result ≡ point_stores living (opening_of self.now) self.now.journal hart }
     {
         self.counts.points[hart as usize]
@@ -377,7 +377,7 @@ impl Life {
 
     /// How many fences the hart has finished.
     pub fn fences(&self, hart: u32) -> u64
-        requires { hart < length self.now.program }
+        requires { hart < length self.now.runs.program }
         ensures { result ≡ finished_fences living (opening_of self.now) self.now.journal hart }
     {
         self.counts.fences[hart as usize]
@@ -398,11 +398,11 @@ impl Core for Life {
 
     ghost history = { λ life. life.journal };
 
-    ghost hart_count = { λ life. length life.program };
+    ghost hart_count = { λ life. length life.runs.program };
 
     ghost space = { λ life. life.cap - length life.journal };
 
-    ghost evictable = { λ life. IsEviction (length life.program) };
+    ghost evictable = { λ life. IsEviction (length life.runs.program) };
 
     ghost is_local = { IsLocalOf };
 

@@ -1,5 +1,6 @@
 //! The signs of code words: which of them are marks, which are fences, and which store.
 ghost use Rattle.std.specs.Prelude.{◌≡◌, ◌-◌, ◌/◌, ◌<◌, ◌≤◌, ◌^◌, ◌||◌, ℕ, length, map, IfOk};
+ghost use Rattle.rv64_isa.specs.Executables.{node_marks, resume_marks};
 ghost use Rattle.rv64_isa.specs.Programs.{program_of, slot_of};
 ghost use Rattle.hart_core.specs.Objects.{IsWithinLimits};
 ghost use Rattle.run_tracker.specs.links.SignTables.{is_fence_slot, is_plain, is_store_slot, plain_sign, sign_in, sign_at, is_word_at, IsTableOf, AreTables};
@@ -7,7 +8,7 @@ ghost use Rattle.run_tracker.specs.links.SignTables.{is_fence_slot, is_plain, is
 use hart_core::program::Program;
 use ido_base::memory::OutOfMemory;
 use rv64_isa::instr::Instr;
-use rv64_isa::object::{Marks, Object, Slot};
+use rv64_isa::object::{Marks, Object, Slot, ThreadMarks};
 use std::alloc::Global;
 
 /// What is told of a code word.
@@ -149,13 +150,24 @@ pub(crate) fn tables_of(
     Ok(tables)
 }
 
-/// A copy of the marks' addresses.
-pub(crate) fn nodes_of(alloc: Global, marks: &Marks) -> Result<Vec<Vec<u64>>, OutOfMemory>
-    ensures { IfOk result (λ nodes. map (λ n. n.items) nodes.items ≡ map (λ t. t.nodes.items) marks.now.threads.items) }
+/// Another list of the same addresses.
+fn copy_thread(alloc: Global, marks: &ThreadMarks) -> Result<ThreadMarks, OutOfMemory>
+    ensures { IfOk result (λ copy. (copy.nodes.items ≡ marks.now.nodes.items) × (copy.resumes.items ≡ marks.now.resumes.items)) }
 {
-    let mut nodes = Vec::with_capacity(alloc, marks.threads.len())?;
+    Ok(ThreadMarks {
+        nodes: marks.nodes.to_vec(alloc)?,
+        resumes: marks.resumes.to_vec(alloc)?,
+    })
+}
+
+/// A copy of the marks.
+pub(crate) fn copy_of(alloc: Global, marks: &Marks) -> Result<Marks, OutOfMemory>
+    ensures nodes { IfOk result (λ copy. node_marks copy.threads.items ≡ node_marks marks.now.threads.items) }
+    ensures resumes { IfOk result (λ copy. resume_marks copy.threads.items ≡ resume_marks marks.now.threads.items) }
+{
+    let mut threads = Vec::with_capacity(alloc, marks.threads.len())?;
     for thread in &marks.threads {
-        nodes.push(thread.nodes.to_vec(alloc)?)?;
+        threads.push(copy_thread(alloc, thread)?)?;
     }
-    Ok(nodes)
+    Ok(Marks { threads })
 }

@@ -1,11 +1,12 @@
 -- What the fields of a life represent.
-use Rattle.std.specs.Prelude.{Vec, ◌≡◌, ℕ, ◌+◌, ◌/◌, ◌<◌, ◌≤◌, ◌^◌, List, length, map, slice_index, Option, Some, None}
+use Rattle.std.specs.Prelude.{Vec, ◌≡◌, ℕ, ◌+◌, ◌/◌, ◌<◌, ◌≤◌, ◌^◌, List, length, slice_index, Option, Some, None}
 use Rattle.std.specs.Global.{Global}
 use Rattle.std.specs.Vec.{vec_capacity, vec_len}
 use Rattle.ido_base.specs.Cores.{point_stores, finished_fences}
 use Rattle.ido_base.specs.Layout.{spread_words}
 use Rattle.ido_base.specs.declared.limits.TheConstants.{MOST_VARIABLE_BYTES}
 use Rattle.rv64_isa.specs.declared.object.Slot.{Slot}
+use Rattle.rv64_isa.specs.Executables.{Executable, node_marks, resume_marks}
 use Rattle.rv64_isa.specs.Machine.{World, start_of, after_crash_of}
 use Rattle.rv64_isa.specs.Frames.{IsWellFormedWorld}
 use Rattle.ido_machine.specs.Machines.{RepresentsMachine, program_in, events_of}
@@ -19,11 +20,19 @@ abbrev pub opening_by : List (List Slot) → (locks : ℕ) → (initial : List �
 opening_by program locks initial None = start_of program locks initial
 opening_by program locks initial (Some words) = after_crash_of program locks (spread_words (length initial / 8) words.items)
 
+-- what the machine of a life with this program runs
+abbrev pub executable_by : List (List Slot) → Inside → Executable
+executable_by program life = record {
+  program = program;
+  marks = node_marks life.marks.threads.items;
+  resumes = resume_marks life.marks.threads.items;
+  initial = life.initial.items;
+  mutexes = life.mutexes;
+}
+
 abbrev pub course_of : Inside → Course
 course_of life = record {
-  program = program_in life.machine;
-  marks = map (λ a. a.items) life.addresses.items;
-  variable_words = length life.initial.items / 8;
+  runs = executable_by (program_in life.machine) life;
   kept_before = life.before.items;
   opening = opening_by (program_in life.machine) life.mutexes life.initial.items life.left;
   journal = life.journal.events;
@@ -39,9 +48,9 @@ pub record LifeInv (life : Inside) : Type 0 where
   pub machine : RepresentsMachine life.machine (world_of (course_of life))
   pub sound : IsWellFormedWorld (world_of (course_of life))
   pub events : events_of life.machine ≡ length life.journal.events
-  pub tables : AreTables life.tables.items (program_in life.machine) (map (λ a. a.items) life.addresses.items)
+  pub tables : AreTables life.tables.items (program_in life.machine) (node_marks life.marks.threads.items)
   pub account : AccountInv life.account (steps_in (course_of life))
-  pub marked : length life.addresses.items ≡ length (program_in life.machine)
+  pub marked : length life.marks.threads.items ≡ length (program_in life.machine)
   pub harts : length life.account.harts.items ≡ length (program_in life.machine)
   pub ordered : AreOrdered (world_of (course_of life)).words (steps_in (course_of life))
   pub are_open : AreOpen (world_of (course_of life)).words (steps_in (course_of life))

@@ -20,6 +20,6 @@ returns-then-is_enabled c = λ m same stands.
     let hart = c.loop-hart.hart in
     let enabled : is_enabled living m hart ≡ true =
     ap (λ (p : List (List Slot)). not (is_idle (reply_to p m.world (Step hart)))) same ∙ sym (c.is_enabled.ensures m.world stands) ∙ c.if-is_enabled.true in
-    let within : suc hart ≤ length m.program = omega (arith, ap length same, c.harts-hart-end.ensures, c.loop-hart-test.true) in
-    sym (least_enabled-stays living m (suc hart) (length m.program) hart within
+    let within : suc hart ≤ length m.runs.program = omega (arith, ap length same, c.harts-hart-end.ensures, c.loop-hart-test.true) in
+    sym (least_enabled-stays living m (suc hart) (length m.runs.program) hart within
     (least_enabled-next living m hart true (c.loop-hart.invariant m same stands) enabled))

@@ -1,6 +1,7 @@
-use Rattle.std.proofs.Common.{◌≡◌, ◌-◌, ◌<◌, ◌≤◌, [], length, map, slice_get, slice_index_or, Some, refl, sym, subst, ◌∙◌, arith}
+use Rattle.std.proofs.Common.{◌≡◌, ◌-◌, ◌<◌, ◌≤◌, [], length, slice_get, slice_index_or, Some, refl, sym, subst, ◌∙◌, arith}
 use Rattle.ido_base.specs.Cores.{EachMoves}
 use Rattle.rv64_isa.specs.declared.phase.Phase.TheVariants.{Run}
+use Rattle.rv64_isa.specs.Executables.{node_marks}
 use Rattle.rv64_isa.specs.Machine.{Hart}
 use Rattle.hart_core.specs.LocalSteps.{placed_code}
 use Rattle.ido_machine.specs.Machines.{program_in}
@@ -20,7 +21,7 @@ begin_more-requires-clause-room c =
     let life = c.self.inside in
     let stands = c.self.invariant in
     let h = c.args.hart in
-    let exists : h < length (program_in life.machine) = subst (λ (x : Course). h < length x.program) (sym c.self.view_is) c.requires.exists in
+    let exists : h < length (program_in life.machine) = subst (λ (x : Course). h < length x.runs.program) (sym c.self.view_is) c.requires.exists in
     let room : c.args.local.now.made ≤ life.cap - length life.journal.events =
     subst (λ (x : Course). c.args.local.now.made ≤ x.cap - length x.journal) (sym c.self.view_is) c.requires.room in
     let few = free_few life.account (steps_in (course_of life)) h stands.account (omega (arith, exists, stands.harts)) in
@@ -34,25 +35,25 @@ invariant_of-self c =
     let stands = c.self.invariant in
     let program = program_in life.machine in
     let now : Course = course_of life in
-    let exists : h < length program = subst (λ (x : Course). h < length x.program) (sym c.self.view_is) c.requires.exists in
+    let exists : h < length program = subst (λ (x : Course). h < length x.runs.program) (sym c.self.view_is) c.requires.exists in
     let some = get_some (world_of now).harts h (omega (arith, exists, hart_count life stands)) in
     let it : Hart = some.0 in
     let found : slice_get (world_of c.args.self.now).harts h ≡ Some it =
     subst (λ (x : Course). slice_get (world_of x).harts h ≡ Some it) c.self.view_is some.1 in
     let begins : IsAtBeginning local it = (c.is_at.ensures it found).0 c.if-not-is_at.false in
     let code : local.code ≡ placed_code program h =
-    subst (λ (x : Course). local.code ≡ placed_code x.program h) (sym c.self.view_is) c.requires.own.code in
+    subst (λ (x : Course). local.code ≡ placed_code x.runs.program h) (sym c.self.view_is) c.requires.own.code in
     let running : 0 < local.made → it.phase ≡ Run = λ some. sym begins.0 ∙ c.state.ensures.running some in
     let made = c.made-made.result in
     let made_is : made ≡ local.made = c.made-made.ensures in
-    let marks : local.marks ≡ slice_index_or (map (λ a. a.items) life.addresses.items) h [] =
-    subst (λ (x : Course). local.marks ≡ slice_index_or x.marks h []) (sym c.self.view_is) c.requires.own.marks in
+    let marks : local.marks ≡ slice_index_or (node_marks life.marks.threads.items) h [] =
+    subst (λ (x : Course). local.marks ≡ slice_index_or x.runs.marks h []) (sym c.self.view_is) c.requires.own.marks in
     let room : local.made ≤ life.cap - length life.journal.events =
     subst (λ (x : Course). local.made ≤ x.cap - length x.journal) (sym c.self.view_is) c.requires.room in
     lasts_steps life stands h made c.passed.result it c.state.result.now c.go_to.new.self c.begin_more.new.self c.push_steps.new.self exists some.1
     (λ some. running (omega (arith, made_is, some)))
     (adopted_state (placed_code program h) local it begins code made c.state.result.now made_is c.state.ensures.state)
-    (adopted_marks (placed_code program h) local it begins code (slice_index_or (map (λ a. a.items) life.addresses.items) h []) made c.passed.result made_is
+    (adopted_marks (placed_code program h) local it begins code (slice_index_or (node_marks life.marks.threads.items) h []) made c.passed.result made_is
     marks c.passed.ensures.count)
     (omega (arith, made_is, c.passed.ensures.few)) (omega (arith, made_is, room, stands.within)) c.go_to.ensures.program c.go_to.ensures.events
     (c.go_to.ensures.world (world_of now) it stands.machine some.1) (c.begin_more.ensures.stands (steps_in now) stands.account) c.push_steps.ensures
@@ -66,14 +67,14 @@ returns-clause-moves c =
     let stands = c.self.invariant in
     let program = program_in life.machine in
     let now : Course = course_of life in
-    let exists : h < length program = subst (λ (x : Course). h < length x.program) (sym c.self.view_is) c.requires.exists in
+    let exists : h < length program = subst (λ (x : Course). h < length x.runs.program) (sym c.self.view_is) c.requires.exists in
     let some = get_some (world_of now).harts h (omega (arith, exists, hart_count life stands)) in
     let it : Hart = some.0 in
     let found : slice_get (world_of c.args.self.now).harts h ≡ Some it =
     subst (λ (x : Course). slice_get (world_of x).harts h ≡ Some it) c.self.view_is some.1 in
     let begins : IsAtBeginning local it = (c.is_at.ensures it found).0 c.if-not-is_at.false in
     let code : local.code ≡ placed_code program h =
-    subst (λ (x : Course). local.code ≡ placed_code x.program h) (sym c.self.view_is) c.requires.own.code in
+    subst (λ (x : Course). local.code ≡ placed_code x.runs.program h) (sym c.self.view_is) c.requires.own.code in
     let running : 0 < local.made → it.phase ≡ Run = λ some. sym begins.0 ∙ c.state.ensures.running some in
     subst (λ (x : Course). EachMoves living (opening_of x) x.journal h local.made) c.self.view_is
     (each_moves now h it some.1 stands.are_open stands.sound (sym (hart_count life stands)) local.made c.state.result.now running

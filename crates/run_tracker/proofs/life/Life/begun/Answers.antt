@@ -1,6 +1,8 @@
 use Rattle.std.proofs.Common.{◌≡◌, ℕ, zero, suc, ◌+◌, ◌≤◌, List, length, replicate, get_or, map, ap, sym, subst, ◌∙◌, refl, arith, rules}
 use Rattle.std.proofs.lemmas.List.{length-map, length-replicate}
 use Rattle.rv64_isa.specs.declared.object.Slot.{Slot}
+use Rattle.rv64_isa.specs.declared.object.ThreadMarks.{ThreadMarks}
+use Rattle.rv64_isa.specs.Executables.{node_marks}
 use Rattle.rv64_isa.specs.Frames.{IsWellFormedWorld}
 use Rattle.rv64_isa.specs.Programs.{program_of, slot_of}
 use Rattle.rv64_isa.specs.Machine.{World}
@@ -35,7 +37,7 @@ invariant_of-result c =
     let is : start ≡ course_of (record {
       initial = c.in_ok-to_vec.field-0;
       mutexes = object.mutexes;
-      addresses = c.in_ok-nodes_of.field-0;
+      marks = c.in_ok-copy_of.field-0;
       left = c.args.left;
       before = c.in_ok-to_vec-2.field-0;
       tables = c.in_ok-tables_of.field-0;
@@ -54,9 +56,10 @@ invariant_of-result c =
     let same_bytes : c.in_ok-to_vec.field-0.items ≡ object.initial.items = search rules in
     let counts = c.in_ok-new-3.field-0 in
     let points = c.in_ok-new-3.ensures.points in
-    let marked : length c.in_ok-nodes_of.field-0.items ≡ length (program_in machine) =
-    sym (length-map c.in_ok-nodes_of.field-0.items (λ a. a.items)) ∙ ap length c.in_ok-nodes_of.ensures
-    ∙ length-map marks.threads.items (λ t. t.nodes.items) ∙ c.requires.marks
+    let copied = c.in_ok-copy_of.field-0.threads.items in
+    let marked : length copied ≡ length (program_in machine) =
+    sym (length-map copied (λ (t : ThreadMarks). t.nodes.items)) ∙ ap length c.in_ok-copy_of.ensures.nodes
+    ∙ length-map marks.threads.items (λ (t : ThreadMarks). t.nodes.items) ∙ c.requires.marks
     ∙ sym (length-map object.code.items (λ code. map slot_of code.items)) ∙ ap length (sym program_is) in
     let fences = c.in_ok-new-3.ensures.fences in
     record {
@@ -64,8 +67,8 @@ invariant_of-result c =
       sound = subst (λ (x : Course). IsWellFormedWorld (world_of x)) is c.requires.sound;
       events = c.requires.events ∙ sym none_yet;
       tables =
-          subst (λ (p : List (List Slot)). AreTables c.in_ok-tables_of.field-0.items p (map (λ a. a.items) c.in_ok-nodes_of.field-0.items)) (sym program_is)
-          (subst (AreTables c.in_ok-tables_of.field-0.items (program_of object)) (sym c.in_ok-nodes_of.ensures) c.in_ok-tables_of.ensures);
+          subst (λ (p : List (List Slot)). AreTables c.in_ok-tables_of.field-0.items p (node_marks copied)) (sym program_is)
+          (subst (AreTables c.in_ok-tables_of.field-0.items (program_of object)) (sym c.in_ok-copy_of.ensures.nodes) c.in_ok-tables_of.ensures);
       marked = marked;
       account = subst (λ (x : Course). AccountInv account (steps_in x)) is stands;
       harts = sym stands.count ∙ length-replicate (length (program_of object)) no_steps ∙ ap length (sym program_is);
@@ -78,11 +81,11 @@ invariant_of-result c =
       light =
           subst (λ (x : Course). weight (steps_in x) ≤ length c.in_ok-to_vec-2.field-0.items + length journal.events) is
           (omega (arith, same_before, weightless (length (program_of object))));
-      points = subst (λ (x : Course). AreCounts counts.points.items (length x.program) (point_stores living (opening_of x) x.journal)) is (
+      points = subst (λ (x : Course). AreCounts counts.points.items (length x.runs.program) (point_stores living (opening_of x) x.journal)) is (
         ap length points ∙ length-replicate c.harts-harts.result 0 ∙ count,
         λ h below. ap (λ (xs : List ℕ). get_or xs h 0) points ∙ each_is c.harts-harts.result h 0,
       );
-      fences = subst (λ (x : Course). AreCounts counts.fences.items (length x.program) (finished_fences living (opening_of x) x.journal)) is (
+      fences = subst (λ (x : Course). AreCounts counts.fences.items (length x.runs.program) (finished_fences living (opening_of x) x.journal)) is (
         ap length fences ∙ length-replicate c.harts-harts.result 0 ∙ count,
         λ h below. ap (λ (xs : List ℕ). get_or xs h 0) fences ∙ each_is c.harts-harts.result h 0,
       );

@@ -1,7 +1,7 @@
 use Rattle.std.proofs.Common.{◌≡◌, ℕ, ◌+◌, ◌*◌, ◌/◌, ◌++◌, List, length, ap, subst, ◌∙◌, arith, rules}
 use Rattle.ido_base.specs.declared.limits.TheConstants.{LOG_WORDS, VARIABLE_WORDS}
 use Rattle.rv64_isa.specs.Machine.{World}
-use Rattle.run_tracker.specs.ObjectLives.{Course, world_of, left_words}
+use Rattle.run_tracker.specs.ObjectLives.{Course, world_of, left_words, variable_words_in}
 use Rattle.run_tracker.specs.links.LifeRepresentation.{course_of}
 use Rattle.run_tracker.proofs.DurableWords.{durable_from, left_is}
 use Rattle.run_tracker.proofs.life.Life.durable_words.Goals as goal
@@ -20,5 +20,5 @@ returns c =
     ∙ ap (λ (n : ℕ). durable_from w.words 0 (n / 8)) count in
     let all : c.push_durable-2.new.words.items ≡ durable_from w.words 0 variables ++ durable_from w.words VARIABLE_WORDS logs =
     c.push_durable-2.ensures.items w stands.machine ∙ ap (λ (xs : List ℕ). xs ++ durable_from w.words VARIABLE_WORDS logs) first in
-    subst (λ (x : Course). c.push_durable-2.new.words.items ≡ left_words x.variable_words (world_of x).words) c.self.view_is
+    subst (λ (x : Course). c.push_durable-2.new.words.items ≡ left_words (variable_words_in x) (world_of x).words) c.self.view_is
     (all ∙ left_is w.words variables logs (omega (arith, stands.bytes, long)) long)

@@ -1,4 +1,5 @@
-use Rattle.std.proofs.Common.{ℕ, ◌<◌, List, length, map, sym, subst}
+use Rattle.std.proofs.Common.{ℕ, ◌<◌, List, length, sym, subst}
+use Rattle.rv64_isa.specs.Executables.{node_marks}
 use Rattle.rv64_isa.specs.Machine.{IsValidEvent}
 use Rattle.ido_machine.specs.Machines.{program_in}
 use Rattle.run_tracker.specs.declared.signs.SignTable.{SignTable}
@@ -18,9 +19,10 @@ invariant_of-self c =
     let event = c.args.event in
     let program = program_in life.machine in
     let world = world_of (course_of life) in
-    let marks : List (List ℕ) = map (λ a. a.items) life.addresses.items in
+    let marks : List (List ℕ) = node_marks life.marks.threads.items in
     let made = c.make in
-    let valid : IsValidEvent (length program) event = subst (λ (x : Course). IsValidEvent (length x.program) event) (sym c.self.view_is) c.requires.valid in
+    let valid : IsValidEvent (length program) event =
+    subst (λ (x : Course). IsValidEvent (length x.runs.program) event) (sym c.self.view_is) c.requires.valid in
     let room : length life.journal.events < life.cap = subst (λ (x : Course). length x.journal < x.cap) (sym c.self.view_is) c.requires.room in
     let tables = subst (λ (ts : List SignTable). AreTables ts program marks) (sym c.deref.ensures.value) stands.tables in
     lasts life stands event made.new.machine made.new.account c.push.new.self made.new.counts valid room made.ensures.program made.ensures.events

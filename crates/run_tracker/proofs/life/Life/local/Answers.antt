@@ -1,6 +1,8 @@
-use Rattle.std.proofs.Common.{◌≡◌, ℕ, ◌<◌, List, [], length, map, slice_get, slice_index_or, Some, sym, ap, subst, ◌∙◌, arith, rules}
+use Rattle.std.proofs.Common.{◌≡◌, ℕ, ◌<◌, List, [], length, slice_get, slice_index_or, Some, sym, ap, subst, ◌∙◌, arith, rules}
 use Rattle.rv64_isa.specs.declared.object.Slot.{Slot}
+use Rattle.rv64_isa.specs.declared.object.ThreadMarks.{ThreadMarks}
 use Rattle.rv64_isa.specs.declared.phase.Phase.{Phase}
+use Rattle.rv64_isa.specs.Executables.{node_marks}
 use Rattle.rv64_isa.specs.Programs.{code_of, code_start}
 use Rattle.hart_core.specs.declared.local.LocalState.{LocalState}
 use Rattle.hart_core.specs.LocalSteps.{PlacedCode, placed_code}
@@ -18,20 +20,20 @@ new-requires c =
     let life = c.self.inside in
     let h = c.args.hart in
     let program = program_in life.machine in
-    let exists : h < length program = subst (λ (x : Course). h < length x.program) (sym c.self.view_is) c.requires in
+    let exists : h < length program = subst (λ (x : Course). h < length x.runs.program) (sym c.self.view_is) c.requires in
     let code : c.in_ok-of.field-0 ≡ placed_code program h = c.in_ok-of.ensures ∙ ap (λ (p : List (List Slot)). placed_code p h) c.program.ensures in
     let table = c.index-2.result.now in
     let found : slice_get life.tables.items h ≡ Some table =
     get_is life.tables.items h table (omega (arith, exists, c.self.invariant.tables.count)) ∙ ap Some (sym c.index-2.ensures) in
-    let here : slice_get life.addresses.items h ≡ Some c.index.result.now =
-    get_is life.addresses.items h c.index.result.now (omega (arith, exists, c.self.invariant.marked)) ∙ ap Some (sym c.index.ensures) in
-    let same : c.in_ok-to_vec.field-0.items ≡ c.index.result.now.items = search rules in
-    let marks : slice_index_or (map (λ a. a.items) life.addresses.items) h [] ≡ c.in_ok-to_vec.field-0.items =
-    get_map (λ a. a.items) life.addresses.items h c.index.result.now [] here ∙ sym same in
+    let here : slice_get life.marks.threads.items h ≡ Some c.index.result.now =
+    get_is life.marks.threads.items h c.index.result.now (omega (arith, exists, c.self.invariant.marked)) ∙ ap Some (sym c.index.ensures) in
+    let same : c.in_ok-to_vec.field-0.items ≡ c.index.result.now.nodes.items = search rules in
+    let marks : slice_index_or (node_marks life.marks.threads.items) h [] ≡ c.in_ok-to_vec.field-0.items =
+    get_map (λ (t : ThreadMarks). t.nodes.items) life.marks.threads.items h c.index.result.now [] here ∙ sym same in
     let copy = c.in_ok-copy.field-0 in
     subst (λ (x : PlacedCode). IsTableOf copy x.start x.slots c.in_ok-to_vec.field-0.items) (sym code)
     (subst (IsTableOf copy (code_start program h) (code_of program h)) marks
-    (copied table copy (code_start program h) (code_of program h) (slice_index_or (map (λ a. a.items) life.addresses.items) h []) c.in_ok-copy.ensures.0
+    (copied table copy (code_start program h) (code_of program h) (slice_index_or (node_marks life.marks.threads.items) h []) c.in_ok-copy.ensures.0
     c.in_ok-copy.ensures.1
     (c.self.invariant.tables.each h table found)))
 
@@ -40,20 +42,20 @@ returns-clause-hart c = λ it there.
     let life = c.self.inside in
     let h = c.args.hart in
     let program = program_in life.machine in
-    let exists : h < length program = subst (λ (x : Course). h < length x.program) (sym c.self.view_is) c.requires in
+    let exists : h < length program = subst (λ (x : Course). h < length x.runs.program) (sym c.self.view_is) c.requires in
     let code : c.in_ok-of.field-0 ≡ placed_code program h = c.in_ok-of.ensures ∙ ap (λ (p : List (List Slot)). placed_code p h) c.program.ensures in
-    let here : slice_get life.addresses.items h ≡ Some c.index.result.now =
-    get_is life.addresses.items h c.index.result.now (omega (arith, exists, c.self.invariant.marked)) ∙ ap Some (sym c.index.ensures) in
-    let same : c.in_ok-to_vec.field-0.items ≡ c.index.result.now.items = search rules in
-    let marks : c.in_ok-to_vec.field-0.items ≡ slice_index_or (map (λ a. a.items) life.addresses.items) h [] =
-    same ∙ sym (get_map (λ a. a.items) life.addresses.items h c.index.result.now [] here) in
+    let here : slice_get life.marks.threads.items h ≡ Some c.index.result.now =
+    get_is life.marks.threads.items h c.index.result.now (omega (arith, exists, c.self.invariant.marked)) ∙ ap Some (sym c.index.ensures) in
+    let same : c.in_ok-to_vec.field-0.items ≡ c.index.result.now.nodes.items = search rules in
+    let marks : c.in_ok-to_vec.field-0.items ≡ slice_index_or (node_marks life.marks.threads.items) h [] =
+    same ∙ sym (get_map (λ (t : ThreadMarks). t.nodes.items) life.marks.threads.items h c.index.result.now [] here) in
     let w = world_of (course_of life) in
     let found : slice_get w.harts h ≡ Some it = subst (λ (x : Course). slice_get (world_of x).harts h ≡ Some it) (sym c.self.view_is) there in
     let phase = c.phase.ensures w it c.self.invariant.machine found in
     let state = c.local_state.ensures w it c.self.invariant.machine found in
     let at : PlacedCode → List ℕ → Phase → LocalState → LocalCourse =
     λ code marks phase first. record { code = code; marks = marks; phase = phase; first = first; made = 0 } in
-    let marked : List ℕ = slice_index_or (map (λ a. a.items) life.addresses.items) h [] in
+    let marked : List ℕ = slice_index_or (node_marks life.marks.threads.items) h [] in
     subst (λ (x : Course). c.new.result ≡ local_at x h it) c.self.view_is
     (c.new.ensures ∙ ap (λ (x : PlacedCode). at x c.in_ok-to_vec.field-0.items c.phase.result c.local_state.result) code
     ∙ ap (λ (ms : List ℕ). at (placed_code program h) ms c.phase.result c.local_state.result) marks

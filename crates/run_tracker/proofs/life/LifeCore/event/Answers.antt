@@ -6,5 +6,5 @@ use Rattle.run_tracker.proofs.life.LifeCore.event.Goals as goal
 
 pub returns-clause-reply : goal.returns-clause-reply
 returns-clause-reply c =
-    c.event.ensures.reply ∙ ap (λ (m : LifeConfig). reply_to m.program m.world c.args.event)
+    c.event.ensures.reply ∙ ap (λ (m : LifeConfig). reply_to m.runs.program m.world c.args.event)
     (sym (played_is (opening_of c.args.self.now) c.args.self.now.journal))
