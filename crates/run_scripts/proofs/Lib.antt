@@ -9,6 +9,7 @@ mod MergedRuns
 mod RunLaws
 mod GoalSteps
 mod ScheduleReader
+mod DrawnEvictions
 mod DrawnRuns
 mod FourNumbers
 mod GeneratedTexts

@@ -3,7 +3,7 @@ use Rattle.std.specs.Prelude.{◌≡◌, [], ◌∷◌, ◌++◌, refl, codes, p
 use Rattle.std.specs.Fmt.{digits}
 use Rattle.rand_core.specs.Steps.{first_words}
 use Rattle.ido_base.specs.declared.event.Event.TheVariants as events
-use Rattle.run_scripts.specs.Draws.{drawn_event, drawn_run, events_from}
+use Rattle.run_scripts.specs.Draws.{drawn_event, drawn_evictions, drawn_run, events_from}
 use Rattle.run_scripts.specs.GeneratedSources.{generated_source, mutex_item, section_line, thread_head, thread_item, variable_item}
 use Rattle.run_scripts.specs.Journals.{command_text, journal_text}
 use Rattle.run_scripts.specs.Reports.{variable_line, element_text, ended_line, ended_lines, schedule_line, run_text, hart_text, unsettled_line}
@@ -138,6 +138,18 @@ crashes_among_draws = refl
 nothing_without_threads : drawn_run 7 3 (0 ∷ []) 0 3 ≡ []
 unfolding drawn_run
 nothing_without_threads = refl
+
+first_eviction : drawn_evictions 7 1 1 0 ≡ (1029, 225)
+unfolding drawn_evictions first_words
+first_eviction = refl
+
+fourth_eviction : drawn_evictions 7 1 1 3 ≡ (1035, 235)
+unfolding drawn_evictions first_words
+fourth_eviction = refl
+
+evictions_of_many_lines : drawn_evictions 7 8 1024 0 ≡ (397, 225)
+unfolding drawn_evictions first_words
+evictions_of_many_lines = refl
 
 -- ---- Sources that are made
 

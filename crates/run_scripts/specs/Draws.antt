@@ -1,5 +1,5 @@
--- Drawn runs: the events that the words of a generator make.
-use Rattle.std.specs.Prelude.{ℕ, ◌+◌, ◌-◌, ◌*◌, ◌/◌, ◌%◌, ◌^◌, List, [], ◌∷◌, ◌++◌, replicate, count_by, nat_lt, ◌==◌, if◌then◌else◌}
+-- Drawn runs and evictions: what the words of a generator make.
+use Rattle.std.specs.Prelude.{ℕ, ◌+◌, ◌-◌, ◌*◌, ◌/◌, ◌%◌, ◌^◌, List, [], ◌∷◌, ◌++◌, replicate, count_by, slice_index, nat_lt, ◌==◌, if◌then◌else◌}
 use Rattle.rand_core.specs.Steps.{first_words}
 use Rattle.rand_xoshiro.specs.SplitMix64.{mix_u64}
 use Rattle.ido_base.specs.declared.event.Event.{Event}
@@ -38,3 +38,15 @@ drawn_words seed turns = first_words mix_u64 turns seed
 -- so many draws, at so many threads and lines of variables; a crash word that is greater than that brings none. Without threads nothing is drawn.
 unfoldable pub drawn_run : (seed turns : ℕ) → (crashes : List ℕ) → (threads lines : ℕ) → List Event
 drawn_run seed turns crashes threads lines = if threads == 0 then [] else events_from crashes threads lines 0 (drawn_words seed turns)
+
+-- the word after so many words of SplitMix64 from a seed on
+abbrev pub drawn_word : (seed n : ℕ) → ℕ
+drawn_word seed n = slice_index (drawn_words seed (n + 1)) n
+
+-- the line and the mask that a word draws where each word draws an eviction
+abbrev pub drawn_eviction : (threads lines word : ℕ) → ℕ × ℕ
+drawn_eviction threads lines word = (drawn_line threads lines word, drawn_mask word)
+
+-- the eviction after so many evictions of a seed: each word of SplitMix64 draws one
+unfoldable pub drawn_evictions : (seed threads lines n : ℕ) → ℕ × ℕ
+drawn_evictions seed threads lines n = drawn_eviction threads lines (drawn_word seed n)

@@ -5,3 +5,4 @@ pub mod ReportViews
 pub mod RunViews
 pub mod WordLengths
 pub mod JournalSteps
+pub mod Evictors

@@ -13,7 +13,7 @@ use rand_xoshiro::SplitMix64;
 use std::alloc::Global;
 
 /// The line that a word draws.
-fn drawn_line(word: u64, threads: u32, lines: u32) -> u32
+pub(crate) fn drawn_line(word: u64, threads: u32, lines: u32) -> u32
     requires some { 0 < threads }
     requires threads { threads ≤ MOST_THREADS }
     requires lines { lines ≤ VARIABLE_LINES }
@@ -30,7 +30,7 @@ fn drawn_line(word: u64, threads: u32, lines: u32) -> u32
 }
 
 /// The words of its line that a word draws.
-fn drawn_mask(word: u64) -> u32
+pub(crate) fn drawn_mask(word: u64) -> u32
     ensures { result ≡ drawn_mask word }
 {
     ((word >> 40) % 256) as u32

@@ -1,9 +1,10 @@
-//! What is read and written around a run: schedules, scripts and their play on a core, drawn runs, journals, and the report of
+//! What is read and written around a run: schedules, scripts and their play on a core, drawn runs and evictions, journals, and the report of
 //! a state; and sources that are made of numbers.
 #![tactic(auto)]
 
 pub mod draw;
 pub mod events;
+pub mod evictor;
 pub mod generated;
 pub mod journal;
 mod number;
