@@ -1,1 +1,3 @@
+mod NoPoints
+mod RunSeats
 mod TwoSeats

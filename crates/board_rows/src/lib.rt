@@ -1,5 +1,6 @@
-//! Boards at a small core: what their calls promise can be met, and each is made once. No program stands on it.
+//! Boards at small cores: what their calls promise can be met, each is made once, and seats take turns beside each other. No program stands on it.
 #![tactic(auto)]
 
 #[cfg(test)]
 mod tests;
+pub mod watched;

@@ -1,5 +1,5 @@
 -- One place in which all seats have met.
-use Rattle.std.proofs.Common.{◌≡◌, ℕ, ◌+◌, ◌≤◌, List, [], ◌∷◌, ◌++◌, Option, length, map, sym, refl, ap, ◌∙◌, subst, inl, inr, arith, ne_eqb}
+use Rattle.std.proofs.Common.{◌≡◌, ℕ, ◌+◌, ◌<◌, ◌≤◌, List, [], ◌∷◌, ◌++◌, Option, length, map, sym, refl, ap, ◌∙◌, subst, inl, inr, arith, ne_eqb}
 use Rattle.std.specs.Prelude.{All}
 use Rattle.std.proofs.lemmas.List.Elements.{All-nil, All-cons, All-head, All-tail, All-map}
 use mathlib.Core.Logic.{dite}
@@ -22,7 +22,8 @@ use Rattle.hart_board.specs.declared.seat.Seat.{Seat}
 use Rattle.hart_board.specs.Journals.{events_of, entries_by, made_by, IsLegal}
 use Rattle.hart_board.specs.CoreTurns.{IsPlayed}
 use Rattle.hart_board.specs.BoardRule.{times, Has, IsPast, play_of, IsPlayOf, met, now_of, Closed}
-use Rattle.hart_board.specs.Seats.{Represents, IsSeatAt, IsSeatOf, IsWholeJournal, HasSeen, numbers_of, number, rules_of, opening_core, seen_in, turns_of}
+use Rattle.hart_board.specs.Seats.{Represents, IsSeatAt, IsSeatOf, IsWholeJournal, HasSeen, numbers_of}
+use Rattle.hart_board.specs.Seats.{number, rules_of, opening_core, seats_of, seen_in, turns_of}
 use Rattle.hart_board.specs.links.Gathered.{In, past_of, Knows, Gathers}
 use Rattle.hart_board.proofs.Prefixes.{prefix_self}
 use Rattle.hart_board.proofs.JoinsKeepInv.{times-append}
@@ -103,12 +104,12 @@ module _ {C L : Type 0} where
 module _ {C L M : Type 0} (b : Behaviour M) (opening : C → M) (history : C → List Event) (hart_count space : C → ℕ) (evictable : C → ℕ → ℕ → Type 0) where
   -- once all have met, the journal is whole
   pub whole : (runs : C → ℕ → Option (Ahead L) → Type 0) (board : Board C L) (seats : List (Seat C L)) (place : at.Seat C (View C)) (k : Known C) (core : C)
-      (counts : List ℕ) → All (IsSeatOf history space runs board) seats → Gathers board.table.shared.key seats place k
+      (counts : List ℕ) → All (IsSeatOf history space runs board) seats → length seats ≡ seats_of board → Gathers board.table.shared.key seats place k
       → Closed (play_of b opening history hart_count) (IsPlayOf opening history hart_count space evictable) k core →
       counts ≡ map (λ (s : Seat C L). s.made) seats
       → IsWholeJournal (rules_of b opening history hart_count board) (IsPlayed opening history hart_count space evictable (opening_core board))
       seats core counts
-  whole runs board seats place k core counts each g closed are =
+  whole runs board seats place k core counts each once g closed are =
       let pasts : All (IsPast k.seen k.numbers) (now_of k ∷ k.past) =
       All-cons (IsPast k.seen k.numbers) (now_of k) k.past record { begins = prefix_self k.seen; own = λ n has. (has, refl) } closed.past in
       let seen_all : All (HasSeen k.seen) seats =
@@ -116,6 +117,7 @@ module _ {C L M : Type 0} (b : Behaviour M) (opening : C → M) (history : C →
       g.knows in record {
         journal = k.seen;
         legal = subst (λ (z : Terms C). IsLegal (play_of b opening history hart_count z) z.turns z.ceiling k.seen) g.terms_are closed.legal;
+        theirs = subst (λ (n : ℕ). All (λ e. e.seat < n) k.seen) (ap (λ (z : Terms C). z.seats) g.terms_are ∙ sym once) closed.seats;
         plays = subst (λ (z : Terms C). IsPlayOf opening history hart_count space evictable z (events_of k.seen) core) g.terms_are closed.plays;
         seen = seen_all;
         counts_are =

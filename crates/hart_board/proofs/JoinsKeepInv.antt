@@ -293,6 +293,7 @@ module _ {C : Type 0} (c : Terms C → Play) (is_play : Terms C → List Event �
         f.4 0 home.0.0 (ap (λ hs. get_elem? hs 0) home.0.1),
         record {
           legal = subst (λ (z : Terms C × List Entry). IsLegal (c z.0) z.0.turns z.0.ceiling z.1) (λ i. (sym g.terms_are i, sym whole i)) r.legal;
+          seats = subst (λ (z : Terms C × List Entry). All (λ e. e.seat < z.0.seats) z.1) (λ i. (sym g.terms_are i, sym whole i)) r.seats;
           plays = subst (λ (z : Terms C × List Entry). is_play z.0 (events_of z.1) home.0.0) (λ i. (sym g.terms_are i, sym whole i)) home.0.2;
           past = subst (λ (z : Terms C × List Entry). All (IsPast z.1 k.numbers) k.past) (λ i. (sym g.terms_are i, sym whole i)) g.past;
         },

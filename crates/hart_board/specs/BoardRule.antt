@@ -225,5 +225,6 @@ module _ {C : Type 0} where
   -- what is known once all is over: this journal begins with all that was seen, and the core is the play of it
   pub record Closed (c : Terms C → Play) (is_play : Terms C → List Event → C → Type 0) (k : Known C) (core : C) : Type 0 where
     pub legal : IsLegal (c k.terms) k.terms.turns k.terms.ceiling k.seen
+    pub seats : All (λ e. e.seat < k.terms.seats) k.seen
     pub plays : is_play k.terms (events_of k.seen) core
     pub past : All (IsPast k.seen k.numbers) k.past

@@ -201,10 +201,11 @@ module _ {C L : Type 0} where
     pub begins : IsPrefix (seen s) journal
     pub own : entries_by (number s) journal ≡ entries_by (number s) (seen s)
 
--- one legal journal holds all turns of these seats. The core is the play of it, and of each seat's events in it there are so many
+-- one legal journal holds all turns of these seats, and no others. The core is the play of it, and of each seat's events in it there are so many
 pub record IsWholeJournal {C L : Type 0} (r : Rules) (is_play : List Event → C → Type 0) (seats : List (Seat C L)) (core : C) (counts : List ℕ) : Type 0 where
   pub journal : List Entry
   pub legal : IsLegal r.play r.turns r.ceiling journal
+  pub theirs : All (λ e. e.seat < length seats) journal
   pub plays : is_play (events_of journal) core
   pub seen : All (HasSeen journal) seats
   pub counts_are : counts ≡ map (λ s. made_by (number s) journal) seats

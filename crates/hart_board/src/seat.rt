@@ -1,4 +1,7 @@
 //! Seats of a board, notes of what they have seen, and what their turns come to.
+ghost use Rattle.std.specs.Prelude.{◌≡◌};
+ghost use Rattle.hart_board.specs.Seats.{number};
+
 use crate::core_turn::Ahead;
 use crate::rule::Place;
 use ido_base::event::Reply;
@@ -15,6 +18,15 @@ pub struct Seat<C, L> {
     pub(crate) ticket: Option<u64>,
     /// What runs ahead of its hart.
     pub(crate) local: Option<Ahead<L>>,
+}
+
+impl<C, L> Seat<C, L> {
+    /// Its number, which is its hart's.
+    pub fn number(&self) -> u32
+        ensures { result ≡ number self.now }
+    {
+        self.number
+    }
 }
 
 /// What a seat had seen, to be told to another one.

@@ -1,7 +1,6 @@
-use Rattle.std.proofs.Common.{◌≡◌, []}
 use Rattle.hart_board.specs.declared.seat.Seat.{Seat}
 use Rattle.hart_board.specs.CoreTurns.{RunsIn}
-use Rattle.hart_board.specs.Seats.{IsSeatOf, seen}
+use Rattle.hart_board.specs.Seats.{IsSeatOf}
 use Rattle.board_rows.proofs.TwoSeats.{two_of}
 use Rattle.board_rows.proofs.tests.two_seats.Goals as goal
 
@@ -9,8 +8,7 @@ pub returns : goal.returns
 returns g c =
     let x = two_of
     (λ (s : Seat g.row.C.Denot g.row.C-Local.Denot).
-    IsSeatOf g.C.Core.history g.C.Core.space (RunsIn g.C.Core.opening g.C.Core.hart_count g.C.Core.is_local g.C.Core.ahead_by) c.args.board.now s
-    × (seen s ≡ []))
+    IsSeatOf g.C.Core.history g.C.Core.space (RunsIn g.C.Core.opening g.C.Core.hart_count g.C.Core.is_local g.C.Core.ahead_by) c.args.board.now s)
     c.args.seats.items c.pop.new.self.items c.pop-2.new.self.items c.in-Some-pop.first c.in-Some.second c.in-Some.ensures.items
     c.in-Some-pop.ensures.items c.requires.numbers c.requires.seats in
-    record { first = (x.0.0.0, x.0.1); second = (x.1.0.0, x.1.1) }
+    record { first = (x.0.0, x.0.1); second = (x.1.0, x.1.1) }

@@ -29,6 +29,6 @@ returns g c = let k = c.gather-place.ensures.knows in let board = c.args.self in
     (both (Knows k.0) (Knows k.0) (λ s. Has s.number k.0.numbers) (λ s x _. x.0) c.args.seats.items k.1.knows k.1.knows) (c.requires.all.each n inside)) in
     whole g.C.Core.behaviour g.C.Core.opening g.C.Core.history g.C.Core.hart_count g.C.Core.space g.C.Core.evictable
     (RunsIn g.C.Core.opening g.C.Core.hart_count g.C.Core.is_local g.C.Core.ahead_by) board c.args.seats.items c.gather-place.result k.0 c.close.result
-    c.count_made.new.counts.items c.requires.seats k.1 closed
+    c.count_made.new.counts.items c.requires.seats c.requires.all.once k.1 closed
     (c.count_made.ensures ∙ ap (λ (z : List (Seat g.row.C.Denot g.row.C-Local.Denot)). map (λ (x : Seat g.row.C.Denot g.row.C-Local.Denot). x.made) z)
     c.deref.ensures.value)

@@ -1,0 +1,2 @@
+mod NoPoints
+mod RunSeats

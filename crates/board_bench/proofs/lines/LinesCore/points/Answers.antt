@@ -1,0 +1,5 @@
+use Rattle.board_bench.proofs.NoPoints.{no_points}
+use Rattle.board_bench.proofs.lines.LinesCore.points.Goals as goal
+
+pub returns : goal.returns
+returns c = no_points c.args.arg2 0 c.args.self.now.journal.items

@@ -1,0 +1,2 @@
+pub mod HartSeats
+pub mod MovingCore

@@ -1,0 +1,21 @@
+-- A core whose harts never stop, and each of whose steps moves its hart. It represents nothing but that.
+use Rattle.std.specs.Prelude.{ℕ, Bool, false}
+use Rattle.ido_base.specs.declared.event.Event.{Event}
+use Rattle.ido_base.specs.declared.event.Event.TheVariants.{Step, Evict, Crash}
+use Rattle.ido_base.specs.declared.event.Reply.{Reply}
+use Rattle.ido_base.specs.declared.event.Reply.TheVariants.{Moved, Device}
+use Rattle.ido_base.specs.Cores.{Behaviour}
+
+abbrev pub reply : Event → Reply
+reply (Step hart) = Moved
+reply (Evict line mask) = Device
+reply Crash = Device
+
+abbrev pub moving : Behaviour ℕ
+moving = record {
+  next = λ m event. m;
+  reply = λ m event. reply event;
+  is_stopped = λ m hart. false;
+  stores_point = λ m hart event. false;
+  finishes_fence = λ m hart event. false;
+}
