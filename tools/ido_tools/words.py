@@ -22,10 +22,12 @@ COMMANDS = (
     ("regions", "", "a source", "its nodes, and the boundaries chosen among them"),
     ("play", "", "a source, a line `%%`, a script", "the report of a run of the compiled source"),
     ("image", "", "a source, a line `%%`, a script", "the image file that a crash after that run would leave"),
-    ("recover", "TURNS", "an image file", "the report of the run that goes on from it"),
+    ("recover", "TURNS", "an image file", "the report of the run that goes on from it, on threads"),
     ("source", "", "a source, a line `%%`, a schedule", "the report of the source's own run"),
     ("seeded", "SEED TURNS [CRASH]...", "a source", "the report of a run of it that is drawn from the seed"),
+    ("live", "TURNS [CRASH]... [--evict SEED] [--journal]", "a source", "the report of a run of it on threads, or with `--journal` that run, as an input of `play`"),
     ("make", "N SEED", "no input", "a source of four threads, which make N rounds each"),
+    ("load", "N SEED", "no input", "that source is run on threads to its end, and what it left summed up"),
 )
 
 # Words that the script ./ido takes before a command.

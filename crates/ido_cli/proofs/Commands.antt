@@ -3,10 +3,12 @@ use Rattle.std.proofs.Common.{◌≡◌, refl, ℕ, ◌-◌, ◌^◌, ◌<◌, �
 use Rattle.std.proofs.Common.{true, false, Option, Some, None, Result, Ok, Err, inl, inr, length, ◌==◌, append_assoc, arith}
 use Rattle.std.proofs.lemmas.Bool.{eqb-true}
 use Rattle.std.proofs.lemmas.List.{append-nil}
-use Rattle.std.specs.Prelude.{option_and_then, option_map, Box, if◌then◌else◌}
+use Rattle.std.proofs.lemmas.Slice.Eq.{bytes_eq-Decides}
+use Rattle.std.specs.Prelude.{◌≢◌, MatchBool, option_and_then, option_map, unwrap_or, Box, if◌then◌else◌}
 use Rattle.std.specs.Box.{box_value}
 use Rattle.std.specs.Result.{result_ok}
-use Rattle.std.specs.Str.Parse.{ParsesUnsigned, digits_value, without_leading_plus}
+use Rattle.std.specs.Str.{bytes_eq}
+use Rattle.std.specs.Str.Parse.{ParsesBool, ParsesUnsigned, digits_value, false_text, true_text, without_leading_plus}
 use Rattle.clap.specs.Matches.{ReadsOne}
 use Rattle.clap.specs.Values.{IsUnsignedIn}
 use Rattle.clap.specs.ValueTests.{is_unsigned_in}
@@ -22,7 +24,7 @@ use Rattle.clap.specs.declared.parser.matches.ArgMatches.TheViews.{out-ArgMatche
 use Rattle.clap.specs.declared.parser.matches.SubCommand.{SubCommand}
 use Rattle.clap.proofs.OnLiterals.{clap_on_literals}
 use Rattle.clap.proofs.ValueTestLemmas.{accepts-Accepts, Accepts-accepts}
-use Rattle.ido_cli.specs.Commands.{command_by_name, command_of, number_of, numbers_of, table}
+use Rattle.ido_cli.specs.Commands.{command_by_name, command_of, is_true, number_of, numbers_of, table}
 use Rattle.ido_cli.specs.declared.command.Command as c
 
 simple : is_simple table ≡ true
@@ -65,6 +67,26 @@ module _ (bits : ℕ) (some : 0 < 2 ^ bits) (fits : 2 ^ bits ≤ 2 ^ 64) where
       value ≡ option_and_then (number_of bits) text
   read_named gives parses None value none some_is = none refl
   read_named gives parses (Some t) value none some_is = read_number gives parses t value (some_is t refl)
+
+-- ---- Flags
+
+flag_is : (text : Text) (b : Bool) → MatchBool b (text ≡ true_text) (text ≡ false_text) → b ≡ is_true (Some text)
+flag_is text true is = subst (λ (t : Text). true ≡ is_true (Some t)) (sym is) refl
+flag_is text false is = subst (λ (t : Text). false ≡ is_true (Some t)) (sym is) refl
+
+no_flag : (text : Text) (b : Bool) → text ≢ true_text → bytes_eq text true_text ≡ b → false ≡ b
+no_flag text true other e = absurd (other ((bytes_eq-Decides text true_text).0 e))
+no_flag text false other e = refl
+
+-- what a text is read as that stands for a flag
+pub read_flag : {E : Type 0} (gives : Text → Result Bool E → Type 0) → ((t : Text) (r : Result Bool E) → gives t r → ParsesBool t r) →
+    (text : Option Text) (value : Option Bool) → (text ≡ None → value ≡ None) → ((t : Text) → text ≡ Some t → ReadsOne gives t value) →
+    unwrap_or value false ≡ is_true text
+read_flag gives parses None value none some_is = ap (λ (v : Option Bool). unwrap_or v false) (none refl)
+read_flag gives parses (Some t) (Some b) none some_is = flag_is t b (parses t (Ok b) (some_is t refl))
+read_flag gives parses (Some t) None none some_is =
+    let read = some_is t refl in
+    no_flag t (bytes_eq t true_text) (parses t (Err read.0) read.1).0 refl
 
 -- ---- Crash words
 

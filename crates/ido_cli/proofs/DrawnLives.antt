@@ -18,8 +18,8 @@ all_valid harts many es others are same valid =
     subst (λ (n : ℕ). All (IsValid n (IsEviction n)) es) same (subst (λ (xs : List Event). All (IsValid many (IsEviction many)) xs) (sym are) valid)
 
 module _ (object : Object) (marks : Marks) (cap : ℕ) (old : Course) (is : old ≡ new_life object marks cap) where
-  pub many_harts : length old.program ≡ length object.code.items
-  many_harts = ap (λ (x : Course). length x.program) is ∙ length-map object.code.items (λ code. map slot_of code.items)
+  pub many_harts : length old.runs.program ≡ length object.code.items
+  many_harts = ap (λ (x : Course). length x.runs.program) is ∙ length-map object.code.items (λ code. map slot_of code.items)
 
   pub room_for : (count : ℕ) → count ≤ cap → count ≤ old.cap - length old.journal
   room_for count fits =

@@ -1,5 +1,5 @@
 -- What an input within its limits is answered.
-use Rattle.std.proofs.Common.{◌≡◌, inl, inr, ℕ, ◌<◌, ◌≤◌, List, length, subst, arith}
+use Rattle.std.proofs.Common.{◌≡◌, inl, inr, ℕ, ◌<◌, ◌≤◌, Bool, Option, List, length, subst, arith}
 use Rattle.std.specs.Prelude.{IfOk, Result, Ok, Err, codes}
 use Rattle.ido_base.specs.declared.limits.TheConstants.{MOST_INPUT_BYTES, MOST_SOURCE_BYTES}
 use Rattle.file_fields.specs.Fields as fields
@@ -10,7 +10,7 @@ use Rattle.ido_cli.specs.declared.answer.Product.TheVariants as products
 use Rattle.ido_cli.specs.declared.play.Asked.{Asked}
 use Rattle.ido_cli.specs.declared.play.Asked.TheVariants as asks
 use Rattle.ido_cli.specs.declared.said.Said.{Said}
-use Rattle.ido_cli.specs.Answers.{AnswerToInput, CommandAnswer, IsSourcePastLimits, ListAnswer, Refuses}
+use Rattle.ido_cli.specs.Answers.{AnswerToInput, CommandAnswer, IsSourcePastLimits, ListAnswer, LiveAnswer, Refuses}
 use Rattle.ido_cli.specs.Answers.{ScriptedAnswer, SeededAnswer, SourceAnswer, no_object, past_limits, within_limits}
 use Rattle.ido_cli.specs.Inputs.{source_of}
 use Rattle.ido_cli.specs.links.RunRequests.{Says, command_asking, command_making}
@@ -38,6 +38,12 @@ pub draws : {E : Type 0} (seed turns : ℕ) (crashes input : List ℕ) (r : Resu
     IfOk r (λ said. AnswerToInput (command.Seeded seed turns crashes) input said.status said.output.items)
 draws seed turns crashes input (Ok said) short answer = within_limits (λ long. omega (arith, short, long)) answer
 draws seed turns crashes input (Err e) short answer = tt
+
+pub lives : {E : Type 0} (turns : ℕ) (crashes : List ℕ) (evict : Option ℕ) (journal : Bool) (input : List ℕ) (r : Result Said E) →
+    length input ≤ MOST_SOURCE_BYTES → IfOk r (λ said. LiveAnswer turns crashes evict journal input said.status said.output.items) →
+    IfOk r (λ said. AnswerToInput (command.Live turns crashes evict journal) input said.status said.output.items)
+lives turns crashes evict journal input (Ok said) short answer = within_limits (λ long. omega (arith, short, long)) answer
+lives turns crashes evict journal input (Err e) short answer = tt
 
 -- where the limit is past, whatever is made
 pub made_past : (product : Product) (input : List ℕ) (status : ℕ) (output : List ℕ) → MOST_SOURCE_BYTES < length input →

@@ -1,6 +1,7 @@
 mod Worked
 mod WorkedListing
 mod WorkedNodes
+mod WorkedRuns
 mod CodeLimits
 mod InputAnswers
 mod InputSteps
@@ -18,7 +19,13 @@ mod ScriptEventCount
 mod PlayedRuns
 mod KeptStepsBounded
 mod RunImages
-mod Turns
+mod LegEvents
+mod LegRuns
+mod RoundRuns
+mod Sums
+mod Totals
+mod Summaries
+mod ThreadedAnswers
 mod CompiledLimits
 mod CompiledImages
 mod RecoveredRuns

@@ -43,18 +43,19 @@ use Rattle.ido_cli.proofs.SettledReports.{run_of}
 
 -- ---- Harts of a machine
 
-harts_stay : (program : List (List Slot)) (w : World) (es : List Event) → length program ≡ length w.harts → IsWellFormedWorld w →
-    length (after_events program w es).harts ≡ length w.harts
-harts_stay program w [] count sound = refl
-harts_stay program w (e ∷ es) count sound =
+pub sound_along : (program : List (List Slot)) (w : World) (es : List Event) → length program ≡ length w.harts → IsWellFormedWorld w →
+    IsWellFormedWorld (after_events program w es) × (length (after_events program w es).harts ≡ length w.harts)
+sound_along program w [] count sound = (sound, refl)
+sound_along program w (e ∷ es) count sound =
     let next = queues_stand program w e count sound in
-    harts_stay program (after_event program w e) es (count ∙ sym next.1) next.0 ∙ next.1
+    let all = sound_along program (after_event program w e) es (count ∙ sym next.1) next.0 in
+    (all.0, all.1 ∙ next.1)
 
 harts_count : (program : List (List Slot)) (locks : ℕ) (initial : List ℕ) (es : List Event) →
     length (after_events program (start_of program locks initial) es).harts ≡ length program
 harts_count program locks initial es =
     let starts = starts_simulate program locks initial in
-    harts_stay program (start_of program locks initial) es (sym starts.1) starts.0 ∙ starts.1
+    (sound_along program (start_of program locks initial) es (sym starts.1) starts.0).1 ∙ starts.1
 
 -- ---- What is translated
 
@@ -84,18 +85,18 @@ pub record HasPlayed (object : Object) (marks : Marks) (life : Course) (events :
 module _ (flat : f.Flat) (object : Object) (marks : Marks) (cuts : Cuts) (life : Course) (events : List Event) (p : HasPlayed object marks life events) where
   pub same_world : world_of life ≡ world (translation_to flat object marks cuts) events
   same_world =
-      ap (λ (x : LifeConfig). after_events x.program x.world life.journal) p.begins
+      ap (λ (x : LifeConfig). after_events x.runs.program x.world life.journal) p.begins
       ∙ ap (after_events (program_of object) (machine_start object)) p.journal
 
   pub same_steps : steps_in life ≡ steps (translation_to flat object marks cuts) events
   same_steps =
-      ap (λ (x : LifeConfig). steps_along x.marks x.program x.world life.journal (first_steps (length x.program) x.kept_before)) p.begins
+      ap (λ (x : LifeConfig). steps_along x.runs.marks x.runs.program x.world life.journal (first_steps (length x.runs.program) x.kept_before)) p.begins
       ∙ ap (λ (es : List Event). steps (translation_to flat object marks cuts) es) p.journal
 
-  pub harts_of_life : length (world_of life).harts ≡ length life.program
+  pub harts_of_life : length (world_of life).harts ≡ length life.runs.program
   harts_of_life =
       ap (λ (w : World). length w.harts) same_world ∙ harts_count (program_of object) object.mutexes object.initial.items events
-      ∙ sym (ap (λ (x : LifeConfig). length x.program) p.begins)
+      ∙ sym (ap (λ (x : LifeConfig). length x.runs.program) p.begins)
 
   module _ (compilation : IsCompilation (translation_to flat object marks cuts)) where
     pub run_by : (status : ℕ) (output : List ℕ) → IsReport (machine_state flat (world_of life) (steps_in life).kept) status output →

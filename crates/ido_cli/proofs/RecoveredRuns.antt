@@ -1,6 +1,6 @@
 -- A run that goes on from an image's file.
 use Rattle.std.proofs.Common.{◌≡◌, ℕ, ◌+◌, ◌-◌, ◌*◌, ◌/◌, ◌≤◌, List, [], ◌∷◌, ◌++◌, length, map, take, drop}
-use Rattle.std.proofs.Common.{replicate, ap, ap₂, sym, subst, ◌∙◌, arith, length-append, length-drop, length-take, Ok}
+use Rattle.std.proofs.Common.{replicate, ap, ap₂, sym, subst, ◌∙◌, arith, length-append, length-drop, length-take, Option, None, Ok}
 use Rattle.std.proofs.lemmas.List.{length-map, length-replicate}
 use Rattle.ido_base.specs.declared.limits.TheConstants.{LOG_WORDS, VARIABLE_WORDS}
 use Rattle.ido_base.specs.declared.event.Event.{Event}
@@ -22,16 +22,21 @@ use Rattle.compiler_correctness.specs.Laws.{ImagesAreCrashes}
 use Rattle.compiler_correctness.specs.Translations.{Translation, steps, world, translation_to}
 use Rattle.ido_cli.specs.declared.compiled_image.Image as i
 use Rattle.ido_cli.specs.CompiledImages.{IsImageAnswer, whole}
+use Rattle.hart_driver.specs.declared.stop.Stop.{Stop}
+use Rattle.hart_driver.specs.Legs.{IsLeg}
 use Rattle.ido_compile.specs.CompileAnswers.{IsCompiled}
 use Rattle.ido_compile.specs.Files.{FilesBegin}
-use Rattle.run_tracker.specs.ObjectLives.{Course, LifeConfig, life_from, living, opening_of, steps_in, world_of}
-use Rattle.ido_cli.specs.Legs.{IsLeg, most_leg_events}
+use Rattle.run_scripts.specs.declared.evictor.Evictor.{Evictor}
+use Rattle.run_tracker.specs.ObjectLives.{Course, LifeConfig, life_from, opening_of, steps_in, world_of}
 use Rattle.ido_cli.specs.Plays.{IsRunBy}
 use Rattle.ido_cli.specs.Recoveries.{IsRecovery, recovering}
 use Rattle.ido_cli.specs.Reports.{machine_state}
 use Rattle.ido_cli.specs.Runs.{IsReport}
+use Rattle.ido_cli.specs.ThreadedRuns.{leg_after, moment_after, most_leg_events}
+use Rattle.ido_cli.specs.links.LegRuns.{leg_from}
+use Rattle.ido_cli.proofs.LegRuns.{IsLifeDriven, is_leg_after}
+use Rattle.ido_cli.proofs.PlayedRuns.{sound_along}
 use Rattle.ido_cli.proofs.SettledReports.{run_of}
-use Rattle.ido_cli.proofs.Turns.{sound_along}
 
 -- ---- A run from a file of the same translation
 
@@ -77,8 +82,12 @@ module _ (flat : f.Flat) (object : Object) (marks : Marks) (cuts : Cuts) (t : Is
   pub none_made : begun.journal ≡ []
   none_made = ap (λ (x : Course). x.journal) is
 
-  pub room_left : cap ≤ begun.cap
-  room_left = omega (arith, ap (λ (x : Course). x.cap) is)
+  pub room_left : cap ≤ length begun.journal + (begun.cap - length begun.journal)
+  room_left = omega (arith, ap (λ (x : Course). x.cap) is, ap length none_made)
+
+  pub few_harts : length begun.runs.program ≤ 8
+  few_harts =
+      omega (arith, ap (λ (x : Course). length x.runs.program) is, length-map object.code.items (λ code. map slot_of code.items), t.limits.threads)
 
   module _ (size : length file.words ≡ length object.initial.items / 8 + LOG_WORDS * length object.code.items) where
     first : World
@@ -90,8 +99,8 @@ module _ (flat : f.Flat) (object : Object) (marks : Marks) (cuts : Cuts) (t : Is
         crashes_simulate (program_of object) object.mutexes (spread_words (length object.initial.items / 8) file.words)
         (spread_size (length object.initial.items / 8) (length (program_of object)) file.words (omega (arith, t.limits.bytes)) (omega (arith, size, threads)))
 
-    pub harts_stand : length (world_of begun).harts ≡ length begun.program
-    harts_stand = ap (λ (x : Course). length (world_of x).harts) is ∙ stands.1 ∙ sym (ap (λ (x : Course). length x.program) is)
+    pub harts_stand : length (world_of begun).harts ≡ length begun.runs.program
+    harts_stand = ap (λ (x : Course). length (world_of x).harts) is ∙ stands.1 ∙ sym (ap (λ (x : Course). length x.runs.program) is)
 
     pub is_sound : IsWellFormedWorld (world_of begun)
     is_sound = subst (λ (x : Course). IsWellFormedWorld (world_of x)) (sym is) stands.0
@@ -100,12 +109,12 @@ module _ (flat : f.Flat) (object : Object) (marks : Marks) (cuts : Cuts) (t : Is
 
   module _ (life : Course) (same : opening_of life ≡ opening_of begun) where
     pub harts_after : length file.words ≡ length object.initial.items / 8 + LOG_WORDS * length object.code.items →
-        length (world_of life).harts ≡ length life.program
+        length (world_of life).harts ≡ length life.runs.program
     harts_after size =
         let first = stands size in
-        ap (λ (m : LifeConfig). length (after_events m.program m.world life.journal).harts) (same ∙ ap opening_of is)
+        ap (λ (m : LifeConfig). length (after_events m.runs.program m.world life.journal).harts) (same ∙ ap opening_of is)
         ∙ (sound_along (program_of object) (machine_from object file.words []) life.journal (sym first.1) first.0).1 ∙ first.1
-        ∙ sym (ap (λ (m : LifeConfig). length m.program) (same ∙ ap opening_of is))
+        ∙ sym (ap (λ (m : LifeConfig). length m.runs.program) (same ∙ ap opening_of is))
 
     module _ (files : FilesBegin) where
       opens : opening_of life ≡ recovering made file
@@ -114,21 +123,27 @@ module _ (flat : f.Flat) (object : Object) (marks : Marks) (cuts : Cuts) (t : Is
           ∙ ap (λ (w : World). let m : LifeConfig = record (recovering made file) { world = w } in m) (files flat object marks cuts file [])
 
       pub same_world : world_of life ≡ world_from made (image_in made file) life.journal
-      same_world = ap (λ (m : LifeConfig). after_events m.program m.world life.journal) opens
+      same_world = ap (λ (m : LifeConfig). after_events m.runs.program m.world life.journal) opens
 
       pub same_steps : steps_in life ≡ steps_from made (image_in made file) life.journal
-      same_steps = ap (λ (m : LifeConfig). steps_along m.marks m.program m.world life.journal (first_steps (length m.program) m.kept_before)) opens
+      same_steps =
+          ap (λ (m : LifeConfig). steps_along m.runs.marks m.runs.program m.world life.journal (first_steps (length m.runs.program) m.kept_before)) opens
 
-      pub recovery : ImagesAreCrashes → IsCompilation made → (turns status : ℕ) (output : List ℕ) →
-          IsLeg living (opening_of begun) (length begun.program) turns most_leg_events life.journal →
+      pub recovery : ImagesAreCrashes → IsCompilation made → (turns status : ℕ) (output : List ℕ) (stops : List Stop) (evict : Option Evictor) →
+          IsLifeDriven begun turns most_leg_events None life stops evict →
           IsReport (machine_state flat (world_of life) (steps_in life).kept) status output → IsRecovery made file turns status output
-      recovery crashes compilation turns status output leg told =
+      recovery crashes compilation turns status output stops evict d told =
+          let journal_is = d.plays.events_are ∙ ap (λ (es : List Event). es ++ d.journal) none_made in
+          let leg = subst (λ (es : List Event). IsLeg (leg_from turns most_leg_events begun None) es) (sym journal_is) d.leg in
           let of_world = subst (λ (w : World). IsReport (machine_state flat w (steps_in life).kept) status output) same_world told in
           let reported = subst (λ (s : Steps). IsReport (machine_state flat (world_from made (image_in made file) life.journal) s.kept) status output)
           same_steps of_world in
           record {
             journal = life.journal;
-            leg = subst (λ (m : LifeConfig). IsLeg living m (length m.program) turns most_leg_events life.journal) (sym same ∙ opens) leg;
+            leg =
+                subst (λ (es : List Event). IsLeg (leg_after (recovering made file) turns None es None) life.journal) none_made
+                (is_leg_after turns None (recovering made file) None most_leg_events begun None (sym same ∙ opens)
+                (sym (ap (λ (es : List Event). moment_after es None) none_made)) tt life.journal leg);
             reported = reported;
             goes_on = after_crash crashes made compilation file life.journal status output reported;
           }

@@ -18,7 +18,7 @@ use Rattle.compiler_correctness.specs.Translations.{Translation, steps, world, t
 use Rattle.crash_images.specs.Contents.{Contents, contents}
 use Rattle.crash_images.specs.ImageDecoder.{IsReadAs}
 use Rattle.crash_images.specs.ImageEncoder.{spelling}
-use Rattle.run_tracker.specs.ObjectLives.{Course, LifeConfig, left_words, steps_in, world_of}
+use Rattle.run_tracker.specs.ObjectLives.{Course, LifeConfig, left_words, steps_in, variable_words_in, world_of}
 use Rattle.image_checks.specs.RunImages.{left_by, file_contents}
 use Rattle.ido_cli.specs.Images.{IsImageAfter}
 use Rattle.ido_cli.proofs.KeptStepsBounded.{kept_few}
@@ -29,10 +29,10 @@ module _ (flat : f.Flat) (object : Object) (marks : Marks) (cuts : Cuts) (life :
   made = translation_to flat object marks cuts
 
   abbrev left : List ℕ
-  left = left_words life.variable_words (world_of life).words
+  left = left_words (variable_words_in life) (world_of life).words
 
-  pub same_variables : life.variable_words ≡ length object.initial.items / 8
-  same_variables = ap (λ (m : LifeConfig). m.variable_words) p.begins
+  pub same_variables : variable_words_in life ≡ length object.initial.items / 8
+  same_variables = ap (λ (m : LifeConfig). length m.runs.initial / 8) p.begins
 
   same_left : left ≡ (file_of made (image_of made events)).words
   unfolding left_words
@@ -50,21 +50,21 @@ module _ (flat : f.Flat) (object : Object) (marks : Marks) (cuts : Cuts) (life :
       omega (arith, ap length same_kept, few)
 
   module _ (t : IsTranslated flat object marks cuts) (compilation : IsCompilation made) where
-    pub variables_few : life.variable_words ≤ VARIABLE_WORDS
+    pub variables_few : variable_words_in life ≤ VARIABLE_WORDS
     variables_few = omega (arith, same_variables, t.limits.bytes)
 
-    size : length left ≡ life.variable_words + LOG_WORDS * length object.code.items
+    size : length left ≡ variable_words_in life + LOG_WORDS * length object.code.items
     size =
         let harts = length-map object.code.items (λ code. map slot_of code.items) in
         omega (arith, ap length same_left, (compilation.in_file events).size, same_variables, harts)
 
-    pub variables_within : life.variable_words ≤ length left
+    pub variables_within : variable_words_in life ≤ length left
     variables_within = omega (arith, size)
 
-    pub logs_few : length left ≤ life.variable_words + 1024
+    pub logs_few : length left ≤ variable_words_in life + 1024
     logs_few = omega (arith, size, t.limits.threads)
 
-  same_contents : (source : List ℕ) → contents source (take life.variable_words left) (drop life.variable_words left) (steps_in life).kept ≡
+  same_contents : (source : List ℕ) → contents source (take (variable_words_in life) left) (drop (variable_words_in life) left) (steps_in life).kept ≡
       file_contents source made (left_by made events)
   same_contents source =
       ap (λ (n : ℕ). contents source (take n left) (drop n left) (steps_in life).kept) same_variables
@@ -73,8 +73,8 @@ module _ (flat : f.Flat) (object : Object) (marks : Marks) (cuts : Cuts) (life :
       same_kept
 
   pub image_after : (source : List ℕ) (status : ℕ) (output : List ℕ) → status ≡ 0 →
-      output ≡ spelling (contents source (take life.variable_words left) (drop life.variable_words left) (steps_in life).kept) →
-      IsReadAs (contents source (take life.variable_words left) (drop life.variable_words left) (steps_in life).kept) output →
+      output ≡ spelling (contents source (take (variable_words_in life) left) (drop (variable_words_in life) left) (steps_in life).kept) →
+      IsReadAs (contents source (take (variable_words_in life) left) (drop (variable_words_in life) left) (steps_in life).kept) output →
       IsImageAfter source made events status output
   image_after source status output done told read = record {
     status_is = done;

@@ -23,7 +23,7 @@ none_chosen : (p : ℕ → Bool) (k n : ℕ) → ((t : ℕ) → p t ≡ false) �
 none_chosen p k zero h = refl
 none_chosen p k (suc n) h = left_out p k (numbers_from (k + 1) n) (h k) ∙ none_chosen p (k + 1) n h
 
-all_between : (s : m.State) → ((thread : ℕ) → m.is_between s thread ≡ true) → unsettled_threads s ≡ []
+pub all_between : (s : m.State) → ((thread : ℕ) → m.is_between s thread ≡ true) → unsettled_threads s ≡ []
 all_between s h = none_chosen (λ t. not (m.is_between s t)) 0 (length s.threads) (λ t. ap not (h t))
 
 none_of : (p : ℕ → Bool) (k n h : ℕ) → filter p (numbers_from k n) ≡ [] → k ≤ h → h < k + n → p h ≡ false
@@ -51,13 +51,13 @@ settled_by_none w none =
     settled_below w (length w.harts) (λ h below.
     not_false (is_settled_hart w h) (none_of (λ g. not (is_settled_hart w g)) 0 (length w.harts) h none (omega arith) (omega (arith, below))))
 
-none_by_status : (unsettled : List ℕ) (status : ℕ) → status ≡ status_by unsettled → status ≡ 0 → unsettled ≡ []
+pub none_by_status : (unsettled : List ℕ) (status : ℕ) → status ≡ status_by unsettled → status ≡ 0 → unsettled ≡ []
 none_by_status [] status e settled = refl
 none_by_status (h ∷ hs) status e settled = absurd (omega (arith, e, settled))
 
 -- ---- The report
 
-same_state : (x : f.Flat) (w : World) (kept : List ℕ) → unsettled_harts w ≡ [] → unsettled_threads (m.after_from (m.start x) kept) ≡ []
+pub same_state : (x : f.Flat) (w : World) (kept : List ℕ) → unsettled_harts w ≡ [] → unsettled_threads (m.after_from (m.start x) kept) ≡ []
     → durable_variables w.words x.variables ≡ (m.after_from (m.start x) kept).variables → machine_state x w kept ≡ run_state x kept
 unfolding machine_state run_state
 same_state x w kept none between same =

@@ -1,5 +1,5 @@
 -- Words and an input have one answer, where it stands on no compilation.
-use Rattle.std.proofs.Common.{◌≡◌, ℕ, ◌+◌, List, [], ◌∷◌, length, Option, Some, None, Result, Ok, Err, true, false, sym, ap, ap₂, ◌∙◌, subst, arith}
+use Rattle.std.proofs.Common.{◌≡◌, ℕ, ◌+◌, List, [], ◌∷◌, length, Option, Some, None, Result, Ok, Err, Bool, true, false, sym, ap, ap₂, ◌∙◌, subst, arith}
 use Rattle.ido_base.specs.declared.event.Event.{Event}
 use Rattle.ido_base.specs.declared.place.Place.{Place}
 use Rattle.c_tree.specs.Flats as f
@@ -25,7 +25,8 @@ use Rattle.ido_cli.specs.Runs.{RunAnswer, ran, stopped, status_by}
 use Rattle.ido_cli.specs.Inputs.{source_of, rest_of}
 use Rattle.ido_cli.specs.Answers.{CommandAnswer, CompileAnswer, uncompiled, compiled, RegionsAnswer, uncut, cut, PlayAnswer}
 use Rattle.ido_cli.specs.Answers.{ScriptedAnswer, unplayed, no_script, of_script, ImageAnswer, RecoverAnswer, no_image, of_image}
-use Rattle.ido_cli.specs.Answers.{SeededAnswer, undrawn, drawn}
+use Rattle.ido_cli.specs.Answers.{SeededAnswer, undrawn, drawn, LiveAnswer, unrun, ran as ran_on_threads, LoadAnswer, unloaded, loaded}
+use Rattle.run_scripts.specs.GeneratedSources.{generated_source}
 use Rattle.ido_cli.specs.Answers.{SourceAnswer, unaccepted, no_schedule, of_schedule, rest_begins, ListAnswer, no_object}
 use Rattle.ido_cli.specs.Answers.{of_object, AnswerToInput, IsPastLimits, past_limits, within_limits, wrong_words, taken_words}
 use Rattle.ido_compile.specs.Verdicts.{OneFlat, OneFault, NotBoth}
@@ -142,6 +143,18 @@ module _ (one_flat : OneFlat) (one_fault : OneFault) (not_both : NotBoth) (one_s
   of_seeded seed turns crashes text status output (undrawn found place is told) = breaks found place is told
   of_seeded seed turns crashes text status output (drawn flat is c made run) = keeps flat is (not_by_unsettled _ status run.reported.status_is)
 
+  of_live : (turns : ℕ) (crashes : List ℕ) (evict : Option ℕ) (journal : Bool) (text : List ℕ) (status : ℕ) (output : List ℕ) →
+      LiveAnswer turns crashes evict journal text status output → Verdict text status output
+  of_live turns crashes evict journal text status output (unrun found place is told) = breaks found place is told
+  of_live turns crashes evict false text status output (ran_on_threads flat is c made events legs run) =
+      keeps flat is (not_by_unsettled _ status run.reported.status_is)
+  of_live turns crashes evict true text status output (ran_on_threads flat is c made events legs told) =
+      let zero = told.0 in keeps flat is (λ one. omega (arith, zero, one))
+
+  of_load : (rounds seed status : ℕ) (output : List ℕ) → LoadAnswer rounds seed status output → Verdict (generated_source rounds seed) status output
+  of_load rounds seed status output (unloaded found place is told) = breaks found place is told
+  of_load rounds seed status output (loaded flat is c made events run summary) = keeps flat is (not_by_unsettled _ status summary.summed.status_is)
+
   module _ (Says : Translation → List Event → ℕ → List ℕ → Type 0)
       (others : (c : Translation) (events : List Event) (status : ℕ) (output : List ℕ) → Says c events status output → status ≡ 1 → ⊥) where
     not_of_script : (c : Translation) (lines : List scripts.Line) (input : List ℕ) (begins status : ℕ) (output : List ℕ) →
@@ -230,6 +243,16 @@ module _ (one_flat : OneFlat) (one_fault : OneFault) (not_both : NotBoth) (one_s
       one_refusal input status other output written one (of_seeded seed turns crashes input status output told)
       (of_seeded seed turns crashes input other written more)
   one_within (command.Seeded seed turns crashes) input status other output written within (misspelled takes flat is x bad) told more = absurd takes
+  one_within (command.Live turns crashes evict journal) input status other output written within (plain n) told more = absurd n
+  one_within (command.Live turns crashes evict journal) input status other output written within (breaks_rule one) told more =
+      one_refusal input status other output written one (of_live turns crashes evict journal input status output told)
+      (of_live turns crashes evict journal input other written more)
+  one_within (command.Live turns crashes evict journal) input status other output written within (misspelled takes flat is x bad) told more = absurd takes
+  one_within (command.Load rounds seed) input status other output written within (plain n) told more = absurd n
+  one_within (command.Load rounds seed) input status other output written within (breaks_rule one) told more =
+      one_refusal (generated_source rounds seed) status other output written one (of_load rounds seed status output told)
+      (of_load rounds seed other written more)
+  one_within (command.Load rounds seed) input status other output written within (misspelled takes flat is x bad) told more = absurd takes
   one_within command.Source input status other output written within (plain n) told more = one_source input status other output written told more
   one_within command.Source input status other output written within (breaks_rule one) told more = one_source input status other output written told more
   one_within command.Source input status other output written within (misspelled takes flat is x bad) told more =

@@ -1,5 +1,5 @@
 -- What the definitions compute.
-use Rattle.std.specs.Prelude.{◌≡◌, [], ◌∷◌, Some, None, refl, codes, replicate}
+use Rattle.std.specs.Prelude.{◌≡◌, [], ◌∷◌, Some, None, true, false, refl, codes, replicate}
 use Rattle.ido_cli.specs.Inputs.{source_of, rest_of, after_mark}
 use Rattle.clap.proofs.OnLiterals.{clap_on_literals}
 use Rattle.ido_cli.specs.declared.command.Command.TheVariants as command
@@ -133,6 +133,77 @@ crash_is_a_number = refl
 
 no_more_crashes : crashes_of (replicate 1001 (codes "1")) ≡ None
 no_more_crashes = refl
+
+live_is_taken : command_of (codes "ido" ∷ codes "live" ∷ codes "1000000" ∷ []) ≡ Some (command.Live 1000000 [] None false)
+unfolding command_of clap_on_literals
+live_is_taken = refl
+
+live_is_taken_whole : command_of
+    (codes "ido" ∷ codes "live" ∷ codes "0" ∷ codes "4000000" ∷ codes "0" ∷ codes "--evict" ∷ codes "18446744073709551615" ∷ codes "--journal" ∷ []) ≡
+    Some (command.Live 0 (4000000 ∷ 0 ∷ []) (Some 18446744073709551615) true)
+unfolding command_of clap_on_literals
+live_is_taken_whole = refl
+
+options_stand_anywhere : command_of (codes "ido" ∷ codes "live" ∷ codes "--journal" ∷ codes "5" ∷ codes "--evict=7" ∷ codes "9" ∷ []) ≡
+    Some (command.Live 5 (9 ∷ []) (Some 7) true)
+unfolding command_of clap_on_literals
+options_stand_anywhere = refl
+
+no_option_after_dashes : command_of (codes "ido" ∷ codes "live" ∷ codes "5" ∷ codes "--" ∷ codes "--journal" ∷ []) ≡ None
+unfolding command_of clap_on_literals
+no_option_after_dashes = refl
+
+evict_wants_a_seed : command_of (codes "ido" ∷ codes "live" ∷ codes "5" ∷ codes "--evict" ∷ []) ≡ None
+unfolding command_of clap_on_literals
+evict_wants_a_seed = refl
+
+no_greater_seed_of_evictions : command_of (codes "ido" ∷ codes "live" ∷ codes "5" ∷ codes "--evict" ∷ codes "18446744073709551616" ∷ []) ≡ None
+unfolding command_of clap_on_literals
+no_greater_seed_of_evictions = refl
+
+one_seed_of_evictions : command_of (codes "ido" ∷ codes "live" ∷ codes "5" ∷ codes "--evict" ∷ codes "1" ∷ codes "--evict" ∷ codes "1" ∷ []) ≡ None
+unfolding command_of clap_on_literals
+one_seed_of_evictions = refl
+
+one_journal : command_of (codes "ido" ∷ codes "live" ∷ codes "5" ∷ codes "--journal" ∷ codes "--journal" ∷ []) ≡ None
+unfolding command_of clap_on_literals
+one_journal = refl
+
+journal_takes_no_value : command_of (codes "ido" ∷ codes "live" ∷ codes "5" ∷ codes "--journal=true" ∷ []) ≡ None
+unfolding command_of clap_on_literals
+journal_takes_no_value = refl
+
+no_shorter_option : command_of (codes "ido" ∷ codes "live" ∷ codes "5" ∷ codes "--jour" ∷ []) ≡ None
+unfolding command_of clap_on_literals
+no_shorter_option = refl
+
+live_wants_turns : command_of (codes "ido" ∷ codes "live" ∷ codes "--journal" ∷ []) ≡ None
+unfolding command_of clap_on_literals
+live_wants_turns = refl
+
+no_more_turns_of_live : command_of (codes "ido" ∷ codes "live" ∷ codes "1000001" ∷ []) ≡ None
+unfolding command_of clap_on_literals
+no_more_turns_of_live = refl
+
+load_is_taken : command_of (codes "ido" ∷ codes "load" ∷ codes "100" ∷ codes "4294967295" ∷ []) ≡ Some (command.Load 100 4294967295)
+unfolding command_of clap_on_literals
+load_is_taken = refl
+
+no_more_loaded_rounds : command_of (codes "ido" ∷ codes "load" ∷ codes "101" ∷ codes "0" ∷ []) ≡ None
+unfolding command_of clap_on_literals
+no_more_loaded_rounds = refl
+
+no_loaded_rounds : command_of (codes "ido" ∷ codes "load" ∷ codes "0" ∷ codes "0" ∷ []) ≡ None
+unfolding command_of clap_on_literals
+no_loaded_rounds = refl
+
+load_wants_a_seed : command_of (codes "ido" ∷ codes "load" ∷ codes "1" ∷ []) ≡ None
+unfolding command_of clap_on_literals
+load_wants_a_seed = refl
+
+load_takes_no_option : command_of (codes "ido" ∷ codes "load" ∷ codes "1" ∷ codes "0" ∷ codes "--journal" ∷ []) ≡ None
+unfolding command_of clap_on_literals
+load_takes_no_option = refl
 
 frob_is_not : command_of (codes "ido" ∷ codes "frob" ∷ []) ≡ None
 unfolding command_of clap_on_literals

@@ -1,5 +1,5 @@
 -- What the program answers: a status and the bytes that it writes.
-use Rattle.std.specs.Prelude.{◌≡◌, ◌⊎◌, ℕ, ◌+◌, ◌-◌, ◌<◌, List, [], ◌++◌, length, Option, Some, None, Ok, Err, codes, IfSome, false}
+use Rattle.std.specs.Prelude.{◌≡◌, ◌⊎◌, ℕ, ◌+◌, ◌-◌, ◌<◌, List, [], ◌++◌, length, Option, Some, None, Ok, Err, codes, IfSome, Bool, true, false}
 use Rattle.ido_base.specs.declared.event.Event.{Event}
 use Rattle.ido_base.specs.declared.place.Place.{Place}
 use Rattle.ido_base.specs.declared.limits.TheConstants.{MOST_INPUT_BYTES, MOST_SOURCE_BYTES}
@@ -18,6 +18,8 @@ use Rattle.ido_cli.specs.CompiledImages.{IsImageAnswer}
 use Rattle.object_format.specs.Contents.{Contents, contents_of}
 use Rattle.object_format.specs.ObjectDecoder as o
 use Rattle.object_format.specs.ObjectEncoder.{spelling}
+use Rattle.run_scripts.specs.GeneratedSources.{generated_source}
+use Rattle.run_scripts.specs.Journals.{journal_text}
 use Rattle.run_scripts.specs.Reports.{line}
 use Rattle.run_scripts.specs.Schedules as s
 use Rattle.run_scripts.specs.Scripts as e
@@ -29,12 +31,14 @@ use Rattle.ido_cli.specs.Draws.{IsGenerated, drawn_by}
 use Rattle.ido_cli.specs.Images.{IsImageAfter}
 use Rattle.ido_cli.specs.Inputs.{source_of, rest_of}
 use Rattle.ido_cli.specs.ObjectListing.{listing}
-use Rattle.ido_cli.specs.Plays.{IsRunBy, IsTranslationOf, ScriptAnswer}
+use Rattle.ido_cli.specs.Loads.{IsSummaryOf}
+use Rattle.ido_cli.specs.Plays.{IsRunBy, IsTranslationOf, ScriptAnswer, beginning}
 use Rattle.ido_cli.specs.Recoveries.{IsRecovery}
 use Rattle.ido_cli.specs.Refusals.{IsRefusedAt, code_of, fault_code, fault_place, image_line, line_at_byte}
 use Rattle.ido_cli.specs.Refusals.{object_fault_code, object_fault_place, script_fault_code, script_fault_place}
 use Rattle.ido_cli.specs.Regions.{regions}
 use Rattle.ido_cli.specs.Runs.{RunAnswer}
+use Rattle.ido_cli.specs.ThreadedRuns.{AreLegs, IsLoadedRun, evictions_by}
 
 -- the whole input, or the source text in it
 abbrev pub IsSourcePastLimits : (input : List ℕ) → Type 0
@@ -50,6 +54,8 @@ IsPastLimits command.Image input = IsSourcePastLimits input
 IsPastLimits (command.Recover turns) input = MOST_INPUT_BYTES < length input
 IsPastLimits (command.Make rounds seed) input = ⊥
 IsPastLimits (command.Seeded seed turns crashes) input = MOST_SOURCE_BYTES < length input
+IsPastLimits (command.Live turns crashes evict journal) input = MOST_SOURCE_BYTES < length input
+IsPastLimits (command.Load rounds seed) input = ⊥
 
 -- a status and an output: `refused` and what is refused
 abbrev pub Refuses : (refused status : ℕ) → (what output : List ℕ) → Type 0
@@ -118,6 +124,29 @@ pub data SeededAnswer (seed turns : ℕ) (crashes : List ℕ) (source : List ℕ
   drawn : (flat : f.Flat) → IsAccepted source flat → (c : Translation) → IsTranslationOf flat c → IsRunBy c (drawn_by c seed turns crashes) status output →
       SeededAnswer seed turns crashes source status output
 
+-- ---- `live` and `load`
+
+-- what is to be said of the events of such a run: its report; or an input of `play` that makes them again
+abbrev pub IsTold : (journal : Bool) → (source : List ℕ) → Translation → List Event → (status : ℕ) → (output : List ℕ) → Type 0
+IsTold false source c events status output = IsRunBy c events status output
+IsTold true source c events status output = (status ≡ 0) × (output ≡ journal_text source events)
+
+-- what a source is answered, of a run of it on threads: for each crash word a leg and a crash, and a leg after them. The seed, where there is one, draws
+-- the evictions of all legs.
+pub data LiveAnswer (turns : ℕ) (crashes : List ℕ) (evict : Option ℕ) (journal : Bool) (source : List ℕ) (status : ℕ) (output : List ℕ) : Type 0 where
+  unrun : (found : r.Rule) (place : Place) → IsRefusedBy source found place → IsRefusedAt 1 (code_of found) source place.0 status output →
+      LiveAnswer turns crashes evict journal source status output
+  ran : (flat : f.Flat) → IsAccepted source flat → (c : Translation) → IsTranslationOf flat c → (events : List Event) →
+      AreLegs (beginning c) turns (evictions_by c evict) crashes [] events → IsTold journal source c events status output →
+      LiveAnswer turns crashes evict journal source status output
+
+-- what is answered of the source that two numbers give, and of a run of it on threads
+pub data LoadAnswer (rounds seed : ℕ) (status : ℕ) (output : List ℕ) : Type 0 where
+  unloaded : (found : r.Rule) (place : Place) → IsRefusedBy (generated_source rounds seed) found place →
+      IsRefusedAt 1 (code_of found) (generated_source rounds seed) place.0 status output → LoadAnswer rounds seed status output
+  loaded : (flat : f.Flat) → IsAccepted (generated_source rounds seed) flat → (c : Translation) → IsTranslationOf flat c → (events : List Event) →
+      IsLoadedRun (beginning c) events → IsSummaryOf c events status output → LoadAnswer rounds seed status output
+
 -- ---- `recover`
 
 -- the file in an image
@@ -151,6 +180,8 @@ CommandAnswer command.Image input status output = ImageAnswer input status outpu
 CommandAnswer (command.Recover turns) input status output = RecoverAnswer turns input status output
 CommandAnswer (command.Make rounds seed) input status output = IsGenerated rounds seed status output
 CommandAnswer (command.Seeded seed turns crashes) input status output = SeededAnswer seed turns crashes input status output
+CommandAnswer (command.Live turns crashes evict journal) input status output = LiveAnswer turns crashes evict journal input status output
+CommandAnswer (command.Load rounds seed) input status output = LoadAnswer rounds seed status output
 
 -- what an input of a command is answered
 pub data AnswerToInput (c : Command) (input : List ℕ) (status : ℕ) (output : List ℕ) : Type 0 where

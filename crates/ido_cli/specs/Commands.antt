@@ -7,7 +7,7 @@ use Rattle.clap.specs.Words.{App, Row, Rule, Shape, all_of, fault_of, new_rule, 
 use Rattle.clap.specs.Simple.{new_shape}
 use Rattle.clap.specs.ValueTests.{is_unsigned_in}
 use Rattle.clap.specs.Walk.{is_empty}
-use Rattle.clap.specs.declared.builder.action.ArgAction.TheVariants.{Append}
+use Rattle.clap.specs.declared.builder.action.ArgAction.TheVariants.{Append, SetTrue}
 use Rattle.clap.specs.declared.builder.value_parser.ValueParser as p
 use Rattle.clap.specs.declared.builder.value_parser.ValueParser.TheVariants as parser
 use Rattle.ido_cli.specs.declared.command.Command as c
@@ -15,13 +15,17 @@ use Rattle.ido_cli.specs.declared.command.Command.TheVariants as command
 
 -- ---- What `clap` takes
 
--- turns that `recover` and `seeded` take at most
+-- turns that `recover`, `seeded` and `live` take at most
 abbrev pub most_turns : ℕ
 most_turns = 1000000
 
 -- rounds that `make` takes at most
 abbrev pub most_rounds : ℕ
 most_rounds = 10000
+
+-- rounds that `load` takes at most
+abbrev pub most_loaded_rounds : ℕ
+most_loaded_rounds = 100
 
 -- a crash word at most, and how many of them at most
 abbrev pub most_crash : ℕ
@@ -41,6 +45,14 @@ turns_rule = number_rule (codes "TURNS") (parser.Unsigned 0 most_turns)
 abbrev pub crash_rule : Rule
 crash_rule = record (new_rule (codes "CRASH")) { action = Some Append; parser = Some (parser.Unsigned 0 most_crash) }
 
+-- `--evict`, and a number after it
+abbrev pub evict_rule : Rule
+evict_rule = record (new_rule (codes "evict")) { long = Some (codes "evict"); parser = Some (parser.Unsigned 0 (2 ^ 64 - 1)) }
+
+-- `--journal`, with nothing after it
+abbrev pub journal_rule : Rule
+journal_rule = record (new_rule (codes "journal")) { long = Some (codes "journal"); action = Some SetTrue }
+
 abbrev pub recover_shape : Shape
 recover_shape = record (new_shape (codes "recover")) { rules = turns_rule ∷ [] }
 
@@ -54,7 +66,15 @@ seeded_shape = record (new_shape (codes "seeded")) {
   rules = number_rule (codes "SEED") (parser.Unsigned 0 (2 ^ 64 - 1)) ∷ turns_rule ∷ crash_rule ∷ [];
 }
 
--- one of the commands is required; each but the last three takes no word of its own
+abbrev pub live_shape : Shape
+live_shape = record (new_shape (codes "live")) { rules = turns_rule ∷ crash_rule ∷ evict_rule ∷ journal_rule ∷ [] }
+
+abbrev pub load_shape : Shape
+load_shape = record (new_shape (codes "load")) {
+  rules = number_rule (codes "N") (parser.Unsigned 1 most_loaded_rounds) ∷ number_rule (codes "SEED") (parser.Unsigned 0 (2 ^ 32 - 1)) ∷ [];
+}
+
+-- one of the commands is required; the first six take no word of their own
 abbrev pub table : App
 table =
     let top = record (new_shape (codes "ido")) { subcommand_required = true } in
@@ -62,9 +82,13 @@ table =
     let two = with_subcommand (with_subcommand one (new_shape (codes "list"))) (new_shape (codes "regions")) in
     let three = with_subcommand (with_subcommand two (new_shape (codes "play"))) (new_shape (codes "source")) in
     let four = with_subcommand (with_subcommand three (new_shape (codes "image"))) recover_shape in
-    with_subcommand (with_subcommand four make_shape) seeded_shape
+    let five = with_subcommand (with_subcommand four make_shape) seeded_shape in
+    with_subcommand (with_subcommand five live_shape) load_shape
 
 -- ---- Which command is named
+
+abbrev pub is_named : (name : List ℕ) → List ℕ → Bool
+is_named name word = pointwise nat_eq word name
 
 -- the number of so many bits that a text is read as: decimal digits, with a `+` before them or not
 abbrev pub number_of : (bits : ℕ) → (text : List ℕ) → Option ℕ
@@ -73,6 +97,14 @@ number_of bits text = if is_unsigned_in 0 (2 ^ bits - 1) text then Some (digits_
 -- that of the word of a name
 abbrev pub number_in : (bits : ℕ) → (name : List ℕ) → List Row → Option ℕ
 number_in bits name rows = option_and_then (number_of bits) (one_of name rows)
+
+-- the flag of a name is set
+abbrev pub is_true : Option (List ℕ) → Bool
+is_true None = false
+is_true (Some text) = is_named (codes "true") text
+
+abbrev pub is_set : (name : List ℕ) → List Row → Bool
+is_set name rows = is_true (one_of name rows)
 
 -- the numbers of texts, where each is one
 abbrev pub numbers_of : List (List ℕ) → Option (List ℕ)
@@ -98,8 +130,14 @@ seeded_in rows =
     option_and_then (λ seed. option_and_then (λ turns. option_map (λ crashes. command.Seeded seed turns crashes) (crashes_in rows))
     (number_in 32 (codes "TURNS") rows)) (number_in 64 (codes "SEED") rows)
 
-abbrev pub is_named : (name : List ℕ) → List ℕ → Bool
-is_named name word = pointwise nat_eq word name
+abbrev pub live_in : List Row → Option c.Command
+live_in rows =
+    option_and_then (λ turns. option_map (λ crashes.
+    command.Live turns crashes (number_in 64 (codes "evict") rows) (is_set (codes "journal") rows)) (crashes_in rows)) (number_in 32 (codes "TURNS") rows)
+
+abbrev pub load_in : List Row → Option c.Command
+load_in rows =
+    option_and_then (λ rounds. option_map (λ seed. command.Load rounds seed) (number_in 32 (codes "SEED") rows)) (number_in 32 (codes "N") rows)
 
 -- the command of a name, by what its own words are
 abbrev pub command_by_name : (name : List ℕ) → List Row → Option c.Command
@@ -113,6 +151,8 @@ command_by_name name rows =
     else if is_named (codes "recover") name then recover_in rows
     else if is_named (codes "make") name then make_in rows
     else if is_named (codes "seeded") name then seeded_in rows
+    else if is_named (codes "live") name then live_in rows
+    else if is_named (codes "load") name then load_in rows
     else None
 
 -- the command that the words name, the program's name first; none where `clap` finds a fault in them, or answers by its help
@@ -124,9 +164,24 @@ command_of words = if is_empty (fault_of table words) then option_and_then (λ p
 -- the command reads its input
 abbrev pub reads_input : c.Command → Bool
 reads_input (command.Make rounds seed) = false
+reads_input (command.Load rounds seed) = false
 reads_input _ = true
 
 -- nothing is read: the words aren't taken, or they name a command that reads no input
 abbrev pub is_unread : Option c.Command → Bool
 is_unread None = true
 is_unread (Some command) = not (reads_input command)
+
+-- ---- What runs on threads
+
+-- harts run in threads of their own for the command
+abbrev pub needs_threads : c.Command → Bool
+needs_threads (command.Live turns crashes evict journal) = true
+needs_threads (command.Recover turns) = true
+needs_threads (command.Load rounds seed) = true
+needs_threads _ = false
+
+-- the words are taken, and name such a command
+abbrev pub is_threaded : Option c.Command → Bool
+is_threaded None = false
+is_threaded (Some command) = needs_threads command

@@ -15,7 +15,7 @@ use Rattle.ido_cli.specs.Plays.{IsTranslationOf}
 use Rattle.ido_cli.specs.Recoveries.{IsRecoveredRun}
 use Rattle.ido_cli.specs.Answers.{Answer, IsPastLimits, RecoverAnswer}
 
--- what is written stands on no compilation
+-- what is written stands on no compilation, nor on how threads ran
 abbrev pub IsPlain : Option Command → Type 0
 IsPlain None = Unit {0}
 IsPlain (Some command.Compile) = ⊥
@@ -27,6 +27,8 @@ IsPlain (Some command.Image) = ⊥
 IsPlain (Some (command.Recover turns)) = ⊥
 IsPlain (Some (command.Make rounds seed)) = Unit {0}
 IsPlain (Some (command.Seeded seed turns crashes)) = ⊥
+IsPlain (Some (command.Live turns crashes evict journal)) = ⊥
+IsPlain (Some (command.Load rounds seed)) = ⊥
 
 -- the command takes a script after its source
 abbrev pub TakesScript : Option Command → Type 0
@@ -40,6 +42,8 @@ TakesScript (Some command.Image) = Unit {0}
 TakesScript (Some (command.Recover turns)) = ⊥
 TakesScript (Some (command.Make rounds seed)) = ⊥
 TakesScript (Some (command.Seeded seed turns crashes)) = ⊥
+TakesScript (Some (command.Live turns crashes evict journal)) = ⊥
+TakesScript (Some (command.Load rounds seed)) = ⊥
 
 -- What is said stands on no compilation: the command compiles nothing, or what it is asked is refused before, since the input is past the limits, its source
 -- breaks

@@ -8,7 +8,8 @@ pub mod Images
 pub mod CompiledImages
 pub mod ImagesReadAgain
 pub mod Draws
-pub mod Legs
+pub mod ThreadedRuns
+pub mod Loads
 pub mod Recoveries
 pub mod Regions
 pub mod Deliveries

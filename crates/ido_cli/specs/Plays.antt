@@ -1,5 +1,5 @@
 -- What is said of a run of a compiled source by a script.
-use Rattle.std.specs.Prelude.{◌≡◌, ℕ, ◌+◌, ◌/◌, ◌<◌, ◌≤◌, List, [], length, true, Some, codes}
+use Rattle.std.specs.Prelude.{◌≡◌, ℕ, ◌+◌, ◌<◌, ◌≤◌, List, [], length, true, Some, codes}
 use Rattle.ido_base.specs.declared.event.Event.{Event}
 use Rattle.ido_base.specs.declared.limits.TheConstants.{MOST_EVENTS}
 use Rattle.c_tree.specs.Flats as f
@@ -32,9 +32,7 @@ pub record IsTranslationOf (flat : f.Flat) (c : Translation) : Type 0 where
 -- a translation's machine before any event
 abbrev pub beginning : Translation → LifeConfig
 beginning c = record {
-  program = c.runs.program;
-  marks = c.runs.marks;
-  variable_words = length c.runs.initial / 8;
+  runs = c.runs;
   kept_before = [];
   world = first_world c.runs;
 }

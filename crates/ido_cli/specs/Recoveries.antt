@@ -1,28 +1,27 @@
 -- What is said of a run that goes on from what a crash has left, and of the image of a run.
-use Rattle.std.specs.Prelude.{◌≡◌, ◌≢◌, ℕ, List, ◌∷◌, ◌++◌, length, Some}
+use Rattle.std.specs.Prelude.{◌≡◌, ◌≢◌, ℕ, List, [], ◌∷◌, ◌++◌, Some, None}
 use Rattle.ido_base.specs.declared.event.Event.{Event}
 use Rattle.ido_base.specs.declared.event.Event.TheVariants.{Crash}
 use Rattle.c_tree.specs.Flats.{flat_of}
 use Rattle.compiler_correctness.specs.Translations.{Translation}
-use Rattle.compiler_correctness.specs.Images.{Image, file_of, first_from, image_in, image_of, steps_from, variable_words, world_from}
+use Rattle.compiler_correctness.specs.Images.{Image, file_of, first_from, image_in, image_of, steps_from, world_from}
 use Rattle.ido_compile.specs.declared.compiler.Compiled.{Compiled}
 use Rattle.ido_compile.specs.CompileAnswers.{IsCompiled, translation_in}
 use Rattle.image_checks.specs.declared.error.ImageError.{ImageError}
 use Rattle.image_checks.specs.Checks.{IsThreadFault}
 use Rattle.image_checks.specs.RunImages.{file_state, left_by}
-use Rattle.run_tracker.specs.ObjectLives.{LifeConfig, living}
-use Rattle.ido_cli.specs.Legs.{IsLeg, most_leg_events}
+use Rattle.run_tracker.specs.ObjectLives.{LifeConfig}
+use Rattle.hart_driver.specs.Legs.{IsLeg}
 use Rattle.ido_cli.specs.Plays.{IsRunBy}
 use Rattle.ido_cli.specs.Refusals.{image_line}
 use Rattle.ido_cli.specs.Reports.{machine_state}
 use Rattle.ido_cli.specs.Runs.{IsReport}
+use Rattle.ido_cli.specs.ThreadedRuns.{leg_after}
 
 -- the machine of a translation before any event, where power returns over the words of a file
 abbrev pub recovering : Translation → (file : Image) → LifeConfig
 recovering c file = record {
-  program = c.runs.program;
-  marks = c.runs.marks;
-  variable_words = variable_words c;
+  runs = c.runs;
   kept_before = file.kept;
   world = first_from c (image_in c file);
 }
@@ -31,7 +30,7 @@ recovering c file = record {
 -- settled, else status 3 and the harts that aren't. The kept schedule begins with that of the file.
 pub record IsRecovery (c : Translation) (file : Image) (turns status : ℕ) (output : List ℕ) : Type 0 where
   pub journal : List Event
-  pub leg : IsLeg living (recovering c file) (length c.runs.program) turns most_leg_events journal
+  pub leg : IsLeg (leg_after (recovering c file) turns None [] None) journal
   pub reported : IsReport (machine_state c.flat (world_from c (image_in c file) journal) (steps_from c (image_in c file) journal).kept) status output
   -- Where the file is what a crash leaves after events of the same translation, this is what `play` says of these events, a crash, and the leg; so at
   -- status 0 the output is that of the source's own run of the schedule that is printed.

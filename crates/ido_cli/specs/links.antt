@@ -1,3 +1,4 @@
 pub mod RunRequests
 pub mod Regions
 pub mod CompileRefusals
+pub mod LegRuns

@@ -1,14 +1,17 @@
 //! The answer to an input.
-ghost use Rattle.std.specs.Prelude.{◌≤◌, length, IfOk};
+ghost use Rattle.std.specs.Prelude.{◌≡◌, ◌≤◌, true, false, length, IfOk};
 ghost use Rattle.ido_base.specs.declared.limits.TheConstants.{MOST_INPUT_BYTES, MOST_SOURCE_BYTES};
 ghost use Rattle.ido_cli.specs.declared.command.Command.TheVariants as command;
 ghost use Rattle.ido_cli.specs.Answers.{AnswerToInput, CommandAnswer};
+ghost use Rattle.ido_cli.specs.Commands.{needs_threads};
 ghost use Rattle.ido_cli.specs.links.RunRequests.{command_asking, command_making};
 
 use crate::command::Command;
 use crate::crashes::Crashes;
 use crate::input::split;
 use crate::list::list_answer;
+use crate::live::{LiveRun, live_answer};
+use crate::load::load_answer;
 use crate::make::make_answer;
 use crate::object::compile_answer;
 use crate::play::{Asked, scripted_answer};
@@ -20,7 +23,10 @@ use crate::seeded::seeded_answer;
 use crate::source::source_answer;
 use ido_base::limits::MOST_SOURCE_BYTES;
 use ido_base::memory::OutOfMemory;
+use ido_outside::Gate;
 use std::alloc::Global;
+use std::sync::Wait;
+use std::thread::Threads;
 
 /// What is asked of a source alone.
 #[derive(Clone, Copy, Debug)]
@@ -89,12 +95,30 @@ fn seeded_input(
     if input.len() > MOST_SOURCE_BYTES {
         return refused(alloc, 6, b"refused limit\n");
     }
-    seeded_answer(alloc, input, seed, turns, crashes.draws())
+    seeded_answer(alloc, input, seed, turns, crashes.words())
 }
 
-/// The answer to an input of a command.
+/// The answer to an input of `live`.
+fn live_input<R: Threads + Wait + Sync, G: Gate + Sync>(
+    rt: &R,
+    alloc: Global,
+    input: &[u8],
+    asked: LiveRun<'_>,
+    gate: &G,
+) -> Result<Said, OutOfMemory>
+    ensures { IfOk result (λ said.
+        AnswerToInput (command.Live asked.entry.turns asked.entry.crashes.now asked.entry.evict asked.entry.journal) input.now said.status said.output.items) }
+{
+    if input.len() > MOST_SOURCE_BYTES {
+        return refused(alloc, 6, b"refused limit\n");
+    }
+    live_answer(rt, alloc, input, asked, gate)
+}
+
+/// The answer to an input of a command that needs no threads.
 pub fn answer(alloc: Global, command: Command, input: &[u8]) -> Result<Said, OutOfMemory>
-    requires { length input.now ≤ MOST_INPUT_BYTES }
+    requires alone { needs_threads command ≡ false }
+    requires within { length input.now ≤ MOST_INPUT_BYTES }
     ensures { IfOk result (λ said. AnswerToInput command input.now said.status said.output.items) }
 {
     match command {
@@ -104,12 +128,52 @@ pub fn answer(alloc: Global, command: Command, input: &[u8]) -> Result<Said, Out
         Command::Play => scripted_input(alloc, Asked::Report, input),
         Command::Source => source_input(alloc, input),
         Command::Image => scripted_input(alloc, Asked::Image, input),
-        Command::Recover { turns } => recover_answer(alloc, input, turns),
         Command::Make { rounds, seed } => make_answer(alloc, rounds, seed),
         Command::Seeded {
             seed,
             turns,
             crashes,
         } => seeded_input(alloc, input, seed, turns, &crashes),
+        Command::Live { .. } | Command::Recover { .. } | Command::Load { .. } => unreachable!(),
+    }
+}
+
+/// The answer to an input of a command that needs threads. The gate is passed before each turn of a worker.
+pub fn threaded_answer<R: Threads + Wait + Sync, G: Gate + Sync>(
+    rt: &R,
+    alloc: Global,
+    command: Command,
+    input: &[u8],
+    gate: &G,
+) -> Result<Said, OutOfMemory>
+    requires threaded { needs_threads command ≡ true }
+    requires within { length input.now ≤ MOST_INPUT_BYTES }
+    ensures { IfOk result (λ said. AnswerToInput command input.now said.status said.output.items) }
+{
+    match command {
+        Command::Live {
+            turns,
+            crashes,
+            evict,
+            journal,
+        } => {
+            let asked = LiveRun {
+                turns,
+                crashes: crashes.words(),
+                evict,
+                journal,
+            };
+            live_input(rt, alloc, input, asked, gate)
+        }
+        Command::Recover { turns } => recover_answer(rt, alloc, input, turns, gate),
+        Command::Load { rounds, seed } => load_answer(rt, alloc, rounds, seed, gate),
+        Command::Compile
+        | Command::List
+        | Command::Regions
+        | Command::Play
+        | Command::Source
+        | Command::Image
+        | Command::Make { .. }
+        | Command::Seeded { .. } => unreachable!(),
     }
 }

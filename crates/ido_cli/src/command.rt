@@ -5,9 +5,10 @@ ghost use Rattle.clap.specs.Matches.{found_of};
 ghost use Rattle.clap.specs.Simple.{new_shape};
 ghost use Rattle.clap.specs.Walk.{rows_of};
 ghost use Rattle.clap.specs.Words.{app_of, rule_of, with_subcommand};
-ghost use Rattle.ido_cli.specs.Commands.{command_by_name, command_of, crash_rule, crashes_in, crashes_of, make_in, make_shape};
-ghost use Rattle.ido_cli.specs.Commands.{most_crash, most_rounds, most_turns, number_in, number_of};
-ghost use Rattle.ido_cli.specs.Commands.{number_rule, numbers_of, reads_input, recover_in, recover_shape, seeded_in, seeded_shape, table};
+ghost use Rattle.ido_cli.specs.Commands.{command_by_name, command_of, crash_rule, crashes_in, crashes_of, evict_rule, is_set, journal_rule};
+ghost use Rattle.ido_cli.specs.Commands.{live_in, live_shape, load_in, load_shape, make_in, make_shape, most_crash, most_loaded_rounds};
+ghost use Rattle.ido_cli.specs.Commands.{most_rounds, most_turns, needs_threads, number_in, number_of, number_rule, numbers_of, reads_input};
+ghost use Rattle.ido_cli.specs.Commands.{recover_in, recover_shape, seeded_in, seeded_shape, table};
 
 use crate::crashes::Crashes;
 use clap::builder::ValueParser;
@@ -49,6 +50,19 @@ pub enum Command {
         turns: u32,
         crashes: Crashes,
     },
+    /// Runs a compiled source with each hart in a thread of its own: legs of so many turns of each hart, 0 to 1,000,000, which the
+    /// crashes end, and with evictions that a seed draws, where there is one. Writes the report, or the journal.
+    Live {
+        turns: u32,
+        crashes: Crashes,
+        evict: Option<u64>,
+        journal: bool,
+    },
+    /// Runs the source of a seed, whose threads make so many rounds, 1 to 100, with each hart in a thread of its own.
+    Load {
+        rounds: u32,
+        seed: u32,
+    },
 }
 
 impl Command {
@@ -56,7 +70,17 @@ impl Command {
     pub fn reads_input(&self) -> bool
         ensures { result ≡ reads_input self.now }
     {
-        !matches!(self, Command::Make { .. })
+        !matches!(self, Command::Make { .. } | Command::Load { .. })
+    }
+
+    /// Whether harts run in threads of their own for it.
+    pub fn needs_threads(&self) -> bool
+        ensures { result ≡ needs_threads self.now }
+    {
+        matches!(
+            self,
+            Command::Live { .. } | Command::Recover { .. } | Command::Load { .. }
+        )
     }
 }
 
@@ -93,6 +117,13 @@ fn rounds_parser<'a>() -> ValueParser<'a>
     clap::value_parser!(u64).range(1..10_001)
 }
 
+/// What takes a number of rounds that are run.
+fn loaded_rounds_parser<'a>() -> ValueParser<'a>
+    ensures { result ≡ parser.Unsigned 1 most_loaded_rounds }
+{
+    clap::value_parser!(u64).range(1..101)
+}
+
 /// What takes a number of 32 bits.
 fn short_parser<'a>() -> ValueParser<'a>
     ensures { result ≡ parser.Unsigned 0 (2 ^ 32 - 1) }
@@ -122,6 +153,26 @@ fn crash_words<'a>(alloc: Global) -> Arg<'a>
     Arg::new(alloc, "CRASH")
         .action(ArgAction::Append)
         .value_parser(crash_parser())
+}
+
+/// The option `--evict`, whose word is a seed.
+fn evict_option<'a>(alloc: Global) -> Arg<'a>
+    ensures rule { rule_of result ≡ evict_rule }
+    ensures local { result.global ≡ false }
+{
+    Arg::new(alloc, "evict")
+        .long("evict")
+        .value_parser(long_parser())
+}
+
+/// The flag `--journal`.
+fn journal_flag<'a>(alloc: Global) -> Arg<'a>
+    ensures rule { rule_of result ≡ journal_rule }
+    ensures local { result.global ≡ false }
+{
+    Arg::new(alloc, "journal")
+        .long("journal")
+        .action(ArgAction::SetTrue)
 }
 
 /// A table with the command `recover` more, which takes a number.
@@ -159,6 +210,32 @@ fn with_seeded<'a>(alloc: Global, table: clap::Command<'a>) -> Result<clap::Comm
     table.subcommand(three)
 }
 
+/// A table with the command `live` more, which takes a number and any number of others, an option and a flag.
+fn with_live<'a>(alloc: Global, table: clap::Command<'a>) -> Result<clap::Command<'a>, AllocError>
+    ensures { IfOk result (λ c. app_of c ≡ with_subcommand (app_of table.entry) live_shape) }
+{
+    let turns = number_word(alloc, "TURNS", turns_parser());
+    let crashes = crash_words(alloc);
+    let evict = evict_option(alloc);
+    let journal = journal_flag(alloc);
+    let one = clap::Command::new(alloc, "live").arg(turns)?;
+    let two = one.arg(crashes)?;
+    let three = two.arg(evict)?;
+    let four = three.arg(journal)?;
+    table.subcommand(four)
+}
+
+/// A table with the command `load` more, which takes two numbers.
+fn with_load<'a>(alloc: Global, table: clap::Command<'a>) -> Result<clap::Command<'a>, AllocError>
+    ensures { IfOk result (λ c. app_of c ≡ with_subcommand (app_of table.entry) load_shape) }
+{
+    let rounds = number_word(alloc, "N", loaded_rounds_parser());
+    let seed = number_word(alloc, "SEED", short_parser());
+    let one = clap::Command::new(alloc, "load").arg(rounds)?;
+    let two = one.arg(seed)?;
+    table.subcommand(two)
+}
+
 /// The commands, as `clap` takes them.
 fn table<'a>(alloc: Global) -> Result<clap::Command<'a>, AllocError>
     ensures { IfOk result (λ c. app_of c ≡ table) }
@@ -172,7 +249,9 @@ fn table<'a>(alloc: Global) -> Result<clap::Command<'a>, AllocError>
     let six = with_command(alloc, five, "image")?;
     let seven = with_recover(alloc, six)?;
     let eight = with_make(alloc, seven)?;
-    with_seeded(alloc, eight)
+    let nine = with_seeded(alloc, eight)?;
+    let ten = with_live(alloc, nine)?;
+    with_load(alloc, ten)
 }
 
 /// The number of 32 bits that a word of this name is.
@@ -187,6 +266,13 @@ fn long_number(matches: &ArgMatches, name: &str) -> Option<u64>
     ensures { result ≡ number_in 64 name.now (rows_of (found_of matches.now)) }
 {
     matches.get_one::<u64>(name)
+}
+
+/// Whether the flag of this name is set.
+fn is_set(matches: &ArgMatches, name: &str) -> bool
+    ensures { result ≡ is_set name.now (rows_of (found_of matches.now)) }
+{
+    matches.get_one::<bool>(name).unwrap_or(false)
 }
 
 /// Adds a number.
@@ -228,12 +314,12 @@ fn crashes_of(alloc: Global, texts: &[&str]) -> Result<Option<Crashes>, OutOfMem
         return Ok(None);
     }
     match numbers_of(alloc, texts)? {
-        Some(draws) => Ok(Some(Crashes::new(draws))),
+        Some(words) => Ok(Some(Crashes::new(words))),
         None => Ok(None),
     }
 }
 
-/// The crash words among the words of `seeded`, if there are any.
+/// The crash words among the words of `seeded` or `live`, if there are any.
 fn crashes_in(alloc: Global, matches: &ArgMatches) -> Result<Option<Crashes>, OutOfMemory>
     ensures { IfOk result (λ found. found ≡ crashes_in (rows_of (found_of matches.now))) }
 {
@@ -280,6 +366,35 @@ fn seeded_in(alloc: Global, matches: &ArgMatches) -> Result<Option<Command>, Out
     }
 }
 
+/// The command `live` by its words.
+fn live_in(alloc: Global, matches: &ArgMatches) -> Result<Option<Command>, OutOfMemory>
+    ensures { IfOk result (λ c. c ≡ live_in (rows_of (found_of matches.now))) }
+{
+    let Some(turns) = short_number(matches, "TURNS") else {
+        return Ok(None);
+    };
+    let evict = long_number(matches, "evict");
+    let journal = is_set(matches, "journal");
+    match crashes_in(alloc, matches)? {
+        Some(crashes) => Ok(Some(Command::Live {
+            turns,
+            crashes,
+            evict,
+            journal,
+        })),
+        None => Ok(None),
+    }
+}
+
+/// The command `load` by its words.
+fn load_in(matches: &ArgMatches) -> Option<Command>
+    ensures { result ≡ load_in (rows_of (found_of matches.now)) }
+{
+    let rounds = short_number(matches, "N")?;
+    let seed = short_number(matches, "SEED")?;
+    Some(Command::Load { rounds, seed })
+}
+
 /// The command of a name, by what its own words are.
 fn command_by_name(
     alloc: Global,
@@ -298,6 +413,8 @@ fn command_by_name(
         "recover" => Ok(recover_in(matches)),
         "make" => Ok(make_in(matches)),
         "seeded" => seeded_in(alloc, matches),
+        "live" => live_in(alloc, matches),
+        "load" => Ok(load_in(matches)),
         _ => Ok(None),
     }
 }

@@ -1,32 +1,33 @@
-//! When the crashes of a drawn run come.
+//! When the crashes of a run come.
 ghost use Rattle.std.specs.Prelude.{◌≡◌, ℕ, List};
 
 use std::marker::Model;
 
-/// After how many draws each crash of a drawn run comes.
+/// The crash words of a run, which say when each of its crashes comes: of `seeded` after how many draws, of `live` after how many
+/// events of a leg at the latest.
 #[derive(Debug, Drop)]
 pub struct Crashes {
-    draws: Vec<u64>,
+    words: Vec<u64>,
 }
 
 impl Model for Crashes {
     ghost Value = { List ℕ };
 
-    ghost view = { λ c. c.draws.items };
+    ghost view = { λ c. c.words.items };
 }
 
 impl Crashes {
-    /// Crashes after these numbers of draws.
-    pub fn new(draws: Vec<u64>) -> Self
-        ensures { result ≡ draws.items }
+    /// Those of these words.
+    pub fn new(words: Vec<u64>) -> Self
+        ensures { result ≡ words.items }
     {
-        Crashes { draws }
+        Crashes { words }
     }
 
-    /// The numbers.
-    pub fn draws(&self) -> &[u64]
+    /// The words, as numbers.
+    pub fn words(&self) -> &[u64]
         ensures { result.now ≡ self.now }
     {
-        &self.draws
+        &self.words
     }
 }

@@ -4,7 +4,7 @@ ghost use Rattle.ido_base.specs.declared.limits.TheConstants.{MOST_SOURCE_BYTES,
 ghost use Rattle.crash_images.specs.Contents.{contents, most_logs};
 ghost use Rattle.crash_images.specs.ImageDecoder.{IsReadAs};
 ghost use Rattle.crash_images.specs.ImageEncoder.{spelling};
-ghost use Rattle.run_tracker.specs.ObjectLives.{left_words, steps_in, world_of};
+ghost use Rattle.run_tracker.specs.ObjectLives.{left_words, steps_in, variable_words_in, world_of};
 
 use crate::said::Said;
 use crash_images::writing::write_image;
@@ -22,21 +22,21 @@ pub fn image(
     life: &Life,
 ) -> Result<Said, OutOfMemory>
     requires source { length source.now ≤ MOST_SOURCE_BYTES }
-    requires variables { life.now.variable_words ≤ VARIABLE_WORDS }
-    requires object { life.now.variable_words ≡ length object.now.initial.items / 8 }
-    requires within { life.now.variable_words ≤ length (left_words life.now.variable_words (world_of life.now).words) }
-    requires logs { length (left_words life.now.variable_words (world_of life.now).words) ≤ life.now.variable_words + most_logs }
+    requires variables { variable_words_in life.now ≤ VARIABLE_WORDS }
+    requires object { variable_words_in life.now ≡ length object.now.initial.items / 8 }
+    requires within { variable_words_in life.now ≤ length (left_words (variable_words_in life.now) (world_of life.now).words) }
+    requires logs { length (left_words (variable_words_in life.now) (world_of life.now).words) ≤ variable_words_in life.now + most_logs }
     requires schedule { length (steps_in life.now).kept ≤ MOST_STEPS }
     ensures status { IfOk result (λ said. said.status ≡ 0) }
     ensures output { IfOk result (λ said.
-        let words = left_words life.now.variable_words (world_of life.now).words in
+        let words = left_words (variable_words_in life.now) (world_of life.now).words in
         said.output.items ≡ spelling (contents source.now
-        (take life.now.variable_words words) (drop life.now.variable_words words) (steps_in life.now).kept)) }
+        (take (variable_words_in life.now) words) (drop (variable_words_in life.now) words) (steps_in life.now).kept)) }
     // It is read again.
     ensures again { IfOk result (λ said.
-        let words = left_words life.now.variable_words (world_of life.now).words in
+        let words = left_words (variable_words_in life.now) (world_of life.now).words in
         IsReadAs (contents source.now
-        (take life.now.variable_words words) (drop life.now.variable_words words) (steps_in life.now).kept) said.output.items) }
+        (take (variable_words_in life.now) words) (drop (variable_words_in life.now) words) (steps_in life.now).kept) said.output.items) }
 {
     let words = life.durable_words(alloc)?;
     let (variables, logs) = words.split_at(object.initial.len() / 8);

@@ -11,8 +11,8 @@ use source_machine::laws::one_stop;
 
 /// Words that don't ask for what stands on a compilation, and an input, have at most one answer: the status and the output of
 /// `source` and `list` are a function of the bytes that are read, and those of `make` of its words. So they are of every command where
-/// the source is refused. What `compile`, `regions`, `play`, `image`, `recover` and `seeded` say else is by some translation, and which
-/// one isn't said.
+/// the source is refused. What the others say else is by some translation, and which one isn't said; what `live`, `load` and `recover`
+/// say is by the order too in which their threads come.
 pub fn one_answer()
     ensures { OneAnswer }
 {

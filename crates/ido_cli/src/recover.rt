@@ -10,7 +10,7 @@ ghost use Rattle.ido_cli.specs.Refusals.{image_line};
 ghost use Rattle.ido_compile.specs.CompileAnswers.{translation_in};
 
 use crate::compiled_image::{Image, read_image};
-use crate::leg::{MOST_LEG_EVENTS, leg};
+use crate::live::MOST_LEG_EVENTS;
 use crate::refusal::{
     VERSION_PLACE, refused, refused_at_byte, refused_at_register, refused_at_step,
     refused_at_thread, refused_of_threads,
@@ -18,12 +18,17 @@ use crate::refusal::{
 use crate::report::say;
 use crate::said::Said;
 use compiler_correctness::laws::images_are_crashes;
+use hart_driver::drive::drive;
 use ido_base::memory::OutOfMemory;
 use ido_base::place::Place;
 use ido_compile::laws::files_begin;
+use ido_outside::Gate;
 use image_checks::error::ImageError;
+use run_scripts::evictor::Evictor;
 use run_tracker::life::Life;
 use std::alloc::Global;
+use std::sync::Wait;
+use std::thread::Threads;
 
 /// The refusal of bytes that are no image from which a run can go on.
 fn image_refused(alloc: Global, error: ImageError) -> Result<Said, OutOfMemory>
@@ -51,8 +56,14 @@ fn image_refused(alloc: Global, error: ImageError) -> Result<Said, OutOfMemory>
     }
 }
 
-/// What is said of a run that goes on from an image by so many turns of each hart.
-fn recovered(alloc: Global, image: &Image, turns: u32) -> Result<Said, OutOfMemory>
+/// What is said of a run that goes on from an image, on threads, by so many turns of each hart.
+fn recovered<R: Threads + Wait + Sync, G: Gate + Sync>(
+    rt: &R,
+    alloc: Global,
+    image: &Image,
+    turns: u32,
+    gate: &G,
+) -> Result<Said, OutOfMemory>
     requires translated { let made = image.now.compiled.translated in
         IsTranslated (flat_of image.now.compiled.flat) made.object made.marks made.cuts }
     requires compilation { IsCompilation (translation_in image.now.compiled) }
@@ -63,7 +74,7 @@ fn recovered(alloc: Global, image: &Image, turns: u32) -> Result<Said, OutOfMemo
     images_are_crashes();
     files_begin();
     let compiled = &image.compiled;
-    let mut life = Life::of_words(
+    let life = Life::of_words(
         alloc,
         &compiled.translated.object,
         &compiled.translated.marks,
@@ -71,17 +82,32 @@ fn recovered(alloc: Global, image: &Image, turns: u32) -> Result<Said, OutOfMemo
         &image.schedule,
         MOST_LEG_EVENTS,
     )?;
-    leg(&mut life, turns);
-    say(alloc, &compiled.flat, &life)
+    let none: Option<Evictor> = None;
+    let driven = drive(
+        rt,
+        alloc,
+        life,
+        u64::from(turns),
+        MOST_LEG_EVENTS,
+        none,
+        gate,
+    )?;
+    say(alloc, &compiled.flat, &driven.core)
 }
 
 /// The answer to an input of `recover`.
-pub fn recover_answer(alloc: Global, input: &[u8], turns: u32) -> Result<Said, OutOfMemory>
+pub fn recover_answer<R: Threads + Wait + Sync, G: Gate + Sync>(
+    rt: &R,
+    alloc: Global,
+    input: &[u8],
+    turns: u32,
+    gate: &G,
+) -> Result<Said, OutOfMemory>
     requires { length input.now ≤ MOST_INPUT_BYTES }
     ensures { IfOk result (λ said. RecoverAnswer turns input.now said.status said.output.items) }
 {
     match read_image(alloc, input) {
-        Ok(image) => recovered(alloc, &image, turns),
+        Ok(image) => recovered(rt, alloc, &image, turns, gate),
         Err(error) => image_refused(alloc, error),
     }
 }

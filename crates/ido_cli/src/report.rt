@@ -24,7 +24,7 @@ use std::alloc::Global;
 
 /// The harts that aren't settled, ascending.
 fn unsettled(alloc: Global, life: &Life) -> Result<Vec<u32>, OutOfMemory>
-    requires { length (world_of life.now).harts ≡ length life.now.program }
+    requires { length (world_of life.now).harts ≡ length life.now.runs.program }
     ensures { IfOk result (λ harts. harts.items ≡ unsettled_harts (world_of life.now)) }
 {
     let mut harts = Vec::new(alloc);
@@ -50,10 +50,10 @@ fn ended_by(alloc: Global, flat: &Flat, schedule: &[u32]) -> Result<Vec<u64>, Ou
 }
 
 /// What is reported of a life.
-fn reported(alloc: Global, flat: &Flat, life: &Life) -> Result<Reported, OutOfMemory>
+pub fn reported(alloc: Global, flat: &Flat, life: &Life) -> Result<Reported, OutOfMemory>
     requires few { length flat.now.threads.items ≤ MOST_THREADS }
     requires room { HaveRoom (map shape_of (flat_of flat.now).variables) }
-    requires harts { length (world_of life.now).harts ≡ length life.now.program }
+    requires harts { length (world_of life.now).harts ≡ length life.now.runs.program }
     ensures { IfOk result (λ state. views.state_of state ≡ machine_state (flat_of flat.now) (world_of life.now) (steps_in life.now).kept) }
 {
     let unsettled = unsettled(alloc, life)?;
@@ -82,7 +82,7 @@ pub fn say_reported(alloc: Global, state: &Reported) -> Result<Said, OutOfMemory
 pub fn say(alloc: Global, flat: &Flat, life: &Life) -> Result<Said, OutOfMemory>
     requires few { length flat.now.threads.items ≤ MOST_THREADS }
     requires room { HaveRoom (map shape_of (flat_of flat.now).variables) }
-    requires harts { length (world_of life.now).harts ≡ length life.now.program }
+    requires harts { length (world_of life.now).harts ≡ length life.now.runs.program }
     ensures { IfOk result (λ said. IsReport (machine_state (flat_of flat.now) (world_of life.now) (steps_in life.now).kept) said.status said.output.items) }
 {
     let state = reported(alloc, flat, life)?;

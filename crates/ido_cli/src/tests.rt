@@ -1,8 +1,11 @@
-//! Words without a command, a source and a sink that fail, and an input at its limit.
+//! Words without a command, a source and a sink that fail, an input at its limit, and runs on threads.
 use super::{alone, ido};
-use ido_outside::{MemSink, MemSource, OpenGate, SureSink, SureSource};
+use ido_outside::{Gate, MemSink, MemSource, OpenGate, SureSink, SureSource};
 use std::alloc::{AllocError, Global};
+use std::sync::Wait;
+use std::sync::atomic::{AtomicBool, AtomicU64, Ordering};
 use std::test::Fail;
+use std::thread::Threads;
 
 const ADD_ONE: &[u8] =
     b"mutex m; persistent(m) long x = 5; thread t { lock(m); x = x + 1; unlock(m); }";
@@ -31,6 +34,18 @@ fn no_words_and_faults_outside(rt: HostRuntime) -> Result<(), Fail> {
         (&[], 0, 0, 2, b"refused words\n"),
         (&["ido"], 0, 0, 2, b"refused words\n"),
         (&["play"], 0, 0, 2, b"refused words\n"),
+        (&["ido", "live", "0"], 3, 0, 4, b""),
+        (&["ido", "live", "0", "--journal"], 0, 2, 5, b"mutex m"),
+        (
+            &["ido", "live", "1000000"],
+            0,
+            0,
+            0,
+            b"x = 6\nended 0 1\nschedule 0*4\n",
+        ),
+        (&["ido", "load", "1", "0"], 1, 0, 0, b"ended 16\ntotal 73\n"),
+        (&["ido", "load", "1", "0"], 0, 1, 5, b""),
+        (&["ido", "load", "0", "0"], 0, 0, 2, b"refused words\n"),
     ] {
         let words = words_of(rt.alloc(), texts)?;
         let reads = vec![in rt.alloc(); read]?;
@@ -69,6 +84,173 @@ fn limits_of_an_input(rt: HostRuntime) -> Result<(), Fail> {
             (Some(status), Some(output)),
             "at {length}"
         );
+    }
+    Ok(())
+}
+
+/// Four threads, each of which adds a hundred ones to one variable.
+const HUNDREDS: &[u8] = b"mutex m; persistent(m) long x;
+thread a { for (int i = 0; i < 100; i++) { lock(m); x = x + 1; unlock(m); } }
+thread b { for (int i = 0; i < 100; i++) { lock(m); x = x + 1; unlock(m); } }
+thread c { for (int i = 0; i < 100; i++) { lock(m); x = x + 1; unlock(m); } }
+thread d { for (int i = 0; i < 100; i++) { lock(m); x = x + 1; unlock(m); } }
+";
+
+/// What needs threads is left, with nothing read or written: this source and this sink would fail.
+#[test]
+fn left_to_threads(rt: HostRuntime) -> Result<(), Fail> {
+    for texts in [
+        ["ido", "live", "5"].as_slice(),
+        &["ido", "recover", "5"],
+        &["ido", "load", "1", "0"],
+    ] {
+        let words = words_of(rt.alloc(), texts)?;
+        let mut source = MemSource::new(ADD_ONE.to_vec(rt.alloc())?, 10, vec![in rt.alloc(); 1]?);
+        let mut sink = MemSink::new(rt.alloc(), 200, 7, vec![in rt.alloc(); 1]?)?;
+        let answer = alone(rt.alloc(), &words, &mut source, &mut sink);
+        assert_eq!(rt;
+            (answer, sink.written()),
+            (None, b"".as_slice()),
+            "{texts:?}"
+        );
+    }
+    Ok(())
+}
+
+/// A gate at which the workers of harts 0 and 1 wait for each other before each of their first turns.
+#[derive(Drop)]
+struct Meeting {
+    first: AtomicU64,
+    second: AtomicU64,
+    missed: AtomicBool,
+}
+
+/// How often a worker looks for the other one.
+const LOOKS: u32 = 100_000_000;
+
+/// Turns before which the workers meet.
+const MEETINGS: u64 = 3;
+
+impl Meeting {
+    fn new() -> Meeting {
+        Meeting {
+            first: AtomicU64::new(0),
+            second: AtomicU64::new(0),
+            missed: AtomicBool::new(false),
+        }
+    }
+
+    /// Tells that a worker has come to its turn, and waits until the other one has.
+    fn meet(&self, mine: &AtomicU64, other: &AtomicU64, turn: u64) {
+        mine.store(turn, Ordering::SeqCst);
+        for _ in 0..LOOKS {
+            if other.load(Ordering::SeqCst) >= turn {
+                return;
+            }
+        }
+        self.missed.store(true, Ordering::SeqCst);
+    }
+}
+
+impl Gate for Meeting {
+    fn pass(&self, hart: u32, turn: u64) {
+        if turn > MEETINGS {
+            return;
+        }
+        if hart == 0 {
+            self.meet(&self.first, &self.second, turn);
+        } else if hart == 1 {
+            self.meet(&self.second, &self.first, turn);
+        }
+    }
+}
+
+/// Harts run beside each other.
+#[test]
+fn beside(rt: HostRuntime) -> Result<(), Fail> {
+    let words = words_of(rt.alloc(), &["ido", "live", "10000"])?;
+    let mut source = SureSource::new(HUNDREDS.to_vec(rt.alloc())?, 100);
+    let mut sink = SureSink::new(rt.alloc(), 65_536, 4096)?;
+    let gate = Meeting::new();
+    let status = ido(&rt, rt.alloc(), &words, &mut source, &mut sink, &gate);
+    assert!(rt; status == 0 || status == 3, "status {status}");
+    assert_eq!(rt; gate.missed.load(Ordering::SeqCst), false);
+    assert_eq!(rt; gate.first.load(Ordering::SeqCst), MEETINGS);
+    assert_eq!(rt; gate.second.load(Ordering::SeqCst), MEETINGS);
+    Ok(())
+}
+
+/// The status and the output of a call.
+fn call<R: Threads + Wait + Sync>(
+    rt: &R,
+    alloc: Global,
+    texts: &[&str],
+    input: &[u8],
+) -> Result<(u8, Vec<u8>), Fail> {
+    let words = words_of(alloc, texts)?;
+    let mut source = SureSource::new(input.to_vec(alloc)?, 65_536);
+    let mut sink = SureSink::new(alloc, 4_194_304, 65_536)?;
+    let status = ido(rt, alloc, &words, &mut source, &mut sink, &OpenGate);
+    let output = sink.written().unwrap_or(b"").to_vec(alloc)?;
+    Ok((status, output))
+}
+
+/// An input of a source and what stands after its line `%%`.
+fn joined(alloc: Global, source: &[u8], rest: &[u8]) -> Result<Vec<u8>, AllocError> {
+    let mut input = source.to_vec(alloc)?;
+    input.extend_from_slice(b"%%\n")?;
+    input.extend_from_slice(rest)?;
+    Ok(input)
+}
+
+/// A journal is an input of `play`, and where its report is settled, it is that of the source's own run by the schedule in it.
+#[test]
+fn replayed(rt: HostRuntime) -> Result<(), Fail> {
+    for (rounds, texts, settles) in [
+        (
+            "1",
+            ["ido", "live", "1000000", "--journal"].as_slice(),
+            true,
+        ),
+        (
+            "2",
+            &["ido", "live", "1000000", "40", "0", "400", "--journal"],
+            true,
+        ),
+        (
+            "5",
+            &[
+                "ido",
+                "live",
+                "900",
+                "700",
+                "300",
+                "--evict",
+                "7",
+                "--journal",
+            ],
+            false,
+        ),
+        (
+            "9",
+            &["ido", "live", "2000", "--journal", "--evict=11"],
+            false,
+        ),
+    ] {
+        let (made, source) = call(&rt, rt.alloc(), &["ido", "make", rounds, "12345"], b"")?;
+        assert_eq!(rt; made, 0);
+        let (told, journal) = call(&rt, rt.alloc(), texts, &source)?;
+        assert!(rt; told == 0 && journal.starts_with(&source), "{texts:?}");
+        let (status, report) = call(&rt, rt.alloc(), &["ido", "play"], &journal)?;
+        assert!(rt;
+            status == 0 || status == 3 && !settles,
+            "{texts:?}: {status}"
+        );
+        if let Some((_, steps)) = str::from_utf8(&report).unwrap_or("").split_once("schedule") {
+            let input = joined(rt.alloc(), &source, steps.trim_start().as_bytes())?;
+            let own = call(&rt, rt.alloc(), &["ido", "source"], &input)?;
+            assert_eq!(rt; own, (status, report.to_vec(rt.alloc())?), "{texts:?}");
+        }
     }
     Ok(())
 }

@@ -1,11 +1,11 @@
 //! The top calls.
-ghost use Rattle.std.specs.Prelude.{◌≡◌, ◌⊎◌, true, false, map, string_bytes, IfOk, IsErrOf, IsSome, IfSome};
+ghost use Rattle.std.specs.Prelude.{◌≡◌, ◌⊎◌, true, false, map, option_map, string_bytes, codes, IfOk, IsErrOf, OnErr, None, Some, IfSome};
 ghost use Rattle.ido_outside.specs.Causes.{Rose};
-ghost use Rattle.ido_cli.specs.Answers.{IsAnswer, IsAnswered, outside};
-ghost use Rattle.ido_cli.specs.Commands.{command_of, is_unread, reads_input};
-ghost use Rattle.ido_cli.specs.Deliveries.{IsSaidToInput, IsDelivered};
+ghost use Rattle.ido_cli.specs.Answers.{IsAnswered, Refuses, outside};
+ghost use Rattle.ido_cli.specs.Commands.{command_of, is_threaded, is_unread, needs_threads, reads_input};
+ghost use Rattle.ido_cli.specs.Deliveries.{IsSaidTo, IsSaidToInput, IsTaken, IsDelivered};
 
-use crate::answer::answer;
+use crate::answer::{answer, threaded_answer};
 use crate::command::{Command, command_of};
 use crate::refusal::refused;
 use crate::said::Said;
@@ -15,6 +15,9 @@ use ido_outside::{Failed, Gate, InFault, Sink, Source, read_all, write_all};
 use std::alloc::Global;
 use std::sync::Wait;
 use std::thread::Threads;
+
+/// The status for want of memory.
+const OUT_OF_MEMORY: u8 = 7;
 
 /// Why nothing is said.
 #[derive(Debug, Drop)]
@@ -35,41 +38,85 @@ impl From<OutOfMemory> for Unsaid {
     }
 }
 
-/// What is said to the input of a command, of which nothing is read where the command reads none.
-#[tactic(auto, using(crate::proofs::TopCallAnswers::said_to_long_input, crate::proofs::TopCallAnswers::said_to_no_input))]
-fn say_to_input<S: Source>(alloc: Global, command: Command, input: &mut S) -> Result<Said, Unsaid>
-    ensures said { IfOk result (λ said. IsSaidToInput command (S.left input.old) said) }
+/// The input of a command, and nothing for one that reads none; none where it is longer than any command takes.
+fn take<S: Source>(
+    alloc: Global,
+    command: &Command,
+    input: &mut S,
+) -> Result<Option<Vec<u8>>, Unsaid>
+    ensures taken { IfOk result (λ taken. IsTaken command.now (S.left input.old) (option_map (λ v. v.items) taken)) }
     ensures failed { IsErrOf result Unsaid.Failed → Rose (S.faults input.old) (S.faults input.new) }
-    ensures read { IsErrOf result Unsaid.Failed → reads_input command ≡ true }
-    ensures unread { reads_input command ≡ false → input.new ≡ input.old }
+    ensures read { IsErrOf result Unsaid.Failed → reads_input command.now ≡ true }
+    ensures unread { reads_input command.now ≡ false → input.new ≡ input.old }
 {
     if !command.reads_input() {
-        let said = answer(alloc, command, &[])?;
-        return Ok(said);
+        return Ok(Some(Vec::new(alloc)));
     }
     match read_all(alloc, input, MOST_INPUT_BYTES) {
-        Ok(bytes) => {
-            let said = answer(alloc, command, &bytes)?;
-            Ok(said)
-        }
-        Err(InFault::TooLong) => {
-            let said = refused(alloc, 6, b"refused limit\n")?;
-            Ok(said)
-        }
+        Ok(bytes) => Ok(Some(bytes)),
+        Err(InFault::TooLong) => Ok(None),
         Err(InFault::Failed) => Err(Unsaid::Failed),
         Err(InFault::Memory) => Err(Unsaid::Memory),
     }
 }
 
-/// What is said to the words and the input, of which nothing is read where the words aren't taken or their command reads none.
-fn say_to<S: Source>(alloc: Global, words: &[String], input: &mut S) -> Result<Said, Unsaid>
-    ensures said { IfOk result (λ said.
-        IsAnswer (map string_bytes words.now) (S.left input.old) said.status said.output.items) }
-    ensures failed { IsErrOf result Unsaid.Failed → Rose (S.faults input.old) (S.faults input.new) }
-    ensures read { IsErrOf result Unsaid.Failed → is_unread (command_of (map string_bytes words.now)) ≡ false }
-    ensures unread { is_unread (command_of (map string_bytes words.now)) ≡ true → input.new ≡ input.old }
+/// What is said to an input past every limit.
+fn too_long(alloc: Global) -> Result<Said, Unsaid>
+    ensures said { IfOk result (λ said. Refuses 6 said.status (codes "limit") said.output.items) }
+    ensures failed { IsErrOf result Unsaid.Failed → ⊥ }
 {
-    match command_of(alloc, words)? {
+    let said = refused(alloc, 6, b"refused limit\n")?;
+    Ok(said)
+}
+
+/// What is said to the input of a command that needs no threads.
+#[tactic(auto, using(crate::proofs::TopCallAnswers::said_to_long_input, crate::proofs::TopCallAnswers::said_to_taken_input))]
+fn say_to_input<S: Source>(alloc: Global, command: Command, input: &mut S) -> Result<Said, Unsaid>
+    requires { needs_threads command ≡ false }
+    ensures said { IfOk result (λ said. IsSaidToInput command (S.left input.old) said) }
+    ensures failed { IsErrOf result Unsaid.Failed → Rose (S.faults input.old) (S.faults input.new) }
+    ensures read { IsErrOf result Unsaid.Failed → reads_input command ≡ true }
+    ensures unread { reads_input command ≡ false → input.new ≡ input.old }
+{
+    let Some(bytes) = take(alloc, &command, input)? else {
+        return too_long(alloc);
+    };
+    let said = answer(alloc, command, &bytes)?;
+    Ok(said)
+}
+
+/// What is said to the input of a command that needs threads.
+#[tactic(auto, using(crate::proofs::TopCallAnswers::said_to_long_input, crate::proofs::TopCallAnswers::said_to_taken_input))]
+fn say_on_threads<R: Threads + Wait + Sync, S: Source, G: Gate + Sync>(
+    rt: &R,
+    alloc: Global,
+    command: Command,
+    input: &mut S,
+    gate: &G,
+) -> Result<Said, Unsaid>
+    requires { needs_threads command ≡ true }
+    ensures said { IfOk result (λ said. IsSaidToInput command (S.left input.old) said) }
+    ensures failed { IsErrOf result Unsaid.Failed → Rose (S.faults input.old) (S.faults input.new) }
+    ensures read { IsErrOf result Unsaid.Failed → is_unread (Some command) ≡ false }
+    ensures unread { is_unread (Some command) ≡ true → input.new ≡ input.old }
+{
+    let Some(bytes) = take(alloc, &command, input)? else {
+        return too_long(alloc);
+    };
+    let said = threaded_answer(rt, alloc, command, &bytes, gate)?;
+    Ok(said)
+}
+
+/// What is said to words that name a command which needs no threads, or aren't taken, and to the input, of which nothing is read where
+/// the words aren't taken or their command reads none.
+fn say_to<S: Source>(alloc: Global, named: Option<Command>, input: &mut S) -> Result<Said, Unsaid>
+    requires { is_threaded named ≡ false }
+    ensures said { IfOk result (λ said. IsSaidTo named (S.left input.old) said) }
+    ensures failed { IsErrOf result Unsaid.Failed → Rose (S.faults input.old) (S.faults input.new) }
+    ensures read { IsErrOf result Unsaid.Failed → is_unread named ≡ false }
+    ensures unread { is_unread named ≡ true → input.new ≡ input.old }
+{
+    match named {
         Some(command) => {
             let said = say_to_input(alloc, command, input)?;
             Ok(said)
@@ -91,22 +138,33 @@ fn deliver<K: Sink>(said: &Said, output: &mut K) -> u8
     }
 }
 
-/// The status of a run, which writes what is said.
-fn serve<S: Source, K: Sink>(alloc: Global, words: &[String], input: &mut S, output: &mut K) -> u8
-    ensures answered { IsAnswered (map string_bytes words.now) (outside S.left S.faults K.written K.faults input.old input.new output.old output.new) result }
-    ensures unread { is_unread (command_of (map string_bytes words.now)) ≡ true → input.new ≡ input.old }
-    ensures unwritten { (result ≡ 4) ⊎ (result ≡ 7) → output.new ≡ output.old }
+/// The status of a run, which writes what is said, where something is.
+fn finish<K: Sink>(said: Result<Said, Unsaid>, output: &mut K) -> u8
+    ensures said { IfOk said (λ said. IsDelivered said (K.written output.old) (K.written output.new) (K.faults output.old) (K.faults output.new) result) }
+    ensures failed { IsErrOf said Unsaid.Failed → result ≡ 4 }
+    ensures memory { IsErrOf said Unsaid.Memory → result ≡ 7 }
+    ensures unwritten { OnErr said (output.new ≡ output.old) }
 {
-    match say_to(alloc, words, input) {
+    match said {
         Ok(said) => deliver(&said, output),
         Err(Unsaid::Failed) => 4,
-        Err(Unsaid::Memory) => 7,
+        Err(Unsaid::Memory) => OUT_OF_MEMORY,
+    }
+}
+
+/// Whether the words were taken, and name a command that needs threads.
+fn is_threaded(named: &Option<Command>) -> bool
+    ensures { result ≡ is_threaded named.now }
+{
+    match named {
+        Some(command) => command.needs_threads(),
+        None => false,
     }
 }
 
 /// Answers words, the program's name first, and an input: writes the output, and answers the
-/// status. It takes no runtime, and does whole every command that needs no threads; today that is
-/// every one, and `None` never comes.
+/// status. It takes no runtime, and does whole every command that needs no threads; for one that does, `live`, `recover` or `load`,
+/// it answers `None`, and has read and written nothing. Where memory is wanting to read the words it answers 7, whatever they name.
 ///
 /// The input is read to its end, or to one byte past its limit, before anything is said of it, but for
 /// `make`, which reads none; and the whole output is made before its first byte is written.
@@ -116,7 +174,12 @@ pub fn alone<S: Source, K: Sink>(
     input: &mut S,
     output: &mut K,
 ) -> Option<u8>
-    ensures whole { IsSome result }
+    // What isn't answered needs threads; and what needs threads isn't answered, but for want of memory.
+    ensures whole { result ≡ None → is_threaded (command_of (map string_bytes words.now)) ≡ true }
+    ensures left { is_threaded (command_of (map string_bytes words.now)) ≡ true → IfSome result (λ status. status ≡ 7) }
+
+    // What needs threads leaves the source and the sink as they were.
+    ensures untouched { is_threaded (command_of (map string_bytes words.now)) ≡ true → (input.new ≡ input.old) × (output.new ≡ output.old) }
 
     // The status and what was written are the answer, or say what was wanting. There is one answer
     // (`laws::one_answer`), but where it stands on a compilation.
@@ -129,14 +192,46 @@ pub fn alone<S: Source, K: Sink>(
     // At status 4 and 7 the sink isn't touched.
     ensures unwritten { IfSome result (λ status. (status ≡ 4) ⊎ (status ≡ 7) → output.new ≡ output.old) }
 {
-    Some(serve(alloc, words, input, output))
+    let Ok(named) = command_of(alloc, words) else {
+        return Some(OUT_OF_MEMORY);
+    };
+    if is_threaded(&named) {
+        return None;
+    }
+    let said = say_to(alloc, named, input);
+    Some(finish(said, output))
+}
+
+/// The status of a run by words that name a command which needs threads. It writes what is said.
+fn serve_on_threads<R: Threads + Wait + Sync, S: Source, K: Sink, G: Gate + Sync>(
+    rt: &R,
+    alloc: Global,
+    words: &[String],
+    input: &mut S,
+    output: &mut K,
+    gate: &G,
+) -> u8
+    requires { is_threaded (command_of (map string_bytes words.now)) ≡ true }
+    ensures answered { IsAnswered (map string_bytes words.now) (outside S.left S.faults K.written K.faults input.old input.new output.old output.new) result }
+    ensures unread { is_unread (command_of (map string_bytes words.now)) ≡ true → input.new ≡ input.old }
+    ensures unwritten { (result ≡ 4) ⊎ (result ≡ 7) → output.new ≡ output.old }
+{
+    match command_of(alloc, words) {
+        Ok(Some(command)) => {
+            let said = say_on_threads(rt, alloc, command, input, gate);
+            finish(said, output)
+        }
+        Ok(None) => unreachable!(),
+        Err(OutOfMemory) => OUT_OF_MEMORY,
+    }
 }
 
 /// Answers words, the program's name first, and an input: writes the output, and answers the
-/// status. Commands that need threads are to be done here; there is none yet.
+/// status. What `alone` leaves, `live`, `recover` and `load`, it does on threads that `rt` starts, which all have ended when it
+/// answers. Before each turn of a worker the gate is passed.
 ///
-/// It owes no return: by its bounds `Threads` and `Wait` it may wait, and its clauses say what holds if it returns. Today it calls
-/// `alone`, which is proved to return as far as the source and the sink do; runtime and gate are for commands to come.
+/// It owes no return: by its bounds `Threads` and `Wait` it may wait, and its clauses say what holds if it returns. What `alone`
+/// answers is proved to return as far as the source and the sink do.
 pub fn ido<R: Threads + Wait + Sync, S: Source, K: Sink, G: Gate + Sync>(
     rt: &R,
     alloc: Global,
@@ -146,7 +241,7 @@ pub fn ido<R: Threads + Wait + Sync, S: Source, K: Sink, G: Gate + Sync>(
     gate: &G,
 ) -> u8
     // The status and what was written are the answer, or say what was wanting. There is one answer
-    // (`laws::one_answer`), but where it stands on a compilation.
+    // (`laws::one_answer`), but where it stands on a compilation, or on how threads ran.
     ensures answered { IsAnswered (map string_bytes words.now) (outside S.left S.faults K.written K.faults input.old input.new output.old output.new) result }
 
     // For words that aren't taken, and for a command that reads no input, the source isn't touched.
@@ -157,6 +252,6 @@ pub fn ido<R: Threads + Wait + Sync, S: Source, K: Sink, G: Gate + Sync>(
 {
     match alone(alloc, words, input, output) {
         Some(status) => status,
-        None => unreachable!(),
+        None => serve_on_threads(rt, alloc, words, input, output, gate),
     }
 }

@@ -7,7 +7,8 @@
 //! schedules; values of 189 expressions as a C compiler has them, each with its kind, and of 21 that C leaves open; nodes and
 //! boundaries of short sources; objects, listings and images, all bytes; images with faults, one before another; an accepted input
 //! at every limit; and a dozen longer programs with the variables and ended sections that a C compiler's build of the same text
-//! leaves (locks that do nothing, thread after thread; signed sums wrap, `char` is unsigned).
+//! leaves (locks that do nothing, thread after thread; signed sums wrap, `char` is unsigned). Of the commands that run harts on threads
+//! it has only what is the same in whatever order they come.
 //!
 //! A row `=== WORDS, k from 3 to 58: NAME` stands for one row for each of these numbers, which stands wherever input and
 //! answer have `` `k` ``. In a row `=== WORDS|WORDS: NAME` the second command's input is what the first one has written,
@@ -19,10 +20,12 @@
 #![tactic(auto)]
 
 use ido_base::memory::OutOfMemory;
-use ido_cli::alone;
-use ido_outside::{Reading, SureSink, SureSource, Writing, read_all, write_all};
+use ido_cli::ido;
+use ido_outside::{OpenGate, Reading, SureSink, SureSource, Writing, read_all, write_all};
 use std::alloc::Global;
 use std::process::ExitCode;
+use std::sync::Wait;
+use std::thread::Threads;
 
 /// Bytes of the whole table.
 const MOST_BYTES: u64 = 1_000_000;
@@ -205,35 +208,44 @@ fn words_of(alloc: Global, words: &[u8]) -> Result<Vec<String>, OutOfMemory> {
 }
 
 /// The status of a command, and its output.
-fn call(alloc: Global, words: &[u8], input: Vec<u8>) -> Result<(Option<u8>, Vec<u8>), OutOfMemory> {
+fn call<R: Threads + Wait + Sync>(
+    rt: &R,
+    alloc: Global,
+    words: &[u8],
+    input: Vec<u8>,
+) -> Result<(u8, Vec<u8>), OutOfMemory> {
     let words = words_of(alloc, words)?;
     let mut source = SureSource::new(input, 65_536);
     let mut sink = SureSink::new(alloc, MOST_OUTPUT, 4096)?;
-    let status = alone(alloc, &words, &mut source, &mut sink);
+    let status = ido(rt, alloc, &words, &mut source, &mut sink, &OpenGate);
     let output = sink.written().unwrap_or(b"too long").to_vec(alloc)?;
     Ok((status, output))
 }
 
 /// The status and the output that a row gets for a number.
-fn answer_to(alloc: Global, row: &Row<'_>, k: u32) -> Result<Vec<u8>, OutOfMemory> {
+fn answer_to<R: Threads + Wait + Sync>(
+    rt: &R,
+    alloc: Global,
+    row: &Row<'_>,
+    k: u32,
+) -> Result<Vec<u8>, OutOfMemory> {
     let (words, then) = split(row.words, b'|');
     let input = written_out(alloc, row.input, k)?;
-    let (status, output) = call(alloc, words, input)?;
-    let (status, output) = if status == Some(0) && !then.is_empty() {
-        call(alloc, then, output)?
+    let (status, output) = call(rt, alloc, words, input)?;
+    let (status, output) = if status == 0 && !then.is_empty() {
+        call(rt, alloc, then, output)?
     } else {
         (status, output)
     };
     let mut answer = Vec::new(alloc);
-    if let Some(status) = status {
-        answer.extend_from_slice(format!(in alloc; "{status} ")?.as_bytes())?;
-    }
+    answer.extend_from_slice(format!(in alloc; "{status} ")?.as_bytes())?;
     answer.extend_from_slice(&output)?;
     Ok(answer)
 }
 
 /// Adds what is said of a row for a number.
-fn put_finding(
+fn put_finding<R: Threads + Wait + Sync>(
+    rt: &R,
     alloc: Global,
     row: &Row<'_>,
     k: u32,
@@ -243,7 +255,7 @@ fn put_finding(
     if !row.answer.ends_with(OPEN_END) {
         wanted.push(b'\n')?;
     }
-    let answer = answer_to(alloc, row, k)?;
+    let answer = answer_to(rt, alloc, row, k)?;
     if answer != wanted {
         said.extend_from_slice(row.name)?;
         if row.first < row.last {
@@ -256,7 +268,11 @@ fn put_finding(
 }
 
 /// What is said of the rows of a table.
-fn findings(alloc: Global, table: &[u8]) -> Result<Vec<u8>, OutOfMemory> {
+fn findings<R: Threads + Wait + Sync>(
+    rt: &R,
+    alloc: Global,
+    table: &[u8],
+) -> Result<Vec<u8>, OutOfMemory> {
     let mut said = Vec::new(alloc);
     let mut rest = table;
     let mut rows = 0u64;
@@ -266,7 +282,7 @@ fn findings(alloc: Global, table: &[u8]) -> Result<Vec<u8>, OutOfMemory> {
             break;
         };
         for k in row.first..row.last.saturating_add(1) {
-            put_finding(alloc, &row, k, &mut said)?;
+            put_finding(rt, alloc, &row, k, &mut said)?;
             rows = rows.saturating_add(1);
         }
         rest = next;
@@ -282,7 +298,7 @@ fn main(rt: HostRuntime) -> ExitCode {
     let Ok(table) = read_all(alloc, &mut input, MOST_BYTES) else {
         return ExitCode::from(1);
     };
-    let Ok(said) = findings(alloc, &table) else {
+    let Ok(said) = findings(&rt, alloc, &table) else {
         return ExitCode::from(2);
     };
     match write_all(&mut output, &said) {

@@ -1,4 +1,4 @@
-use Rattle.ido_cli.proofs.InputAnswers.{made, made_past}
+use Rattle.ido_cli.proofs.InputAnswers.{made}
 use Rattle.ido_cli.proofs.answer.product_input.Goals as goal
 
 pub returns : goal.returns

@@ -4,4 +4,4 @@ use Rattle.ido_cli.proofs.answer.seeded_input.Goals as goal
 pub returns : goal.returns
 returns c =
     draws c.args.seed c.args.turns c.args.crashes.now c.args.input.now c.seeded_answer.result c.if-input-gt-MOST_SOURCE_BYTES.false
-    (rw c.draws.ensures at c.seeded_answer.ensures)
+    (rw c.words.ensures at c.seeded_answer.ensures)

@@ -1,9 +1,9 @@
-use Rattle.std.proofs.Common.{map, string_bytes, sym, ap, ◌∙◌}
+use Rattle.std.proofs.Common.{map, string_bytes, ◌∙◌}
 use Rattle.std.proofs.lemmas.Result.{IfOk-weaker}
 use Rattle.clap.specs.Matches.{found_of}
 use Rattle.clap.specs.Walk.{rows_of}
 use Rattle.clap.specs.Words.{app_of}
-use Rattle.ido_cli.proofs.Commands.{none_taken, refused, taken}
+use Rattle.ido_cli.proofs.Commands.{refused, taken}
 use Rattle.ido_cli.proofs.command.command_of.Goals as goal
 
 pub returns-in-Some : goal.returns-in-Some

@@ -1,4 +1,4 @@
-use Rattle.std.proofs.Common.{◌≡◌, Bool, true, ap, ◌∙◌}
+use Rattle.std.proofs.Common.{◌≡◌, true, ap, ◌∙◌}
 use Rattle.std.specs.Prelude.{Option, Some}
 use Rattle.clap.specs.Walk.{Rule}
 use Rattle.clap.specs.Words.{rule_of}

@@ -1,4 +1,4 @@
-use Rattle.std.proofs.Common.{List, Result, ℕ, Option, ap, arith, ◌∙◌}
+use Rattle.std.proofs.Common.{List, ℕ, Option, ap, arith, ◌∙◌}
 use Rattle.std.specs.Prelude.{option_and_then}
 use Rattle.std.specs.Str.Parse.{ExplainsUnsignedError, HasUnsignedDigitsIfOk, ParsesUnsigned}
 use Rattle.clap.specs.Matches.{found_of, one_text}

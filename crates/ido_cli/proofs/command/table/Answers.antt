@@ -1,8 +1,8 @@
-use Rattle.std.proofs.Common.{◌≡◌, List, [], ℕ, true, ap, codes, rules, ◌∙◌}
+use Rattle.std.proofs.Common.{◌≡◌, List, [], ℕ, true, ap, codes, ◌∙◌}
 use Rattle.std.proofs.lemmas.Result.{IfOk-weaker}
-use Rattle.clap.specs.Simple.{App, new_shape}
+use Rattle.clap.specs.Simple.{App, app_of_fields, new_shape}
 use Rattle.clap.specs.Words.{app_of, with_subcommand}
-use Rattle.ido_cli.specs.Commands.{make_shape, recover_shape, seeded_shape}
+use Rattle.ido_cli.specs.Commands.{live_shape, load_shape, make_shape, recover_shape, seeded_shape}
 use Rattle.ido_cli.proofs.command.table.Goals as goal
 
 -- a table with a command of this name more
@@ -12,9 +12,14 @@ named name a = with_subcommand a (new_shape name)
 abbrev empty : App
 empty = record { top = record (new_shape (codes "ido")) { subcommand_required = true }; subs = [] }
 
+-- a table of which a command is required
+abbrev requiring : App → App
+requiring a = record { top = record a.top { subcommand_required = true }; subs = a.subs }
+
 pub returns : goal.returns
 returns c =
-    let empty_is : app_of c.subcommand_required-empty.result ≡ empty = search rules in
+    let empty_is : app_of c.subcommand_required-empty.result ≡ empty =
+    ap app_of_fields c.subcommand_required-empty.ensures ∙ ap requiring c.new.ensures.app in
     let one = c.in_ok-one.ensures ∙ ap (named (codes "compile")) empty_is in
     let two = c.in_ok-two.ensures ∙ ap (named (codes "list")) one in
     let three = c.in_ok-three.ensures ∙ ap (named (codes "regions")) two in
@@ -23,4 +28,6 @@ returns c =
     let six = c.in_ok-six.ensures ∙ ap (named (codes "image")) five in
     let seven = c.in_ok-seven.ensures ∙ ap (λ (a : App). with_subcommand a recover_shape) six in
     let eight = c.in_ok-eight.ensures ∙ ap (λ (a : App). with_subcommand a make_shape) seven in
-    IfOk-weaker c.with_seeded.result _ _ (λ made is. is ∙ ap (λ (a : App). with_subcommand a seeded_shape) eight) c.with_seeded.ensures
+    let nine = c.in_ok-nine.ensures ∙ ap (λ (a : App). with_subcommand a seeded_shape) eight in
+    let ten = c.in_ok-ten.ensures ∙ ap (λ (a : App). with_subcommand a live_shape) nine in
+    IfOk-weaker c.with_load.result _ _ (λ made is. is ∙ ap (λ (a : App). with_subcommand a load_shape) ten) c.with_load.ensures

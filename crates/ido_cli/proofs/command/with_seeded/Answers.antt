@@ -4,7 +4,7 @@ use Rattle.clap.specs.Simple.{App, Shape}
 use Rattle.clap.specs.Words.{app_of, rule_of, with_rule, with_subcommand}
 use Rattle.clap.specs.declared.builder.command.Command.TheViews.{out-Command}
 use Rattle.clap.specs.declared.builder.value_parser.ValueParser.TheVariants as parser
-use Rattle.ido_cli.specs.Commands.{crash_rule, number_rule, seeded_shape, turns_rule}
+use Rattle.ido_cli.specs.Commands.{number_rule, seeded_shape, turns_rule}
 use Rattle.ido_cli.proofs.command.with_seeded.Goals as goal
 
 pub returns : goal.returns

@@ -5,15 +5,15 @@ use Rattle.ido_cli.proofs.RefusedSchedules.{both_ok}
 use Rattle.ido_cli.proofs.recover.recover_answer.Goals as goal
 
 pub recovered-requires-clause-translated : goal.recovered-requires-clause-translated
-recovered-requires-clause-translated c = (compiled_in c.args.input.now c.in-Ok.image c.in-Ok.ensures.answer).1.translated
+recovered-requires-clause-translated g c κs within = (compiled_in c.args.input.now c.in-Ok.image c.in-Ok.ensures.answer).1.translated
 
 pub recovered-requires-clause-compilation : goal.recovered-requires-clause-compilation
-recovered-requires-clause-compilation c = (compiled_in c.args.input.now c.in-Ok.image c.in-Ok.ensures.answer).1.compilation
+recovered-requires-clause-compilation g c κs within = (compiled_in c.args.input.now c.in-Ok.image c.in-Ok.ensures.answer).1.compilation
 
 pub returns-in-Ok : goal.returns-in-Ok
-returns-in-Ok c = IfOk-weaker c.recovered.result _ _ (λ said is. of_image c.in-Ok.image c.in-Ok.ensures.answer is) c.recovered.ensures
+returns-in-Ok g c = IfOk-weaker c.recovered.result _ _ (λ said is. of_image c.in-Ok.image c.in-Ok.ensures.answer is) c.recovered.ensures
 
 pub returns-in-Err : goal.returns-in-Err
-returns-in-Err c =
+returns-in-Err g c =
     IfOk-weaker c.image_refused.result _ _ (λ said both. no_image c.in-Err.error c.in-Err.ensures.answer both.0 both.1)
     (both_ok c.image_refused.result _ _ c.image_refused.ensures.status c.image_refused.ensures.output)

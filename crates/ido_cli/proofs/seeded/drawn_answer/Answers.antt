@@ -30,7 +30,8 @@ make_events-requires-clause-valid c = λ _.
     let few : c.len-threads.result ≤ 8 = omega (arith, many, c.requires.translated.limits.threads) in
     let bytes : c.len-bytes.result ≤ 65536 = omega (arith, c.len-bytes.ensures, y.object.initial.ok, c.requires.translated.limits.bytes) in
     let within : (c.len-bytes.result + 63) / 64 ≤ 1024 = omega (arith, bytes) in
-    all_valid (length c.in_ok-life.life.program) c.len-threads.result c.deref.result.now _ (c.deref.ensures.value ∙ c.in_ok-events.ensures) (many ∙ sym harts)
+    all_valid (length c.in_ok-life.life.runs.program) c.len-threads.result c.deref.result.now _ (c.deref.ensures.value ∙ c.in_ok-events.ensures)
+    (many ∙ sym harts)
     (run_valid c.args.seed c.from.result c.args.crashes.now c.len-threads.result ((c.len-bytes.result + 63) / 64) few within)
 
 pub make_events-requires-clause-room : goal.make_events-requires-clause-room
