@@ -1,0 +1,4 @@
+mod Walks
+mod Ascents
+mod Runs
+mod Worked

@@ -1,0 +1,4 @@
+pub mod LockOrder
+pub mod links
+pub mod Faults
+pub mod Laws

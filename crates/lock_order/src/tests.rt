@@ -1,0 +1,60 @@
+//! The check, called once on a thread that keeps the order and once on one that doesn't.
+use crate::{OrderError, ordered};
+use c_tree::flat::{Flat, Statement, Thread};
+use c_tree::tree::Name;
+use ido_base::place::Place;
+use std::alloc::{AllocError, Global};
+use std::test::Fail;
+
+fn name(a: Global) -> Name {
+    Name {
+        text: Vec::new(a),
+        place: Place(0),
+    }
+}
+
+fn lock(at: u32, mutex: u32) -> Statement {
+    Statement::Lock {
+        place: Place(at),
+        mutex,
+    }
+}
+
+fn unlock(mutex: u32) -> Statement {
+    Statement::Unlock {
+        place: Place(9),
+        mutex,
+    }
+}
+
+/// Two mutexes and a thread.
+fn flat(a: Global, body: Vec<Statement>) -> Result<Flat, AllocError> {
+    Ok(Flat {
+        mutexes: vec![in a; name(a), name(a)]?,
+        variables: Vec::new(a),
+        threads: vec![in a;
+            Thread {
+                name: name(a),
+                locals: Vec::new(a),
+                body,
+                closing: Place(9),
+            },
+        ]?,
+    })
+}
+
+#[test]
+fn two_locks_in_both_orders(rt: HostRuntime) -> Result<(), Fail> {
+    let a = rt.alloc();
+    let kept = flat(a, vec![in a; lock(1, 0), lock(2, 1), unlock(1), unlock(0)]?)?;
+    assert!(rt; ordered(a, &kept).is_ok());
+    let broken = flat(a, vec![in a; lock(1, 1), lock(2, 0), unlock(0), unlock(1)]?)?;
+    assert_eq!(rt;
+        ordered(a, &broken),
+        Err(OrderError::NotAbove {
+            place: Place(2),
+            earlier: Place(1)
+        })
+    );
+    Ok(())
+}
