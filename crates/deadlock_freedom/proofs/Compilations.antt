@@ -1,0 +1,87 @@
+-- Compilations whose sources keep the order of locks never deadlock.
+use Rattle.std.proofs.Common.{◌≡◌, inl, refl, ℕ, ◌<◌, List, ◌∷◌, ◌++◌, length, get_or, ap, ap₂, sym, ◌∙◌, subst, arith}
+use Rattle.std.proofs.Common.{true, false, Option, Some, None}
+use Rattle.std.specs.Prelude.{slice_get, not}
+use Rattle.std.proofs.lemmas.Option.{slice_get_within, slice_get-get_or}
+use Rattle.ido_base.specs.declared.event.Event.{Event}
+use Rattle.ido_base.specs.declared.event.Event.TheVariants.{Step, Crash}
+use Rattle.ido_base.specs.declared.event.Reply.{Reply}
+use Rattle.ido_base.specs.declared.event.Reply.TheVariants.{Moved}
+use Rattle.ido_base.specs.Cores.{is_idle, is_enabled, least_enabled}
+use Rattle.rv64_isa.specs.Executables.{Executable}
+use Rattle.rv64_isa.specs.declared.phase.Phase.TheVariants.{Take}
+use Rattle.rv64_isa.specs.Machine.{Hart, World, Outcome, reply_to}
+use Rattle.hart_runs.specs.HartsOnRuns.{instr_of}
+use Rattle.hart_runs.specs.Calls.{IsAtCall, lock_asked}
+use Rattle.run_tracker.specs.ObjectLives.{LifeConfig, living}
+use Rattle.lock_order.specs.LockOrder.{order_fault}
+use Rattle.lock_order.specs.Laws.{IsOrdered, LocksAscend}
+use Rattle.compiler_correctness.specs.Translations.{Translation, world, now, source}
+use Rattle.compiler_correctness.specs.Compilation.{HoldsAsThread}
+use Rattle.compiler_correctness.specs.Images.{world_from, image_of, file_of, image_in, Image}
+use Rattle.compiler_correctness.specs.Compilations.{IsCompilation}
+use Rattle.compiler_correctness.specs.Laws.{ImagesAreCrashes}
+use Rattle.deadlock_freedom.specs.Deadlocks.{HaveStopped, StopsAtTheEnd, NoneDeadlocks, NoneDeadlocksResumed}
+use Rattle.deadlock_freedom.proofs.HartReplies.{none_there}
+use Rattle.deadlock_freedom.proofs.Holders.{holders_go_on, harts_stay}
+use Rattle.deadlock_freedom.proofs.EnabledHarts.{each_waits, none_least, not_false}
+use Rattle.deadlock_freedom.proofs.LockChains.{WaitsFor, all_stopped, stopped_idles}
+
+module _ (ascend : LocksAscend) (c : Translation) (is : IsCompilation c) (order : order_fault c.flat ≡ None) (events : List Event) where
+  abbrev w : World
+  w = world c events
+
+  ordered : IsOrdered c.flat
+  ordered = record {
+    disciplined = λ k d within. (is.form.threads k (get_or c.flat.threads k d) (slice_get-get_or c.flat.threads k d within)).sets.disciplined;
+    in_order = order;
+  }
+
+  -- a hart that waits for a lock holds lesser ones
+  ascends : (h lock held : ℕ) → WaitsFor c.runs.program w h lock → slice_get w.holders held ≡ Some (Some h) → held < lock
+  ascends h lock held x owns =
+      let agree : HoldsAsThread c w (now c events) h = (((is.records events).each h x.hart x.here).locks_agree) (inl x.runs) in
+      let call : IsAtCall c.runs.program w h 1 = record { hart = x.hart; here = x.here; runs = x.runs; calls = ap instr_of x.calls; asks = x.asks } in
+      let below : held < lock_asked x.hart =
+      ascend c.flat (source c (now c events)) h (lock_asked x.hart) held ordered (record { schedule = now c events; is = refl }) (agree.taking call)
+      (agree.holds_only call held owns) in
+      subst (λ (n : ℕ). held < n) x.lock_is below
+
+  module _ (life : LifeConfig) (runs_is : life.runs ≡ c.runs) (world_is : life.world ≡ w) where
+    same : (h : ℕ) → reply_to life.runs.program life.world (Step h) ≡ reply_to c.runs.program w (Step h)
+    same h = ap₂ (λ (r : Executable) (v : World). reply_to r.program v (Step h)) runs_is world_is
+
+    forth : least_enabled living life (length life.runs.program) ≡ None → HaveStopped w
+    forth none = all_stopped c.runs.program w (holders_go_on c.runs.program c.runs.mutexes c.runs.initial events) idles takes ascends
+      where
+        idles : (h : ℕ) (hart : Hart) → slice_get w.harts h ≡ Some hart → is_idle (reply_to c.runs.program w (Step h)) ≡ true
+        idles h hart here =
+            let within : h < length w.harts = slice_get_within w.harts h hart here in
+            let count : length w.harts ≡ length c.runs.program = harts_stay c.runs.program c.runs.mutexes c.runs.initial events in
+            let below : h < length life.runs.program = omega (arith, within, count, ap (λ (r : Executable). length r.program) runs_is) in
+            let waits : is_enabled living life h ≡ false = each_waits living life (length life.runs.program) none h below in
+            not_false (is_idle (reply_to c.runs.program w (Step h))) (ap (λ (r : Reply). not (is_idle r)) (sym (same h)) ∙ waits)
+
+        takes : (h : ℕ) (hart : Hart) → slice_get w.harts h ≡ Some hart → hart.phase ≡ Take → reply_to c.runs.program w (Step h) ≡ Moved
+        takes h hart here = ((is.records events).each h hart here).takes
+
+    back : HaveStopped w → least_enabled living life (length life.runs.program) ≡ None
+    back stopped =
+        none_least living life (length life.runs.program)
+        (λ h. ap (λ (r : Reply). not (is_idle r)) (same h) ∙ ap not (idles h (slice_get w.harts h) refl))
+      where
+        idles : (h : ℕ) (o : Option Hart) → slice_get w.harts h ≡ o → is_idle (reply_to c.runs.program w (Step h)) ≡ true
+        idles h None missing = ap (λ (o : Outcome). is_idle o.1) (none_there c.runs.program w h missing)
+        idles h (Some hart) here = stopped_idles c.runs.program w h hart here (stopped h hart here)
+
+  pub stops : StopsAtTheEnd c w
+  stops life runs_is world_is = (forth life runs_is world_is, back life runs_is world_is)
+
+pub none_deadlocks : LocksAscend → NoneDeadlocks
+none_deadlocks ascend c is order events = stops ascend c is order events
+
+pub none_deadlocks_resumed : LocksAscend → ImagesAreCrashes → NoneDeadlocksResumed
+none_deadlocks_resumed ascend crashes c is order before events =
+    let same : world c (before ++ Crash ∷ events) ≡ world_from c (image_in c (file_of c (image_of c before))) events =
+    sym (ap (λ (x : Image). world_from c x events) (is.in_file before).is_all ∙ (crashes c before events).world_is) in
+    subst (StopsAtTheEnd c) same (stops ascend c is order (before ++ Crash ∷ events))

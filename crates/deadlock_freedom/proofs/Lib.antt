@@ -1,0 +1,6 @@
+mod HartReplies
+mod Holders
+mod LockChains
+mod EnabledHarts
+mod Compilations
+mod Worked

@@ -1,0 +1,15 @@
+//! Laws of compiled programs whose sources keep the order of locks.
+ghost use Rattle.deadlock_freedom.specs.Deadlocks.{NoneDeadlocks, NoneDeadlocksResumed};
+
+use compiler_correctness::laws::images_are_crashes;
+use lock_order::laws::locks_ascend;
+
+/// Whatever has happened to a compilation whose source keeps the order of locks, steps of all harts, evictions and crashes in any order, some hart can step,
+/// unless each has ended or is done with its recovery. A hart that waits for a lock waits for one that goes on, which waits for no lesser one.
+pub fn none_deadlocks()
+    ensures run { NoneDeadlocks }
+    ensures resumed { NoneDeadlocksResumed }
+{
+    locks_ascend();
+    images_are_crashes();
+}
