@@ -119,7 +119,7 @@ exposed_conflicts g b w elements e h =
 
 -- ---- What paths say
 
-writes_same_or_not : (g : Graph) (element : Location) (node : ℕ) → WritesSame g element node ⊎ ¬ (WritesSame g element node)
+pub writes_same_or_not : (g : Graph) (element : Location) (node : ℕ) → WritesSame g element node ⊎ ¬ (WritesSame g element node)
 writes_same_or_not g element node = at (slice_get g.nodes node) refl
   where
     by_bool : (x : Node) (w : Location) → NodeAt g node x → x.writes ≡ Some w → (b : Bool) → same w element ≡ b → WritesSame g element node ⊎

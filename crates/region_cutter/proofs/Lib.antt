@@ -1,3 +1,4 @@
+pub mod Public
 mod Lists
 mod BoundariesEverywhere
 mod TrialPasses
@@ -10,3 +11,11 @@ mod LocksAtStores
 mod PassedPlaceMarks
 mod SingleElements
 mod Worked
+mod WorkedStraightCode
+mod RegionLimits
+mod RegionCounts
+mod FewestRegions
+mod StretchRegions
+mod StretchPaths
+mod FewBoundaries
+mod StraightCode

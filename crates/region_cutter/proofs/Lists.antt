@@ -1,5 +1,5 @@
 -- Lists of answers, and one of them changed.
-use Rattle.std.proofs.Common.{◌≡◌, ℕ, zero, suc, ◌<◌, Bool, true, false, List, [], ◌∷◌, ◌++◌, length, set, map, Some, refl, ap, sym, ◌∙◌, arith}
+use Rattle.std.proofs.Common.{◌≡◌, ◌⊎◌, inl, inr, ℕ, zero, suc, ◌<◌, Bool, true, false, List, [], ◌∷◌, ◌++◌, length, set, map, Some, refl, ap, sym, ◌∙◌, arith}
 use Rattle.std.specs.Prelude.{slice_get}
 
 pub get_set_same : {A : Type 0} (xs : List A) (g : ℕ) (y : A) → g < length xs → slice_get (set xs g y) g ≡ Some y
@@ -53,3 +53,13 @@ get_below (x ∷ xs) y (suc k) lt = get_below xs y k (omega arith)
 pub get_last : {A : Type 0} (xs : List A) (y : A) → slice_get (xs ++ y ∷ []) (length xs) ≡ Some y
 get_last [] y = refl
 get_last (x ∷ xs) y = get_last xs y
+
+pub some_same : {A : Type 0} (x y : A) → Some x ≡ Some y → x ≡ y
+some_same x y e = cc
+
+pub get_push : {A : Type 0} (xs : List A) (y : A) (k : ℕ) (z : A) → slice_get (xs ++ y ∷ []) k ≡ Some z →
+    (slice_get xs k ≡ Some z) ⊎ ((k ≡ length xs) × (y ≡ z))
+get_push [] y zero z e = inr (refl, some_same y z e)
+get_push [] y (suc k) z e = absurd (cc)
+get_push (x ∷ xs) y zero z e = inl e
+get_push (x ∷ xs) y (suc k) z e = elim (get_push xs y k z e) [ inl old ↦ inl old | inr new ↦ inr (ap suc new.0, new.1) ]

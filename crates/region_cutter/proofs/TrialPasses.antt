@@ -50,7 +50,7 @@ falls b node has =
 -- ---- A pass
 
 pub pass_first : (g : Graph) (b : Boundaries) → AreKept g b → IsTrialPass g b b 0 false
-pass_first g b k = record { kept = k; fewer = λ t. absurd (cc); same = λ t. refl; needed = λ t node lt. absurd (omega arith) }
+pass_first g b k = record { kept = k; less = λ n h. h; fewer = λ t. absurd (cc); same = λ t. refl; needed = λ t node lt. absurd (omega arith) }
 
 at_most : (g : Graph) (old new : Boundaries) (number : ℕ) (taken : Bool) → IsTrialPass g old new number taken → standing new ≤ standing old
 at_most g old new number true p = omega (arith, p.fewer refl)
@@ -68,6 +68,7 @@ pub pass_over : (g : Graph) (old new : Boundaries) (number : ℕ) (taken : Bool)
     IsTrialPass g old new (number + 1) taken
 pass_over g old new number taken p free = record {
   kept = p.kept;
+  less = p.less;
   fewer = p.fewer;
   same = p.same;
   needed = λ t node lt chosen. below_or_at g new number node lt (λ less. p.needed t node less chosen)
@@ -83,6 +84,7 @@ pass_gone g old new next number taken p chosen tried =
     let most = at_most g old new number taken p in record {
       kept = subst (λ (b : Boundaries). AreKept g b) (sym e)
           (kept_without g new number p.kept chosen (subst (λ (b : Boundaries). IsIdempotent g b) e (tried.idempotent refl)));
+      less = λ n h. p.less n (had new.before number n (subst (λ (b : Boundaries). HasBefore b n) e h));
       fewer = λ t. omega (arith, less, most);
       same = λ t. absurd (cc);
       needed = λ t. absurd (cc);
@@ -92,6 +94,7 @@ needed_same : (g : Graph) (old new : Boundaries) (number : ℕ) (taken : Bool) �
     ¬ (IsIdempotent g (without new number)) → IsTrialPass g old new (number + 1) taken
 needed_same g old new number taken p chosen h = record {
   kept = p.kept;
+  less = p.less;
   fewer = p.fewer;
   same = p.same;
   needed = λ t node lt chosen'. below_or_at g new number node lt (λ less. p.needed t node less chosen')

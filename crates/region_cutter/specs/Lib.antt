@@ -1,3 +1,5 @@
+pub mod Elements
+pub mod FewestCuts
 pub mod Places
 pub mod LocksAtBoundaries
 pub mod links

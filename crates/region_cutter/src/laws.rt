@@ -1,4 +1,5 @@
 //! What holds of boundaries and locks: nothing is computed here.
+ghost use Rattle.region_cutter.specs.FewestCuts.{LabelsBound};
 ghost use Rattle.region_cutter.specs.LocksAtBoundaries.{ChosenAreLocked, NodesAreSteps};
 
 /// In the graph of a flat form that keeps the lock discipline, with the table of its held sets, a boundary that `cut` chose stands before
@@ -7,4 +8,10 @@ ghost use Rattle.region_cutter.specs.LocksAtBoundaries.{ChosenAreLocked, NodesAr
 pub fn chosen_boundaries_are_locked()
     ensures locked { ChosenAreLocked }
     ensures steps { NodesAreSteps }
+{}
+
+/// Labels of straight code, from 0 at its first node to one more than so many boundaries at its end, that grow by no more than 1 over what
+/// may be in one region, show that each cut set has so many boundaries there, or more.
+pub fn labels_bound_boundaries()
+    ensures { LabelsBound }
 {}

@@ -5,16 +5,23 @@
 mod cleaning;
 mod cutting;
 mod elements;
+mod fewest_cuts;
 pub mod laws;
 mod local;
 mod marks;
+mod placing;
+mod region_limits;
 mod regions;
 mod search;
 mod start;
+mod straight;
 mod trying;
 mod window;
 
 pub use cleaning::cleaned_later;
 pub use cutting::cut;
 pub use elements::write_elements;
+pub use fewest_cuts::fewest;
+pub use region_limits::limits;
 pub use regions::is_idempotent;
+pub use straight::{Stretch, stretches};

@@ -106,7 +106,7 @@ fn is_over_any(writes: &[Location], elements: Location) -> bool
 }
 
 /// Whether the node may write one of the elements.
-fn writes_over(graph: &Graph, elements: Location, number: usize, node: &Node) -> bool
+pub(crate) fn writes_over(graph: &Graph, elements: Location, number: usize, node: &Node) -> bool
     requires { slice_get graph.now.nodes.items number ≡ Some node.now }
     ensures { IsTrue result ↔ WritesOver (graph_of graph.now) elements number }
 {
@@ -117,7 +117,7 @@ fn writes_over(graph: &Graph, elements: Location, number: usize, node: &Node) ->
 }
 
 /// Whether the node writes the very element.
-fn writes_same(graph: &Graph, element: Location, number: usize, node: &Node) -> bool
+pub(crate) fn writes_same(graph: &Graph, element: Location, number: usize, node: &Node) -> bool
     requires { slice_get graph.now.nodes.items number ≡ Some node.now }
     ensures { IsTrue result ↔ WritesSame (graph_of graph.now) element number }
 {
@@ -230,7 +230,7 @@ fn unwritten(
 }
 
 /// Whether these are among the locations.
-fn is_among(locations: &[Location], elements: Location) -> bool
+pub(crate) fn is_among(locations: &[Location], elements: Location) -> bool
     ensures { IsTrue result ↔ Contains locations.now elements }
 {
     for other in locations {

@@ -1,7 +1,7 @@
 -- Boundaries on their way to those that are left: where they stand first, and what a trial and a pass of trials take away.
 use Rattle.std.specs.Prelude.{◌≡◌, ◌<◌, ◌||◌, ℕ, map, sum_by, Bool, true, false, is_some}
 use Rattle.flow_graph.specs.Nodes.{Action, Eval, Store, Test, Lock, Unlock, End, Node, Graph}
-use Rattle.flow_graph.specs.IdempotentCuts.{Boundaries, AreCuts, IsChosen, IsIdempotent, without, AreAtWrites}
+use Rattle.flow_graph.specs.IdempotentCuts.{Boundaries, AreCuts, HasBefore, IsChosen, IsIdempotent, without, AreAtWrites}
 
 -- ---- Where they stand first
 
@@ -56,9 +56,10 @@ weight false = 0
 abbrev pub standing : Boundaries → ℕ
 standing b = sum_by weight b.before
 
--- a pass over the nodes below this one has taken some away, or none, and then each of these is needed
+-- a pass over the nodes below this one has taken some away and put none anywhere, or taken none away, and then each of these is needed
 pub record IsTrialPass (g : Graph) (old new : Boundaries) (number : ℕ) (taken : Bool) : Type 0 where
   pub kept : AreKept g new
+  pub less : (node : ℕ) → HasBefore new node → HasBefore old node
   pub fewer : taken ≡ true → standing new < standing old
   pub same : taken ≡ false → new ≡ old
   pub needed : taken ≡ false → (node : ℕ) → node < number → IsChosen g new node → ¬ (IsIdempotent g (without new node))

@@ -1,40 +1,20 @@
 -- What may change where one boundary is taken away: paths that pass the node before which it stood.
 use Rattle.std.specs.Prelude.{◌≡◌, ◌↔◌, ◌<◌, ◌≤◌, ℕ, List, ◌∷◌, length, Bool, true, false, Contains, IsTrue, Some}
 use Rattle.ido_base.specs.declared.location.Location.{Location}
-use Rattle.ido_base.specs.Locations.{overlap, same}
+use Rattle.ido_base.specs.Locations.{overlap}
 use Rattle.flow_graph.specs.Nodes.{Node, Graph}
 use Rattle.flow_graph.specs.Liveness.{NodeAt}
 use Rattle.flow_graph.specs.IdempotentCuts.{Boundaries, IsEdge, IsBoundary, BeginsRegion, HasBoundaryAfter}
 use Rattle.flow_graph.specs.IdempotentCuts.{IsIdempotent, IsInside, IsLock, IsWrittenBefore, ReadsAt, WritesAt}
 use Rattle.flow_graph.specs.IdempotentCuts.{without}
 use Rattle.region_cutter.specs.declared.window.Window.{Window}
+pub use Rattle.region_cutter.specs.Elements.{ReadsElements, WritesOver, WritesSame}
 use Rattle.region_cutter.specs.links.GraphSearch.{ReachesEnd, IsSeen}
 
 -- an edge on which no boundary is passed
 pub record Inside (g : Graph) (b : Boundaries) (from to : ℕ) : Type 0 where
   pub edge : IsEdge g from to
   pub free : ¬ (IsBoundary g b from to)
-
-pub record ReadsElements (g : Graph) (elements : Location) (node : ℕ) : Type 0 where
-  pub is : Node
-  pub at : NodeAt g node is
-  pub reads : Contains is.reads elements
-
--- the node may write one of the elements
-pub record WritesOver (g : Graph) (elements : Location) (node : ℕ) : Type 0 where
-  pub is : Node
-  pub at : NodeAt g node is
-  pub written : Location
-  pub writes : is.writes ≡ Some written
-  pub over : IsTrue (overlap written elements)
-
--- the node writes the very element
-pub record WritesSame (g : Graph) (element : Location) (node : ℕ) : Type 0 where
-  pub is : Node
-  pub at : NodeAt g node is
-  pub written : Location
-  pub writes : is.writes ≡ Some written
-  pub same : IsTrue (same written element)
 
 -- such an edge from a node that does not write the very element
 pub record InsidePast (g : Graph) (b : Boundaries) (element : Location) (from to : ℕ) : Type 0 where

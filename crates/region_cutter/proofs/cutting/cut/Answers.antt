@@ -2,15 +2,27 @@ use Rattle.std.proofs.Common.{length}
 use Rattle.std.proofs.lemmas.List.{length-map}
 use Rattle.flow_graph.specs.Nodes.{graph_of}
 use Rattle.flow_graph.specs.IdempotentCuts.{boundaries_of}
-use Rattle.region_cutter.proofs.BoundariesEverywhere.{everywhere_kept}
+use Rattle.region_cutter.proofs.FewBoundaries.{still_fewest}
 use Rattle.region_cutter.proofs.TrialPasses.{pass_minimal}
 use Rattle.region_cutter.proofs.cutting.cut.Goals as goal
 
-pub loop-marks-init : goal.loop-marks-init
-loop-marks-init c = everywhere_kept (graph_of c.args.graph.now) (boundaries_of c.in_ok-cuts.cuts) c.in_ok-cuts.ensures
+pub loop-marks-preserved : goal.loop-marks-preserved
+loop-marks-preserved c =
+    let p = c.in_ok-take_away.ensures in
+    record {
+      kept = p.kept;
+      fewest = still_fewest (graph_of c.args.graph.now) (boundaries_of c.loop-marks.cuts) (boundaries_of c.take_away.new.cuts) p.kept.cuts p.less
+          c.loop-marks.invariant.fewest;
+    }
 
 pub returns-clause-minimal : goal.returns-clause-minimal
 returns-clause-minimal c =
     pass_minimal (graph_of c.args.graph.now) (boundaries_of c.loop-marks.cuts) (boundaries_of c.take_away.new.cuts)
     (length c.args.graph.now.nodes.items) c.in_ok-take_away.field-0
     (simp length-map) c.if-branch.false c.in_ok-take_away.ensures
+
+pub returns-clause-fewest : goal.returns-clause-fewest
+returns-clause-fewest c =
+    let p = c.in_ok-take_away.ensures in
+    still_fewest (graph_of c.args.graph.now) (boundaries_of c.loop-marks.cuts) (boundaries_of c.take_away.new.cuts) p.kept.cuts p.less
+    c.loop-marks.invariant.fewest
