@@ -5,3 +5,4 @@ mod Nodes
 mod LeastNumbers
 mod FoundConflicts
 mod CollectedLocations
+mod SteepRegions

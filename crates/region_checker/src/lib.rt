@@ -6,9 +6,11 @@ mod checking;
 mod conflicts;
 mod error;
 mod exposure;
+mod labels;
 mod locations;
 mod marks;
 mod paths;
 
 pub use checking::check;
-pub use error::{CheckError, Idempotent};
+pub use error::{CheckError, Idempotent, LabelError, Least};
+pub use labels::check_labels;
