@@ -1,12 +1,12 @@
 -- Lengths of boundaries.
-use Rattle.std.proofs.Common.{◌≡◌, ℕ, ◌+◌, ◌*◌, ◌≤◌, List, [], ◌∷◌, ◌++◌, length, map, filter, refl, arith, Bool, true, false}
+use Rattle.std.proofs.Common.{◌≡◌, ℕ, ◌+◌, ◌*◌, ◌≤◌, List, [], ◌∷◌, length, filter, refl, arith, Bool, true, false}
 use Rattle.std.specs.Prelude.{if◌then◌else◌, ◌==◌, ◌/◌}
 use Rattle.std.specs.List.{list_any}
 use Rattle.std.proofs.lemmas.List.{length-append}
 use Rattle.rv64_isa.specs.declared.instr.Instr.{Instr}
 use Rattle.rv64_isa.specs.declared.instr.Instr.TheVariants.{Fence}
 use Rattle.boundary_code.specs.Boundaries.{lines_in_use}
-use Rattle.boundary_code.specs.links.InstructionLists.{keep_slots, clean_lines, point, commit, bank_part, boundary_list, last_list}
+use Rattle.boundary_code.specs.links.InstructionLists.{keep_slots, clean_lines, commit, boundary_list, last_list}
 
 slots_length : (live : List ℕ) → length (keep_slots live) ≡ length live
 slots_length [] = refl

@@ -1,3 +1,5 @@
+pub mod Public
+mod EmptyLists
 mod Registers
 mod Banks
 mod Points

@@ -1,18 +1,19 @@
 -- What a whole boundary does.
 use Rattle.std.proofs.Common.{◌≡◌, ◌≢◌, ℕ, ◌+◌, ◌-◌, ◌*◌, ◌%◌, ◌^◌, ◌<◌, List, [], ◌∷◌, ◌++◌, length, map, refl, ap, sym}
-use Rattle.std.proofs.Common.{◌∙◌, subst, arith, append_assoc, length-append, Bool, true, false, ◌==◌, lit<, if◌then◌else◌}
+use Rattle.std.proofs.Common.{◌∙◌, subst, arith, append_assoc, length-append, Bool, true, false, lit<, if◌then◌else◌}
 use Rattle.std.specs.Prelude.{slice_set, pos, negsuc, ◌≤ℤ◌}
 use Rattle.std.specs.List.{list_all}
 use Rattle.std.proofs.lemmas.List.{get_or-set_other}
 use Rattle.ido_base.specs.declared.limits.TheConstants.{MOST_THREADS}
 use Rattle.ido_base.specs.Layout.{log_of, point_at, slot_at}
+use Rattle.ido_base.specs.Locks.{mask_with}
 use Rattle.rv64_isa.specs.declared.instr.Instr.{Instr}
 use Rattle.rv64_isa.specs.declared.instr.Instr.TheVariants.{Fence}
 use Rattle.rv64_isa.specs.Rows.{Effect, Stores, Cleans, Fences, row, read}
 use Rattle.rv64_isa.specs.Signed.{twos_complement}
 use Rattle.memory_layout.specs.Roles.{is_kept, is_temporary}
 use Rattle.operator_code.specs.StraightLineCode.{IsConstant, effects, registers_after}
-use Rattle.boundary_code.specs.Boundaries.{Boundary, AtBank, HasEffects, HasOffset, KeepsRegisters, boundary_effects, resume_address, lines_in_use}
+use Rattle.boundary_code.specs.Boundaries.{Boundary, AtBank, HasEffects, HasOffset, KeepsRegisters, boundary_effects, resume_address, lines_in_use, is_empty}
 use Rattle.boundary_code.specs.links.InstructionLists.{bank_part, point, commit, boundary_list, last_list}
 use Rattle.operator_code.proofs.Public.{RunsFrom, along, fence, constant_runs, read_same, read_other}
 use Rattle.boundary_code.proofs.Registers.{not_temporary}
@@ -29,12 +30,12 @@ parts-are log mask_code live r = sym (append_assoc (bank_part log mask_code live
 -- what is known of the pieces of a boundary that keeps a bank
 pub record Pieces (b : Boundary) (log mask_code : List Instr) : Type 0 where
   pub thread : b.thread < MOST_THREADS
-  pub some : (b.mask == 0) ≡ false
+  pub some : is_empty b.locks ≡ false
   pub live : list_all is_kept b.live ≡ true
   pub low : negsuc 262143 ≤ℤ b.resume
   pub high : b.resume ≤ℤ pos 262144
   pub is_log : IsConstant 31 (log_of b.thread) log
-  pub is_mask : IsConstant 7 b.mask mask_code
+  pub is_mask : IsConstant 7 (mask_with b.locks) mask_code
 
 record Whole (b : Boundary) (code : List Instr) (x : List ℕ) (pc bank : ℕ) : Type 0 where
   effects_are : effects code x pc ≡ boundary_effects b (1 - bank) (resume_address b code pc) x
@@ -47,12 +48,12 @@ whole b log mask_code x pc bank p at =
     let r : ℕ = twos_complement 32 b.resume in
     let t : ℕ = twos_complement 64 b.resume in
     let other : ℕ = 1 - bank in
-    let first = banked b.thread b.mask bank log mask_code b.live x pc p.thread (kept_registers b.live p.live) at p.is_log p.is_mask in
+    let first = banked b.thread (mask_with b.locks) bank log mask_code b.live x pc p.thread (kept_registers b.live p.live) at p.is_log p.is_mask in
     let prefix : List Instr = bank_part log mask_code b.live in
     let middle : ℕ = pc + 4 * length prefix in
     let second = committed b.thread other r t x first.left middle p.thread (omega arith) (close b.resume p.low p.high) first.ready in
     let code : List Instr = parts log mask_code b.live r in
-    let written : List Effect = Stores (slot_at b.thread other 0) 8 b.mask ∷
+    let written : List Effect = Stores (slot_at b.thread other 0) 8 (mask_with b.locks) ∷
     map (λ q. Stores (slot_at b.thread other q) 8 (read x q)) b.live ++ map (λ line. Cleans (slot_at b.thread other (8 * line)))
     (lines_in_use (0 ∷ b.live)) in
     let last : ℕ → List Effect = λ v. Fences ∷ Stores (point_at b.thread) 8 v ∷ Cleans (point_at b.thread) ∷ Fences ∷ [] in
@@ -75,9 +76,9 @@ boundary-effects b log mask_code p =
     (record { does = λ x pc bank at. (whole b log mask_code x pc bank p at).effects_are })
 
 pub boundary-offset : (b : Boundary) (log mask_code : List Instr) → Pieces b log mask_code →
-    HasOffset b.mask (boundary_list log mask_code b.live (twos_complement 32 b.resume))
+    HasOffset b.locks (boundary_list log mask_code b.live (twos_complement 32 b.resume))
 boundary-offset b log mask_code p =
-    subst (λ (code : List Instr). HasOffset b.mask code) (parts-are log mask_code b.live (twos_complement 32 b.resume))
+    subst (λ (code : List Instr). HasOffset b.locks code) (parts-are log mask_code b.live (twos_complement 32 b.resume))
     (record { leaves = λ x pc bank at. (whole b log mask_code x pc bank p at).offset ∙ sym (ap (λ (z : Bool). 256 * (if z then bank else 1 - bank)) p.some) })
 
 pub boundary-others : (b : Boundary) (log mask_code : List Instr) → Pieces b log mask_code →
@@ -102,14 +103,14 @@ last_runs thread log x pc bank t c at =
     (fence Fence (commit 0) y middle (Stores (point_at thread) 8 0 ∷ Cleans (point_at thread) ∷ Fences ∷ []) y (fence_is y middle)
     (commit_run y 0 thread 0 (middle + 4) t (read_same x 31 (log_of thread) at.count (lit< tt)) (read_other x 31 0 (log_of thread) refl ∙ at.zero_is)))
 
--- what a boundary with a mask does
+-- what a boundary with locks does
 abbrev boundary_rest : Boundary → List Instr → List ℕ → ℕ → ℕ → List Effect
 boundary_rest b code x pc bank =
-    Stores (slot_at b.thread (1 - bank) 0) 8 b.mask ∷ map (λ q. Stores (slot_at b.thread (1 - bank) q) 8 (read x q)) b.live ++ map
+    Stores (slot_at b.thread (1 - bank) 0) 8 (mask_with b.locks) ∷ map (λ q. Stores (slot_at b.thread (1 - bank) q) 8 (read x q)) b.live ++ map
     (λ line. Cleans (slot_at b.thread (1 - bank) (8 * line))) (lines_in_use (0 ∷ b.live)) ++
     Fences ∷ Stores (point_at b.thread) 8 ((resume_address b code pc + (1 - bank)) % 2 ^ 64) ∷ Cleans (point_at b.thread) ∷ Fences ∷ []
 
-pub last-effects : (b : Boundary) (log : List Instr) → b.thread < MOST_THREADS → (b.mask == 0) ≡ true → IsConstant 31 (log_of b.thread) log →
+pub last-effects : (b : Boundary) (log : List Instr) → b.thread < MOST_THREADS → is_empty b.locks ≡ true → IsConstant 31 (log_of b.thread) log →
     HasEffects b (last_list log)
 last-effects b log t none c = record {
   does = λ x pc bank at. (last_runs b.thread log x pc bank t c at).sees ∙
@@ -117,9 +118,9 @@ last-effects b log t none c = record {
       [] else boundary_rest b (last_list log) x pc bank) none);
 }
 
-pub last-offset : (mask thread : ℕ) (log : List Instr) → thread < MOST_THREADS → (mask == 0) ≡ true → IsConstant 31 (log_of thread) log →
-    HasOffset mask (last_list log)
-last-offset mask thread log t none c = record {
+pub last-offset : (locks : List ℕ) (thread : ℕ) (log : List Instr) → thread < MOST_THREADS → is_empty locks ≡ true → IsConstant 31 (log_of thread) log →
+    HasOffset locks (last_list log)
+last-offset locks thread log t none c = record {
   leaves = λ x pc bank at. ap (λ (w : List ℕ). read w 3) (last_runs thread log x pc bank t c at).leaves ∙ read_other x 31 3 (log_of thread) refl ∙ at.offset ∙
       sym (ap (λ (z : Bool). 256 * (if z then bank else 1 - bank)) none);
 }

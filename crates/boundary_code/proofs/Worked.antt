@@ -1,4 +1,4 @@
--- Worked rows of the definitions: a boundary of the first thread that keeps the mask 1 and no register.
+-- Worked rows of the definitions: a boundary of the first thread that keeps lock 0 and no register.
 use Rattle.std.proofs.Common.{◌≡◌, ℕ, List, [], ◌∷◌, refl, pos}
 use Rattle.std.specs.Prelude.{replicate, slice_set}
 use Rattle.rv64_isa.specs.declared.instr.Instr.{Instr}
@@ -11,7 +11,7 @@ use Rattle.boundary_code.specs.Boundaries.{Boundary, boundary_effects, lines_in_
 use Rattle.boundary_code.specs.links.InstructionLists.{boundary_list, last_list}
 
 first : Boundary
-first = record { thread = 0; mask = 1; live = []; resume = pos 0 }
+first = record { thread = 0; locks = 0 ∷ []; live = []; resume = pos 0 }
 
 code : List Instr
 code = boundary_list (Lui 31 0x2_0000 ∷ []) (OpImmediate Addi 7 0 1 ∷ []) [] 0

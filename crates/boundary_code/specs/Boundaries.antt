@@ -1,7 +1,9 @@
 -- What the code of a boundary does.
-use Rattle.std.specs.Prelude.{◌≡◌, ◌≢◌, ℕ, ℤ, ◌+◌, ◌-◌, ◌*◌, ◌/◌, ◌%◌, ◌^◌, ◌<◌, List, [], ◌∷◌, ◌++◌, map, filter, length, false, ◌==◌, if◌then◌else◌}
+use Rattle.std.specs.Prelude.{◌≡◌, ◌≢◌, ℕ, ℤ, ◌+◌, ◌-◌, ◌*◌, ◌/◌, ◌%◌, ◌^◌, ◌<◌, List, [], ◌∷◌, ◌++◌, map, filter, length, Bool, true, false, ◌==◌}
+use Rattle.std.specs.Prelude.{if◌then◌else◌}
 use Rattle.std.specs.List.{list_any}
 use Rattle.ido_base.specs.Layout.{point_at, slot_at, bank_bytes}
+use Rattle.ido_base.specs.Locks.{mask_with}
 use Rattle.rv64_isa.specs.declared.instr.Instr.{Instr}
 use Rattle.rv64_isa.specs.Rows.{Effect, Stores, Cleans, Fences, read}
 use Rattle.rv64_isa.specs.Signed.{twos_complement}
@@ -10,21 +12,25 @@ use Rattle.operator_code.specs.StraightLineCode.{effects, registers_after}
 
 pub record Boundary : Type 0 where
   pub thread : ℕ
-  -- the locks held after the boundary, bit i for lock i; 0 ends a section
-  pub mask : ℕ
+  -- the numbers of the locks held after the boundary; where there is none, it ends a section
+  pub locks : List ℕ
   -- the registers that are live after the boundary
   pub live : List ℕ
   -- how far after the boundary's end recovery resumes, in bytes
   pub resume : ℤ
 
+abbrev pub is_empty : (locks : List ℕ) → Bool
+is_empty [] = true
+is_empty (lock ∷ locks) = false
+
 -- the lines of a bank that have one of these slots
 abbrev pub lines_in_use : (slots : List ℕ) → List ℕ
 lines_in_use slots = filter (λ line. list_any (λ slot. slot / 8 == line) slots) (0 ∷ 1 ∷ 2 ∷ 3 ∷ [])
 
--- the bank gets the mask and the live registers, and its lines in use are cleaned
+-- the bank gets the mask that has the locks, and the live registers, and its lines in use are cleaned
 abbrev pub bank_effects : Boundary → (bank : ℕ) → (registers : List ℕ) → List Effect
 bank_effects b bank x =
-    Stores (slot_at b.thread bank 0) 8 b.mask ∷
+    Stores (slot_at b.thread bank 0) 8 (mask_with b.locks) ∷
     map (λ r. Stores (slot_at b.thread bank r) 8 (read x r)) b.live ++
     map (λ line. Cleans (slot_at b.thread bank (8 * line))) (lines_in_use (0 ∷ b.live))
 
@@ -39,7 +45,7 @@ resume_address b code pc = (pc + 4 * length code + twos_complement 64 b.resume) 
 -- what a boundary does to memory, where the other bank has this number
 abbrev pub boundary_effects : Boundary → (bank resume : ℕ) → (registers : List ℕ) → List Effect
 boundary_effects b bank resume x =
-    if b.mask == 0 then commit_effects b.thread 0
+    if is_empty b.locks then commit_effects b.thread 0
     else bank_effects b bank x ++ commit_effects b.thread ((resume + bank) % 2 ^ 64)
 
 -- registers at a boundary's first instruction, with a bank's offset in x3
@@ -54,8 +60,9 @@ pub record HasEffects (b : Boundary) (code : List Instr) : Type 0 where
   pub does : (x : List ℕ) (pc bank : ℕ) → AtBank bank x → effects code x pc ≡ boundary_effects b (1 - bank) (resume_address b code pc) x
 
 -- after a boundary's code x3 has the other bank's offset, but the same bank's where no bank was written
-pub record HasOffset (mask : ℕ) (code : List Instr) : Type 0 where
-  pub leaves : (x : List ℕ) (pc bank : ℕ) → AtBank bank x → read (registers_after code x pc) bank_offset ≡ bank_bytes * (if mask == 0 then bank else 1 - bank)
+pub record HasOffset (locks : List ℕ) (code : List Instr) : Type 0 where
+  pub leaves : (x : List ℕ) (pc bank : ℕ) → AtBank bank x →
+      read (registers_after code x pc) bank_offset ≡ bank_bytes * (if is_empty locks then bank else 1 - bank)
 
 -- every register but x3 and the temporaries is as it was
 pub record KeepsRegisters (code : List Instr) : Type 0 where

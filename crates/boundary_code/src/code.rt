@@ -1,6 +1,7 @@
 //! A boundary: the bank that the point doesn't name gets what is live, and then the point names it.
 ghost use Rattle.std.specs.Prelude.{◌≡◌, ◌<◌, ◌≤◌, ◌+◌, ◌*◌, ◌^◌, ◌++◌, ◌∷◌, ◌==◌, ◌/◌, [], map, length, pos, negsuc, ◌≤ℤ◌, IsTrue, IfOk, OnOk};
 ghost use Rattle.std.specs.List.{list_all, list_any};
+ghost use Rattle.ido_base.specs.Locks.{locks_in};
 ghost use Rattle.ido_base.specs.declared.limits.TheConstants.{MOST_THREADS};
 ghost use Rattle.rv64_isa.specs.Signed.{twos_complement};
 ghost use Rattle.memory_layout.specs.Roles.{is_kept};
@@ -182,8 +183,8 @@ pub fn boundary(
     requires low { negsuc 262143 ≤ℤ resume }
     requires high { resume ≤ℤ pos 262144 }
     ensures short { IfOk result (λ code. length code.items ≤ length live.now + 35) }
-    ensures effects { IfOk result (λ code. HasEffects (record { thread = thread; mask = mask; live = live.now; resume = resume }) code.items) }
-    ensures offset { IfOk result (λ code. HasOffset mask code.items) }
+    ensures effects { IfOk result (λ code. HasEffects (record { thread = thread; locks = locks_in mask; live = live.now; resume = resume }) code.items) }
+    ensures offset { IfOk result (λ code. HasOffset (locks_in mask) code.items) }
     ensures others { IfOk result (λ code. KeepsRegisters code.items) }
 {
     let log = constant(alloc, LOG, log_of(thread))?;

@@ -1,5 +1,5 @@
 -- The abstract run's config, in the words of the machine's account: what is kept, what is now, and the logs of threads.
-use Rattle.std.proofs.Common.{◌≡◌, ◌≢◌, ℕ, ◌++◌, ap, ap₂, sym, ◌∙◌, true}
+use Rattle.std.proofs.Common.{◌≡◌, ◌≢◌, ◌++◌, ap, ap₂, sym, ◌∙◌, true}
 use Rattle.std.specs.List.{Contains}
 use Rattle.std.proofs.lemmas.Bool.{true≢false}
 use Rattle.ido_base.specs.Locks.{holds_none}
@@ -12,9 +12,8 @@ use Rattle.recovery_semantics.specs.Configs.{now}
 use Rattle.region_attempts.specs.Laws.{MatchesSource}
 use Rattle.region_attempts.proofs.Public.{graph_stands}
 use Rattle.log_states.specs.Logs.{Record}
-use Rattle.thread_code.specs.Plans.{Plan, IsNodeOf}
-use Rattle.thread_code.specs.Programs as c
-use Rattle.recovered_threads.specs.RecordDescriptions.{Code, ResumesAt, at_chosen, past_lock, past_unlock, Describes, between, inside}
+use Rattle.thread_code.specs.Plans.{Plan}
+use Rattle.recovered_threads.specs.RecordDescriptions.{Code, Describes, between, inside}
 use Rattle.crash_simulation.specs.Systems.{System, IsSystem, flat_of}
 use Rattle.crash_simulation.specs.AbstractRuns.{AbstractRun, kept_of}
 use Rattle.crash_simulation.specs.AccountRelation.{SimulatesCounted}
@@ -22,6 +21,7 @@ use Rattle.crash_simulation.proofs.Public.{resumed}
 use Rattle.compiler_correctness.specs.Translations.{source, IsRunnable}
 use Rattle.compiler_correctness.specs.Laws.{translation_of}
 use Rattle.compiler_correctness.proofs.SettledMachines.{kept_runs, kept_is}
+use Rattle.recovered_threads.proofs.Public.{resumed_there}
 
 -- ---- The source after the kept steps and after all steps
 
@@ -57,12 +57,6 @@ none_points p code s r (between none point) e = point
 none_points p code s r (inside some i) e = absurd (true≢false (sym e ∙ some))
 
 -- ---- Points name addresses at which the thread may be resumed
-
-resumed_there : (p : Plan) (code : Code p) (node address : ℕ) → IsNodeOf code.thread node → ResumesAt p code node address →
-    c.IsResumeAddress p code.thread code.is.places address
-resumed_there p code node address own (at_chosen chosen) = c.at_chosen node own chosen
-resumed_there p code node address own (past_lock from mutex is from_own at locks) = c.past_lock from mutex node is from_own at locks
-resumed_there p code node address own (past_unlock from mutex is from_own at unlocks holds) = c.past_unlock from mutex node is from_own at unlocks holds
 
 pub points_name : (p : Plan) (code : Code p) (s : FlowState) (r : Record) → Describes p code s r → r.point ≢ 0 →
     Contains code.program.resumes (resume_of r.point)

@@ -5,7 +5,7 @@ use Rattle.std.specs.List.{list_any}
 use Rattle.ido_base.specs.Layout.{slot_at}
 use Rattle.rv64_isa.specs.Rows.{Effect, Stores, Cleans, read}
 use Rattle.code_runs.specs.CodeTraces.{seen_effects}
-use Rattle.boundary_code.specs.Boundaries.{Boundary, lines_in_use, bank_effects, commit_effects, boundary_effects}
+use Rattle.boundary_code.specs.Boundaries.{Boundary, lines_in_use, bank_effects, commit_effects, boundary_effects, is_empty}
 use Rattle.hart_runs.specs.RunSteps.{cleans_in}
 
 filter_short : (test : ℕ → Bool) (xs : List ℕ) → length (filter test xs) ≤ length xs
@@ -30,7 +30,7 @@ module _ (thread bank : ℕ) (x : List ℕ) where
   cleans_each (line ∷ lines) = let more = cleans_each lines in omega (arith, more)
 
 pub few_cleans : (b : Boundary) (bank resume : ℕ) (x : List ℕ) → cleans_in (seen_effects (boundary_effects b bank resume x)) ≤ 5
-few_cleans b bank resume x = by (b.mask == 0)
+few_cleans b bank resume x = by (is_empty b.locks)
   where
     whole : cleans_in (seen_effects (bank_effects b bank x ++ commit_effects b.thread ((resume + bank) % 2 ^ 64))) ≤ 5
     whole =

@@ -7,10 +7,9 @@ use Rattle.std.proofs.lemmas.Option.{none-some, same_Some}
 use Rattle.ido_base.specs.declared.event.Event.TheVariants.{Step}
 use Rattle.ido_base.specs.declared.event.Reply.TheVariants.{Waits}
 use Rattle.ido_base.specs.Words.{Entry}
-use Rattle.rv64_isa.specs.declared.instr.Instr.{Instr}
 use Rattle.rv64_isa.specs.declared.instr.Instr.TheVariants.{Ecall}
 use Rattle.rv64_isa.specs.declared.phase.Phase.TheVariants.{Run, Done, Ended}
-use Rattle.rv64_isa.specs.Rows.{read, row}
+use Rattle.rv64_isa.specs.Rows.{read}
 use Rattle.rv64_isa.specs.Machine.{Hart, World, Outcome, after_event, reply_to, happens, gone_on}
 use Rattle.rv64_isa.specs.Schedule.{passes_mark, is_mark, is_running}
 use Rattle.ido_base.specs.Locks.{holds_none}
@@ -22,7 +21,7 @@ use Rattle.flow_graph.specs.IdempotentCuts.{IsChosen}
 use Rattle.flow_graph.specs.Actions.{GraphThread, Seen, seen_by}
 use Rattle.flow_graph.proofs.Public.{get_cases, no_more}
 use Rattle.code_runs.specs.ComputingRuns.{LocalConfig, config}
-use Rattle.code_runs.specs.CodeTraces.{Observation, MarkedEnvironment, Mark, marked, passed}
+use Rattle.code_runs.specs.CodeTraces.{Observation, MarkedEnvironment, Mark, marked}
 use Rattle.hart_runs.specs.HartsOnRuns.{instr_at}
 use Rattle.hart_runs.specs.RunSteps.{GoesForward, Drains}
 use Rattle.hart_runs.specs.Calls.{phase_after}
@@ -53,16 +52,10 @@ use Rattle.compiler_correctness.proofs.LegBounds as legs
 use Rattle.compiler_correctness.proofs.GuardedReadsStay.{answers_in}
 use Rattle.compiler_correctness.proofs.LegToMark as soon
 use Rattle.compiler_correctness.proofs.LegToMark.{most, own_node, marks_are}
+use Rattle.compiler_correctness.proofs.LockCalls.{no_pass}
+use Rattle.compiler_correctness.proofs.LegBounds.{one_less}
 
 -- no instruction on a run is a call
-no_pass : (around : _) (m to : LocalConfig) (instr : Instr) → instr ≡ Ecall → passed around m (row instr m.registers m.pc) ≡ Some to → ⊥
-unfolding row
-no_pass around m to instr is does = none-some to (sym (ap (λ (x : Instr). passed around m (row x m.registers m.pc)) is) ∙ does)
-
-one_less : (left some : ℕ) → suc some ≤ left → (less : ℕ) × (left ≡ suc less) × (some ≤ less)
-one_less zero some l = absurd (omega (arith, l))
-one_less (suc less) some l = (less, refl, omega (arith, l))
-
 mark_or_none : (Mark ∷ []) ≡ [] → ⊥
 mark_or_none e = let long : 1 ≡ 0 = ap (λ (s : List Observation). length s) e in absurd (omega (arith, long))
 

@@ -1,5 +1,5 @@
 -- Compiled code has its form.
-use Rattle.std.proofs.Common.{◌≡◌, ◌≢◌, ◌↔◌, refl, ℕ, ℤ, suc, ◌+◌, ◌-◌, ◌*◌, ◌^◌, ◌<◌, ◌≤◌, List, [], ◌∷◌, length, map, sym, ◌∙◌, ap, subst, arith}
+use Rattle.std.proofs.Common.{◌≡◌, ◌≢◌, ◌↔◌, refl, ℕ, ℤ, suc, ◌+◌, ◌-◌, ◌*◌, ◌^◌, ◌<◌, ◌≤◌, List, [], ◌∷◌, length, map, sym, ◌∙◌, ap, subst, arith, zero}
 use Rattle.std.proofs.Common.{true, false, Option, Some, None}
 use Rattle.std.specs.Prelude.{slice_get, slice_index, slice_index_or, Contains}
 use Rattle.std.specs.List.Sorted.{IsStrictlyIncreasing}
@@ -7,10 +7,9 @@ use Rattle.std.proofs.lemmas.Option.{none-some, slice_get_within, get_or_from_sl
 use Rattle.ido_ints.specs.declared.kinds.Kind.{Kind}
 use Rattle.std.proofs.lemmas.List.Sums.{sum_by-cons}
 use Rattle.c_tree.specs.Flats as f
-use Rattle.c_tree.specs.LockDiscipline.{Held}
+use Rattle.c_tree.specs.LockDiscipline.{Held, holds}
 use Rattle.c_tree.specs.Prices.{thread_price}
 use Rattle.memory_layout.specs.declared.roles.TheConstants.{LOCALS}
-use Rattle.lock_discipline.specs.Masks.{mask_of}
 use Rattle.lock_discipline.specs.HeldSetsByStep.{AreSetsOf}
 use Rattle.flow_graph.specs.declared.graph.Part.{Part}
 use Rattle.flow_graph.specs.Actions.{Seen, Gives, effect_of}
@@ -26,7 +25,7 @@ use Rattle.rv64_isa.specs.declared.instr.Instr.TheVariants.{Ecall}
 use Rattle.rv64_isa.specs.Programs.{code_of, code_start}
 use Rattle.hart_runs.specs.Laws.{program_at}
 use Rattle.thread_code.specs.Plans as plans
-use Rattle.thread_code.specs.Plans.{Plan, Thread, IsThread, IsNodeOf, IsKept}
+use Rattle.thread_code.specs.Plans.{Plan, Thread, IsThread, IsNodeOf, IsKept, locks_held_from}
 use Rattle.thread_code.specs.NodeCodeEffects.{Entrance}
 use Rattle.thread_code.specs.RegistersAtNodes.{Enters, IsAnswered, IsPendingIn, source_of}
 use Rattle.thread_code.specs.Programs as c
@@ -41,17 +40,23 @@ use Rattle.compiler_correctness.specs.Forms.{Sites, IsAmong, CallsAt, HasNodeFor
 use Rattle.compiler_correctness.specs.Forms.{HasBoundaries, HoldLocals, IsLiveRegister, of_local, of_address, of_value, registers_of, StandsBoundary}
 use Rattle.compiler_correctness.specs.Laws.{translation_of, CompiledCodeHasForm}
 
--- ---- Sets and their masks
+-- ---- Sets and their locks
 
-some_held : (held : Held) → mask_of held ≢ 0 → holds_some held ≡ true
-some_held [] some = absurd (some refl)
-some_held (true ∷ held) some = refl
-some_held (false ∷ held) some = some_held held (λ none. some (omega (arith, none)))
+some_held : (at : ℕ) (held : Held) → locks_held_from at held ≢ [] → holds_some held ≡ true
+some_held at [] some = absurd (some refl)
+some_held at (true ∷ held) some = refl
+some_held at (false ∷ held) some = some_held (at + 1) held some
 
-has_mask : (held : Held) → holds_some held ≡ true → mask_of held ≢ 0
-has_mask [] some none = cc
-has_mask (true ∷ held) some none = omega (arith, none)
-has_mask (false ∷ held) some none = has_mask held some (omega (arith, none))
+has_locks : (at : ℕ) (held : Held) → holds_some held ≡ true → locks_held_from at held ≢ []
+has_locks at [] some none = cc
+has_locks at (true ∷ held) some none = cc
+has_locks at (false ∷ held) some none = has_locks (at + 1) held some none
+
+one_held : (held : Held) (mutex : ℕ) → holds held mutex ≡ true → holds_some held ≡ true
+one_held [] mutex is = cc
+one_held (true ∷ held) mutex is = refl
+one_held (false ∷ held) zero is = cc
+one_held (false ∷ held) (suc mutex) is = one_held held mutex is
 
 -- ---- Whole words
 
@@ -234,7 +239,7 @@ module _ (locked : ChosenAreLocked) (y : System) (s : IsSystem y) (t : Thread) (
       past_lock node (among_of node own) (locks x mutex next (subst (λ (g : Graph). NodeAt g node x) graph_is at) is)
   in_form address (c.past_unlock node mutex next x own at is some) =
       past_unlock node mutex next x (among_of node own) (subst (λ (g : Graph). NodeAt g node x) graph_is at) is
-      (some_held (slice_index_or held (next - t.part.first) []) some)
+      (some_held 0 (slice_index_or held (next - t.part.first) []) some)
 
   lock_in_code : (node : ℕ) → IsNodeOf t node → IsLock (lowered p.flat) node → c.IsResumeAddress p t code.places (code.places.after node)
   lock_in_code node own (locks x mutex next at is) = c.past_lock node mutex next x own (node_at node x at) is
@@ -245,7 +250,7 @@ module _ (locked : ChosenAreLocked) (y : System) (s : IsSystem y) (t : Thread) (
       subst (c.IsResumeAddress p t code.places) (sym (chosen_mark node (own_of node among) there)) (c.at_chosen node (own_of node among) there)
   in_code address (past_lock node among lock) = lock_in_code node (own_of node among) lock
   in_code address (past_unlock node mutex next x among at is some) =
-      c.past_unlock node mutex next x (own_of node among) (node_at node x at) is (has_mask (slice_index_or held (next - t.part.first) []) some)
+      c.past_unlock node mutex next x (own_of node among) (node_at node x at) is (has_locks 0 (slice_index_or held (next - t.part.first) []) some)
 
   -- ---- Boundaries
 
@@ -454,7 +459,7 @@ module _ (locked : ChosenAreLocked) (y : System) (s : IsSystem y) (t : Thread) (
         row = sets_there.1;
         before = subst (λ (hs : List Held). slice_get hs step ≡ Some before.0) held_is before.1;
       }) in
-      ap holds_some (get_or_from_slice_get held step before.0 [] before.1) ∙ some_held before.0 here.some
+      ap holds_some (get_or_from_slice_get held step before.0 [] before.1) ∙ one_held before.0 _ here.locked
 
   registers_are : t.registers ≡ registers_of p.colours t.number
   registers_are =
@@ -506,7 +511,7 @@ form_of locked y s n below text there =
     (subst (λ (k : ℕ). HasThreadForm (translation_of y) y.plan.colours k code.of.text) number form)
 
 pub compiled_code_has_form : ChosenAreLocked → CompiledCodeHasForm
-compiled_code_has_form locked y s minimal =
+compiled_code_has_form locked y s minimal fewest =
     let many : threads_of y ≡ length (flat_of y).threads =
     ap (λ (xs : List Part). length xs) (threads_are y.plan s.plan) ∙ length_parts (flat_of y).threads 0 in
     record {
@@ -522,4 +527,5 @@ compiled_code_has_form locked y s minimal =
       cuts = subst (λ (g : Graph). AreCuts g y.plan.boundaries) s.plan.lowered s.plan.cuts;
       at_writes = subst (λ (g : Graph). AreAtWrites g y.plan.boundaries) s.plan.lowered s.plan.at_writes;
       minimal = minimal;
+      fewest = fewest;
     }

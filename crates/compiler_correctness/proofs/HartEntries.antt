@@ -1,7 +1,7 @@
 -- Where a hart begins: at the start, and where recovery resumes it.
-use Rattle.std.proofs.Common.{◌≡◌, refl, ℕ, zero, suc, ◌+◌, ◌*◌, ◌<◌, ◌≤◌, List, [], length, map, replicate, sym, ◌∙◌, ap, subst, arith, Option, Some}
-use Rattle.std.proofs.Common.{None, Bool, add-zero, ℤ}
-use Rattle.std.specs.Prelude.{slice_get, slice_index, slice_index_or, pos, if◌then◌else◌}
+use Rattle.std.proofs.Common.{◌≡◌, refl, ℕ, zero, ◌+◌, ◌*◌, ◌<◌, ◌≤◌, List, [], length, replicate, sym, ◌∙◌, ap, subst, arith, Option, Some}
+use Rattle.std.proofs.Common.{None, Bool, ℤ}
+use Rattle.std.specs.Prelude.{slice_get, slice_index, pos, if◌then◌else◌}
 use Rattle.std.proofs.lemmas.Option.{none-some}
 use Rattle.std.proofs.lemmas.List.{length-replicate}
 use Rattle.ido_base.specs.declared.event.Event.TheVariants.{Step}
@@ -13,7 +13,7 @@ use Rattle.rv64_isa.specs.declared.phase.Phase.{Phase}
 use Rattle.rv64_isa.specs.declared.phase.Phase.TheVariants.{Run, Resume}
 use Rattle.rv64_isa.specs.Executables.{first_world}
 use Rattle.rv64_isa.specs.Programs.{code_start}
-use Rattle.rv64_isa.specs.Machine.{Hart, World, after_event, fresh_hart, numbers_from, start_of, bank_of, resume_of}
+use Rattle.rv64_isa.specs.Machine.{Hart, World, after_event, fresh_hart, start_of, bank_of, resume_of}
 use Rattle.rv64_isa.proofs.Public.{steps_touch}
 use Rattle.code_runs.specs.ComputingRuns.{config}
 use Rattle.code_runs.specs.CodeTraces.{Program, MarkedEnvironment}
@@ -36,7 +36,7 @@ use Rattle.crash_simulation.specs.Systems.{System, IsSystem, thread_count}
 use Rattle.crash_simulation.specs.AbstractRuns.{AbstractRun, kept_of}
 use Rattle.crash_simulation.specs.ThreadGhosts.{ThreadGhost, Rests}
 use Rattle.crash_simulation.specs.SimulationRelation.{AreLocked, gathering, gathered, records_of, Simulates}
-use Rattle.crash_simulation.proofs.Public.{bare, bare_agrees, bare_meets, bare_reads, placed, phase_of}
+use Rattle.crash_simulation.proofs.Public.{bare, bare_agrees, bare_meets, bare_reads, placed, phase_of, row_of, zero_local, zero_read}
 use Rattle.compiler_correctness.proofs.StepsBetweenMarks.{weight, ahead, alone_fits}
 use Rattle.compiler_correctness.proofs.LegBounds as legs
 use Rattle.compiler_correctness.proofs.LegToMark as soon
@@ -73,23 +73,6 @@ core_few words (Some is) = by is.action
     by (Lock mutex next) = omega arith
     by (Unlock mutex next) = omega arith
     by End = omega arith
-
-row_of : {A : Type 0} (g : ℕ → A) (at count i : ℕ) → i < count → slice_get (map g (numbers_from at count)) i ≡ Some (g (at + i))
-row_of g at zero i below = absurd (omega (arith, below))
-row_of {A} g at (suc count) zero below = ap (λ (n : ℕ). Some (g n)) (sym (add-zero at))
-row_of {A} g at (suc count) (suc i) below =
-    let same : at + 1 + i ≡ at + suc i = omega arith in
-    row_of g (at + 1) count i (omega (arith, below)) ∙ ap (λ (n : ℕ). Some (g n)) same
-
-zero_read : (n r : ℕ) → slice_index (replicate n 0) r ≡ 0
-zero_read zero r = refl
-zero_read (suc n) zero = refl
-zero_read (suc n) (suc r) = zero_read n r
-
-zero_local : (n i : ℕ) → slice_index_or (replicate n (pos 0)) i (pos 0) ≡ pos 0
-zero_local zero i = refl
-zero_local (suc n) zero = refl
-zero_local (suc n) (suc i) = zero_local n i
 
 module _ (y : System) (s : IsSystem y) (h : ℕ) (below : h < thread_count y) where
   abbrev code : Code y.plan

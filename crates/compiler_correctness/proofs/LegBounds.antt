@@ -7,7 +7,7 @@ use Rattle.ido_base.specs.declared.event.Event.{Event}
 use Rattle.ido_base.specs.declared.event.Event.TheVariants.{Step}
 use Rattle.rv64_isa.specs.declared.object.Slot.{Slot}
 use Rattle.rv64_isa.specs.declared.phase.Phase.TheVariants.{Run}
-use Rattle.rv64_isa.specs.Rows.{Effect, Continues, Loads, Stores, Cleans, Fences, Calls, row}
+use Rattle.rv64_isa.specs.Rows.{Effect}
 use Rattle.rv64_isa.specs.Machine.{Hart, World, after_event}
 use Rattle.rv64_isa.specs.Frames.{IsWellFormedWorld}
 use Rattle.rv64_isa.specs.Schedule.{is_mark}
@@ -17,10 +17,10 @@ use Rattle.flow_graph.specs.Actions.{Seen, effect_of}
 use Rattle.flow_graph.specs.Liveness.{NodeAt}
 use Rattle.flow_graph.specs.IdempotentCuts.{IsChosen}
 use Rattle.code_runs.specs.ComputingRuns.{LocalConfig, config}
-use Rattle.code_runs.specs.CodeTraces.{Program, MarkedEnvironment, Observation, Meets, Trace, outside, marked, seen_effects}
+use Rattle.code_runs.specs.CodeTraces.{Program, MarkedEnvironment, Meets, seen_effects}
 use Rattle.hart_runs.specs.HartsOnRuns.{Agrees}
 use Rattle.hart_runs.specs.RunSteps.{cleans_in}
-use Rattle.hart_runs.proofs.Public.{cleans_of_both, cleans_of_mark, same_there, others_leave}
+use Rattle.hart_runs.proofs.Public.{same_there, others_leave}
 use Rattle.thread_code.specs.Plans.{Plan, Thread, IsNodeOf}
 use Rattle.thread_code.specs.RegistersAtNodes.{IsAnswered, source_of}
 use Rattle.thread_code.specs.NodeCodeEffects.{Places}
@@ -32,31 +32,14 @@ use Rattle.hart_runs.specs.Laws.{IsOfOthers}
 use Rattle.boundary_code.specs.Boundaries.{boundary_effects}
 use Rattle.thread_code.specs.NodeCodeEffects.{keeping}
 use Rattle.node_code.specs.Pieces.{bank_after}
-use Rattle.thread_runs.proofs.Public.{arrivals_end, took_end, at_end, mark_there, others_keep_fragments, nodes_begin}
+use Rattle.thread_runs.proofs.Public.{cleans_on, arrivals_end, took_end, at_end, mark_there, others_keep_fragments, nodes_begin}
 use Rattle.compiler_correctness.proofs.StepsBetweenMarks.{weight, ahead, ahead_is}
 
--- ---- Cleans of a run
+-- ---- Numbers
 
-cleans_once : (e : Effect) → cleans_in (outside e) ≤ 1
-cleans_once (Continues registers pc) = omega arith
-cleans_once (Loads address bytes signed register) = omega arith
-cleans_once (Stores address bytes value) = omega arith
-cleans_once (Cleans address) = omega arith
-cleans_once Fences = omega arith
-cleans_once Calls = omega arith
-
--- an instruction cleans one line at most
-cleans_on : (s : MarkedEnvironment) (n : ℕ) (m to : LocalConfig) (seen : List Observation) → Trace s n m seen to → cleans_in seen ≤ n
-cleans_on s zero m to seen w = let e : cleans_in seen ≡ 0 = ap cleans_in w.1 in omega (arith, e)
-cleans_on s (suc n) m to seen w =
-    let e : Effect = row w.3.instr m.registers m.pc in
-    let all : cleans_in seen ≡ cleans_in w.1 + cleans_in w.2 = ap cleans_in w.5 ∙ cleans_of_both w.1 w.2 in
-    let one : cleans_in w.1 ≡ cleans_in (marked s.marks m.pc) + cleans_in (outside e) =
-    ap cleans_in w.3.sees ∙ cleans_of_both (marked s.marks m.pc) (outside e) in
-    let none : cleans_in (marked s.marks m.pc) ≡ 0 = cleans_of_mark s.marks m.pc in
-    let once : cleans_in (outside e) ≤ 1 = cleans_once e in
-    let more : cleans_in w.2 ≤ n = cleans_on s n w.0 to w.2 w.4 in
-    omega (arith, all, one, none, once, more)
+pub one_less : (left some : ℕ) → suc some ≤ left → (less : ℕ) × (left ≡ suc less) × (some ≤ less)
+one_less zero some l = absurd (omega (arith, l))
+one_less (suc less) some l = (less, refl, omega (arith, l))
 
 -- ---- What is ahead after the boundary before a node
 
@@ -315,10 +298,6 @@ module _ (p : Plan) (t : Thread) (own : Program) (code : IsThreadCode p t own) (
     pub is : left ≡ suc less
     pub on : OnLeg w s less
     pub holders : w.holders ≡ old.holders
-
-  one_less : (left some : ℕ) → suc some ≤ left → (less : ℕ) × (left ≡ suc less) × (some ≤ less)
-  one_less zero some l = absurd (omega (arith, l))
-  one_less (suc less) some l = (less, refl, omega (arith, l))
 
   pub goes_on : FragmentsGoOn → (w : World) (s : MarkedEnvironment) (left : ℕ) → IsWellFormedWorld w → (o : OnLeg w s left) (steps : ℕ) → o.steps ≡ suc steps →
       IsNearer w (after_event program w (Step h)) s left

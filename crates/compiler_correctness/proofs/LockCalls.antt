@@ -27,7 +27,7 @@ use Rattle.crash_simulation.proofs.Public.{fragment, lock, locks_it, runs_held, 
 use Rattle.compiler_correctness.proofs.RunOrCall.{RunsOn, IsWhere, on_run, at_call, is_where}
 
 -- no instruction on a run is a call
-no_pass : (around : _) (m to : LocalConfig) (instr : Instr) → instr ≡ Ecall → passed around m (row instr m.registers m.pc) ≡ Some to → ⊥
+pub no_pass : (around : _) (m to : LocalConfig) (instr : Instr) → instr ≡ Ecall → passed around m (row instr m.registers m.pc) ≡ Some to → ⊥
 unfolding row
 no_pass around m to instr is does = none-some to (sym (ap (λ (x : Instr). passed around m (row x m.registers m.pc)) is) ∙ does)
 

@@ -1,11 +1,11 @@
 -- As long as power stays on, all steps that have begun lead the source to where the machine is.
-use Rattle.std.proofs.Common.{◌≡◌, refl, ℕ, zero, suc, List, [], ◌∷◌, ◌++◌, length, map, append_assoc, ap, ap₂, arith, sym, ◌∙◌, subst, Bool, true, false, ℤ}
+use Rattle.std.proofs.Common.{◌≡◌, refl, ℕ, suc, List, [], ◌∷◌, ◌++◌, length, map, append_assoc, ap, ap₂, arith, sym, ◌∙◌, subst, Bool, true, false, ℤ}
 use Rattle.std.proofs.Common.{◌≢◌, inl, inr, Some}
 use Rattle.std.proofs.lemmas.Option.{none-some}
 use Rattle.std.specs.Prelude.{slice_get, slice_index_or, pos}
 use Rattle.ido_base.specs.declared.event.Event.{Event}
 use Rattle.ido_base.specs.declared.event.Event.TheVariants.{Step, Evict, Crash}
-use Rattle.ido_base.specs.Words.{Word, last_position}
+use Rattle.ido_base.specs.Words.{last_position}
 use Rattle.c_tree.specs.Flats as f
 use Rattle.c_tree.specs.Source as m
 use Rattle.source_machine.specs.Mutexes.{unlocks}
@@ -33,6 +33,7 @@ use Rattle.crash_simulation.proofs.Public.{start_carried, evicted_counted, relea
 use Rattle.compiler_correctness.specs.Translations.{HaveNoCrash}
 use Rattle.compiler_correctness.specs.Laws.{MachinesKeepStep}
 use Rattle.compiler_correctness.proofs.Records.{agree}
+use Rattle.compiler_correctness.proofs.MarksReached.{kept_begun}
 
 -- ---- Live memory, where each attempt has come as far as any before
 
@@ -117,10 +118,6 @@ begun_is false false h position s = refl
 begun_is false true h position s = refl
 begun_is true false h position s = refl
 begun_is true true h position s = refl
-
-kept_begun : (words : List Word) (count : ℕ) (s : Steps) → (with_all_kept words count s).begun ≡ s.begun
-kept_begun words zero s = refl
-kept_begun words (suc h) s = kept_begun words h s
 
 module _ (y : System) (s : IsSystem y) (w : World) where
   -- where all that is committed is taken so, of every thread

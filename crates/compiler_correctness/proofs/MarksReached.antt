@@ -26,7 +26,7 @@ GetsOn marks program h w s more = (begun_by s h < begun_by (steps_along marks pr
 
 -- ---- Begun steps are never fewer
 
-kept_begun : (words : List Word) (count : ℕ) (s : Steps) → (with_all_kept words count s).begun ≡ s.begun
+pub kept_begun : (words : List Word) (count : ℕ) (s : Steps) → (with_all_kept words count s).begun ≡ s.begun
 kept_begun words zero s = refl
 kept_begun words (suc h) s = kept_begun words h s
 

@@ -1,11 +1,11 @@
 -- Between sections there is no point.
-use Rattle.std.proofs.Common.{◌≡◌, inl, inr, refl, ℕ, suc, ◌+◌, ◌<◌, List, [], ◌∷◌, length, ap, arith, sym, ◌∙◌, subst, cond}
-use Rattle.std.proofs.Common.{Bool, true, false, Option, Some, None, is_none}
+use Rattle.std.proofs.Common.{◌≡◌, inl, inr, refl, ℕ, ◌<◌, List, [], ◌∷◌, length, ap, arith, sym, ◌∙◌, subst}
+use Rattle.std.proofs.Common.{Bool, true, false, Option, Some, None}
 use Rattle.std.specs.Prelude.{slice_get}
 use Rattle.std.proofs.lemmas.Bool.{true≢false}
 use Rattle.std.proofs.lemmas.Option.{none-some, slice_get_within}
 use Rattle.ido_base.specs.Layout.{point_at}
-use Rattle.ido_base.specs.Locks.{is_held_by, held_from, holds_none}
+use Rattle.ido_base.specs.Locks.{holds_none}
 use Rattle.c_tree.specs.Flats as f
 use Rattle.c_tree.specs.Source as m
 use Rattle.source_machine.specs.Mutexes.{lock_of, unlock_of, first_lock, first_unlock, lock_ahead, unlock_ahead, locks, unlocks}
@@ -24,7 +24,7 @@ use Rattle.log_states.specs.Logs.{Record, point_in, IsRecorded}
 use Rattle.log_states.specs.Machines.{config_of}
 use Rattle.log_states.specs.LogInvariant.{LogInv}
 use Rattle.log_states.proofs.Public.{ends, durable_is}
-use Rattle.recovered_threads.proofs.Public.{held_is, holds_none_is, points_have_locks}
+use Rattle.recovered_threads.proofs.Public.{holds_none_is, none_if, points_have_locks}
 use Rattle.recovered_threads.specs.RecordDescriptions.{Code, Describes}
 use Rattle.crash_simulation.specs.Systems.{System, IsSystem, flat_of, thread_count}
 use Rattle.crash_simulation.specs.AbstractRuns.{AbstractRun, kept_of, now_of}
@@ -66,16 +66,6 @@ not_both_there None i j l u = none-some i l
 
 not_both : (z : m.State) (t i j : ℕ) → locks z t ≡ Some i → unlocks z t ≡ Some j → ⊥
 not_both z t i j l u = not_both_there (slice_get z.threads t) i j l u
-
--- ---- Holders
-
-none_if : (at n : ℕ) (holders : List (Option ℕ)) → ((lock : ℕ) → slice_get holders lock ≡ Some (Some n) → ⊥) → is_none (held_from at holders n) ≡ true
-none_if at n [] free = refl
-none_if at n (o ∷ holders) free = by (is_held_by n o) refl (none_if (at + 1) n holders (λ lock. free (suc lock)))
-  where
-    by : (b : Bool) → is_held_by n o ≡ b → is_none (held_from (at + 1) holders n) ≡ true → is_none (cond b (Some at) (held_from (at + 1) holders n)) ≡ true
-    by true e h = absurd (free 0 (ap (λ (x : Option ℕ). Some x) (held_is n o e)))
-    by false e h = h
 
 module _ (y : System) (s : IsSystem y) (w : World) (stands : Simulates y s w) (n : ℕ) (below : n < thread_count y) where
   abbrev b : AbstractRun y

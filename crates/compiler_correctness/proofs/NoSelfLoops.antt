@@ -11,7 +11,8 @@ use Rattle.flow_graph.specs.Lowering.{lowered, plain_node, statements_nodes, sta
 use Rattle.flow_graph.specs.Liveness.{NodeAt}
 use Rattle.flow_graph.specs.Lockstep.{Standing, free, HasStandingAt, threads_standings}
 use Rattle.std.proofs.lemmas.Option.{slice_get_within}
-use Rattle.flow_graph.proofs.Public.{found_in, length-statements_nodes, length-thread_nodes, ActionLeads, Agree, agrees}
+use Rattle.flow_graph.proofs.Public.{found_in, length-statements_nodes, length-thread_nodes, ActionLeads, agrees}
+use Rattle.crash_simulation.proofs.Public.{standing_of}
 
 -- ---- What is left at a node
 
@@ -21,21 +22,11 @@ pub record IsOwnNode (x : f.Flat) (node : ℕ) (is : Node) : Type 0 where
   pub there : HasStandingAt x node standing
   pub does : ActionLeads (threads_standings x.threads) is.action standing
 
-left_at : (all : List Standing) (ns : List Node) (ss : List Standing) (k : ℕ) (n : Node) → Agree all ns ss → slice_get ns k ≡ Some n →
-    (s : Standing) × (slice_get ss k ≡ Some s) × ActionLeads all n.action s
-left_at all [] ss k n h g = cc
-left_at all (m ∷ ns) [] k n h g = absurd h
-left_at all (m ∷ ns) (s ∷ ss) zero n h g =
-    let same : m ≡ n = cc in
-    let P : Node → Type 0 = λ z. ActionLeads all z.action s in
-    (s, refl, subst P same h.0)
-left_at all (m ∷ ns) (s ∷ ss) (suc k) n h g = left_at all ns ss k n h.1 g
-
 module _ (x : f.Flat) (w : IsWellFormed x) (node : ℕ) (is : Node) (at : NodeAt (lowered x) node is) where
   left_there : IsOwnNode x node is
   unfolding lowered
   left_there =
-      let l = left_at (threads_standings x.threads) (threads_nodes x.threads 0) (threads_standings x.threads) node is (agrees x w.threads) at in
+      let l = standing_of (threads_standings x.threads) (threads_nodes x.threads 0) (threads_standings x.threads) node is (agrees x w.threads) at in
       record { standing = l.0; there = l.1; does = l.2 }
 
   one_standing : (other : Standing) → HasStandingAt x node other → left_there.standing ≡ other

@@ -1,11 +1,9 @@
 -- What is ahead of a thread between two marks fits into its code.
 use Rattle.std.proofs.Common.{◌≡◌, ◌≢◌, inl, inr, refl, ℕ, zero, suc, ◌+◌, ◌-◌, ◌*◌, ◌<◌, ◌≤◌, List, [], ◌∷◌, length, sym, ◌∙◌, ap, arith, subst}
-use Rattle.std.proofs.Common.{cond, Bool, true, false, Option, Some, None}
-use Rattle.std.proofs.Common.{eq-eqb, ◌==◌}
+use Rattle.std.proofs.Common.{cond, Bool, Option, Some, None}
 use Rattle.std.proofs.lemmas.Bool.{cases_lt, cases_eq}
-use Rattle.std.proofs.lemmas.Option.{none-some, same_Some}
-use Rattle.std.specs.Prelude.{slice_get, ◌||◌}
-use Rattle.std.specs.List.{list_any}
+use Rattle.std.proofs.lemmas.Option.{same_Some}
+use Rattle.std.specs.Prelude.{slice_get}
 use Rattle.flow_graph.specs.Nodes.{Action, Eval, Store, Test, Lock, Unlock, End, Node, Graph}
 use Rattle.flow_graph.specs.Liveness.{NodeAt}
 use Rattle.code_runs.specs.CodeTraces.{Program, Observation, Mark, marked}
@@ -13,6 +11,7 @@ use Rattle.thread_code.specs.Plans.{Plan, Thread, IsThread, IsNodeOf, IsPlan}
 use Rattle.thread_code.specs.NodeCodeEffects.{Places}
 use Rattle.thread_code.specs.Programs.{IsThreadCode, IsNodeCode, IsCalling, IsCallWithin, mark_of}
 use Rattle.compiler_correctness.proofs.NoSelfLoops.{IsEnding, ending}
+use Rattle.thread_runs.proofs.Public.{any_at}
 
 -- ---- How much is ahead at the entry of a node
 
@@ -38,15 +37,6 @@ ahead_is p c node is at = ap (λ (o : Option Node). elim o [
 ]) at
 
 -- ---- Words
-
-any_at : (marks : List ℕ) (i x : ℕ) → slice_get marks i ≡ Some x → list_any (λ mark. mark == x) marks ≡ true
-any_at [] i x e = absurd (none-some x e)
-any_at (m ∷ ms) zero x e = ap (λ (b : Bool). b || list_any (λ mark. mark == x) ms) (eq-eqb m x (same_Some m x e))
-any_at (m ∷ ms) (suc i) x e = either (m == x) (list_any (λ mark. mark == x) ms) (any_at ms i x e)
-  where
-    either : (a b : Bool) → b ≡ true → (a || b) ≡ true
-    either true b k = refl
-    either false b k = k
 
 mark_or_none : (Mark ∷ []) ≡ [] → ⊥
 mark_or_none e = let long : 1 ≡ 0 = ap (λ (s : List Observation). length s) e in absurd (omega (arith, long))

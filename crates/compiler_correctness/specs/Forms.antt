@@ -20,16 +20,17 @@ use Rattle.boundary_code.specs.Boundaries.{AtBank}
 use Rattle.node_code.specs.Pieces.{boundary_observations}
 use Rattle.code_runs.specs.ComputingRuns.{config}
 use Rattle.code_runs.specs.CodeTraces.{MarkedEnvironment, Meets, Mark, Observation, Trace}
-use Rattle.lock_discipline.specs.Masks.{mask_of}
 use Rattle.lock_discipline.specs.HeldSetsByStep.{AreSetsOf}
 use Rattle.flow_graph.specs.declared.graph.Part.{Part}
 use Rattle.flow_graph.specs.Nodes.{Lock, Unlock, Node}
 use Rattle.flow_graph.specs.Liveness.{NodeAt, IsLive, Colouring, AreRegisters, HasNoClash}
 use Rattle.flow_graph.specs.Lowering.{lowered}
+use Rattle.region_cutter.specs.FewestCuts.{AreFewestCuts}
 use Rattle.flow_graph.specs.IdempotentCuts.{IsLock, IsUnlock, IsStoreNode, IsChosen, AreCuts, IsMinimal, AreAtWrites}
 use Rattle.hart_runs.specs.Laws.{program_at}
 use Rattle.thread_code.specs.Programs.{boundary_count, IsOn}
 use Rattle.compiler_correctness.specs.Translations.{Translation, marks_of, resumes_of}
+use Rattle.thread_code.specs.Plans.{locks_held}
 
 -- ---- The code of a thread's nodes
 
@@ -96,7 +97,7 @@ module _ (c : Translation) (thread : ℕ) (text : f.Thread) (part : Part) (held 
     pub leads : (s : MarkedEnvironment) → Meets (program_at c.runs.program thread (marks_of c thread) (resumes_of c thread)) s →
         (bank : ℕ) (locals : List ℤ) (x : List ℕ) → HoldLocals entered bank locals x →
         (steps : ℕ) × (y : List ℕ) × Trace s steps (config x from) (first ++ boundary_observations
-        (record { thread = thread; mask = mask_of (slice_index_or held (node - part.first) []); live = live; resume = pos 0 }) bank resume x) (config y to)
+        (record { thread = thread; locks = locks_held (slice_index_or held (node - part.first) []); live = live; resume = pos 0 }) bank resume x) (config y to)
 
   -- the boundaries of a node
   pub record HasBoundaries (s : Sites) (node : ℕ) : Type 0 where
@@ -168,7 +169,8 @@ pub record HasForm (c : Translation) : Type 0 where
   pub apart : HasNoClash (lowered c.flat) colours
   pub threads : (thread : ℕ) (text : f.Thread) → slice_get c.flat.threads thread ≡ Some text → HasThreadForm c colours thread text
   -- boundaries are a cut set: they stand after locks, before unlocks, and by choice before stores; with any of those by choice taken away
-  -- a region could not be run again
+  -- a region could not be run again, and in each stretch of straight code no cut set has fewer
   pub cuts : AreCuts (lowered c.flat) c.boundaries
   pub at_writes : AreAtWrites (lowered c.flat) c.boundaries
   pub minimal : IsMinimal (lowered c.flat) c.boundaries
+  pub fewest : AreFewestCuts (lowered c.flat) c.boundaries

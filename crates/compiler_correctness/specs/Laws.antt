@@ -3,6 +3,7 @@ use Rattle.std.specs.Prelude.{List}
 use Rattle.ido_base.specs.declared.event.Event.{Event}
 use Rattle.flow_graph.specs.Lowering.{lowered}
 use Rattle.flow_graph.specs.IdempotentCuts.{IsMinimal}
+use Rattle.region_cutter.specs.FewestCuts.{AreFewestCuts}
 use Rattle.crash_simulation.specs.Systems.{System, IsSystem, flat_of}
 use Rattle.compiler_correctness.specs.Translations.{Translation, HaveNoCrash}
 use Rattle.compiler_correctness.specs.Delays.{AreDelaysBounded}
@@ -41,9 +42,10 @@ DelaysAreBounded = (y : System) → IsSystem y → (events : List Event) → Are
 abbrev pub MachinesKeepStep : Type 0
 MachinesKeepStep = (y : System) → IsSystem y → (events : List Event) → HaveNoCrash events → IsInStep (translation_of y) events
 
--- compiled code has its form, where no boundary that stands by choice can be taken away
+-- compiled code has its form, where no boundary that stands by choice can be taken away, and in straight code they are the fewest
 abbrev pub CompiledCodeHasForm : Type 0
-CompiledCodeHasForm = (y : System) → IsSystem y → IsMinimal (lowered (flat_of y)) y.plan.boundaries → HasForm (translation_of y)
+CompiledCodeHasForm = (y : System) → IsSystem y → IsMinimal (lowered (flat_of y)) y.plan.boundaries →
+    AreFewestCuts (lowered (flat_of y)) y.plan.boundaries → HasForm (translation_of y)
 
 -- a run is begun from an image as after the crash that left it
 abbrev pub ImagesAreCrashes : Type 0
@@ -65,6 +67,7 @@ abbrev pub FilesAreResumed : Type 0
 FilesAreResumed = (y : System) → IsSystem y → (before events : List Event) →
     IsResumedAsKept (translation_of y) (image_in (translation_of y) (file_of (translation_of y) (image_of (translation_of y) before))) events
 
--- a system of which no boundary that stands by choice can be taken away is a compilation
+-- a system of which no boundary that stands by choice can be taken away, and in straight code they are the fewest, is a compilation
 abbrev pub SystemsAreCompilations : Type 0
-SystemsAreCompilations = (y : System) → IsSystem y → IsMinimal (lowered (flat_of y)) y.plan.boundaries → IsCompilation (translation_of y)
+SystemsAreCompilations = (y : System) → IsSystem y → IsMinimal (lowered (flat_of y)) y.plan.boundaries →
+    AreFewestCuts (lowered (flat_of y)) y.plan.boundaries → IsCompilation (translation_of y)

@@ -82,8 +82,8 @@ pub fn machines_keep_step()
 }
 
 /// The code of each thread is that of its nodes, one after another: within its price, with a mark for each node, two FENCEs for each boundary and no other
-/// FENCE, and resumed nowhere but after boundaries. Boundaries stand where the graph is cut, by choice only where a mutex is held, and none of those can be
-/// taken away, which is asked here since systems don't say it.
+/// FENCE, and resumed nowhere but after boundaries. Boundaries stand where the graph is cut, by choice only where a mutex is held, none of those can be
+/// taken away, and in straight code they are the fewest; the last two are asked here since systems don't say them.
 pub fn compiled_code_has_form()
     ensures { CompiledCodeHasForm }
 {
@@ -131,7 +131,8 @@ pub fn files_are_resumed()
     images_are_resumed();
 }
 
-/// What a compiler makes of a flat form, if it is a system and has no boundary that can be taken away, is a compilation: all of the above holds of it.
+/// What a compiler makes of a flat form, if it is a system, has no boundary that can be taken away and has the fewest in straight code, is a compilation:
+/// all of the above holds of it.
 /// It is a clause of `ido_compile::compile`.
 pub fn systems_are_compilations()
     ensures { SystemsAreCompilations }

@@ -37,7 +37,7 @@ use Rattle.flow_graph.proofs.Public.{Good, found_in}
 use Rattle.region_attempts.proofs.Public.{is_there, owes_at}
 use Rattle.variable_words.proofs.Public.{well_formed_placed, addresses_reach}
 use Rattle.log_states.specs.Laws.{recorded_by, IsRecoverable}
-use Rattle.thread_code.specs.Plans.{Plan, IsNodeOf, IsKept, of_local, of_address, of_value, IsPlan, mask_before}
+use Rattle.thread_code.specs.Plans.{Plan, IsNodeOf, IsKept, of_local, of_address, of_value, IsPlan, locks_before}
 use Rattle.thread_code.specs.RegistersAtNodes.{IsPendingIn, HasPending, Enters}
 use Rattle.thread_code.specs.NodeCodeEffects.{Places, keeping}
 use Rattle.thread_code.specs.Programs.{IsCalling}
@@ -288,7 +288,7 @@ pub record IsBeginning (p : Plan) (code : Code p) (s : FlowState) (bank resume :
   pub there : slice_get s.graph_threads code.thread.number ≡ Some graph_thread
   pub goes_on : graph_thread.ended ≡ false
   pub own : IsNodeOf code.thread graph_thread.at
-  pub resumes : mask_before p code.thread graph_thread.at ≢ 0 → ResumesAt p code graph_thread.at resume
+  pub resumes : locks_before p code.thread graph_thread.at ≢ [] → ResumesAt p code graph_thread.at resume
   pub enters : Enters p code.thread graph_thread.at (seen_by s graph_thread) bank x
   pub address : IsAddress resume
 
@@ -340,7 +340,7 @@ module _ (p : Plan) (code : Code p) (s : FlowState) (bank resume : ℕ) (x : Lis
       let r = boundaries_recover p code s bank resume cut_x plan orderly at_boundary in
       record {
         recoverable = record {
-          mask = r.mask;
+          locks = r.locks;
           live = r.live;
           registers = λ register has. kept_small p code plan s good k.graph_thread k.there bank x k.enters register
               ((code.is.kept k.graph_thread.at k.own register).0 has);

@@ -11,7 +11,8 @@ use Rattle.ido_base.specs.Growth.{ArePersisted, AreEntries}
 use Rattle.ido_base.proofs.Public.{are_persisted_refl, write_backs_raise}
 use Rattle.ido_ints.specs.Kinds.{bytes_of}
 use Rattle.source_machine.specs.Discipline.{Guards}
-use Rattle.c_tree.specs.WellFormed.{shape_of}
+use Rattle.c_tree.specs.Programs.{Variable}
+use Rattle.c_tree.specs.WellFormed.{elements_in, shape_of}
 use Rattle.memory_layout.specs.Variables.{HaveRoom}
 use Rattle.variable_words.proofs.Public.{by_size, well_formed_placed, steps_work}
 use Rattle.variable_words.specs.MemoryEffects.{MayMakeStore, IsWork, Rests, Queues, WritesBack, Makes}
@@ -33,7 +34,7 @@ use Rattle.hart_runs.proofs.Public.{persisted_agrees, beside_agrees, others_leav
 use Rattle.recovered_threads.specs.RecordDescriptions.{Code}
 use Rattle.crash_simulation.specs.Systems.{System, IsSystem, flat_of, shapes_of}
 use Rattle.crash_simulation.specs.AbstractRuns.{AbstractRun}
-use Rattle.crash_simulation.specs.ThreadGhosts.{ThreadGhost, IsGuarded, AnswersGuarded}
+use Rattle.crash_simulation.specs.ThreadGhosts.{ThreadGhost, AnswersGuarded}
 use Rattle.crash_simulation.specs.InstructionSteps.{MayStore, nothing, in_log, element}
 use Rattle.crash_simulation.proofs.DisjointElements.{variables_end, element_ends, element_below, elements_apart, log_after}
 
@@ -91,22 +92,25 @@ module _ (y : System) (s : IsSystem y) (w : World) (h : ℕ) (b : AbstractRun y)
 
   -- ---- What others read
 
+  -- an access of an element of a variable that the hart doesn't guard
+  pub record IsUnguarded (address bytes : ℕ) : Type 0 where
+    pub variable : ℕ
+    pub element : ℕ
+    pub is : Variable
+    pub there : slice_get (flat_of y).variables variable ≡ Some is
+    pub within : element < elements_in is.length
+    pub address_is : address ≡ variable_at (shapes_of y) variable element
+    pub bytes_are : bytes ≡ bytes_of is.kind
+    pub apart : (v : ℕ) → Guards (flat_of y) (now b.config) h v → v ≢ variable
+
   -- a store of a width that there is, beside all that the environment answers
   record IsAbstractAll (z : MarkedEnvironment) (address bytes : ℕ) : Type 0 where
     width : is_width bytes ≡ true
     apart : IsApart z address bytes
 
-  module _ (code : Code y.plan) (c : ThreadGhost) (other : h ≢ code.thread.number) (z : MarkedEnvironment) (answers : AnswersGuarded y b code c z) where
-    abbrev n : ℕ
-    n = code.thread.number
-
-    -- two threads guard no variable both
-    guards_apart : (variable v : ℕ) → Guards (flat_of y) (now b.config) h variable → Guards (flat_of y) (now b.config) n v → variable ≢ v
-    guards_apart variable v own its same =
-        let mine : Guards (flat_of y) (now b.config) h v = subst (λ (x : ℕ). Guards (flat_of y) (now b.config) h x) same own in
-        other (same_Some h n (same_Some (Some h) (Some n) (sym mine ∙ its)))
-
-    answer_ends : (at count : ℕ) → IsGuarded y b code c at count → at + count ≤ variables_end
+  module _ (n : ℕ) (other : h ≢ n) (z : MarkedEnvironment)
+      (answers : (address bytes value : ℕ) → z.around.loads address bytes ≡ Some value → IsUnguarded address bytes) where
+    answer_ends : (at count : ℕ) → IsUnguarded at count → at + count ≤ variables_end
     answer_ends at count g =
         let ends = element_ends (flat_of y).variables room g.variable g.element g.is g.there g.within in
         let place = g.address_is in
@@ -139,7 +143,7 @@ module _ (y : System) (s : IsSystem y) (w : World) (h : ℕ) (b : AbstractRun y)
                 (λ l. inl (omega (arith, l, place, at_is, count_is)))
                 (λ l. inr (omega (arith, l, place, size, at_is)))
                 (elements_apart (flat_of y).variables room g.variable g.element variable number g.is is g.there g.within there within
-                (guards_apart variable g.variable guards g.guards));
+                (g.apart variable guards));
           }
 
     module _ (sound : IsWellFormedWorld w) (agrees : Agrees y.runs.program w n z) where
@@ -165,6 +169,25 @@ module _ (y : System) (s : IsSystem y) (w : World) (h : ℕ) (b : AbstractRun y)
           beside_agrees y.runs.program w after n z address bytes value count is
           (and_from (is_width bytes) _ all.width (and_from _ _ st.inside st.is_aligned)) all.apart agrees
 
-      -- memory goes on to agree with what the thread reads
-      pub agrees_after : (hart : Hart) → slice_get w.harts h ≡ Some hart → Agrees y.runs.program after n z
-      agrees_after hart here = let does = steps_work y.runs.program w h hart here in worked_on hart does.after.queue here does.work
+      -- memory goes on to agree with what is read of those
+      pub agrees_beside : (hart : Hart) → slice_get w.harts h ≡ Some hart → Agrees y.runs.program after n z
+      agrees_beside hart here = let does = steps_work y.runs.program w h hart here in worked_on hart does.after.queue here does.work
+
+  -- two threads guard no variable both, and so memory goes on to agree with what another thread reads
+  pub agrees_after : (code : Code y.plan) (c : ThreadGhost) → h ≢ code.thread.number → (z : MarkedEnvironment) → AnswersGuarded y b code c z →
+      IsWellFormedWorld w → Agrees y.runs.program w code.thread.number z → (hart : Hart) → slice_get w.harts h ≡ Some hart →
+      Agrees y.runs.program after code.thread.number z
+  agrees_after code c other z answers = agrees_beside code.thread.number other z (λ address bytes value e.
+      let g = answers address bytes value e in
+      record {
+        variable = g.variable;
+        element = g.element;
+        is = g.is;
+        there = g.there;
+        within = g.within;
+        address_is = g.address_is;
+        bytes_are = g.bytes_are;
+        apart = λ v own same.
+            let mine : Guards (flat_of y) (now b.config) h g.variable = subst (λ (x : ℕ). Guards (flat_of y) (now b.config) h x) same own in
+            other (same_Some h code.thread.number (same_Some (Some h) (Some code.thread.number) (sym mine ∙ g.guards)));
+      })

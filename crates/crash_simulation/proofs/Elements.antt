@@ -1,6 +1,6 @@
 -- Elements of variables in the words of a machine.
-use Rattle.std.proofs.Common.{◌≡◌, ◌⊎◌, inl, inr, ⊎_elim, refl, ℕ, zero, suc, ◌+◌, ◌*◌, ◌/◌, ◌<◌, map}
-use Rattle.std.proofs.Common.{◌≤◌, List, [], ◌∷◌, length, sym, ◌∙◌, ap, subst, arith, Option, Some, None}
+use Rattle.std.proofs.Common.{◌≡◌, ◌⊎◌, inl, inr, ⊎_elim, refl, ℕ, ◌+◌, ◌*◌, ◌/◌, ◌<◌, map}
+use Rattle.std.proofs.Common.{◌≤◌, List, length, sym, ◌∙◌, ap, subst, arith, Option, Some, None}
 use Rattle.std.specs.Prelude.{slice_get, slice_index_or, pos}
 use Rattle.std.proofs.lemmas.Bool.{cases_lt}
 use Rattle.ido_base.specs.Layout.{variable_at, byte_number}
@@ -10,28 +10,13 @@ use Rattle.ido_ints.specs.Kinds.{bytes_of}
 use Rattle.c_tree.specs.WellFormed.{shape_of}
 use Rattle.memory_layout.specs.Variables.{HaveRoom}
 use Rattle.recovery_semantics.specs.ElementHistories.{History, history_of, history_at}
-use Rattle.recovery_semantics.specs.VariableSpots.{Spot, elements_in, variable_in, memory_in, IsAtSpot}
+use Rattle.recovery_semantics.specs.VariableSpots.{Spot, memory_in, IsAtSpot}
+use Rattle.recovery_semantics.proofs.Public.{elements_past, variable_found, variable_past}
 use Rattle.variable_words.proofs.Public.{positions_meet, well_formed_placed, place, number_is}
 use Rattle.crash_simulation.specs.Systems.{System, IsSystem, flat_of, shapes_of, places_of}
 
 abbrev none : History
 none = history_of (pos 0)
-
-past_last : (words : List Word) (kind : Kind) (number count e : ℕ) → count ≤ e → slice_index_or (elements_in words kind number count) e none ≡ none
-past_last words kind number zero e h = refl
-past_last words kind number (suc n) zero h = absurd (omega (arith, h))
-past_last words kind number (suc n) (suc e) h = past_last words kind (number + bytes_of kind) n e (omega (arith, h))
-
-found_there : (spots : List Spot) (words : List Word) (v : ℕ) (s : Spot) → slice_get spots v ≡ Some s →
-    slice_index_or (memory_in spots words) v [] ≡ variable_in words s
-found_there [] words v s h = cc
-found_there (x ∷ spots) words zero s h = let is : x ≡ s = cc in ap (variable_in words) is
-found_there (x ∷ spots) words (suc v) s h = found_there spots words v s h
-
-nothing_there : (spots : List Spot) (words : List Word) (v : ℕ) → slice_get spots v ≡ None → slice_index_or (memory_in spots words) v [] ≡ []
-nothing_there [] words v h = refl
-nothing_there (x ∷ spots) words zero h = cc
-nothing_there (x ∷ spots) words (suc v) h = nothing_there spots words v h
 
 module _ (y : System) (s : IsSystem y) where
   pub room : HaveRoom (map shape_of (flat_of y).variables)
@@ -51,7 +36,7 @@ module _ (y : System) (s : IsSystem y) where
   NoneThere v e = (words : List Word) → history_at (memory_in (places_of y) words) v e ≡ none
 
   there_by : (v e : ℕ) (o : Option Spot) → slice_get (places_of y) v ≡ o → IsThere v e ⊎ NoneThere v e
-  there_by v e None h = inr (λ words. ap (λ (hs : List History). slice_index_or hs e none) (nothing_there (places_of y) words v h))
+  there_by v e None h = inr (λ words. ap (λ (hs : List History). slice_index_or hs e none) (variable_past (places_of y) words v h))
   there_by v e (Some spot) h = ⊎_elim
       (λ l.
       let a : IsAtSpot (places_of y) v e spot.kind (spot.start + bytes_of spot.kind * e) =
@@ -61,8 +46,8 @@ module _ (y : System) (s : IsSystem y) where
       let same : spot.start + bytes_of spot.kind * e ≡ byte_number (variable_at (shapes_of y) v e) =
       p.place_is ∙ sym (number_is (flat_of y).variables v e p.is room p.there (omega (arith, within))) in
       inl (record { kind = spot.kind; at = subst (λ (n : ℕ). IsAtSpot (places_of y) v e spot.kind n) same a }))
-      (λ l. inr (λ words. ap (λ (hs : List History). slice_index_or hs e none) (found_there (places_of y) words v spot h)
-      ∙ past_last words spot.kind spot.start spot.elements e l))
+      (λ l. inr (λ words. ap (λ (hs : List History). slice_index_or hs e none) (variable_found (places_of y) words v spot h)
+      ∙ elements_past words spot.kind spot.start spot.elements e l))
       (cases_lt e spot.elements)
 
   pub there_or_none : (v e : ℕ) → IsThere v e ⊎ NoneThere v e

@@ -1,100 +1,16 @@
--- The set that is held before what a thread has left by its text.
-use Rattle.std.proofs.Common.{◌≡◌, ◌≢◌, refl, ℕ, zero, suc, List, [], ◌∷◌, ◌++◌, sym, ◌∙◌, ap, subst, Option, Some, None, true, false, length}
+-- What a thread has left after an unlock it has without the mutex.
+use Rattle.std.proofs.Common.{◌≡◌, ◌≢◌, refl, ℕ, zero, suc, List, [], ◌∷◌, sym, ◌∙◌, ap, subst, Option, Some, None, true, false, length}
 use Rattle.std.specs.Prelude.{slice_get, slice_set}
 use Rattle.std.proofs.lemmas.Bool.{true≢false, eq-eqb}
 use Rattle.ido_base.specs.declared.place.Place.{Place}
-use Rattle.c_tree.specs.Exprs as e
-use Rattle.c_tree.specs.Programs.{Variable}
 use Rattle.c_tree.specs.Flats as f
 use Rattle.c_tree.specs.Source as m
-use Rattle.c_tree.specs.Source.{opened_all}
-use Rattle.c_tree.specs.LockDiscipline as l
-use Rattle.c_tree.specs.LockDiscipline.{Held, holds, none_held, Keeps, KeepAll, KeepArms, AreGuarded, assign_uses, IsDisciplined}
+use Rattle.c_tree.specs.LockDiscipline.{Held, holds, none_held, IsDisciplined}
 use Rattle.source_machine.specs.Mutexes.{held_by}
 use Rattle.source_machine.specs.Discipline.{KeepList, StateKeeps}
-use Rattle.source_machine.proofs.Public.{keep_append, keep_opened_all, keeps_unlock, held_is_given}
-use Rattle.lock_discipline.specs.links.Flow.{held_after, held_after_all, sets_in, sets_in_all, sets_in_arms, thread_sets}
-use Rattle.lock_discipline.specs.StepContinuations.{assign_lefts, lefts_in, lefts_in_all, lefts_in_arms, thread_lefts}
-use Rattle.lock_discipline.proofs.Public.{boundary_after_is, after_all_is}
-
-module _ (vs : List Variable) (none : Held) where
-  -- set by set, what is left keeps the discipline
-  abbrev AllKeep : List Held → List (List f.Statement) → Type 0
-  AllKeep [] [] = Unit {0}
-  AllKeep [] (left ∷ lefts) = ⊥
-  AllKeep (h ∷ hs) [] = ⊥
-  AllKeep (h ∷ hs) (left ∷ lefts) = KeepList vs h left none × AllKeep hs lefts
-
-  all_append : (hs ks : List Held) (ls ms : List (List f.Statement)) → AllKeep hs ls → AllKeep ks ms → AllKeep (hs ++ ks) (ls ++ ms)
-  all_append [] ks [] ms a b = b
-  all_append [] ks (left ∷ ls) ms a b = absurd a
-  all_append (h ∷ hs) ks [] ms a b = absurd a
-  all_append (h ∷ hs) ks (left ∷ ls) ms a b = (a.0, all_append hs ks ls ms a.1 b)
-
-  all_found : (hs : List Held) (ls : List (List f.Statement)) (n : ℕ) (left : List f.Statement) → AllKeep hs ls → slice_get ls n ≡ Some left →
-      (h : Held) × (slice_get hs n ≡ Some h) × KeepList vs h left none
-  all_found [] [] n left a e = cc
-  all_found [] (m ∷ ls) n left a e = absurd a
-  all_found (h ∷ hs) [] n left a e = absurd a
-  all_found (h ∷ hs) (m ∷ ls) zero left a e =
-      let is : m ≡ left = cc in
-      (h, refl, subst (λ (y : List f.Statement). KeepList vs h y none) is a.0)
-  all_found (h ∷ hs) (m ∷ ls) (suc n) left a e = all_found hs ls n left a.1 e
-
-  assign_keeps : (place : Place) (target : e.Lvalue) (value : e.Placed) (h : Held) (rest : List f.Statement) → AreGuarded vs h (assign_uses target value) →
-      KeepList vs h rest none → AllKeep (sets_in h (f.Assign place target value)) (assign_lefts place target value rest)
-  assign_keeps place (e.ToLocal local kind) value h rest g k = ((h, l.assign place (e.ToLocal local kind) value g, k), tt)
-  assign_keeps place (e.ToVariable name variable kind) value h rest g k = ((h, l.assign place (e.ToVariable name variable kind) value g, k), (k, tt))
-  assign_keeps place (e.ToElement name variable kind index) value h rest g k = ((h, l.assign place (e.ToElement name variable kind index) value g, k), (k, tt))
-
-  mutual
-    keep_in : {h after : Held} {s : f.Statement} → Keeps vs h s after → (rest : List f.Statement) → KeepList vs after rest none →
-        AllKeep (sets_in h s) (lefts_in s rest)
-    keep_in (l.assign {h = h} place target value g) rest k = assign_keeps place target value h rest g k
-    keep_in (l.choose {h = h} {after = after} place arms otherwise p q) rest k =
-        all_append (sets_in_arms h arms) (sets_in_all h otherwise) (lefts_in_arms place otherwise arms rest) (lefts_in_all otherwise rest)
-        (keep_in_arms p place otherwise q rest k) (keep_in_all q rest k)
-    keep_in (l.repeat {h = h} place condition body g p) rest k =
-        let again : KeepList vs h (f.While place condition body ∷ rest) none = (h, l.repeat place condition body g p, k) in
-        (again, keep_in_all p (f.While place condition body ∷ rest) again)
-    keep_in (l.again {h = h} place body condition p g) rest k =
-        let again : KeepList vs h (f.While place condition body ∷ rest) none = (h, l.repeat place condition body g p, k) in
-        all_append (sets_in_all h body) (held_after_all h body ∷ []) (lefts_in_all body (f.While place condition body ∷ rest))
-        ((f.While place condition body ∷ rest) ∷ [])
-        (keep_in_all p (f.While place condition body ∷ rest) again)
-        (subst (λ (b : Held). KeepList vs b (f.While place condition body ∷ rest) none) (sym (after_all_is vs p)) again, tt)
-    keep_in (l.lock {h = h} place mutex free) rest k = ((_, l.lock place mutex free, k), tt)
-    keep_in (l.unlock {h = h} place mutex held) rest k = ((_, l.unlock place mutex held, k), tt)
-
-    keep_in_all : {h after : Held} {ss : f.Statements} → KeepAll vs h ss after → (rest : List f.Statement) → KeepList vs after rest none →
-        AllKeep (sets_in_all h ss) (lefts_in_all ss rest)
-    keep_in_all l.no_more rest k = tt
-    keep_in_all (l.then {h = h} {between = between} {after = after} x more p q) rest k =
-        all_append (sets_in h x) (sets_in_all (held_after h x) more) (lefts_in x (opened_all more ++ rest)) (lefts_in_all more rest)
-        (keep_in p (opened_all more ++ rest) (keep_append vs (opened_all more) rest between after none (keep_opened_all vs q) k))
-        (subst (λ (b : Held). AllKeep (sets_in_all b more) (lefts_in_all more rest)) (sym (boundary_after_is vs p)) (keep_in_all q rest k))
-
-    keep_in_arms : {h after : Held} {arms : f.Arms} → KeepArms vs h arms after → (place : Place) (otherwise : f.Statements) → KeepAll vs h otherwise after →
-        (rest : List f.Statement) → KeepList vs after rest none → AllKeep (sets_in_arms h arms) (lefts_in_arms place otherwise arms rest)
-    keep_in_arms l.no_more_arms place otherwise q rest k = tt
-    keep_in_arms (l.arm {h = h} {after = after} condition body more g p r) place otherwise q rest k = (
-      (after, l.choose place (f.arm_and condition body more) otherwise (l.arm condition body more g p r) q, k),
-      all_append (sets_in_all h body) (sets_in_arms h more) (lefts_in_all body rest) (lefts_in_arms place otherwise more rest)
-          (keep_in_all p rest k) (keep_in_arms r place otherwise q rest k),
-    )
-
--- before each step of a thread there is a set from which what is left keeps the discipline
-pub kept_left : (x : f.Flat) (t : f.Thread) (step : ℕ) (left : List f.Statement) → IsDisciplined x t → slice_get (thread_lefts t) step ≡ Some left →
-    (h : Held) × KeepList x.variables h left (none_held (length x.mutexes))
-kept_left x t step left keep here =
-    let none = none_held (length x.mutexes) in
-    let last : KeepList x.variables (held_after_all none t.body) [] none = after_all_is x.variables keep in
-    let all = all_append x.variables none (sets_in_all none t.body) (held_after_all none t.body ∷ []) (lefts_in_all t.body []) ([] ∷ [])
-    (keep_in_all x.variables none keep [] refl) (last, tt) in
-    let found = all_found x.variables none (thread_sets (length x.mutexes) t) (thread_lefts t) step left all here in
-    (found.0, found.2)
-
--- ---- What is held is in the set
+use Rattle.source_machine.proofs.Public.{keeps_unlock, held_is_given}
+use Rattle.lock_discipline.specs.StepContinuations.{thread_lefts}
+use Rattle.lock_discipline.proofs.Public.{set_left}
 
 pub holds_it : (t : ℕ) (hs : List (Option ℕ)) (k : ℕ) → slice_get hs k ≡ Some (Some t) → holds (held_by t hs) k ≡ true
 holds_it t [] k h = cc
@@ -117,8 +33,8 @@ pub not_held_after : (x : f.Flat) (t : f.Thread) (step : ℕ) (place : Place) (m
     slice_get (thread_lefts t) step ≡ Some (f.Unlock place mutex ∷ rest) → (s : m.State) (number : ℕ) (thread : m.Thread) → StateKeeps x s →
     slice_get s.threads number ≡ Some thread → thread.left ≡ rest → slice_get s.holders mutex ≢ Some (Some number)
 not_held_after x t step place mutex rest keep here s number thread keeps there left held =
-    let found = kept_left x t step (f.Unlock place mutex ∷ rest) keep here in
-    let k = found.1 in
+    let found = set_left x t step (f.Unlock place mutex ∷ rest) keep here in
+    let k = found.2 in
     let given : k.0 ≡ held_by number s.holders = (held_is_given x s number thread k.0 keeps there).0
     (subst (λ (y : List f.Statement). KeepList x.variables k.0 y (none_held (length x.mutexes))) (sym left) k.2) in
     let away : holds k.0 mutex ≡ false = ap (λ (h : Held). holds h mutex) (keeps_unlock x.variables k.1).1 ∙ set_away found.0 mutex in

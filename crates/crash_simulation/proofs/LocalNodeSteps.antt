@@ -43,7 +43,7 @@ use Rattle.crash_simulation.proofs.UncommittedSteps.{leads_on}
 use Rattle.crash_simulation.proofs.NodeEnvironments.{reads_variables, answers_guarded, guards_here, answered_here}
 use Rattle.crash_simulation.proofs.OwnHartSteps.{going, code, number, abstract, ghost, after, StepOf}
 use Rattle.crash_simulation.proofs.PendingFlushes.{flushed_still}
-use Rattle.crash_simulation.proofs.WriteBackSteps.{stays_step, none_clean}
+use Rattle.crash_simulation.proofs.WriteBackSteps.{mark_step, none_clean}
 use Rattle.crash_simulation.proofs.MarksAtNodes.{IsUnseen, unseen, quiet_may, quiet_seen, quiet_free, inside, environment, at_some_mark}
 use Rattle.crash_simulation.proofs.MarkSteps as passing
 use Rattle.crash_simulation.proofs.MarkSteps.{is_plain, plain_holders, passed_step}
@@ -164,9 +164,34 @@ module _ (y : System) (s : IsSystem y) (w : World) (h : ℕ) (stands : Simulates
     memory_is : memory_in (places_of y) v.words ≡ b.config.memory
     memory_is = ap (memory_in (places_of y)) words_stay ∙ stands.before_commit.memory
 
+    abbrev passed : passing.Passing y s w h stands below core
+    passed = record {
+      effect = e;
+      plain = quiet_plain e quiet;
+      environment = here;
+      marks = refl;
+      steps = mark.steps;
+      effects = mark.effects;
+      at = mark.at;
+      passes = p;
+      cleans = [];
+      later = nothing_seen.later_is;
+      clean = none_clean;
+      ends = λ ends. refl;
+      elsewhere = elsewhere;
+      may = nothing p.forward.effect nothing_seen.no_store;
+      no_point = nothing_seen.no_point;
+      memory = b.config.memory;
+      memory_is = memory_is;
+      happened = happened;
+      by_it = refl;
+      none_kept = refl;
+      minded = minded;
+      is_step = refl;
+    }
+
     abbrev next : AbstractRun y
-    next = passing.next y s w h stands below core e (quiet_plain e quiet) here refl mark.steps mark.effects mark.at p [] nothing_seen.later_is none_clean
-        (λ ends. refl) elsewhere (nothing p.forward.effect nothing_seen.no_store) nothing_seen.no_point b.config.memory memory_is happened refl refl minded refl
+    next = passing.next y s w h stands below core passed
 
     state : now_of y next ≡ after_effect (now_of y b) n graph_thread e
     state = same_Some _ _ (sym (follows_on y s b _ happened refl) ∙ graph_step_is)
@@ -204,25 +229,12 @@ module _ (y : System) (s : IsSystem y) (w : World) (h : ℕ) (stands : Simulates
 
     quiet_passes : StepOf y s w h stands below n
     quiet_passes =
-        passed_step y s w h stands below core e (quiet_plain e quiet) here refl mark.steps mark.effects mark.at p [] nothing_seen.later_is none_clean
-        (λ ends. refl) elsewhere (nothing p.forward.effect nothing_seen.no_store) nothing_seen.no_point b.config.memory memory_is happened refl refl minded refl
-        state
+        passed_step y s w h stands below core passed state
         (answers_guarded y s w b (code y s w h stands below) (s.own h below) stands.before_commit.count (inside y s w h stands below core node at reads)
         (reads_of node.action seen) next (going (ghost y s w h stands below) []) guards)
         flushed
 
   pub quiet_step : StepOf y s w h stands below n
-  quiet_step = by (marks y.plan (code y s w h stands below).thread (code y s w h stands below).is.places y.runs.program w n here e
+  quiet_step = mark_step y s w h stands below core marks here e
       (stage_after y.plan (code y s w h stands below).thread (code y s w h stands below).is.places graph_thread.at seen core.bank e) mark.steps mark.effects
-      stands.before_commit.sound mark.at)
-    where
-      by : laws.PassesMark y.plan (code y s w h stands below).thread (code y s w h stands below).is.places (on_machine y.runs.program w n here) e
-          (stage_after y.plan (code y s w h stands below).thread (code y s w h stands below).is.places graph_thread.at seen core.bank e) mark.steps mark.effects
-          mark.at
-          ⊎ laws.Stays y.plan (code y s w h stands below).thread (code y s w h stands below).is.places (on_machine y.runs.program w n here) e
-          (stage_after y.plan (code y s w h stands below).thread (code y s w h stands below).is.places graph_thread.at seen core.bank e) mark.steps mark.effects
-          mark.at → StepOf y s w h stands below n
-      by (inl p) = quiet_passes p
-      by (inr stays) = stays_step y s w h stands below core here e
-          (stage_after y.plan (code y s w h stands below).thread (code y s w h stands below).is.places graph_thread.at seen core.bank e) mark.steps mark.effects
-          mark.at stays
+      mark.at quiet_passes

@@ -1,9 +1,9 @@
 -- A hart at its call, and at one that asks for a mutex: it takes it, or waits.
-use Rattle.std.proofs.Common.{◌≡◌, ◌≢◌, ◌⊎◌, inl, inr, ⊎_elim, refl, ℕ, suc, ◌+◌, ◌-◌, ◌/◌, ◌<◌, List, [], ◌∷◌, ◌++◌, length, ap, sym, ◌∙◌, subst, arith}
+use Rattle.std.proofs.Common.{◌≡◌, ◌≢◌, inl, inr, ⊎_elim, refl, ℕ, suc, ◌+◌, ◌-◌, ◌/◌, ◌<◌, List, [], ◌∷◌, ◌++◌, length, ap, sym, ◌∙◌, subst, arith}
 use Rattle.std.proofs.Common.{Option, Some, None, Bool, true, false, slice_set, ℤ}
 use Rattle.std.specs.Prelude.{slice_get, Contains, not, is_none, ◌&&◌, ◌==◌, if◌then◌else◌}
 use Rattle.std.specs.List.{list_any}
-use Rattle.std.proofs.lemmas.Bool.{true≢false, cond-false, cond_both}
+use Rattle.std.proofs.lemmas.Bool.{true≢false, cond-false}
 use Rattle.std.proofs.lemmas.Option.{none-some, same_Some, slice_get_within}
 use Rattle.std.proofs.lemmas.List.{append-nil, length-set}
 use Rattle.ido_base.specs.declared.event.Event.TheVariants.{Step}
@@ -17,7 +17,7 @@ use Rattle.rv64_isa.specs.Rows.{Effect, Cleans, Calls, row}
 use Rattle.rv64_isa.specs.Machine.{Hart, World, Outcome, with_holder, moved, gone_on, happens, after_event}
 use Rattle.rv64_isa.specs.Schedule.{is_running, stores_point}
 use Rattle.rv64_isa.proofs.Public.{steps_touch, get-set_same}
-use Rattle.boundary_code.specs.Boundaries.{Boundary, boundary_effects, commit_effects}
+use Rattle.boundary_code.specs.Boundaries.{Boundary, boundary_effects}
 use Rattle.node_code.specs.Pieces.{bank_after, takes}
 use Rattle.flow_graph.specs.Nodes.{Action, Lock}
 use Rattle.flow_graph.specs.Lowering.{lowered}
@@ -67,6 +67,7 @@ use Rattle.crash_simulation.proofs.LocksAfterStep.{GoneOn, held_same, held_taken
 use Rattle.crash_simulation.proofs.LocksAtCalls.{locks_it, mutex_there, taken, takes_it, source_takes}
 use Rattle.crash_simulation.proofs.PendingReleases.{giving_of}
 use Rattle.crash_simulation.proofs.FragmentSteps.{and_false, not_twice}
+use Rattle.log_states.proofs.Public.{boundary_stores}
 
 -- ---- Lists
 
@@ -81,10 +82,6 @@ none_from n at (None ∷ holders) free = none_from n (at + 1) holders (λ lock. 
 none_from n at (Some u ∷ holders) free =
     cond-false (n == u) (Some at) (held_from (at + 1) holders n) (unequal_of n u (λ e. free 0 (ap (λ (k : ℕ). Some (Some k)) (sym e))))
     ∙ none_from n (at + 1) holders (λ lock. free (suc lock))
-
--- a boundary has the store of its point to make
-some_store : (b : Boundary) (bank resume : ℕ) (x : List ℕ) → list_any is_store (boundary_effects b bank resume x) ≡ true
-some_store b bank resume x = cond_both (b.mask == 0) (commit_effects b.thread 0) _ (λ (es : List Effect). list_any is_store es ≡ true) (λ _. refl) (λ _. refl)
 
 -- ---- What the step makes of the thread
 
@@ -558,7 +555,7 @@ module _ (y : System) (s : IsSystem y) (w : World) (h : ℕ) (stands : Simulates
       unbound = ap (λ (yes : Bool). not yes && not (list_any is_store c.rest)) goes_clean.goes.committed
 
       then_unbound : is_bound then_ghost ≡ false
-      then_unbound = ap not (some_store b_next (1 - o.bank) (places.after t.graph_thread.at) asks.registers)
+      then_unbound = ap not (boundary_stores b_next (1 - o.bank) (places.after t.graph_thread.at) asks.registers)
 
       takes_mutex : Result
       unfolding thread_then

@@ -1,26 +1,22 @@
 -- Locks after a step of a hart that executes instructions.
-use Rattle.std.proofs.Common.{◌≡◌, ◌≢◌, ◌⊎◌, inl, inr, ⊎_elim, refl, ℕ, ◌<◌, ◌==◌, List, [], length, ap, sym, ◌∙◌, subst, Option, Some, None, true}
+use Rattle.std.proofs.Common.{◌≡◌, ◌≢◌, ◌⊎◌, inl, inr, ⊎_elim, refl, ℕ, ◌<◌, ◌==◌, List, length, ap, sym, ◌∙◌, subst, Option, Some, None}
 use Rattle.std.specs.Prelude.{slice_get, slice_set}
 use Rattle.std.proofs.lemmas.Bool.{cond-true, cond-false}
 use Rattle.std.proofs.lemmas.Option.{none-some, same_Some}
 use Rattle.ido_base.specs.declared.event.Event.TheVariants.{Step}
-use Rattle.ido_base.specs.Locks.{has_lock}
-use Rattle.rv64_isa.specs.declared.object.Slot.{Slot}
 use Rattle.rv64_isa.specs.declared.phase.Phase.{Phase}
 use Rattle.rv64_isa.specs.declared.phase.Phase.TheVariants.{Take, Wait, Resume, Run, Done, Ended}
 use Rattle.rv64_isa.specs.Rows.{Effect}
 use Rattle.rv64_isa.specs.Machine.{Hart, World, after_event}
-use Rattle.rv64_isa.specs.Frames.{IsWellFormedWorld, Touches, IsHeldOn, Stays, Takes, Gives}
+use Rattle.rv64_isa.specs.Frames.{IsWellFormedWorld}
 use Rattle.rv64_isa.proofs.Public.{steps_touch, get-set_same, get-set_other}
 use Rattle.flow_graph.specs.Actions.{FlowState}
 use Rattle.recovery_semantics.proofs.Public.{equal_self, unequal_of}
-use Rattle.log_states.specs.Logs.{Record, nothing_recorded}
+use Rattle.log_states.specs.Logs.{Record}
 use Rattle.log_states.specs.Machines.{IsNext, IsElsewhere}
-use Rattle.log_states.proofs.Public.{steps_keep}
 use Rattle.hart_runs.specs.Calls.{IsInPhase}
-use Rattle.recovered_threads.specs.RecordDescriptions.{locks_of}
-use Rattle.recovered_threads.specs.RecoveryStates.{HoldsAll, HoldsOnly, Gathers, HasGathered, IsRecoveredHart, AreGathered}
-use Rattle.recovered_threads.proofs.Public.{same_there, same_or_other, gathered_on}
+use Rattle.recovered_threads.specs.RecoveryStates.{Gathers, HasGathered, AreGathered}
+use Rattle.recovered_threads.proofs.Public.{same_there, same_or_other, gathered_on, ready_stays}
 use Rattle.crash_simulation.specs.Systems.{System, IsSystem}
 use Rattle.crash_simulation.specs.AbstractRuns.{AbstractRun, now_of}
 use Rattle.crash_simulation.specs.ThreadGhosts.{ThreadGhost}
@@ -44,39 +40,6 @@ each_ghost ghosts thread ghost P own others n = elim (same_or_other n thread) [
   | inl same ↦ subst (λ (k : ℕ). P k (with_ghost ghosts thread ghost k)) (sym same) (subst (P thread) (sym (own_ghost ghosts thread ghost)) own)
   | inr other ↦ subst (P n) (sym (other_ghost ghosts thread ghost n other)) (others n other)
 ]
-
--- ---- Harts that are ready stay so
-
-module _ (program : List (List Slot)) (w : World) (g h : ℕ) (r : Record) (sound : IsWellFormedWorld w) (other : h ≢ g) where
-  abbrev after : World
-  after = after_event program w (Step g)
-
-  touches : Touches g w after
-  touches = steps_touch program w g sound
-
-  still_all : HoldsAll w h r → HoldsAll after h r
-  still_all all lock holder there has = by (touches.holders lock)
-    where
-      by : IsHeldOn g (slice_get w.holders lock) (slice_get after.holders lock) → holder ≡ Some h
-      by (Stays same) = all lock holder (sym same ∙ there) has
-      by (Takes old new) = absurd (none-some h (all lock None old has))
-      by (Gives old new) = absurd (other (sym (same_Some g h (all lock (Some g) old has))))
-
-  still_only : HoldsOnly w h r → HoldsOnly after h r
-  still_only only lock there = by (touches.holders lock)
-    where
-      by : IsHeldOn g (slice_get w.holders lock) (slice_get after.holders lock) → has_lock (locks_of r) lock ≡ true
-      by (Stays same) = only lock (sym same ∙ there)
-      by (Takes old new) = absurd (other (sym (same_Some g h (same_there (slice_get after.holders lock) (Some g) (Some h) new there))))
-      by (Gives old new) = absurd (none-some h (same_there (slice_get after.holders lock) None (Some h) new there))
-
-  ready_stays : IsElsewhere program w g h → IsRecoveredHart w h r → IsRecoveredHart after h r
-  ready_stays elsewhere is = record {
-    inside = is.inside;
-    all = still_all is.all;
-    only = still_only is.only;
-    log = steps_keep program g h nothing_recorded r w [] sound is.log elsewhere;
-  }
 
 -- ---- A hart that executes instructions goes on to, or is done, or has ended
 

@@ -32,7 +32,7 @@ use Rattle.crash_simulation.proofs.StatesMatchSource.{resumed, now_good}
 use Rattle.crash_simulation.proofs.HeldBeforeContinuations.{holds_it, none_in, not_held_after}
 
 -- what stands at a node
-standing_of : (all : List Standing) (ns : List Node) (ss : List Standing) (k : ℕ) (n : Node) → Agree all ns ss → slice_get ns k ≡ Some n →
+pub standing_of : (all : List Standing) (ns : List Node) (ss : List Standing) (k : ℕ) (n : Node) → Agree all ns ss → slice_get ns k ≡ Some n →
     (s : Standing) × (slice_get ss k ≡ Some s) × ActionLeads all n.action s
 standing_of all [] ss k n h e = absurd (none-some n e)
 standing_of all (x ∷ ns) [] k n h e = absurd h

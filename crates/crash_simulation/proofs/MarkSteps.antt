@@ -104,42 +104,62 @@ module _ (y : System) (s : IsSystem y) (w : World) (h : ℕ) (stands : Simulates
   stage_is variables (a.Gives mutex next) plain = cc
   stage_is variables a.Ends plain = refl
 
-  module _ (e : a.Effect) (plain : is_plain e ≡ true) (environment : MarkedEnvironment) (marks_are : AreMarksOf y.runs.marks n environment) (steps : ℕ)
-      (effects : List Effect)
-      (at : IsAtMark y.plan (code y s w h stands below).thread (code y s w h stands below).is.places (on_machine y.runs.program w n environment) e
-      (stage_after y.plan (code y s w h stands below).thread (code y s w h stands below).is.places graph_thread.at seen core.bank e) steps effects)
-      (p : laws.PassesMark y.plan (code y s w h stands below).thread (code y s w h stands below).is.places (on_machine y.runs.program w n environment) e
-      (stage_after y.plan (code y s w h stands below).thread (code y s w h stands below).is.places graph_thread.at seen core.bank e) steps effects at)
-      (cleans : List Effect) (later_is : p.later ≡ cleans) (clean : (effect : Effect) → Contains cleans effect → is_clean effect ≡ true)
-      (ends_clean : e ≡ a.Ends → cleans ≡ [])
-      (elsewhere : IsElsewhere y.runs.program w n n) (may : MayStore y b n p.forward.effect) (no_point : is_point_store n p.forward.effect ≡ false)
-      (memory : Memory) (memory_is : memory_in (places_of y) v.words ≡ memory)
-      (happened : ConfigStep b.config (begun b.config n memory (one_longer b.config n))) (by_it : IsDoneBy n happened) (none_kept : kept_steps happened ≡ [])
-      (minded : RespectsBoundaries (flat_of y) y.plan.boundaries (kept_of y b) happened) (is_step : is_begun happened ≡ true) where
+  -- a step that passes the mark of a node which leaves the mutexes as they are: what it does, and what happens by it
+  pub record Passing : Type 0 where
+    pub effect : a.Effect
+    pub plain : is_plain effect ≡ true
+    pub environment : MarkedEnvironment
+    pub marks : AreMarksOf y.runs.marks n environment
+    pub steps : ℕ
+    pub effects : List Effect
+    pub at : IsAtMark y.plan (code y s w h stands below).thread (code y s w h stands below).is.places (on_machine y.runs.program w n environment) effect
+        (stage_after y.plan (code y s w h stands below).thread (code y s w h stands below).is.places graph_thread.at seen core.bank effect) steps effects
+    pub passes : laws.PassesMark y.plan (code y s w h stands below).thread (code y s w h stands below).is.places (on_machine y.runs.program w n environment)
+        effect (stage_after y.plan (code y s w h stands below).thread (code y s w h stands below).is.places graph_thread.at seen core.bank effect) steps
+        effects at
+    -- what is cleaned after it
+    pub cleans : List Effect
+    pub later : passes.later ≡ cleans
+    pub clean : (one : Effect) → Contains cleans one → is_clean one ≡ true
+    pub ends : effect ≡ a.Ends → cleans ≡ []
+    -- what it stores
+    pub elsewhere : IsElsewhere y.runs.program w n n
+    pub may : MayStore y b n passes.forward.effect
+    pub no_point : is_point_store n passes.forward.effect ≡ false
+    -- the step of the source
+    pub memory : Memory
+    pub memory_is : memory_in (places_of y) v.words ≡ memory
+    pub happened : ConfigStep b.config (begun b.config n memory (one_longer b.config n))
+    pub by_it : IsDoneBy n happened
+    pub none_kept : kept_steps happened ≡ []
+    pub minded : RespectsBoundaries (flat_of y) y.plan.boundaries (kept_of y b) happened
+    pub is_step : is_begun happened ≡ true
+
+  module _ (o : Passing) where
     abbrev pub next : AbstractRun y
-    next = abstract_next y b (begun b.config n memory (one_longer b.config n)) (leads_on y b _ happened none_kept minded).0
-        (leads_on y b _ happened none_kept minded).1
+    next = abstract_next y b (begun b.config n o.memory (one_longer b.config n)) (leads_on y b _ o.happened o.none_kept o.minded).0
+        (leads_on y b _ o.happened o.none_kept o.minded).1
 
     abbrev pub hart : Hart
-    hart = at.on.hart
+    hart = o.at.on.hart
 
     abbrev pub later_hart : Hart
-    later_hart = p.on.on.hart
+    later_hart = o.passes.on.on.hart
 
-    is_next : IsNext y.runs.program w n hart p.forward.effect
-    is_next = record { here = at.on.here; runs = ap is_running at.on.runs; is = p.forward.effect_is }
+    is_next : IsNext y.runs.program w n hart o.passes.forward.effect
+    is_next = record { here = o.at.on.here; runs = ap is_running o.at.on.runs; is = o.passes.forward.effect_is }
 
     holders_stay : v.holders ≡ w.holders
-    holders_stay = ap (λ (z : World). z.holders) p.forward.world
+    holders_stay = ap (λ (z : World). z.holders) o.passes.forward.world
 
     goes_here : IsInAttempt y b (code y s w h stands below) c
     goes_here = core.goes.goes
 
-    goes_next : IsInAttempt y next (code y s w h stands below) (going c cleans)
-    goes_next = record { going = goes_still b.config n memory goes_here.going; rest = refl; giving = refl; committed = refl }
+    goes_next : IsInAttempt y next (code y s w h stands below) (going c o.cleans)
+    goes_next = record { going = goes_still b.config n o.memory goes_here.going; rest = refl; giving = refl; committed = refl }
 
-    fits_by : (f : a.Effect) → is_plain f ≡ true → (f ≡ a.Ends → cleans ≡ []) →
-        ExitInv y next (code y s w h stands below) (going c cleans) (moved graph_thread f) (exit_after f)
+    fits_by : (f : a.Effect) → is_plain f ≡ true → (f ≡ a.Ends → o.cleans ≡ []) →
+        ExitInv y next (code y s w h stands below) (going c o.cleans) (moved graph_thread f) (exit_after f)
     fits_by (a.Sets local value next) plain ends = (goes_next, core.goes.execution)
     fits_by (a.Owes store next) plain ends = (goes_next, core.goes.execution)
     fits_by (a.Makes store next) plain ends = (goes_next, core.goes.execution)
@@ -149,70 +169,85 @@ module _ (y : System) (s : IsSystem y) (w : World) (h : ℕ) (stands : Simulates
     fits_by a.Ends plain ends = record { goes = goes_next; cleans = ends refl; execution = refl }
 
     -- the state of the graph after it
-    module _ (state : now_of y next ≡ after_effect (now_of y b) n graph_thread e)
-        (answers : AnswersGuarded y next (code y s w h stands below) (going c cleans) environment)
+    module _ (state : now_of y next ≡ after_effect (now_of y b) n graph_thread o.effect)
+        (answers : AnswersGuarded y next (code y s w h stands below) (going c o.cleans) o.environment)
         (flushed : (other : Hart) → later_hart ≡ other → (u i : ℕ) → Writes next.config.kept n (attempt_of next.config n).done u i →
-        IsFlushed y v next (code y s w h stands below) (going c cleans) other u i) where
-      walks : slice_get (now_of y next).graph_threads n ≡ Some (moved graph_thread e)
-      walks = ap (λ (z : FlowState). slice_get z.graph_threads n) state ∙ graph_thread_is (now_of y b) n graph_thread e (thread_of y s w h stands below).walks
+        IsFlushed y v next (code y s w h stands below) (going c o.cleans) other u i) where
+      walks : slice_get (now_of y next).graph_threads n ≡ Some (moved graph_thread o.effect)
+      walks =
+          ap (λ (z : FlowState). slice_get z.graph_threads n) state
+          ∙ graph_thread_is (now_of y b) n graph_thread o.effect (thread_of y s w h stands below).walks
 
-      fragment : IsOnFragment y.plan (code y s w h stands below).thread (code y s w h stands below).is.places (on_machine y.runs.program v n environment)
-          (record { exit = exit_after e; node = (moved graph_thread e).at; seen = seen_by (now_of y next) (moved graph_thread e); bank = core.bank })
-          steps (cleans ++ [])
+      fragment : IsOnFragment y.plan (code y s w h stands below).thread (code y s w h stands below).is.places (on_machine y.runs.program v n o.environment)
+          (record {
+            exit = exit_after o.effect;
+            node = (moved graph_thread o.effect).at;
+            seen = seen_by (now_of y next) (moved graph_thread o.effect);
+            bank = core.bank;
+          })
+          o.steps (o.cleans ++ [])
       fragment =
           let seen_all =
-          fragments_see_all y.plan (code y s w h stands below).thread (code y s w h stands below).is.places y.runs.program v n environment
-          (stage_after y.plan (code y s w h stands below).thread (code y s w h stands below).is.places graph_thread.at seen core.bank e) steps p.later
-          (now_of y next).variables p.on in
+          fragments_see_all y.plan (code y s w h stands below).thread (code y s w h stands below).is.places y.runs.program v n o.environment
+          (stage_after y.plan (code y s w h stands below).thread (code y s w h stands below).is.places graph_thread.at seen core.bank o.effect)
+          o.steps o.passes.later
+          (now_of y next).variables o.passes.on in
           subst (λ (es : List Effect). IsOnFragment y.plan (code y s w h stands below).thread (code y s w h stands below).is.places
-          (on_machine y.runs.program v n environment)
-          (record { exit = exit_after e; node = (moved graph_thread e).at; seen = seen_by (now_of y next) (moved graph_thread e); bank = core.bank }) steps es)
-          (later_is ∙ sym (append-nil cleans))
+          (on_machine y.runs.program v n o.environment)
+          (record {
+            exit = exit_after o.effect;
+            node = (moved graph_thread o.effect).at;
+            seen = seen_by (now_of y next) (moved graph_thread o.effect);
+            bank = core.bank;
+          }) o.steps es)
+          (o.later ∙ sym (append-nil o.cleans))
           (subst (λ (stage : Stage). IsOnFragment y.plan (code y s w h stands below).thread (code y s w h stands below).is.places
-          (on_machine y.runs.program v n environment) stage
-          steps p.later) (stage_is (now_of y next).variables e plain) seen_all)
+          (on_machine y.runs.program v n o.environment) stage
+          o.steps o.passes.later) (stage_is (now_of y next).variables o.effect o.plain) seen_all)
 
       same_here : (other : Hart) → slice_get v.harts n ≡ Some other → later_hart ≡ other
-      same_here other there = same_there (slice_get v.harts n) later_hart other p.on.on.here there
+      same_here other there = same_there (slice_get v.harts n) later_hart other o.passes.on.on.here there
 
       phase : (other : Hart) → slice_get v.harts n ≡ Some other →
-          InPhase y v next (code y s w h stands below) (going c cleans) other (moved graph_thread e) other.phase
+          InPhase y v next (code y s w h stands below) (going c o.cleans) other (moved graph_thread o.effect) other.phase
       phase other there =
-          subst (λ (x : Hart). InPhase y v next (code y s w h stands below) (going c cleans) x (moved graph_thread e) x.phase) (same_here other there)
-          (subst (λ (q : Phase). InPhase y v next (code y s w h stands below) (going c cleans) later_hart (moved graph_thread e) q) (sym p.on.on.runs)
+          subst (λ (x : Hart). InPhase y v next (code y s w h stands below) (going c o.cleans) x (moved graph_thread o.effect) x.phase) (same_here other there)
+          (subst (λ (q : Phase). InPhase y v next (code y s w h stands below) (going c o.cleans) later_hart (moved graph_thread o.effect) q)
+          (sym o.passes.on.on.runs)
           (on_fragment (record {
-            environment = environment;
+            environment = o.environment;
             answers = answers;
-            exit = exit_after e;
+            exit = exit_after o.effect;
             bank = core.bank;
             at_bank = core.at_bank;
-            steps = steps;
+            steps = o.steps;
             fragment = fragment;
-            fits = fits_by e plain ends_clean;
+            fits = fits_by o.effect o.plain o.ends;
           })))
 
       may_each : (other : Hart) (effect : Effect) → IsNext y.runs.program w n other effect → MayStore y b n effect
       may_each other effect is =
-          subst (λ (f : Effect). MayStore y b n f) (one_effect y.runs.program w n hart other p.forward.effect effect is_next is) may
+          subst (λ (f : Effect). MayStore y b n f) (one_effect y.runs.program w n hart other o.passes.forward.effect effect is_next is) o.may
 
       pub passed_step : StepOf y s w h stands below n
       passed_step = record {
         next = next;
-        led = goes _ happened by_it (leads_on y b _ happened none_kept minded).0 (leads_on y b _ happened none_kept minded).1;
-        memory = memory_is;
+        led = goes _ o.happened o.by_it (leads_on y b _ o.happened o.none_kept o.minded).0 (leads_on y b _ o.happened o.none_kept o.minded).1;
+        memory = o.memory_is;
         stores_own = may_each;
-        new = going c cleans;
-        own = thread_going y s w h stands below next refl goes_here cleans clean elsewhere (moved graph_thread e) walks phase
+        new = going c o.cleans;
+        own = thread_going y s w h stands below next refl goes_here o.cleans o.clean o.elsewhere (moved graph_thread o.effect) walks phase
             (λ other there. flushed other (same_here other there));
-        locks = locks_after y s w h stands below next (going c cleans) hart later_hart at.on.here at.on.runs p.on.on.here p.on.on.runs may_each
-            (held_still y s w h stands below next (going c cleans) holders_stay
-            (ap (λ (z : FlowState). z.holders) state ∙ plain_holders (now_of y b) n graph_thread e plain)
-            (ap (λ (z : FlowState). length z.graph_threads) state ∙ graph_threads_count (now_of y b) n graph_thread e) (sym goes_here.giving));
+        locks =
+            locks_after y s w h stands below next (going c o.cleans) hart later_hart o.at.on.here o.at.on.runs o.passes.on.on.here o.passes.on.on.runs may_each
+            (held_still y s w h stands below next (going c o.cleans) holders_stay
+            (ap (λ (z : FlowState). z.holders) state ∙ plain_holders (now_of y b) n graph_thread o.effect o.plain)
+            (ap (λ (z : FlowState). length z.graph_threads) state ∙ graph_threads_count (now_of y b) n graph_thread o.effect) (sym goes_here.giving));
         mutexes = ap (λ (hs : List (Option ℕ)). length hs) holders_stay;
         counted = record {
-          marks = p.mark y.runs.marks marks_are ∙ sym is_step;
+          marks = o.passes.mark y.runs.marks o.marks ∙ sym o.is_step;
           unlocked = λ mutex gives. absurd (none-some mutex gives);
-          points = p.point ∙ no_point ∙ and_false (not (is_bound c));
+          points = o.passes.point ∙ o.no_point ∙ and_false (not (is_bound c));
           bound = λ bound. absurd (not_bound c goes_here.committed bound);
         };
         released = nothing_released (holders_stay_none y.runs.program w n holders_stay) (sym (none_leaving c goes_here.giving));

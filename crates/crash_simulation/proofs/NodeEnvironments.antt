@@ -36,7 +36,7 @@ use Rattle.recovery_semantics.specs.Configs.{now}
 use Rattle.recovery_semantics.specs.Events.{IsGoing}
 use Rattle.recovery_semantics.proofs.Public.{memory_loaded}
 use Rattle.region_attempts.specs.Laws.{ReadsHere}
-use Rattle.region_attempts.proofs.Public.{reads_are_right, readers_guard, kept_good, graph_stands}
+use Rattle.region_attempts.proofs.Public.{rerun_reads_nothing_overwritten, readers_guard, kept_good, graph_stands}
 use Rattle.thread_code.specs.RegistersAtNodes.{IsAnswered, source_of}
 use Rattle.thread_runs.specs.CodeFragments.{ReadsVariables, IsPlaced}
 use Rattle.thread_runs.proofs.Public.{plans_are_placed}
@@ -207,8 +207,8 @@ module _ (y : System) (s : IsSystem y) (w : World) (b : AbstractRun y) (code : C
         let may : (reads_all vs ones address bytes && is_access (length w.harts) address bytes) ≡ true =
         and_both (reads_all vs ones address bytes) (is_access (length w.harts) address bytes) (reads_there vs ones one it of there within) access in
         let right =
-        reads_are_right (flat_of y) y.plan.boundaries b.config b.schedule code.thread.number one s.plan.formed (cuts y s b) r.resumed.invariant
-        r.resumed.kept (r.inside code.thread.number) (reads_here one of) in
+        rerun_reads_nothing_overwritten.here (flat_of y) y.plan.boundaries b.config b.schedule code.thread.number one s.plan.formed (cuts y s b)
+        r.resumed.invariant r.resumed.kept (r.inside code.thread.number) (reads_here one of) in
         let is_at : IsAtSpot (spots_of vs) one.variable one.element it.kind (byte_number address) =
         (addresses_reach vs (length w.harts) one.variable one.element it (room y s) there within).at in
         let same : number_at (now b.config) one.variable one.element ≡ element_number seen.variables one.variable one.element =

@@ -4,14 +4,13 @@ pub use Rattle.crash_simulation.proofs.AccountsAfterEvents.{SimulatesWith, step_
 pub use Rattle.crash_simulation.proofs.AccountsBeforeCommit.{evicted_counted, start_carried}
 pub use Rattle.crash_simulation.proofs.CallSteps.{calls_step, none_here, owns}
 pub use Rattle.crash_simulation.proofs.CommitSimulation.{commits_go_on}
-pub use Rattle.crash_simulation.proofs.DisjointElements.{element_ends, elements_apart, log_after, variables_end}
-pub use Rattle.crash_simulation.proofs.DisjointStores.{next_store}
+pub use Rattle.crash_simulation.proofs.DisjointStores.{agrees_beside, next_store}
 pub use Rattle.crash_simulation.proofs.LoadFreeEnvironment.{bare, bare_agrees, bare_meets, bare_reads, placed}
 pub use Rattle.crash_simulation.proofs.Loads.{reads_all}
 pub use Rattle.crash_simulation.proofs.LocalNodeSteps.{mark as local_node_steps_mark, matches_now}
 pub use Rattle.crash_simulation.proofs.LockCallSteps.{fragment, lock, none_from}
 pub use Rattle.crash_simulation.proofs.LocksAfterStep.{runs_held}
-pub use Rattle.crash_simulation.proofs.LocksAtCalls.{locks_it, mutex_there}
+pub use Rattle.crash_simulation.proofs.LocksAtCalls.{locks_it, mutex_there, standing_of}
 pub use Rattle.crash_simulation.proofs.LongestAttempts.{AreFurthest}
 pub use Rattle.crash_simulation.proofs.MarksAtNodes.{environment, inside}
 pub use Rattle.crash_simulation.proofs.NodeEffects.{is_quiet, owes_here, some_node}
@@ -21,7 +20,7 @@ pub use Rattle.crash_simulation.proofs.ReadyHarts.{chosen_or_not, chosen_stores,
 pub use Rattle.crash_simulation.proofs.RecordsAfterCrash.{left, left_describes, left_point, log_of}
 pub use Rattle.crash_simulation.proofs.SectionsAfterEvents.{evicted_released, released_by}
 pub use Rattle.crash_simulation.proofs.SettledMemory.{settled_is_kept}
-pub use Rattle.crash_simulation.proofs.SimulationAtStart.{start_simulates}
+pub use Rattle.crash_simulation.proofs.SimulationAtStart.{row_of, start_simulates, zero_local, zero_read}
 pub use Rattle.crash_simulation.proofs.SimulationInRecovery.{all_describe, phase_of}
 pub use Rattle.crash_simulation.proofs.StatesMatchSource.{free_holds_none, kept_matches, orderly, resumed}
 pub use Rattle.crash_simulation.proofs.StepSimulation.{evicted_simulates}

@@ -1,7 +1,7 @@
 -- A hart that executes instructions is in a fragment, at a call, or at the code of a node that takes no mutex.
-use Rattle.std.proofs.Common.{◌≡◌, ◌≢◌, ◌⊎◌, inl, inr, ⊎_elim, refl, ℕ, zero, suc, ◌+◌, ◌-◌, ◌/◌, ◌<◌, List, [], ◌∷◌, ◌++◌}
+use Rattle.std.proofs.Common.{◌≡◌, ◌≢◌, ◌⊎◌, inl, inr, ⊎_elim, refl, ℕ, zero, suc, ◌-◌, ◌/◌, ◌<◌, List, [], ◌∷◌, ◌++◌}
 use Rattle.std.proofs.Common.{ap, ap₂, arith, sym, ◌∙◌, subst, Option, Some, None, Bool, true, false}
-use Rattle.std.specs.Prelude.{slice_get, Contains, ◌%◌, ◌^◌, not, ◌&&◌, ◌==◌, if◌then◌else◌}
+use Rattle.std.specs.Prelude.{slice_get, Contains, not, ◌&&◌, if◌then◌else◌}
 use Rattle.std.specs.List.{list_any}
 use Rattle.std.proofs.lemmas.Bool.{true≢false}
 use Rattle.std.proofs.lemmas.Option.{none-some, same_Some, slice_get_within, slice_get-map}
@@ -14,7 +14,7 @@ use Rattle.rv64_isa.specs.declared.phase.Phase.{Phase}
 use Rattle.rv64_isa.specs.declared.phase.Phase.TheVariants.{Run}
 use Rattle.rv64_isa.specs.Rows.{Effect, Cleans}
 use Rattle.rv64_isa.specs.Machine.{Hart, World}
-use Rattle.boundary_code.specs.Boundaries.{Boundary, bank_effects, commit_effects, boundary_effects}
+use Rattle.boundary_code.specs.Boundaries.{Boundary, boundary_effects}
 use Rattle.code_runs.specs.CodeTraces.{MarkedEnvironment}
 use Rattle.node_code.specs.Pieces.{bank_after}
 use Rattle.flow_graph.specs.Nodes.{Action, Eval, Store, Test, Lock, Unlock, End, Node, Graph}
@@ -30,7 +30,7 @@ use Rattle.log_states.specs.Logs.{Record}
 use Rattle.log_states.specs.Stages.{is_store}
 use Rattle.log_states.specs.Laws.{recorded_by}
 use Rattle.log_states.specs.LogInvariant.{LogInv}
-use Rattle.log_states.proofs.Public.{offset_follows, begins_uncommitted, boundaries_fence, begins_standing}
+use Rattle.log_states.proofs.Public.{offset_follows, begins_uncommitted, boundaries_fence, begins_standing, boundary_stores}
 use Rattle.hart_runs.specs.Calls.{IsInPhase}
 use Rattle.thread_code.specs.RegistersAtNodes.{IsAnswered, source_of}
 use Rattle.thread_code.specs.NodeCodeEffects.{Places, Entrance, keeping, kind_at}
@@ -57,7 +57,7 @@ use Rattle.crash_simulation.proofs.ThreadUpdates.{OfThread, SimulatesAnd, placed
 use Rattle.crash_simulation.proofs.LastReleases.{none_leaving}
 use Rattle.crash_simulation.proofs.RecordsAfterCrash.{caught_is_over}
 
--- ---- Lists, and the effects of a boundary
+-- ---- Lists
 
 left_empty : {A : Type 0} (xs ys : List A) → xs ++ ys ≡ [] → xs ≡ []
 left_empty [] ys h = refl
@@ -66,15 +66,6 @@ left_empty (x ∷ xs) ys h = cc
 pub right_empty : {A : Type 0} (xs ys : List A) → xs ++ ys ≡ [] → ys ≡ []
 right_empty [] ys h = h
 right_empty (x ∷ xs) ys h = cc
-
--- a boundary stores
-boundaries_store : (x : Boundary) (bank resume : ℕ) (registers : List ℕ) → list_any is_store (boundary_effects x bank resume registers) ≡ true
-boundaries_store x bank resume registers = by (x.mask == 0)
-  where
-    by : (test : Bool) → list_any is_store (if test then commit_effects x.thread 0
-        else bank_effects x bank registers ++ commit_effects x.thread ((resume + bank) % 2 ^ 64)) ≡ true
-    by true = refl
-    by false = refl
 
 -- ---- Nodes
 
@@ -420,7 +411,7 @@ module _ (y : System) (s : IsSystem y) (w : World) (h : ℕ) (stands : Simulates
 
     -- the boundary has its stores ahead: no steps are bound to it
     unbound : is_bound ghost ≡ is_bound c
-    unbound = ap (λ (some : Bool). not some) (boundaries_store boundary (1 - bank) resume registers)
+    unbound = ap (λ (some : Bool). not some) (boundary_stores boundary (1 - bank) resume registers)
         ∙ sym (ap (λ (done : Bool). not done && not (list_any is_store c.rest)) goes.committed)
 
     begun : SimulatesAnd y s w h below stands (OnKeeps y w)

@@ -8,7 +8,6 @@ use Rattle.c_tree.specs.Flats as f
 use Rattle.c_tree.specs.Source as m
 use Rattle.c_tree.specs.Source.{source_step}
 use Rattle.c_tree.specs.LockDiscipline.{Held}
-use Rattle.lock_discipline.specs.Masks.{mask_of}
 use Rattle.source_machine.specs.Discipline.{StateKeeps}
 use Rattle.source_machine.specs.Mutexes.{locks, unlocks, held_by}
 use Rattle.source_machine.proofs.Public.{Passed, locks_found, stepped, apart, run_keeps, unlocks_held, solo as solo_law, mutex_passed, ends_by, goes_on}
@@ -30,12 +29,14 @@ use Rattle.crash_simulation.specs.ThreadGhosts.{ThreadGhost, ExitInv, on_fragmen
 use Rattle.crash_simulation.specs.ReleasedSections.{one_if, sections_kept}
 use Rattle.crash_simulation.proofs.LastReleases.{holds_some, describes_test}
 use Rattle.crash_simulation.proofs.ThreadCommits.{invariant, kept_by}
+use Rattle.boundary_code.specs.Boundaries.{is_empty}
+use Rattle.thread_code.specs.Plans.{locks_held}
 
 -- ---- One step
 
 pub between_same : (s z : m.State) (u : ℕ) → held_by u z.holders ≡ held_by u s.holders → m.is_between z u ≡ m.is_between s u
 between_same s z u same =
-    none_where u z.holders ∙ (ap (λ (h : Held). mask_of h == 0) same ∙ sym (none_where u s.holders))
+    none_where u z.holders ∙ (ap (λ (h : Held). is_empty (locks_held h)) same ∙ sym (none_where u s.holders))
 
 none_ends : (before later : Bool) → later ≡ before → one_if (not before && later) ≡ 0
 none_ends true later same = refl

@@ -54,19 +54,19 @@ use Rattle.crash_simulation.proofs.RecordsAfterCrash.{over_is_caught}
 
 -- ---- Lists
 
-row_of : {A : Type 0} (g : ℕ → A) (at count i : ℕ) → i < count → slice_get (map g (numbers_from at count)) i ≡ Some (g (at + i))
+pub row_of : {A : Type 0} (g : ℕ → A) (at count i : ℕ) → i < count → slice_get (map g (numbers_from at count)) i ≡ Some (g (at + i))
 row_of g at zero i below = absurd (omega (arith, below))
 row_of {A} g at (suc count) zero below = ap (λ (n : ℕ). Some (g n)) (sym (add-zero at))
 row_of {A} g at (suc count) (suc i) below =
     let same : at + 1 + i ≡ at + suc i = omega arith in
     row_of g (at + 1) count i (omega (arith, below)) ∙ ap (λ (n : ℕ). Some (g n)) same
 
-zero_read : (n r : ℕ) → slice_index (replicate n 0) r ≡ 0
+pub zero_read : (n r : ℕ) → slice_index (replicate n 0) r ≡ 0
 zero_read zero r = refl
 zero_read (suc n) zero = refl
 zero_read (suc n) (suc r) = zero_read n r
 
-zero_local : (n i : ℕ) → slice_index_or (replicate n (pos 0)) i (pos 0) ≡ pos 0
+pub zero_local : (n i : ℕ) → slice_index_or (replicate n (pos 0)) i (pos 0) ≡ pos 0
 zero_local zero i = refl
 zero_local (suc n) zero = refl
 zero_local (suc n) (suc i) = zero_local n i

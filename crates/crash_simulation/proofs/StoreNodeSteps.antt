@@ -69,7 +69,7 @@ use Rattle.crash_simulation.proofs.UncommittedSteps.{leads_on}
 use Rattle.crash_simulation.proofs.NodeEnvironments.{reads_none, answers_none, element_access}
 use Rattle.crash_simulation.proofs.OwnHartSteps.{going, code, number, abstract, ghost, after, StepOf}
 use Rattle.crash_simulation.proofs.PendingFlushes.{flushed_still, as_before}
-use Rattle.crash_simulation.proofs.WriteBackSteps.{stays_step}
+use Rattle.crash_simulation.proofs.WriteBackSteps.{mark_step}
 use Rattle.crash_simulation.proofs.MarksAtNodes.{inside, environment, at_some_mark}
 use Rattle.crash_simulation.proofs.LocalNodeSteps.{matches_now}
 use Rattle.crash_simulation.proofs.MarkSteps as passing
@@ -274,9 +274,34 @@ module _ (y : System) (s : IsSystem y) (w : World) (h : ℕ) (stands : Simulates
     no_end : e ≡ a.Ends → cleans ≡ []
     no_end is = cc
 
+    abbrev passed : passing.Passing y s w h stands below core
+    passed = record {
+      effect = e;
+      plain = refl;
+      environment = here;
+      marks = refl;
+      steps = mark.steps;
+      effects = mark.effects;
+      at = mark.at;
+      passes = p;
+      cleans = cleans;
+      later = later_is;
+      clean = clean;
+      ends = no_end;
+      elsewhere = elsewhere;
+      may = may;
+      no_point = no_point;
+      memory = memory;
+      memory_is = refl;
+      happened = happened;
+      by_it = refl;
+      none_kept = refl;
+      minded = minded;
+      is_step = refl;
+    }
+
     abbrev next : AbstractRun y
-    next = passing.next y s w h stands below core e refl here refl mark.steps mark.effects mark.at p cleans later_is clean no_end elsewhere may no_point memory
-        refl happened refl refl minded refl
+    next = passing.next y s w h stands below core passed
 
     abbrev new : ThreadGhost
     new = going (ghost y s w h stands below) cleans
@@ -371,23 +396,11 @@ module _ (y : System) (s : IsSystem y) (w : World) (h : ℕ) (stands : Simulates
 
     store_passes : StepOf y s w h stands below n
     store_passes =
-        passed_step y s w h stands below core e refl here refl mark.steps mark.effects mark.at p cleans later_is clean no_end elsewhere may no_point memory
-        refl happened refl refl minded refl state
+        passed_step y s w h stands below core passed state
         (answers_none y s w b (code y s w h stands below) (s.own h below) stands.before_commit.count (inside y s w h stands below core node at none) next new)
         flushed
 
   pub store_step : StepOf y s w h stands below n
-  store_step = by (marks y.plan (code y s w h stands below).thread (code y s w h stands below).is.places y.runs.program w n here e
+  store_step = mark_step y s w h stands below core marks here e
       (stage_after y.plan (code y s w h stands below).thread (code y s w h stands below).is.places graph_thread.at seen core.bank e) mark.steps mark.effects
-      stands.before_commit.sound mark.at)
-    where
-      by : laws.PassesMark y.plan (code y s w h stands below).thread (code y s w h stands below).is.places (on_machine y.runs.program w n here) e
-          (stage_after y.plan (code y s w h stands below).thread (code y s w h stands below).is.places graph_thread.at seen core.bank e) mark.steps mark.effects
-          mark.at
-          ⊎ laws.Stays y.plan (code y s w h stands below).thread (code y s w h stands below).is.places (on_machine y.runs.program w n here) e
-          (stage_after y.plan (code y s w h stands below).thread (code y s w h stands below).is.places graph_thread.at seen core.bank e) mark.steps mark.effects
-          mark.at → StepOf y s w h stands below n
-      by (inl p) = store_passes p
-      by (inr stays) = stays_step y s w h stands below core here e
-          (stage_after y.plan (code y s w h stands below).thread (code y s w h stands below).is.places graph_thread.at seen core.bank e) mark.steps mark.effects
-          mark.at stays
+      mark.at store_passes

@@ -1,9 +1,9 @@
 -- A hart at the code of a node that gives a mutex back: it passes its mark, and the boundary before the call begins.
-use Rattle.std.proofs.Common.{◌≡◌, ◌≢◌, ◌⊎◌, inl, inr, ⊎_elim, refl, ℕ, suc, ◌+◌, ◌-◌, ◌*◌, ◌/◌, ◌%◌, ◌^◌, ◌<◌, ◌≤◌, List, [], ◌∷◌, ◌++◌, length, ap, sym}
-use Rattle.std.proofs.Common.{◌∙◌, subst, arith, Option, Some, None, Bool, true, false}
-use Rattle.std.specs.Prelude.{slice_get, slice_set, Contains, not, ◌&&◌, ◌==◌, if◌then◌else◌}
+use Rattle.std.proofs.Common.{◌≡◌, ◌≢◌, ◌⊎◌, inl, inr, ⊎_elim, refl, ℕ, suc, ◌+◌, ◌-◌, ◌*◌, ◌/◌, ◌<◌, ◌≤◌, List, [], ◌∷◌, ◌++◌, length, ap, sym}
+use Rattle.std.proofs.Common.{◌∙◌, subst, arith, Option, Some, None, Bool, false}
+use Rattle.std.specs.Prelude.{slice_get, slice_set, Contains, not, ◌&&◌, if◌then◌else◌}
 use Rattle.std.specs.List.{list_any}
-use Rattle.std.proofs.lemmas.Bool.{true≢false, cond_both, cond-true, cases_Bool, eqb-false}
+use Rattle.std.proofs.lemmas.Bool.{true≢false, cond-true, cases_Bool}
 use Rattle.std.proofs.lemmas.Option.{none-some, same_Some, slice_get_within}
 use Rattle.ido_base.specs.declared.event.Reply.TheVariants.{Moved, Drained}
 use Rattle.ido_base.specs.Growth.{PersistsThrough}
@@ -15,7 +15,7 @@ use Rattle.rv64_isa.specs.Rows as r
 use Rattle.rv64_isa.specs.Rows.{Effect}
 use Rattle.rv64_isa.specs.Machine.{Hart, World}
 use Rattle.rv64_isa.specs.Schedule.{is_running, is_point_store}
-use Rattle.boundary_code.specs.Boundaries.{Boundary, boundary_effects, bank_effects, commit_effects}
+use Rattle.boundary_code.specs.Boundaries.{Boundary, boundary_effects, is_empty}
 use Rattle.node_code.specs.Pieces.{bank_after}
 use Rattle.code_runs.specs.CodeTraces.{MarkedEnvironment}
 use Rattle.variable_words.proofs.Public.{is_size, at_whole}
@@ -42,7 +42,7 @@ use Rattle.log_states.specs.Machines.{IsNext, IsLogEffect, StoresWord, CleansLin
 use Rattle.log_states.specs.Laws.{recorded_by}
 use Rattle.log_states.specs.LogInvariant.{LogInv, passage, Advances, Completes, WritesBack}
 use Rattle.log_states.proofs.Public.{stores_nothing, one_effect, boundaries_stay_in, point_store_is_last, byte_of_log, word_of_point, point_says}
-use Rattle.log_states.proofs.Public.{boundaries_fence, steps_keep, begins_standing, own_steps_keep}
+use Rattle.log_states.proofs.Public.{boundaries_fence, steps_keep, begins_standing, own_steps_keep, boundary_stores}
 use Rattle.recovered_threads.specs.RecordDescriptions.{Describes, past_unlock}
 use Rattle.recovered_threads.proofs.Public.{same_there, same_or_other, unlocks_enter}
 use Rattle.thread_code.specs.RegistersAtNodes.{Enters, IsAnswered, source_of}
@@ -70,14 +70,10 @@ use Rattle.crash_simulation.proofs.UncommittedSteps.{leads_on}
 use Rattle.crash_simulation.proofs.NodeEnvironments.{reads_none, answers_none}
 use Rattle.crash_simulation.proofs.OwnHartSteps.{code, number, same_number, abstract, ghosts, ghost, after, StepOf, locks_after}
 use Rattle.crash_simulation.proofs.PendingFlushes.{flushed_still}
-use Rattle.crash_simulation.proofs.WriteBackSteps.{stays_step, none_clean, not_bound}
+use Rattle.crash_simulation.proofs.WriteBackSteps.{mark_step, none_clean, not_bound}
 use Rattle.crash_simulation.proofs.MarksAtNodes.{inside, environment, at_some_mark}
 use Rattle.crash_simulation.proofs.LocalNodeSteps.{matches_now}
-
--- a boundary stores its point
-boundary_stores : (b : Boundary) (bank resume : ℕ) (x : List ℕ) → list_any is_store (boundary_effects b bank resume x) ≡ true
-boundary_stores b bank resume x = cond_both (b.mask == 0) (commit_effects b.thread 0)
-    (bank_effects b bank x ++ commit_effects b.thread ((resume + bank) % 2 ^ 64)) (λ es. list_any is_store es ≡ true) (λ _. refl) (λ _. refl)
+use Rattle.boundary_code.proofs.Public.{some_there}
 
 module _ (y : System) (s : IsSystem y) (w : World) (h : ℕ) (stands : Simulates y s w) (below : h < thread_count y) (core : AtCoreNow y s w h stands below)
     (marks : MarksPass) (node : Node) (at : NodeAt (lowered (flat_of y)) (thread_of y s w h stands below).graph_thread.at node)
@@ -378,10 +374,10 @@ module _ (y : System) (s : IsSystem y) (w : World) (h : ℕ) (stands : Simulates
     bank_next = bank_after boundary core.bank
 
     at_bank_next : IsAtBankOf y next (code y s w h stands below) new bank_next
-    at_bank_next some = elim (cases_Bool (boundary.mask == 0)) [
-      | inl between ↦ absurd (some (cond-true (boundary.mask == 0) 0 _ between))
+    at_bank_next some = elim (cases_Bool (is_empty boundary.locks)) [
+      | inl between ↦ absurd (some (cond-true (is_empty boundary.locks) 0 _ between))
       | inr within ↦
-          let says = point_says boundary (1 - core.bank) resume core.registers begins.recoverable (omega arith) (eqb-false boundary.mask 0 within) in
+          let says = point_says boundary (1 - core.bank) resume core.registers begins.recoverable (omega arith) (some_there boundary.locks within) in
           says.1 ∙ ap (λ (q : Bool). if q then core.bank else 1 - core.bank) (sym within)
     ]
 
@@ -561,17 +557,6 @@ module _ (y : System) (s : IsSystem y) (w : World) (h : ℕ) (stands : Simulates
     }
 
   pub unlock_step : StepOf y s w h stands below n
-  unlock_step = by (marks y.plan (code y s w h stands below).thread (code y s w h stands below).is.places y.runs.program w n here e
+  unlock_step = mark_step y s w h stands below core marks here e
       (stage_after y.plan (code y s w h stands below).thread (code y s w h stands below).is.places graph_thread.at seen core.bank e) mark.steps mark.effects
-      stands.before_commit.sound mark.at)
-    where
-      by : laws.PassesMark y.plan (code y s w h stands below).thread (code y s w h stands below).is.places (on_machine y.runs.program w n here) e
-          (stage_after y.plan (code y s w h stands below).thread (code y s w h stands below).is.places graph_thread.at seen core.bank e) mark.steps mark.effects
-          mark.at
-          ⊎ laws.Stays y.plan (code y s w h stands below).thread (code y s w h stands below).is.places (on_machine y.runs.program w n here) e
-          (stage_after y.plan (code y s w h stands below).thread (code y s w h stands below).is.places graph_thread.at seen core.bank e) mark.steps mark.effects
-          mark.at → StepOf y s w h stands below n
-      by (inl p) = unlock_passes p
-      by (inr stays) = stays_step y s w h stands below core here e
-          (stage_after y.plan (code y s w h stands below).thread (code y s w h stands below).is.places graph_thread.at seen core.bank e) mark.steps mark.effects
-          mark.at stays
+      mark.at unlock_passes

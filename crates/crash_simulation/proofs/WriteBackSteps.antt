@@ -1,5 +1,5 @@
 -- A hart at its node's code that writes an entry of its queue back stays there.
-use Rattle.std.proofs.Common.{◌≡◌, refl, ℕ, ◌<◌, List, [], ◌∷◌, length, ap, sym, ◌∙◌, subst, arith, Option, Some, Bool, true, false}
+use Rattle.std.proofs.Common.{◌≡◌, ⊎_elim, refl, ℕ, ◌<◌, List, [], ◌∷◌, length, ap, sym, ◌∙◌, subst, arith, Option, Some, Bool, true, false}
 use Rattle.std.specs.Prelude.{slice_get, Contains, not, ◌&&◌}
 use Rattle.std.proofs.lemmas.Bool.{true≢false}
 use Rattle.std.proofs.lemmas.Option.{none-some}
@@ -203,3 +203,15 @@ module _ (y : System) (s : IsSystem y) (w : World) (h : ℕ) (stands : Simulates
     };
     released = nothing_released (holders_stay_none y.runs.program w n holders_stay) (sym (none_leaving c goes_here.giving));
   }
+
+-- a step at a mark passes it, or is such a one
+module _ (y : System) (s : IsSystem y) (w : World) (h : ℕ) (stands : Simulates y s w) (below : h < thread_count y) (core : AtCoreNow y s w h stands below)
+    (marks : laws.MarksPass) (environment : MarkedEnvironment) (e : a.Effect) (stage : Stage) (steps : ℕ) (effects : List Effect)
+    (at : IsAtMark y.plan (code y s w h stands below).thread (code y s w h stands below).is.places
+    (on_machine y.runs.program w (number y s w h stands below) environment) e stage steps effects) where
+  pub mark_step : (laws.PassesMark y.plan (code y s w h stands below).thread (code y s w h stands below).is.places
+      (on_machine y.runs.program w (number y s w h stands below) environment) e stage steps effects at →
+      StepOf y s w h stands below (number y s w h stands below)) → StepOf y s w h stands below (number y s w h stands below)
+  mark_step passes = ⊎_elim passes (stays_step y s w h stands below core environment e stage steps effects at)
+      (marks y.plan (code y s w h stands below).thread (code y s w h stands below).is.places y.runs.program w (number y s w h stands below) environment e stage
+      steps effects stands.before_commit.sound at)

@@ -22,6 +22,7 @@ use Rattle.flow_graph.specs.declared.cuts.Cuts.{Cuts}
 use Rattle.flow_graph.specs.Nodes.{Graph, graph_of}
 use Rattle.flow_graph.specs.Colours.{colouring_of}
 use Rattle.flow_graph.specs.IdempotentCuts.{AreCuts, IsMinimal, boundaries_of, AreAtWrites}
+use Rattle.region_cutter.specs.FewestCuts.{AreFewestCuts}
 use Rattle.flat_analysis.specs.declared.analyses.Analysis.{Analysis}
 use Rattle.flat_analysis.specs.Analyses.{IsAnalysis}
 use Rattle.thread_code.specs.Plans.{Plan, IsPlan}
@@ -88,10 +89,10 @@ few_at (first ∷ threads) few zero items there =
 few_at (first ∷ threads) few (suc n) items there = few_at threads (All-tail IsFew first threads few) n items there
 
 pub is_translated : (p : Plan) (code : Code) → IsCodeFor p code → IsPlan p → (object : Object) (marks : Marks) (cuts : Cuts) →
-    p.boundaries ≡ boundaries_of cuts → IsMinimal p.graph (boundaries_of cuts) →
+    p.boundaries ≡ boundaries_of cuts → IsMinimal p.graph (boundaries_of cuts) → AreFewestCuts p.graph (boundaries_of cuts) →
     AreLinked code_base (map items_in code.threads.items) (program_of object) marks.threads.items →
     object.initial ≡ code.initial → object.mutexes ≡ code.mutexes → IsTranslated p.flat object marks cuts
-is_translated p code is plan object marks cuts at minimal linked initial mutexes =
+is_translated p code is plan object marks cuts at minimal fewest linked initial mutexes =
     let threads = map items_in code.threads.items in
     let few = few_at code.threads.items is.few in
     let few_threads : length threads ≤ MOST_THREADS = omega (arith, is.few_threads, length-map code.threads.items items_in) in
@@ -104,6 +105,7 @@ is_translated p code is plan object marks cuts at minimal linked initial mutexes
       of_flat = refl;
       at_cuts = at;
       minimal = subst (λ (g : Graph). IsMinimal g (boundaries_of cuts)) plan.lowered minimal;
+      fewest = subst (λ (g : Graph). AreFewestCuts g (boundaries_of cuts)) plan.lowered fewest;
       runs = refl;
       items = threads;
       linked = linked;
@@ -124,11 +126,11 @@ marks_of y s long = record {
 }
 
 module _ (p : Plan) (code : Code) (is : IsCodeFor p code) (plan : IsPlan p) (object : Object) (marks : Marks) (cuts : Cuts)
-    (at : p.boundaries ≡ boundaries_of cuts) (minimal : IsMinimal p.graph (boundaries_of cuts))
+    (at : p.boundaries ≡ boundaries_of cuts) (minimal : IsMinimal p.graph (boundaries_of cuts)) (fewest : AreFewestCuts p.graph (boundaries_of cuts))
     (linked : AreLinked code_base (map items_in code.threads.items) (program_of object) marks.threads.items)
     (initial : object.initial ≡ code.initial) (mutexes : object.mutexes ≡ code.mutexes) where
   abbrev whole : IsTranslated p.flat object marks cuts
-  whole = is_translated p code is plan object marks cuts at minimal linked initial mutexes
+  whole = is_translated p code is plan object marks cuts at minimal fewest linked initial mutexes
 
   resumes_long : length (resume_marks marks.threads.items) ≡ length p.graph.threads
   resumes_long =

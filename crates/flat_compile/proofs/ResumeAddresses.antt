@@ -13,7 +13,7 @@ use Rattle.flow_graph.specs.IdempotentCuts.{IsChosen}
 use Rattle.flow_graph.specs.Liveness.{NodeAt}
 use Rattle.flow_graph.specs.Lowering.{threads_nodes}
 use Rattle.code_runs.specs.CodeTraces.{Program}
-use Rattle.thread_code.specs.Plans.{Plan, IsPlan, Thread, IsThread, IsNodeOf, mask_before}
+use Rattle.thread_code.specs.Plans.{Plan, IsPlan, Thread, IsThread, IsNodeOf, locks_before}
 use Rattle.thread_code.specs.NodeCodeEffects.{Places}
 use Rattle.thread_code.specs.Programs.{IsThreadCode, IsNodeCode, IsOn, IsCallWithin, IsResumeAddress}
 use Rattle.thread_code.specs.Programs as places
@@ -271,7 +271,7 @@ module _ (p : Plan) (t : Thread) (node : ℕ) (is : Node) (own : IsNodeOf t node
           let same : is ≡ x = same_Some is x (sym at ∙ h) in
           let both : Lock mutex next ≡ Unlock m to = sym does ∙ ap (λ (z : Node). z.action) same ∙ e in cc
 
-  pub unlocks : (mutex next : ℕ) → is.action ≡ Unlock mutex next → mask_before p t next ≢ 0 → IsPastCall p t node (Some next)
+  pub unlocks : (mutex next : ℕ) → is.action ≡ Unlock mutex next → locks_before p t next ≢ [] → IsPastCall p t node (Some next)
   unlocks mutex next does some to = (
     λ e. let same : next ≡ to = cc in
         subst (λ (n : ℕ). IsSpot p t (After node n)) same (past_unlock node mutex next is own at does some),
@@ -286,7 +286,7 @@ module _ (p : Plan) (t : Thread) (node : ℕ) (is : Node) (own : IsNodeOf t node
           let same : is ≡ x = same_Some is x (sym at ∙ h) in
           let both : Unlock mutex next ≡ Unlock m to = sym does ∙ ap (λ (z : Node). z.action) same ∙ e in cc
 
-  pub frees : (mutex next : ℕ) → is.action ≡ Unlock mutex next → mask_before p t next ≡ 0 → IsPastCall p t node None
+  pub frees : (mutex next : ℕ) → is.action ≡ Unlock mutex next → locks_before p t next ≡ [] → IsPastCall p t node None
   frees mutex next does none to = (λ e. cc, λ s. absurd (never s))
     where
       never : IsSpot p t (After node to) → ⊥
@@ -297,7 +297,7 @@ module _ (p : Plan) (t : Thread) (node : ℕ) (is : Node) (own : IsNodeOf t node
           let same : is ≡ x = same_Some is x (sym at ∙ h) in
           let both : Unlock mutex next ≡ Unlock m to = sym does ∙ ap (λ (z : Node). z.action) same ∙ e in
           let one : next ≡ to = cc in
-          some (ap (λ (n : ℕ). mask_before p t n) (sym one) ∙ none)
+          some (ap (λ (n : ℕ). locks_before p t n) (sym one) ∙ none)
 
   pub passes : calls is.action ≡ false → IsPastCall p t node None
   passes none to = (λ e. cc, λ s. absurd (never s))

@@ -1,5 +1,5 @@
 -- The entry that a table of places has at an address is of the node at which the thread goes on there.
-use Rattle.std.proofs.Common.{◌≡◌, inl, inr, refl, ℕ, zero, suc, ◌<◌, List, [], ◌∷◌, map, ◌∙◌, ap, sym, subst, arith, Option, Some, Bool, true, false}
+use Rattle.std.proofs.Common.{◌≡◌, inl, inr, refl, ℕ, zero, suc, List, [], ◌∷◌, map, ◌∙◌, ap, sym, subst, arith, Some, false}
 use Rattle.std.specs.Prelude.{slice_get, Contains, find, ◌==◌}
 use Rattle.std.proofs.lemmas.Bool.{cases_Bool, cases_lt, cond-true, cond-false, eqb-true, eqb-false}
 use Rattle.std.proofs.lemmas.Option.{same_Some}

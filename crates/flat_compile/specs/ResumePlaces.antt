@@ -2,10 +2,11 @@
 use Rattle.std.specs.Prelude.{◌≡◌, ◌≢◌, ◌↔◌, ℕ, ◌<◌, List, [], length, map, slice_get, slice_index, slice_index_or, Contains, Some, Vec}
 use Rattle.std.specs.Global.{Global}
 use Rattle.std.specs.List.Sorted.{IsStrictlyIncreasing}
+use Rattle.ido_base.specs.Locks.{mask_with}
 use Rattle.flow_graph.specs.Nodes.{Lock, Unlock, Node}
 use Rattle.flow_graph.specs.IdempotentCuts.{IsChosen}
 use Rattle.flow_graph.specs.Liveness.{NodeAt, IsLive}
-use Rattle.thread_code.specs.Plans.{Plan, Thread, IsNodeOf, mask_before}
+use Rattle.thread_code.specs.Plans.{Plan, Thread, IsNodeOf, locks_before}
 use Rattle.thread_code.specs.NodeCodeEffects.{Places}
 use Rattle.thread_code.specs.Programs.{IsThreadCode}
 use Rattle.code_runs.specs.CodeTraces.{Program}
@@ -40,7 +41,7 @@ module _ (p : Plan) (t : Thread) where
     at_chosen : (node : ℕ) → IsNodeOf t node → IsChosen p.graph p.boundaries node → IsSpot (Before node)
     past_lock : (node mutex next : ℕ) (is : Node) → IsNodeOf t node → NodeAt p.graph node is → is.action ≡ Lock mutex next → IsSpot (After node next)
     past_unlock : (node mutex next : ℕ) (is : Node) → IsNodeOf t node → NodeAt p.graph node is → is.action ≡ Unlock mutex next →
-        mask_before p t next ≢ 0 → IsSpot (After node next)
+        locks_before p t next ≢ [] → IsSpot (After node next)
 
   -- ---- What is found
 
@@ -53,7 +54,7 @@ module _ (p : Plan) (t : Thread) where
   -- what recovery finds that lets the thread go on at the node: the mutexes that it holds, the registers of its live locals, and where it stores next
   pub record IsFound (r : Resume) : Type 0 where
     pub own : IsNodeOf t r.node
-    pub mask_is : r.mask ≡ mask_before p t r.node
+    pub mask_is : r.mask ≡ mask_with (locks_before p t r.node)
     pub live : (l : LiveLocal) → Contains r.live.items l ↔ IsLiveLocal r.node l
     pub ascend : IsStrictlyIncreasing (map (λ (l : LiveLocal). l.register) r.live.items)
     -- no node but a store writes

@@ -11,6 +11,7 @@ use Rattle.hart_core.specs.Objects.{IsWithinLimits}
 use Rattle.flow_graph.specs.declared.cuts.Cuts.{Cuts}
 use Rattle.flow_graph.specs.Lowering.{lowered}
 use Rattle.flow_graph.specs.IdempotentCuts.{IsMinimal, boundaries_of}
+use Rattle.region_cutter.specs.FewestCuts.{AreFewestCuts}
 use Rattle.rv64_codegen.specs.StoreCleans.{AllCleanAtOnce}
 use Rattle.crash_simulation.specs.Systems.{System, IsSystem, flat_of}
 use Rattle.std.specs.Prelude.{Vec}
@@ -18,7 +19,8 @@ use Rattle.std.specs.Global.{Global}
 use Rattle.flat_compile.specs.declared.resumes.Resume.{Resume}
 use Rattle.flat_compile.specs.ResumePlaces.{IsResumeTable}
 
--- What the machine runs is a system of the flat form, so all laws of compiled programs hold of it; none of the boundaries can be taken away.
+-- What the machine runs is a system of the flat form, so all laws of compiled programs hold of it; none of the boundaries can be taken away, and in
+-- straight code they are the fewest.
 -- A machine can begin with the object: it is within a machine's limits, and each of its threads has its marks.
 pub record IsTranslated (flat : Flat) (object : Object) (marks : Marks) (cuts : Cuts) : Type 0 where
   pub system : System
@@ -26,6 +28,7 @@ pub record IsTranslated (flat : Flat) (object : Object) (marks : Marks) (cuts : 
   pub of_flat : flat_of system ≡ flat
   pub at_cuts : system.plan.boundaries ≡ boundaries_of cuts
   pub minimal : IsMinimal (lowered flat) (boundaries_of cuts)
+  pub fewest : AreFewestCuts (lowered flat) (boundaries_of cuts)
   pub runs : system.runs ≡ executable_of object marks
   -- The items that the code is linked from, thread after thread: at once after a store they clean its line where no later store of the region does,
   -- and outside the code of boundaries no other line.

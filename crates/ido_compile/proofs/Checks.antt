@@ -52,13 +52,17 @@ flat_count : (x : p.Program) → length (flat_form x).threads ≡ length x.threa
 unfolding flat_form
 flat_count x = length-map x.threads (flat_thread x.functions)
 
-pub few_threads : (text : List ℕ) (flat : Flat) → IsAccepted text (flat_of flat) → length flat.threads.items ≤ 8
-few_threads text flat is =
+pub few_accepted : (text : List ℕ) (flat : f.Flat) → IsAccepted text flat → length flat.threads ≤ 8
+few_accepted text flat is =
     let flattened = is.checked.flattened in
     let it = flattened.ranged.typed in
     let a = few_of it.items it.faultless in
     let b = ap (λ (q : p.Program). length q.threads) it.typed in
     let c = flat_count flattened.program in
     let d = ap (λ (y : f.Flat). length y.threads) flattened.flattened in
-    let e = length-map flat.threads.items f.thread_of in
-    omega (arith, a, b, c, d, e)
+    omega (arith, a, b, c, d)
+
+pub few_threads : (text : List ℕ) (flat : Flat) → IsAccepted text (flat_of flat) → length flat.threads.items ≤ 8
+few_threads text flat is =
+    let few = few_accepted text (flat_of flat) is in
+    omega (arith, few, length-map flat.threads.items f.thread_of)

@@ -6,6 +6,7 @@ use Rattle.rv64_isa.specs.declared.object.Marks.{Marks}
 use Rattle.rv64_isa.specs.Executables.{Executable}
 use Rattle.flow_graph.specs.declared.cuts.Cuts.{Cuts}
 use Rattle.flow_graph.specs.IdempotentCuts.{Boundaries, IsMinimal}
+use Rattle.region_cutter.specs.FewestCuts.{AreFewestCuts}
 use Rattle.flow_graph.specs.Lowering.{lowered}
 use Rattle.crash_simulation.specs.Systems.{flat_of}
 use Rattle.compiler_correctness.specs.Translations.{Translation, translation_to}
@@ -29,4 +30,7 @@ are_compilations law flat object marks cuts t =
     let minimal : IsMinimal (lowered (flat_of t.system)) t.system.plan.boundaries =
     subst (λ (x : f.Flat). IsMinimal (lowered x) t.system.plan.boundaries) (sym t.of_flat)
     (subst (λ (b : Boundaries). IsMinimal (lowered flat) b) (sym t.at_cuts) t.minimal) in
-    subst IsCompilation (same_translation flat object marks cuts t) (law t.system t.is minimal)
+    let fewest : AreFewestCuts (lowered (flat_of t.system)) t.system.plan.boundaries =
+    subst (λ (x : f.Flat). AreFewestCuts (lowered x) t.system.plan.boundaries) (sym t.of_flat)
+    (subst (λ (b : Boundaries). AreFewestCuts (lowered flat) b) (sym t.at_cuts) t.fewest) in
+    subst IsCompilation (same_translation flat object marks cuts t) (law t.system t.is minimal fewest)

@@ -39,8 +39,7 @@ use Rattle.log_states.specs.Logs.{Record, IsRecorded, nothing_recorded, slots_of
 use Rattle.log_states.specs.Machines.{config_of}
 use Rattle.log_states.proofs.Public.{contains_first, contains_later, crashes_standing, durable_is, ends}
 use Rattle.hart_runs.proofs.Public.{crashes_step}
-use Rattle.thread_code.specs.Plans.{Plan, Thread, IsNodeOf, set_before, mask_before, of_address, of_local}
-use Rattle.thread_code.proofs.Public.{mask_with_held}
+use Rattle.thread_code.specs.Plans.{Plan, Thread, IsNodeOf, locks_before, of_address, of_local}
 use Rattle.thread_code.specs.RegistersAtNodes.{HasPending, IsPendingIn}
 use Rattle.recovered_threads.specs.RecordDescriptions.{Code, Describes, IsInside, ResumesAt, at_chosen, past_lock, past_unlock, between, inside, locks_of}
 use Rattle.recovered_threads.proofs.Public.{records_are_apart}
@@ -166,7 +165,7 @@ module _ (y : System) (s : IsSystem y) (w : World) (stands : Simulates y s w) wh
       | inr some ↦
           let is : r.point ≢ 0 = eqb-false r.point 0 some in
           ap (λ (p : Point). locks_in (mask_by p logs n)) (is_at is)
-          ∙ (ap locks_in (mask_there is) ∙ (standing.log.follows.new_is.locks ∙ sym (cond-false (r.point == 0) [] r.locks some)))
+          ∙ (ap locks_in (mask_there is) ∙ (standing.log.follows.new_is.locks.read_back ∙ sym (cond-false (r.point == 0) [] r.locks some)))
     ]
 
     -- ---- In a section
@@ -264,7 +263,7 @@ module _ (y : System) (s : IsSystem y) (w : World) (stands : Simulates y s w) wh
           local_right l (subst (λ (z : ℕ). IsLiveLocal y.plan t z l) node ((e.found.live l).0 (Contains-get_or entry.live.items k d within))) in
           let right : IsRight (flat_of y).variables logs n bank entry = record {
             mask = mask_there i.point ∙ (ap mask_with i.locks
-                ∙ (mask_with_held (set_before y.plan t at) ∙ sym (e.found.mask_is ∙ ap (mask_before y.plan t) node)));
+                ∙ sym (e.found.mask_is ∙ ap (λ (n : ℕ). mask_with (locks_before y.plan t n)) node));
             locals = locals;
             address =
                 subst (λ (o : Option Location). HasAddress (flat_of y).variables logs n bank o) (sym pending)

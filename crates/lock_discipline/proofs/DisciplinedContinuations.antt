@@ -1,5 +1,5 @@
 -- From the set before a step, what is left to do keeps the discipline.
-use Rattle.std.proofs.Common.{◌≡◌, refl, ℕ, zero, suc, List, [], ◌∷◌, ◌++◌, sym, ◌∙◌, ap, subst, Option, Some, None, length}
+use Rattle.std.proofs.Common.{◌≡◌, refl, ℕ, zero, suc, List, [], ◌∷◌, ◌++◌, sym, ◌∙◌, subst, Some, length}
 use Rattle.std.specs.Prelude.{slice_get}
 use Rattle.ido_base.specs.declared.place.Place.{Place}
 use Rattle.c_tree.specs.Exprs as e
@@ -82,13 +82,19 @@ module _ (vs : List Variable) (none : Held) where
           (keep_in_all p rest k) (keep_in_arms r place otherwise q rest k),
     )
 
-pub held_is_held : HeldIsHeld
-held_is_held x s number step t thread h keep keeps there here =
+-- before each step of a thread there is a set from which what is left keeps the discipline
+pub set_left : (x : f.Flat) (t : f.Thread) (step : ℕ) (left : List f.Statement) → IsDisciplined x t → slice_get (thread_lefts t) step ≡ Some left →
+    (h : Held) × (slice_get (thread_sets (length x.mutexes) t) step ≡ Some h) × KeepList x.variables h left (none_held (length x.mutexes))
+set_left x t step left keep here =
     let none = none_held (length x.mutexes) in
     let last : KeepList x.variables (held_after_all none t.body) [] none = after_all_is x.variables keep in
     let all = all_append x.variables none (sets_in_all none t.body) (held_after_all none t.body ∷ []) (lefts_in_all t.body []) ([] ∷ [])
     (keep_in_all x.variables none keep [] refl) (last, tt) in
-    let found = all_found x.variables none (thread_sets (length x.mutexes) t) (thread_lefts t) step thread.left all here in
+    all_found x.variables none (thread_sets (length x.mutexes) t) (thread_lefts t) step left all here
+
+pub held_is_held : HeldIsHeld
+held_is_held x s number step t thread h keep keeps there here =
+    let found = set_left x t step thread.left keep here in
     let exact = (thread_sets_are x t keep).exactly in
     let is : found.0 ≡ held_by number s.holders = (held_is_given x s number thread found.0 keeps there).0 found.2 in (
       (λ b. let same : h ≡ found.0 = one h found.0 ((exact step h).1 b) found.1 in same ∙ is),

@@ -3,6 +3,7 @@ mod Masks
 mod Bits
 mod Sets
 mod CheckerCorrectness
+mod HeldLengths
 mod Flows
 mod Refusals
 mod CheckerByStatement

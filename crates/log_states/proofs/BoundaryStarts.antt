@@ -1,17 +1,17 @@
 -- How a boundary begins, and what its record says.
-use Rattle.std.proofs.Common.{◌≡◌, ◌≢◌, ℕ, ◌+◌, ◌-◌, ◌*◌, ◌%◌, ◌^◌, ◌<◌, List, [], ◌∷◌, ◌++◌, map, refl, ap, arith, sym, ◌∙◌, subst, Bool, true, false, eqb}
+use Rattle.std.proofs.Common.{◌≡◌, ◌≢◌, ℕ, ◌+◌, ◌-◌, ◌*◌, ◌%◌, ◌^◌, ◌<◌, List, [], ◌∷◌, ◌++◌, map, refl, ap, arith, sym, ◌∙◌, Bool, true, false, eqb}
 use Rattle.std.specs.List.{Contains}
 use Rattle.std.proofs.Common.{◌≤◌, inl, inr, true}
 use Rattle.std.specs.Prelude.{nat_le, not, ◌==◌, ◌&&◌, ◌||◌}
 use Rattle.memory_layout.specs.Roles.{is_local}
 use Rattle.std.proofs.lemmas.Bool.{or_cases, and_parts, leb-true, eqb-true}
-use Rattle.std.proofs.lemmas.Bool.{cond_both, cond-true, cond-false, eqb-false, eq-eqb, ne_eqb}
-use Rattle.ido_base.specs.Locks.{locks_in, mask_with}
+use Rattle.std.proofs.lemmas.Bool.{cond_both, cond-true, cond-false, ne_eqb}
+use Rattle.ido_base.specs.Locks.{mask_with}
 use Rattle.ido_base.specs.Layout.{slot_at}
-use Rattle.ido_base.proofs.Public.{mask_of_locks}
 use Rattle.rv64_isa.specs.Rows.{Effect, Stores, Cleans, read}
 use Rattle.rv64_isa.specs.Machine.{bank_of}
-use Rattle.boundary_code.specs.Boundaries.{Boundary, lines_in_use, bank_effects, commit_effects, boundary_effects}
+use Rattle.boundary_code.specs.Boundaries.{Boundary, is_empty, lines_in_use, bank_effects, commit_effects, boundary_effects}
+use Rattle.boundary_code.proofs.Public.{not_empty, some_there}
 use Rattle.log_states.specs.Logs.{Record, slots_of, value_of, IsKeepable, IsRecord}
 use Rattle.log_states.specs.Stages.{LogConfig, stores_of, cleans_of, ToStore, IsWriting, Writing}
 use Rattle.log_states.specs.Laws.{KeptAreKeepable, recorded_by, IsRecoverable, BoundaryBegins, OffsetFollows, PointSays}
@@ -48,16 +48,17 @@ kept_are_keepable register kept = elim (or_cases (is_local register || register 
 
 pub point_says : PointSays
 point_says b bank resume x r below some =
-    let e : (recorded_by b bank resume x).point ≡ (resume + bank) % 2 ^ 64 = cond-false (eqb b.mask 0) 0 ((resume + bank) % 2 ^ 64) (ne_eqb b.mask 0 some) in (
+    let e : (recorded_by b bank resume x).point ≡ (resume + bank) % 2 ^ 64 =
+    cond-false (is_empty b.locks) 0 ((resume + bank) % 2 ^ 64) (not_empty b.locks some) in (
       λ zeroth. omega (arith, e, zeroth, below, r.aligned, r.somewhere, r.below),
       omega (arith, e, below, r.aligned, r.below),
       omega
           (arith, e, below, r.aligned, r.below),
     )
 
--- a point that isn't 0 comes of a mask that isn't 0
-has_mask : (b : Boundary) (bank resume : ℕ) (x : List ℕ) → (recorded_by b bank resume x).point ≢ 0 → b.mask ≢ 0
-has_mask b bank resume x some none = some (cond-true (eqb b.mask 0) 0 ((resume + bank) % 2 ^ 64) (eq-eqb b.mask 0 none))
+-- a point that isn't 0 comes of locks
+has_locks : (b : Boundary) (bank resume : ℕ) (x : List ℕ) → (recorded_by b bank resume x).point ≢ 0 → b.locks ≢ []
+has_locks b bank resume x some none = some (cond-true (is_empty b.locks) 0 ((resume + bank) % 2 ^ 64) (ap is_empty none))
 
 pub offset_follows : OffsetFollows
 offset_follows b bank resume x y r below count none offset = record {
@@ -65,11 +66,11 @@ offset_follows b bank resume x y r below count none offset = record {
     count = count;
     zero_is = none;
     offset = offset;
-    exists = cond_both (eqb b.mask 0) bank (1 - bank) (λ n. n < 2) (λ _. below) (λ _. omega arith);
+    exists = cond_both (is_empty b.locks) bank (1 - bank) (λ n. n < 2) (λ _. below) (λ _. omega arith);
   };
   is = λ some.
-      let masked : b.mask ≢ 0 = has_mask b (1 - bank) resume x some in
-      (point_says b (1 - bank) resume x r (omega arith) masked).1 ∙ sym (cond-false (eqb b.mask 0) bank (1 - bank) (ne_eqb b.mask 0 masked));
+      let locked : b.locks ≢ [] = has_locks b (1 - bank) resume x some in
+      (point_says b (1 - bank) resume x r (omega arith) locked).1 ∙ sym (cond-false (is_empty b.locks) bank (1 - bank) (not_empty b.locks locked));
 }
 
 -- ---- What a boundary does, as its record has it
@@ -83,50 +84,46 @@ map_same {A} f g (x ∷ xs) same =
     ap (λ (y : A). y ∷ map f xs) (same x (contains_first x xs)) ∙ ap (λ (ys : List A). g x ∷ ys) (map_same f g xs (λ y c. same y (contains_later x xs y c)))
 
 -- with a bank of this number, where the point isn't 0
-banked : (b : Boundary) (bank point : ℕ) (x : List ℕ) → b.mask < 2 ^ 64 →
-    ((register : ℕ) → Contains b.live register → IsKeepable register) → point ≢ 0 → bank_of point ≡ bank →
+banked : (b : Boundary) (bank point : ℕ) (x : List ℕ) → ((register : ℕ) → Contains b.live register → IsKeepable register) → point ≢ 0 → bank_of point ≡ bank →
     bank_effects b bank x ++ commit_effects b.thread point
-    ≡ effects_of b.thread (record { point = point; locks = locks_in b.mask; live = b.live; registers = x })
+    ≡ effects_of b.thread (record { point = point; locks = b.locks; live = b.live; registers = x })
 unfolding effects_of
-banked b bank point x small live some is =
-    let r : Record = record { point = point; locks = locks_in b.mask; live = b.live; registers = x } in
+banked b bank point x live some is =
+    let r : Record = record { point = point; locks = b.locks; live = b.live; registers = x } in
     let slots : slots_of r ≡ 0 ∷ b.live = cond-false (eqb point 0) [] (0 ∷ b.live) (ne_eqb point 0 some) in
     let stores : map (λ s. Stores (slot_at b.thread (bank_of point) s) 8 (read x s)) b.live ≡ map
     (λ s. Stores (slot_at b.thread (bank_of point) s) 8 (value_of r s)) b.live =
     map_same (λ s. Stores (slot_at b.thread (bank_of point) s) 8 (read x s)) (λ s. Stores (slot_at b.thread (bank_of point) s) 8 (value_of r s)) b.live
     (λ s c. ap (λ (n : ℕ). Stores (slot_at b.thread (bank_of point) s) 8 n)
-    (sym (cond-false (eqb s 0) (mask_with (locks_in b.mask)) (read x s) (ne_eqb s 0 (λ none. omega (arith, none, (live s c).is_register)))))) in
+    (sym (cond-false (eqb s 0) (mask_with b.locks) (read x s) (ne_eqb s 0 (λ none. omega (arith, none, (live s c).is_register)))))) in
     ap (λ (k : ℕ). bank_effects b k x ++ commit_effects b.thread point) (sym is)
-    ∙ ap (λ (k : ℕ). (Stores (slot_at b.thread (bank_of point) 0) 8 k ∷ map (λ s. Stores (slot_at b.thread (bank_of point) s) 8 (read x s)) b.live ++ map
-    (λ line. Cleans (slot_at b.thread (bank_of point) (8 * line))) (lines_in_use (0 ∷ b.live))) ++ commit_effects b.thread point)
-    (sym (mask_of_locks b.mask small))
-    ∙ ap (λ (es : List Effect). (Stores (slot_at b.thread (bank_of point) 0) 8 (mask_with (locks_in b.mask)) ∷ es ++ map
+    ∙ ap (λ (es : List Effect). (Stores (slot_at b.thread (bank_of point) 0) 8 (mask_with b.locks) ∷ es ++ map
     (λ line. Cleans (slot_at b.thread (bank_of point) (8 * line))) (lines_in_use (0 ∷ b.live))) ++ commit_effects b.thread point) stores
     ∙ ap (λ (ss : List ℕ). stores_of b.thread r ss ++ cleans_of b.thread r (lines_in_use ss) ++ commit_effects b.thread point) (sym slots)
 
 -- with none
 unbanked : (b : Boundary) (x : List ℕ) →
-    commit_effects b.thread 0 ≡ effects_of b.thread (record { point = 0; locks = locks_in b.mask; live = b.live; registers = x })
+    commit_effects b.thread 0 ≡ effects_of b.thread (record { point = 0; locks = b.locks; live = b.live; registers = x })
 unfolding effects_of
 unbanked b x = refl
 
 with_point : Boundary → List ℕ → ℕ → Record
-with_point b x point = record { point = point; locks = locks_in b.mask; live = b.live; registers = x }
+with_point b x point = record { point = point; locks = b.locks; live = b.live; registers = x }
 
 boundary_does : (b : Boundary) (bank resume : ℕ) (x : List ℕ) → IsRecoverable b resume x → bank < 2 →
     boundary_effects b bank resume x ≡ effects_of b.thread (recorded_by b bank resume x)
 unfolding with_point
-boundary_does b bank resume x r below = by (eqb b.mask 0) refl
+boundary_does b bank resume x r below = by (is_empty b.locks) refl
   where
-    by : (t : Bool) → eqb b.mask 0 ≡ t → boundary_effects b bank resume x ≡ effects_of b.thread (recorded_by b bank resume x)
+    by : (t : Bool) → is_empty b.locks ≡ t → boundary_effects b bank resume x ≡ effects_of b.thread (recorded_by b bank resume x)
     by true e =
-        cond-true (eqb b.mask 0) (commit_effects b.thread 0) (bank_effects b bank x ++ commit_effects b.thread ((resume + bank) % 2 ^ 64)) e ∙ unbanked b x
-        ∙ ap (λ (p : ℕ). effects_of b.thread (with_point b x p)) (sym (cond-true (eqb b.mask 0) 0 ((resume + bank) % 2 ^ 64) e))
+        cond-true (is_empty b.locks) (commit_effects b.thread 0) (bank_effects b bank x ++ commit_effects b.thread ((resume + bank) % 2 ^ 64)) e ∙ unbanked b x
+        ∙ ap (λ (p : ℕ). effects_of b.thread (with_point b x p)) (sym (cond-true (is_empty b.locks) 0 ((resume + bank) % 2 ^ 64) e))
     by false e =
-        let same : (recorded_by b bank resume x).point ≡ (resume + bank) % 2 ^ 64 = cond-false (eqb b.mask 0) 0 ((resume + bank) % 2 ^ 64) e in
-        let says = point_says b bank resume x r below (eqb-false b.mask 0 e) in
-        cond-false (eqb b.mask 0) (commit_effects b.thread 0) (bank_effects b bank x ++ commit_effects b.thread ((resume + bank) % 2 ^ 64)) e
-        ∙ banked b bank ((resume + bank) % 2 ^ 64) x r.mask r.live (λ none. says.0 (same ∙ none)) (ap bank_of (sym same) ∙ says.1)
+        let same : (recorded_by b bank resume x).point ≡ (resume + bank) % 2 ^ 64 = cond-false (is_empty b.locks) 0 ((resume + bank) % 2 ^ 64) e in
+        let says = point_says b bank resume x r below (some_there b.locks e) in
+        cond-false (is_empty b.locks) (commit_effects b.thread 0) (bank_effects b bank x ++ commit_effects b.thread ((resume + bank) % 2 ^ 64)) e
+        ∙ banked b bank ((resume + bank) % 2 ^ 64) x r.live (λ none. says.0 (same ∙ none)) (ap bank_of (sym same) ∙ says.1)
         ∙ ap (λ (p : ℕ). effects_of b.thread (with_point b x p)) (sym same)
 
 -- ---- The beginning
@@ -144,9 +141,8 @@ writing_begins thread new m is rest = record {
 
 is_record : (b : Boundary) (bank resume : ℕ) (x : List ℕ) → IsRecoverable b resume x → IsRecord (recorded_by b bank resume x)
 is_record b bank resume x r = record {
-  point = cond_both (eqb b.mask 0) 0 ((resume + bank) % 2 ^ 64) (λ n. n < 2 ^ 64) (λ _. omega arith) (λ _. omega arith);
-  mask = subst (λ (n : ℕ). n < 2 ^ 64) (sym (mask_of_locks b.mask r.mask)) r.mask;
-  locks = ap locks_in (mask_of_locks b.mask r.mask);
+  point = cond_both (is_empty b.locks) 0 ((resume + bank) % 2 ^ 64) (λ n. n < 2 ^ 64) (λ _. omega arith) (λ _. omega arith);
+  locks = r.locks;
   live = r.live;
   registers = r.registers;
 }
@@ -161,7 +157,7 @@ begins b old bank resume x words queue log entries old_is recorded at r =
         old_is = old_is;
         new_is = new_is;
         apart = λ one other same.
-            let says = point_says b (1 - bank) resume x r (omega arith) (has_mask b (1 - bank) resume x other) in
+            let says = point_says b (1 - bank) resume x r (omega arith) (has_locks b (1 - bank) resume x other) in
             omega (arith, same, at.is one, says.1, at.registers.exists);
       };
       log = log;

@@ -25,7 +25,7 @@ use Rattle.log_states.proofs.UnstoredLogStays.{slot_below, has_point, slot_index
 pub value_below : (r : Record) (slot : ℕ) → IsRecord r → Contains (slots_of r) slot → value_of r slot < 2 ^ 64
 value_below r slot is = cond_both (eqb r.point 0) [] (0 ∷ r.live) (λ slots. Contains slots slot → value_of r slot < 2 ^ 64)
     (λ _ c. absurd (contains_none slot c))
-    (λ _ c. cond_both (eqb slot 0) (mask_with r.locks) (read r.registers slot) (λ n. n < 2 ^ 64) (λ _. is.mask)
+    (λ _ c. cond_both (eqb slot 0) (mask_with r.locks) (read r.registers slot) (λ n. n < 2 ^ 64) (λ _. is.locks.fits)
     (λ other. elim (contains_cases 0 r.live slot c) [
       | inl zeroth ↦ absurd (eqb-false slot 0 other zeroth)
       | inr more ↦ is.registers slot more

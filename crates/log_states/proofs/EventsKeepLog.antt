@@ -100,8 +100,7 @@ rests thread r m done log entries is h = record {
   follows = record {
     old_is = record {
       point = omega arith;
-      mask = omega arith;
-      locks = no_locks;
+      locks = record { fits = omega arith; read_back = no_locks };
       live = λ slot c. absurd (contains_none slot c);
       registers = λ slot c. absurd
           (contains_none slot c);

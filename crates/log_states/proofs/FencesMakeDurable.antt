@@ -1,5 +1,5 @@
 -- What is queued is durable after the next fence.
-use Rattle.std.proofs.Common.{◌≡◌, ◌⊎◌, inl, inr, ℕ, ◌+◌, ◌*◌, ◌/◌, ◌%◌, ◌^◌, ◌≤◌, map, eqb, List, [], ◌∷◌, ◌++◌, refl, ap, arith, sym, ◌∙◌, subst}
+use Rattle.std.proofs.Common.{◌≡◌, ◌⊎◌, inl, inr, ℕ, ◌+◌, ◌*◌, ◌/◌, ◌%◌, ◌^◌, ◌≤◌, map, List, [], ◌∷◌, ◌++◌, refl, ap, arith, sym, ◌∙◌, subst}
 use Rattle.std.proofs.lemmas.List.{append-nil}
 use Rattle.std.proofs.lemmas.Bool.{cond_both}
 use Rattle.ido_base.specs.Words.{Word, Entry, word_at, entry_of}
@@ -7,7 +7,7 @@ use Rattle.ido_base.specs.Growth.{AreChanged, PersistsThrough}
 use Rattle.ido_base.specs.Layout.{byte_number, slot_at}
 use Rattle.ido_base.proofs.Public.{reach_stays, stores_change, changed_refl, durable_later, higher_all}
 use Rattle.rv64_isa.specs.Rows.{Effect, Stores, Cleans, read}
-use Rattle.boundary_code.specs.Boundaries.{lines_in_use, bank_effects, commit_effects}
+use Rattle.boundary_code.specs.Boundaries.{lines_in_use, bank_effects, commit_effects, is_empty}
 use Rattle.log_states.specs.Stages.{LogConfig, Stored, Cleaned, Fenced, Drained, Elsewhere, LogSteps, Here, Then, fences_ahead}
 use Rattle.log_states.specs.Laws.{DurableStays, AwaitsFence, ReachGoesOn, FencesSettle, BoundariesFence}
 
@@ -88,7 +88,7 @@ no_fences f none (x ∷ xs) = let rest = no_fences f none xs in omega (arith, re
 
 pub boundaries_fence : BoundariesFence
 boundaries_fence b bank resume x =
-    cond_both (eqb b.mask 0) (commit_effects b.thread 0) (bank_effects b bank x ++ commit_effects b.thread ((resume + bank) % 2 ^ 64))
+    cond_both (is_empty b.locks) (commit_effects b.thread 0) (bank_effects b bank x ++ commit_effects b.thread ((resume + bank) % 2 ^ 64))
     (λ es. fences_ahead es ≡ 2) (λ _. refl)
     (λ _.
     let stores = map (λ r. Stores (slot_at b.thread bank r) 8 (read x r)) b.live in

@@ -1,5 +1,6 @@
 -- What crates above may use of this crate's proofs, passed on from one place. Declares nothing.
-pub use Rattle.log_states.proofs.BoundaryCommits.{begins_uncommitted, committed_where_durable, ends_committed, point_store_is_last, stays_committed}
+pub use Rattle.log_states.proofs.BoundaryCommits.{begins_uncommitted, boundary_stores, committed_where_durable, ends_committed, point_store_is_last}
+pub use Rattle.log_states.proofs.BoundaryCommits.{stays_committed}
 pub use Rattle.log_states.proofs.BoundaryEffectsInLog.{boundaries_stay_in}
 pub use Rattle.log_states.proofs.BoundaryStarts.{offset_follows, point_says}
 pub use Rattle.log_states.proofs.EventsKeepLog.{ends, keeps}
@@ -10,5 +11,6 @@ pub use Rattle.log_states.proofs.Lists.{contains_cases, contains_first, contains
 pub use Rattle.log_states.proofs.LogInvariantHolds.{begins_standing, crashes_standing, evictions_keep, own_steps_keep, starts_standing, steps_keep}
 pub use Rattle.log_states.proofs.Machines.{evictions_move, own_steps_move, steps_move}
 pub use Rattle.log_states.proofs.Numbers.{byte_of_log, logs_are_apart, variables_are_apart, word_of_point}
+pub use Rattle.log_states.proofs.RecoveredRecords.{mapped}
 pub use Rattle.log_states.proofs.StoresOutsideLog.{one_effect, stores_nothing, stores_to_variable}
 pub use Rattle.log_states.proofs.Words.{durable_is, word_beside}

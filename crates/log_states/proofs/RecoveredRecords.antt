@@ -22,7 +22,7 @@ use Rattle.log_states.proofs.Words.{durable_is}
 -- ---- Recovery
 
 -- an element of a function's row
-mapped : (f : ℕ → ℕ) (at count i : ℕ) → i < count → get_or (map f (numbers_from at count)) i 0 ≡ f (at + i)
+pub mapped : (f : ℕ → ℕ) (at count i : ℕ) → i < count → get_or (map f (numbers_from at count)) i 0 ≡ f (at + i)
 mapped f at zero i below = absurd (omega (arith, below))
 mapped f at (suc count) zero below = ap f (sym (add-zero at))
 mapped f at (suc count) (suc i) below = let next : at + 1 + i ≡ at + suc i = omega arith in mapped f (at + 1) count i (omega (arith, below)) ∙ ap f next
@@ -42,7 +42,7 @@ module _ (thread : ℕ) (r : Record) (words : List Word) (is : IsRecord r) (h : 
   locks = ap (λ (n : ℕ). cond (eqb n 0) [] (locks_in (recorded words thread 0))) has_point ∙ elim (cases_Bool (eqb r.point 0)) [
     | inl none ↦ cond-true (eqb r.point 0) [] (locks_in (recorded words thread 0)) none ∙ sym (cond-true (eqb r.point 0) [] r.locks none)
     | inr some ↦ cond-false (eqb r.point 0) [] (locks_in (recorded words thread 0)) some
-        ∙ (ap locks_in (kept 0 (eqb-false r.point 0 some) (contains_first 0 r.live)) ∙ (is.locks ∙ sym (cond-false (eqb r.point 0) [] r.locks some)))
+        ∙ (ap locks_in (kept 0 (eqb-false r.point 0 some) (contains_first 0 r.live)) ∙ (is.locks.read_back ∙ sym (cond-false (eqb r.point 0) [] r.locks some)))
   ]
 
   register : r.point ≢ 0 → (slot : ℕ) → Contains r.live slot → resumed_register words thread slot ≡ read r.registers slot
@@ -112,8 +112,7 @@ starts_empty program locks thread initial inside =
     let s = starts_simulate program locks initial in (
       record {
         point = omega arith;
-        mask = omega arith;
-        locks = no_locks;
+        locks = record { fits = omega arith; read_back = no_locks };
         live = λ slot c. absurd (contains_none slot c);
         registers = λ slot c. absurd (contains_none slot c);
       },

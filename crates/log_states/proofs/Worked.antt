@@ -13,7 +13,7 @@ use Rattle.log_states.specs.Stages.{LogConfig, is_committed}
 use Rattle.log_states.specs.Laws.{recorded_by}
 
 b : Boundary
-b = record { thread = 0; mask = 1; live = 8 ∷ 9 ∷ []; resume = pos 0 }
+b = record { thread = 0; locks = 0 ∷ []; live = 8 ∷ 9 ∷ []; resume = pos 0 }
 
 registers : List ℕ
 registers = slice_set (slice_set (replicate 32 0) 8 7) 9 5
@@ -107,7 +107,7 @@ no_first_fence = refl
 
 -- the next boundary holds locks 0 and 1, and an eviction makes its mask durable before its point is stored
 next : (bank : ℕ) → List Effect
-next bank = boundary_effects (record { thread = 0; mask = 3; live = []; resume = pos 0 }) bank 0x1_0080 (replicate 32 0)
+next bank = boundary_effects (record { thread = 0; locks = 0 ∷ 1 ∷ []; live = []; resume = pos 0 }) bank 0x1_0080 (replicate 32 0)
 
 mask_evicted : (line : ℕ) → LogConfig → LogConfig
 mask_evicted line m = record { words = evicted m.words line 1; queue = m.queue; rest = m.rest }

@@ -3,7 +3,6 @@ use Rattle.std.specs.Prelude.{◌≡◌, ◌≢◌, ◌⊎◌, ℕ, ◌+◌, ◌
 use Rattle.std.specs.Prelude.{if◌then◌else◌}
 use Rattle.std.specs.List.{Contains, list_any}
 use Rattle.ido_base.specs.Words.{Word, Entry, word_at, last_position, stored, crashed}
-use Rattle.ido_base.specs.Locks.{locks_in}
 use Rattle.ido_base.specs.Growth.{Stable, AreEntries, PersistsThrough}
 use Rattle.ido_base.specs.Layout.{variables_base, variable_lines, line_bytes, bank_bytes, log_lines, point_at, byte_number}
 use Rattle.rv64_isa.specs.declared.object.Slot.{Slot}
@@ -11,19 +10,20 @@ use Rattle.rv64_isa.specs.Rows.{Effect, Stores, read}
 use Rattle.rv64_isa.specs.Machine.{durable_point, live_at, bank_of, resume_of, record_of, resumed_register, numbers_from, start_of}
 use Rattle.rv64_isa.specs.Schedule.{is_point_store}
 use Rattle.memory_layout.specs.Roles.{bank_offset, is_kept}
-use Rattle.boundary_code.specs.Boundaries.{Boundary, boundary_effects, AtBank}
-use Rattle.log_states.specs.Logs.{Record, nothing_recorded, IsKeepable, IsRecord, log_word, bank_word, point_in, HasLog, IsUnstored, IsDurable, IsRecorded}
+use Rattle.boundary_code.specs.Boundaries.{Boundary, boundary_effects, is_empty, AtBank}
+use Rattle.log_states.specs.Logs.{Record, nothing_recorded, IsKeepable, AreLoggable, IsRecord, log_word}
+use Rattle.log_states.specs.Logs.{bank_word, point_in, HasLog, IsUnstored, IsDurable, IsRecorded}
 use Rattle.log_states.specs.Stages.{LogConfig, Moves, LogSteps, LogIs, fences_ahead, is_store, is_committed, left_by_crash}
 
 -- ---- Boundaries
 
 -- what a boundary records, in the bank of this number
 abbrev pub recorded_by : Boundary → (bank resume : ℕ) → (registers : List ℕ) → Record
-recorded_by b bank resume x = record { point = if b.mask == 0 then 0 else (resume + bank) % 2 ^ 64; locks = locks_in b.mask; live = b.live; registers = x }
+recorded_by b bank resume x = record { point = if is_empty b.locks then 0 else (resume + bank) % 2 ^ 64; locks = b.locks; live = b.live; registers = x }
 
--- a boundary that can be recovered from: it resumes at an instruction, and keeps registers of 64 bits that have a slot
+-- a boundary that can be recovered from: it resumes at an instruction, keeps registers of 64 bits that have a slot, and its locks can be logged
 pub record IsRecoverable (b : Boundary) (resume : ℕ) (x : List ℕ) : Type 0 where
-  pub mask : b.mask < 2 ^ 64
+  pub locks : AreLoggable b.locks
   pub live : (register : ℕ) → Contains b.live register → IsKeepable register
   pub registers : (register : ℕ) → Contains b.live register → read x register < 2 ^ 64
   pub aligned : resume % 4 ≡ 0
@@ -54,7 +54,7 @@ Rests =
 -- x3 goes with the record: after a boundary it has the offset of the other bank, but the same bank's where none was written
 abbrev pub OffsetFollows : Type 0
 OffsetFollows = (b : Boundary) (bank resume : ℕ) (x y : List ℕ) → IsRecoverable b resume x → bank < 2 → length y ≡ 32 → read y 0 ≡ 0 →
-    let next = if b.mask == 0 then bank else 1 - bank in
+    let next = if is_empty b.locks then bank else 1 - bank in
     read y bank_offset ≡ bank_bytes * next → IsAtRecord (recorded_by b (1 - bank) resume x) next y
 
 -- ---- Every event
@@ -189,7 +189,7 @@ CrashesResume =
 
 -- the point of a boundary says its bank and where it resumes
 abbrev pub PointSays : Type 0
-PointSays = (b : Boundary) (bank resume : ℕ) (x : List ℕ) → IsRecoverable b resume x → bank < 2 → b.mask ≢ 0 →
+PointSays = (b : Boundary) (bank resume : ℕ) (x : List ℕ) → IsRecoverable b resume x → bank < 2 → b.locks ≢ [] →
     let new = recorded_by b bank resume x in (new.point ≢ 0) × (bank_of new.point ≡ bank) × (resume_of new.point ≡ resume)
 
 -- at the start nothing is recorded, and the first bank's offset in x3 will do

@@ -1,4 +1,5 @@
--- The facts of a log that recovery rests on, by name. One more is none of a log's: a region that is run again reads nothing that it has overwritten.
+-- The facts of a log that recovery rests on, by name. One more is none of a log's but of regions, whatever the log: one that is run again reads nothing
+-- that an earlier attempt has overwritten (`rerun_reads_nothing_overwritten` of region_attempts).
 use Rattle.std.specs.Prelude.{◌≡◌, ◌≢◌, ◌⊎◌, ℕ, ◌/◌, ◌<◌, List, [], ◌∷◌, ◌==◌, if◌then◌else◌}
 use Rattle.ido_base.specs.Layout.{byte_number, point_at}
 use Rattle.rv64_isa.specs.Rows.{Effect, Stores}

@@ -36,12 +36,15 @@ pub record IsKeepable (slot : ℕ) : Type 0 where
   pub exists : slot < 32
   pub not_offset : slot ≢ bank_offset
 
+-- slot 0 can hold the locks: they are those of a mask of 64 bits
+pub record AreLoggable (locks : List ℕ) : Type 0 where
+  pub fits : mask_with locks < 2 ^ 64
+  pub read_back : locks_in (mask_with locks) ≡ locks
+
 -- values of 64 bits, in slots that a bank has
 pub record IsRecord (r : Record) : Type 0 where
   pub point : r.point < 2 ^ 64
-  -- the locks are those of a mask
-  pub mask : mask_with r.locks < 2 ^ 64
-  pub locks : locks_in (mask_with r.locks) ≡ r.locks
+  pub locks : AreLoggable r.locks
   pub live : (slot : ℕ) → Contains r.live slot → IsKeepable slot
   pub registers : (slot : ℕ) → Contains r.live slot → read r.registers slot < 2 ^ 64
 

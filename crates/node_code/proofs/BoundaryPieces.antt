@@ -15,7 +15,7 @@ use Rattle.rv64_isa.specs.declared.object.CodeItem.{CodeItem}
 use Rattle.rv64_isa.specs.declared.object.CodeItem.TheVariants.{ResumeNext}
 use Rattle.rv64_isa.specs.Rows.{Effect, Stores, Cleans, row, read, written}
 use Rattle.rv64_link.specs.LabelledCode.{most_words_of, stands_here, is_mark, is_resume, positions_from}
-use Rattle.boundary_code.specs.Boundaries.{Boundary, AtBank, boundary_effects, bank_effects, commit_effects, lines_in_use, resume_address}
+use Rattle.boundary_code.specs.Boundaries.{Boundary, AtBank, boundary_effects, bank_effects, commit_effects, lines_in_use, resume_address, is_empty}
 use Rattle.operator_code.specs.StraightLineCode.{registers_after, left_by}
 use Rattle.operator_code.proofs.Public as s
 use Rattle.code_runs.specs.CodeTraces.{GoesThrough, AreMemory}
@@ -79,7 +79,7 @@ commit_memory : (thread point : ℕ) → AreMemory (commit_effects thread point)
 commit_memory thread point = (refl, (refl, (refl, (refl, tt))))
 
 pub boundary_memory : (b : Boundary) (bank resume : ℕ) (x : List ℕ) → AreMemory (boundary_effects b bank resume x)
-boundary_memory b bank resume x = by (b.mask == 0)
+boundary_memory b bank resume x = by (is_empty b.locks)
   where
     by : (m : Bool) → AreMemory (if m then commit_effects b.thread 0 else bank_effects b bank x ++ commit_effects b.thread ((resume + bank) % 2 ^ 64))
     by true = commit_memory b.thread 0
@@ -98,7 +98,7 @@ boundary_memory b bank resume x = by (b.mask == 0)
 -- ---- Code of a boundary
 
 pub some_code : (b : Boundary) (x : List ℕ) (bank : ℕ) → AtBank bank x → IsCodeOf b [] → ⊥
-some_code b x bank a h = by (b.mask == 0) (h.effects_are.does x 0 bank a)
+some_code b x bank a h = by (is_empty b.locks) (h.effects_are.does x 0 bank a)
   where
     by : (m : Bool) → [] ≡ (if m then commit_effects b.thread 0 else bank_effects b (1 - bank) x ++ commit_effects b.thread
         ((resume_address b [] 0 + (1 - bank)) % 2 ^ 64)) → ⊥
@@ -112,7 +112,7 @@ left_is b code x pc bank h a = record {
     count = after_count code x pc ∙ a.count;
     zero_is = h.keeps.keeps x pc bank a 0 refl (λ e. let z : ⊥ = omega (arith, e) in z) ∙ a.zero_is;
     offset = h.offset.leaves x pc bank a;
-    exists = by (b.mask == 0) a.exists;
+    exists = by (is_empty b.locks) a.exists;
   };
   others = h.keeps.keeps x pc bank a;
 }

@@ -1,6 +1,6 @@
 -- Calls: a mutex is taken, given back, a thread ends.
 use Rattle.std.proofs.Common.{◌≡◌, ℕ, ◌+◌, ◌*◌, ◌%◌, ◌^◌, ◌<◌, List, [], ◌∷◌, ◌++◌, length, map, refl, ap, sym, ◌∙◌, arith, subst, Bool, true, false}
-use Rattle.std.proofs.Common.{lit<, ◌==◌, ◌≤◌}
+use Rattle.std.proofs.Common.{lit<, ◌≤◌}
 use Rattle.std.specs.Prelude.{sum_by, if◌then◌else◌, slice_set, pos}
 use Rattle.std.specs.List.{list_any}
 use Rattle.std.proofs.Math.Nat.{mod-eq_of_lt}
@@ -15,7 +15,7 @@ use Rattle.rv64_isa.specs.Arithmetic.{sign_extended}
 use Rattle.rv64_isa.specs.Rows.{read}
 use Rattle.rv64_link.specs.LabelledCode.{most_words_of, stands_here, is_mark, is_resume, positions_from}
 use Rattle.rv64_link.specs.LinkedCode.{IsInstructionAt}
-use Rattle.boundary_code.specs.Boundaries.{Boundary, AtBank, resume_address}
+use Rattle.boundary_code.specs.Boundaries.{Boundary, AtBank, resume_address, is_empty}
 use Rattle.operator_code.specs.StraightLineCode.{IsConstant}
 use Rattle.operator_code.specs.ComputingCode.{AreRegisters}
 use Rattle.operator_code.proofs.Public as s
@@ -199,10 +199,10 @@ append_none (x ∷ ss) = ap (λ (ts : List Observation). x ∷ ts) (append_none 
 
 module _ (b : Boundary) (mutex : ℕ) (code : List Instr) (small : mutex < 2048) (resume : b.resume ≡ pos 12) (h : IsCodeOf b code) where
   abbrev given : List CodeItem
-  given = unlock_items mutex b.mask code
+  given = unlock_items mutex (is_empty b.locks) code
 
   abbrev last : List CodeItem
-  last = if b.mask == 0 then [] else ResumeNext ∷ []
+  last = if is_empty b.locks then [] else ResumeNext ∷ []
 
   abbrev from_call : List CodeItem
   from_call = Instruction Ecall ∷ last
@@ -211,7 +211,7 @@ module _ (b : Boundary) (mutex : ℕ) (code : List Instr) (small : mutex < 2048)
   from_asking = plain (asking mutex 2) ++ from_call
 
   last_words : sum_by most_words_of last ≡ 0
-  last_words = by (b.mask == 0)
+  last_words = by (is_empty b.locks)
     where
       by : (m : Bool) → sum_by most_words_of (if m then [] else ResumeNext ∷ []) ≡ 0
       by true = refl
@@ -228,7 +228,7 @@ module _ (b : Boundary) (mutex : ℕ) (code : List Instr) (small : mutex < 2048)
       omega (arith, e, f, g, i, last_words)
 
   last_exact : AreExact last
-  last_exact = by (b.mask == 0)
+  last_exact = by (is_empty b.locks)
     where
       by : (m : Bool) → AreExact (if m then [] else ResumeNext ∷ [])
       by true = tt
@@ -264,7 +264,7 @@ module _ (b : Boundary) (mutex : ℕ) (code : List Instr) (small : mutex < 2048)
     call_next = call_ends site.items site.linking (k₂ + 2) (part_left site.items (k₂ + 2) (Instruction Ecall ∷ []) last call_part)
 
     last_stays : too (k₂ + 2 + 1 + length last) ≡ too (k₂ + 2 + 1)
-    last_stays = by (b.mask == 0) last_part
+    last_stays = by (is_empty b.locks) last_part
       where
         by : (m : Bool) → IsPart site.items (k₂ + 2 + 1) (if m then [] else ResumeNext ∷ []) →
             too (k₂ + 2 + 1 + length (if m then [] else ResumeNext ∷ [])) ≡ too (k₂ + 2 + 1)
@@ -338,7 +338,7 @@ module _ (b : Boundary) (mutex : ℕ) (code : List Instr) (small : mutex < 2048)
         (append_none (Mark ∷ boundary_observations b bank (end_of given site) x)) both)
 
     last_marks : (m : ℕ) → positions_from m is_mark last ≡ []
-    last_marks m = by (b.mask == 0)
+    last_marks m = by (is_empty b.locks)
       where
         by : (z : Bool) → positions_from m is_mark (if z then [] else ResumeNext ∷ []) ≡ []
         by true = refl
@@ -350,10 +350,10 @@ module _ (b : Boundary) (mutex : ℕ) (code : List Instr) (small : mutex < 2048)
         ap (λ (ns : List ℕ). (k' ∷ ns) ++ positions_from k₂ is_mark from_asking) (no_marks_in code (k' + 1)) ∙
         ap (λ (ns : List ℕ). k' ∷ ns) (last_marks (k₂ + 1 + 1 + 1))
 
-    unlock_resumes : resumes_in given site ≡ (if b.mask == 0 then [] else end_of given site ∷ [])
+    unlock_resumes : resumes_in given site ≡ (if is_empty b.locks then [] else end_of given site ∷ [])
     unlock_resumes =
         ap (λ (ns : List ℕ). map site.linking.linked.address_of ns) (positions_append k' is_resume (MarkNext ∷ plain code) from_asking ∙
-        ap (λ (ns : List ℕ). ns ++ positions_from k₂ is_resume from_asking) (no_resumes_in code (k' + 1))) ∙ by (b.mask == 0)
+        ap (λ (ns : List ℕ). ns ++ positions_from k₂ is_resume from_asking) (no_resumes_in code (k' + 1))) ∙ by (is_empty b.locks)
       where
         e : too (k₂ + 1 + 1 + 1) ≡ end_of given site
         e = let f : k₂ + 1 + 1 + 1 ≡ k₂ + 2 + 1 = omega arith in ap too f ∙ sym last_stays ∙ unlock_end
@@ -384,8 +384,8 @@ module _ (b : Boundary) (mutex : ℕ) (code : List Instr) (small : mutex < 2048)
 
   unlock_closed : IsClosed given
   unlock_closed = record {
-    waits = waits_append false (MarkNext ∷ plain code) from_asking ∙ by (b.mask == 0);
-    labels = λ label. labels_append label (MarkNext ∷ plain code) from_asking (labels_plain label code) (labels_by label (b.mask == 0));
+    waits = waits_append false (MarkNext ∷ plain code) from_asking ∙ by (is_empty b.locks);
+    labels = λ label. labels_append label (MarkNext ∷ plain code) from_asking (labels_plain label code) (labels_by label (is_empty b.locks));
   }
     where
       by : (z : Bool) → mark_waits false (if z then [] else ResumeNext ∷ []) ≡ false
@@ -400,8 +400,8 @@ module _ (b : Boundary) (mutex : ℕ) (code : List Instr) (small : mutex < 2048)
   is_unlock = record {
     closed = unlock_closed;
     few = let l : length code ≤ length b.live + 35 = h.short in omega (arith, unlock_words);
-    fences = unlock_items_fences b mutex b.mask code h.effects_are;
-    cleans = unlock_cleans b mutex b.mask code h.effects_are;
+    fences = unlock_items_fences b mutex (is_empty b.locks) code h.effects_are;
+    cleans = unlock_cleans b mutex (is_empty b.locks) code h.effects_are;
     at = unlocks;
   }
 

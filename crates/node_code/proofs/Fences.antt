@@ -22,6 +22,7 @@ use Rattle.operator_code.specs.declared.branches.Test.{Test}
 use Rattle.node_code.specs.Sites.{Linking, IsPart, Site, begin_of, end_of}
 use Rattle.node_code.specs.links.ItemLists.{plain, asking, boundary_items, lock_items, unlock_items, computing_items, choice_items}
 use Rattle.node_code.proofs.ItemAddresses.{item_at}
+use Rattle.boundary_code.specs.Boundaries.{is_empty}
 
 -- ---- Items
 
@@ -103,7 +104,7 @@ bank_has_none b bank x =
     omega (arith, first, last, both)
 
 two_seen : (b : Boundary) (bank resume : ℕ) (x : List ℕ) → fences_seen (boundary_effects b bank resume x) ≡ 2
-two_seen b bank resume x = by (b.mask == 0)
+two_seen b bank resume x = by (is_empty b.locks)
   where
     by : (z : Bool) → fences_seen (if z then commit_effects b.thread 0 else bank_effects b bank x ++ commit_effects b.thread ((resume + bank) % 2 ^ 64)) ≡ 2
     by true = refl
@@ -131,11 +132,11 @@ lock_items_fences b mutex code h =
     ap (λ (n : ℕ). 0 + n) (fences_append (MarkNext ∷ Instruction Ecall ∷ []) (boundary_items code)) ∙
     ap (λ (n : ℕ). 0 + (0 + n)) (boundary_items_fences b code h)
 
-pub unlock_items_fences : (b : Boundary) (mutex mask : ℕ) (code : List Instr) → HasEffects b code → fences_in (unlock_items mutex mask code) ≡ 2
-unlock_items_fences b mutex mask code h =
-    let sum = fences_append (MarkNext ∷ plain code) (plain (asking mutex 2) ++ (Instruction Ecall ∷ (if mask == 0 then [] else ResumeNext ∷ []))) in
+pub unlock_items_fences : (b : Boundary) (mutex : ℕ) (ends : Bool) (code : List Instr) → HasEffects b code → fences_in (unlock_items mutex ends code) ≡ 2
+unlock_items_fences b mutex ends code h =
+    let sum = fences_append (MarkNext ∷ plain code) (plain (asking mutex 2) ++ (Instruction Ecall ∷ (if ends then [] else ResumeNext ∷ []))) in
     let marked : fences_in (MarkNext ∷ plain code) ≡ 2 = fences_cons MarkNext (plain code) ∙ ap (λ (n : ℕ). 0 + n) (boundary_fences b code h) in
-    let rest : fences_in (plain (asking mutex 2) ++ (Instruction Ecall ∷ (if mask == 0 then [] else ResumeNext ∷ []))) ≡ 0 = by (mask == 0) in
+    let rest : fences_in (plain (asking mutex 2) ++ (Instruction Ecall ∷ (if ends then [] else ResumeNext ∷ []))) ≡ 0 = by ends in
     omega (arith, sum, marked, rest)
   where
     by : (z : Bool) → fences_in (plain (asking mutex 2) ++ (Instruction Ecall ∷ (if z then [] else ResumeNext ∷ []))) ≡ 0

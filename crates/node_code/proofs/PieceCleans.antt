@@ -1,6 +1,6 @@
 -- The cleans of pieces.
 use Rattle.std.proofs.Common.{◌≡◌, ◌+◌, List, [], ◌∷◌, ◌++◌, refl, ◌∙◌, arith, Bool, true, false, ℕ}
-use Rattle.std.specs.Prelude.{◌==◌, if◌then◌else◌}
+use Rattle.std.specs.Prelude.{if◌then◌else◌}
 use Rattle.std.proofs.lemmas.List.Sums.{sum_by-append, sum_by-cons}
 use Rattle.rv64_isa.specs.declared.instr.Instr.{Instr}
 use Rattle.rv64_isa.specs.declared.instr.Instr.TheVariants.{Ecall}
@@ -34,15 +34,15 @@ lock_cleans b mutex code h = record {
   none_after = refl;
 }
 
-pub unlock_cleans : (b : Boundary) (mutex mask : ℕ) (code : List Instr) → HasEffects b code → CleansInBoundary b (unlock_items mutex mask code)
-unlock_cleans b mutex mask code h = record {
+pub unlock_cleans : (b : Boundary) (mutex : ℕ) (ends : Bool) (code : List Instr) → HasEffects b code → CleansInBoundary b (unlock_items mutex ends code)
+unlock_cleans b mutex ends code h = record {
   before = MarkNext ∷ [];
   code = code;
-  after = plain (asking mutex 2) ++ (Instruction Ecall ∷ (if mask == 0 then [] else ResumeNext ∷ []));
+  after = plain (asking mutex 2) ++ (Instruction Ecall ∷ (if ends then [] else ResumeNext ∷ []));
   split = refl;
   does = h;
   none_before = refl;
-  none_after = by (mask == 0);
+  none_after = by ends;
 }
   where
     by : (z : Bool) → cleans_in (plain (asking mutex 2) ++ (Instruction Ecall ∷ (if z then [] else ResumeNext ∷ []))) ≡ 0

@@ -1,6 +1,7 @@
 -- What pieces of a thread's code do, wherever they stand in its linked code.
-use Rattle.std.specs.Prelude.{◌≡◌, ◌≢◌, ℕ, ◌+◌, ◌-◌, ◌*◌, ◌/◌, ◌^◌, ◌<◌, ◌≤◌, List, [], ◌∷◌, ◌++◌, length, map, sum_by, Bool, false, ◌==◌, if◌then◌else◌, pos}
+use Rattle.std.specs.Prelude.{◌≡◌, ◌≢◌, ℕ, ◌+◌, ◌-◌, ◌*◌, ◌/◌, ◌^◌, ◌<◌, ◌≤◌, List, [], ◌∷◌, ◌++◌, length, map, sum_by, Bool, false, if◌then◌else◌, pos}
 use Rattle.std.specs.List.{list_any}
+use Rattle.ido_base.specs.Locks.{locks_in}
 use Rattle.ido_ints.specs.declared.kinds.Kind.{Kind}
 use Rattle.ido_ints.specs.Kinds.{bytes_of}
 use Rattle.rv64_isa.specs.declared.instr.Instr.{Instr}
@@ -12,7 +13,7 @@ use Rattle.rv64_link.specs.LabelledCode.{most_words_of, stands_here, is_mark, is
 use Rattle.rv64_link.specs.LinkedCode.{IsInstructionAt}
 use Rattle.memory_layout.specs.Roles as roles
 use Rattle.memory_layout.specs.Roles.{is_temporary}
-use Rattle.boundary_code.specs.Boundaries.{Boundary, AtBank, boundary_effects}
+use Rattle.boundary_code.specs.Boundaries.{Boundary, AtBank, boundary_effects, is_empty}
 use Rattle.operator_code.specs.declared.branches.Test.{Test}
 use Rattle.operator_code.specs.ComputingCode.{AreRegisters, passes}
 use Rattle.code_runs.specs.ComputingRuns as r
@@ -78,14 +79,14 @@ pub record IsStorePiece (kind : Kind) (cleans : Bool) (piece : List CodeItem) : 
 
 -- the boundary that keeps these, and resumes so many bytes after its end
 abbrev pub boundary_of : kept.Kept → (resume : ℕ) → Boundary
-boundary_of k resume = record { thread = k.thread; mask = k.mask; live = k.live.now; resume = pos resume }
+boundary_of k resume = record { thread = k.thread; locks = locks_in k.mask; live = k.live.now; resume = pos resume }
 
 abbrev pub boundary_observations : Boundary → (bank resume : ℕ) → (x : List ℕ) → List Observation
 boundary_observations b bank resume x = seen_effects (boundary_effects b (1 - bank) resume x)
 
--- the bank that the point names after a boundary: where its mask is 0 none was written
+-- the bank that the point names after a boundary: where it has no locks none was written
 abbrev pub bank_after : Boundary → (bank : ℕ) → ℕ
-bank_after b bank = if b.mask == 0 then bank else 1 - bank
+bank_after b bank = if is_empty b.locks then bank else 1 - bank
 
 -- registers y after a boundary at which they were x: only x3 and the temporaries may differ
 pub record LeavesRegisters (b : Boundary) (bank : ℕ) (x y : List ℕ) : Type 0 where
@@ -153,7 +154,7 @@ pub record Unlocks (b : Boundary) (mutex : ℕ) (piece : List CodeItem) (at : Si
   pub after : end_of piece at ≡ call + 4
   pub plain : marked at.linking.program.nodes call ≡ []
   pub marks : marks_in piece at ≡ begin_of piece at ∷ []
-  pub resumes : resumes_in piece at ≡ (if b.mask == 0 then [] else end_of piece at ∷ [])
+  pub resumes : resumes_in piece at ≡ (if is_empty b.locks then [] else end_of piece at ∷ [])
 
 pub record IsUnlockPiece (b : Boundary) (mutex : ℕ) (piece : List CodeItem) : Type 0 where
   pub closed : IsClosed piece

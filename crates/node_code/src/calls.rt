@@ -1,5 +1,5 @@
 //! Calls: a mutex is taken or given back, a thread ends.
-ghost use Rattle.std.specs.Prelude.{◌≡◌, ◌<◌, ◌++◌, ◌∷◌, [], IsTrue, OnOk};
+ghost use Rattle.std.specs.Prelude.{◌≡◌, ◌<◌, ◌++◌, ◌∷◌, ◌==◌, [], IsTrue, OnOk};
 ghost use Rattle.std.specs.List.{list_all};
 ghost use Rattle.ido_base.specs.declared.limits.TheConstants.{MOST_THREADS};
 ghost use Rattle.memory_layout.specs.Roles.{is_kept};
@@ -63,7 +63,7 @@ fn append_unlock(
     boundary: &[Instr],
 ) -> Result<(), OutOfMemory>
     requires { mutex < 2048 }
-    ensures { OnOk result (items.new.items ≡ items.old.items ++ unlock_items mutex mask boundary.now) }
+    ensures { OnOk result (items.new.items ≡ items.old.items ++ unlock_items mutex (mask == 0) boundary.now) }
 {
     items.push(CodeItem::MarkNext)?;
     push_plain(items, boundary)?;

@@ -1,6 +1,5 @@
 -- The boundaries of a thread's code can be recovered from.
-use Rattle.std.proofs.Common.{◌≡◌, ℕ, zero, suc, ◌+◌, ◌^◌, ◌<◌, List, [], ◌∷◌, length, get_or, refl, ap, arith, sym, ◌∙◌, subst, true, Some, lt_of_lt_of_le}
-use Rattle.std.proofs.Common.{pow_mono}
+use Rattle.std.proofs.Common.{◌≡◌, ℕ, zero, suc, ◌+◌, ◌<◌, List, [], ◌∷◌, length, get_or, refl, ap, arith, sym, ◌∙◌, true, Some}
 use Rattle.std.specs.Prelude.{slice_get, slice_index}
 use Rattle.std.specs.List.{list_all}
 use Rattle.std.proofs.lemmas.Bool.{and_parts}
@@ -10,8 +9,6 @@ use Rattle.std.proofs.lemmas.List.Elements.{Contains-get_or}
 use Rattle.std.proofs.lemmas.Option.{none-some, same_Some, slice_get_within}
 use Rattle.ido_ints.specs.declared.kinds.Kind.{Kind}
 use Rattle.c_tree.specs.Flats as f
-use Rattle.source_machine.specs.Mutexes.{held_by}
-use Rattle.lock_discipline.proofs.Public.{mask_of-bound}
 use Rattle.memory_layout.specs.declared.roles.TheConstants.{LOCALS}
 use Rattle.memory_layout.specs.Roles.{is_kept}
 use Rattle.flow_graph.specs.declared.graph.Part.{Part}
@@ -21,7 +18,7 @@ use Rattle.flow_graph.proofs.Public.{lowered_threads}
 use Rattle.log_states.specs.Logs.{IsKeepable}
 use Rattle.thread_code.specs.Plans.{Plan, Thread, IsThread, IsPlan, IsKept, of_local, of_address, of_value}
 use Rattle.recovered_threads.specs.Laws.{BoundariesRecover}
-use Rattle.recovered_threads.proofs.RecordedLocks.{mask_is, few_held}
+use Rattle.recovered_threads.proofs.RecordedLocks.{are_loggable}
 
 -- ---- Registers that have a slot
 
@@ -68,9 +65,7 @@ module _ (p : Plan) (plan : IsPlan p) (t : Thread) (is : IsThread p t) where
 
 pub boundaries_recover : BoundariesRecover
 boundaries_recover p code s bank resume x plan orderly b = record {
-  mask = subst (λ (mask : ℕ). mask < 2 ^ 64) (sym (mask_is p s plan orderly code.thread code.of b.graph_thread b.there b.own))
-      (lt_of_lt_of_le (mask_of-bound (held_by code.thread.number s.holders)) (pow_mono {i = length (held_by code.thread.number s.holders)} {j = 64}
-      (few_held p s plan orderly code.thread code.of b.graph_thread b.there b.own)));
+  locks = are_loggable p s plan orderly code.thread code.of b.graph_thread b.there b.own;
   live =
       λ register has. keepable register (kept_is p plan code.thread code.of b.graph_thread.at register ((code.is.kept b.graph_thread.at b.own register).0 has));
   registers = λ register has. b.registers register;

@@ -1,22 +1,22 @@
 -- What a committed boundary's record describes, and what the others' go on to describe.
-use Rattle.std.proofs.Common.{◌≡◌, ◌≢◌, inl, inr, ℕ, ◌+◌, ◌-◌, ◌%◌, ◌^◌, ◌==◌, List, refl, ap, arith, sym, ◌∙◌, subst}
-use Rattle.std.proofs.lemmas.Bool.{cond-true, cases_Bool, eqb-false}
+use Rattle.std.proofs.Common.{◌≡◌, ◌≢◌, inl, inr, ℕ, ◌+◌, ◌-◌, ◌%◌, ◌^◌, List, [], refl, ap, arith, sym, ◌∙◌, subst}
+use Rattle.std.proofs.lemmas.Bool.{cond-true, cases_Bool}
 use Rattle.ido_base.specs.Locks.{holds_none}
 use Rattle.c_tree.specs.LockDiscipline.{Held}
 use Rattle.source_machine.specs.Mutexes.{held_by}
-use Rattle.lock_discipline.specs.Masks.{mask_of}
 use Rattle.flow_graph.specs.Nodes.{Action, Eval, Store, Test, Lock, Unlock, End}
 use Rattle.flow_graph.specs.Actions.{GraphThread, FlowState, seen_by}
-use Rattle.boundary_code.specs.Boundaries.{Boundary}
+use Rattle.boundary_code.specs.Boundaries.{Boundary, is_empty}
+use Rattle.boundary_code.proofs.Public.{some_there}
 use Rattle.log_states.specs.Logs.{Record}
 use Rattle.log_states.specs.Laws.{recorded_by}
 use Rattle.log_states.proofs.Public.{point_says}
-use Rattle.thread_code.specs.Plans.{Plan, IsPlan}
+use Rattle.thread_code.specs.Plans.{Plan, IsPlan, locks_held}
 use Rattle.thread_code.specs.RegistersAtNodes.{IsPendingIn, Enters}
 use Rattle.thread_code.specs.NodeCodeEffects.{keeping}
 use Rattle.recovered_threads.specs.RecordDescriptions.{Code, IsOrderly, ResumesAt, Describes, between, inside}
 use Rattle.recovered_threads.specs.Laws.{AtBoundary, CommitsDescribe, OthersDescribe}
-use Rattle.recovered_threads.proofs.RecordedLocks.{mask_is, mask_has_locks, none_where}
+use Rattle.recovered_threads.proofs.RecordedLocks.{locks_is, none_where}
 use Rattle.recovered_threads.proofs.Boundaries.{boundaries_recover}
 
 module _ (p : Plan) (code : Code p) (kept : FlowState) (bank resume : ℕ) (x : List ℕ) (plan : IsPlan p) (orderly : IsOrderly p kept)
@@ -27,25 +27,25 @@ module _ (p : Plan) (code : Code p) (kept : FlowState) (bank resume : ℕ) (x : 
   abbrev new : Record
   new = recorded_by kept_there (1 - bank) resume x
 
-  -- the thread holds nothing exactly where the mask is 0
-  holds : holds_none kept.holders code.thread.number ≡ (kept_there.mask == 0)
+  -- the thread holds nothing exactly where the boundary has no locks
+  holds : holds_none kept.holders code.thread.number ≡ is_empty kept_there.locks
   holds = none_where code.thread.number kept.holders
-      ∙ ap (λ (mask : ℕ). mask == 0) (sym (mask_is p kept plan orderly code.thread code.of k.graph_thread k.there k.own))
+      ∙ ap is_empty (sym (locks_is p kept plan orderly code.thread code.of k.graph_thread k.there k.own))
 
   describes : Describes p code kept new
-  describes = elim (cases_Bool (kept_there.mask == 0)) [
-    | inl none ↦ between (holds ∙ none) (cond-true (kept_there.mask == 0) 0 ((resume + (1 - bank)) % 2 ^ 64) none)
+  describes = elim (cases_Bool (is_empty kept_there.locks)) [
+    | inl none ↦ between (holds ∙ none) (cond-true (is_empty kept_there.locks) 0 ((resume + (1 - bank)) % 2 ^ 64) none)
     | inr some ↦
-        let mask : kept_there.mask ≢ 0 = eqb-false kept_there.mask 0 some in
-        let says = point_says kept_there (1 - bank) resume x (boundaries_recover p code kept bank resume x plan orderly k) (omega arith) mask in
+        let locked : kept_there.locks ≢ [] = some_there kept_there.locks some in
+        let says = point_says kept_there (1 - bank) resume x (boundaries_recover p code kept bank resume x plan orderly k) (omega arith) locked in
         inside (holds ∙ some) (record {
           graph_thread = k.graph_thread;
           there = k.there;
           goes_on = k.goes_on;
           own = k.own;
           point = says.0;
-          resumes = subst (λ (a : ℕ). ResumesAt p code k.graph_thread.at a) (sym says.2) (k.resumes mask);
-          locks = mask_has_locks p kept plan orderly code.thread code.of k.graph_thread k.there k.own;
+          resumes = subst (λ (a : ℕ). ResumesAt p code k.graph_thread.at a) (sym says.2) (k.resumes locked);
+          locks = refl;
           live = refl;
           bank = bank;
           enters = k.enters;
@@ -77,7 +77,7 @@ enters_on p code kept after graph_thread node bank x e = record {
 }
 
 holds_on : (n : ℕ) (kept after : FlowState) → held_by n after.holders ≡ held_by n kept.holders → holds_none after.holders n ≡ holds_none kept.holders n
-holds_on n kept after same = none_where n after.holders ∙ (ap (λ (h : Held). mask_of h == 0) same ∙ sym (none_where n kept.holders))
+holds_on n kept after same = none_where n after.holders ∙ (ap (λ (h : Held). is_empty (locks_held h)) same ∙ sym (none_where n kept.holders))
 
 pub others_describe : OthersDescribe
 others_describe p code kept after r (between none point) graph_threads held = between (holds_on code.thread.number kept after held ∙ none) point

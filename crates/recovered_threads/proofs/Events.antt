@@ -156,7 +156,7 @@ module _ (program : List (List Slot)) (w : World) (g h : ℕ) (r : Record) (soun
       by (Takes old new) = absurd (other (sym (same_Some g h (same_there (slice_get after.holders lock) (Some g) (Some h) new there))))
       by (Gives old new) = absurd (none-some h (same_there (slice_get after.holders lock) None (Some h) new there))
 
-  ready_stays : IsElsewhere program w g h → IsRecoveredHart w h r → IsRecoveredHart after h r
+  pub ready_stays : IsElsewhere program w g h → IsRecoveredHart w h r → IsRecoveredHart after h r
   ready_stays elsewhere is = record {
     inside = is.inside;
     all = still_all is.all;

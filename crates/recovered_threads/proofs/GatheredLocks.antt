@@ -76,7 +76,7 @@ ready_as_kept p code kept w r plan orderly describes ready count lock = (
 
 -- ---- All free
 
-none_if : (at n : ℕ) (holders : List (Option ℕ)) → ((lock : ℕ) → slice_get holders lock ≡ Some (Some n) → ⊥) → is_none (held_from at holders n) ≡ true
+pub none_if : (at n : ℕ) (holders : List (Option ℕ)) → ((lock : ℕ) → slice_get holders lock ≡ Some (Some n) → ⊥) → is_none (held_from at holders n) ≡ true
 none_if at n [] free = refl
 none_if at n (o ∷ holders) free = by (is_held_by n o) refl (none_if (at + 1) n holders (λ lock. free (suc lock)))
   where

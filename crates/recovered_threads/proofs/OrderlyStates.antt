@@ -14,7 +14,7 @@ use Rattle.flow_graph.specs.Actions as g
 use Rattle.flow_graph.specs.Actions.{GraphThread, FlowState, Effect, Sets, Owes, Makes, Goes, Takes, Gives, Ends, graph_start, graph_step}
 use Rattle.flow_graph.specs.Lowering.{lowered}
 use Rattle.flow_graph.specs.Lockstep.{Matches, StepsMatch}
-use Rattle.flow_graph.proofs.Public.{found_in, begins_lockstep, steps_lockstep, Stepped, stepped}
+use Rattle.flow_graph.proofs.Public.{found_in, begins_lockstep, steps_lockstep, Stepped, stepped, matched}
 use Rattle.thread_code.specs.Plans.{Plan, IsPlan}
 use Rattle.recovered_threads.specs.RecordDescriptions.{between}
 use Rattle.recovered_threads.specs.Laws.{StartsOrderly, StepsOrderly, StartsTold}
@@ -130,10 +130,6 @@ module _ (s : FlowState) (t : ℕ) (graph_thread : GraphThread) where
   by_effect (Takes mutex at) next e = taken mutex at next (slice_get s.holders mutex) refl e
   by_effect (Gives mutex at) next e = goes_to _ next (given mutex at (slice_get s.holders mutex) refl) e
   by_effect Ends next e = ended graph_thread.ended next e
-
-matched : (x : f.Flat) (next : FlowState) (o : Option m.State) → StepsMatch x (Some next) o → (after : m.State) × (o ≡ Some after) × Matches x next after
-matched x next None h = absurd h
-matched x next (Some after) h = (after, refl, h)
 
 pub steps_orderly : StepsOrderly
 steps_orderly p s next thread plan orderly step =

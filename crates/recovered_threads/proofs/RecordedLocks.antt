@@ -1,15 +1,14 @@
 -- The locks of a thread's record are those that it holds in the kept state.
-use Rattle.std.proofs.Common.{◌≡◌, ◌≢◌, ◌↔◌, ℕ, zero, suc, ◌+◌, ◌-◌, ◌*◌, ◌≤◌, ◌==◌, List, [], ◌∷◌, length, refl, ap, arith, sym, ◌∙◌, cond, Bool, true, false}
-use Rattle.std.proofs.Common.{Option, Some, None, is_none}
+use Rattle.std.proofs.Common.{◌≡◌, ◌≢◌, ◌↔◌, ℕ, zero, suc, ◌+◌, ◌-◌, ◌≤◌, ◌==◌, List, [], ◌∷◌, length, refl, ap, arith, sym, subst, ◌∙◌}
+use Rattle.std.proofs.Common.{cond, Bool, true, false, Option, Some, None, is_none}
 use Rattle.std.specs.Prelude.{slice_get, slice_index_or}
 use Rattle.std.proofs.lemmas.Bool.{true≢false, cond-false, eqb-true, ne_eqb}
 use Rattle.std.proofs.lemmas.List.{length-map}
 use Rattle.std.proofs.lemmas.Option.{none-some, same_Some, slice_get_within, get_or_from_slice_get}
-use Rattle.ido_base.specs.Locks.{is_held_by, held_from, holds_none, has_lock, locks_in}
+use Rattle.ido_base.specs.Locks.{is_held_by, held_from, holds_none, has_lock}
 use Rattle.c_tree.specs.Source as m
 use Rattle.c_tree.specs.LockDiscipline.{Held, holds}
 use Rattle.source_machine.specs.Mutexes.{held_by}
-use Rattle.lock_discipline.specs.Masks.{mask_of}
 use Rattle.lock_discipline.specs.HeldSetsByStep.{AreSetsOf, HeldBefore}
 use Rattle.lock_discipline.proofs.Public.{held_is_held}
 use Rattle.flow_graph.specs.declared.graph.Part.{Part}
@@ -18,9 +17,11 @@ use Rattle.flow_graph.specs.Lowering.{parts}
 use Rattle.flow_graph.specs.Lockstep.{GraphThreadMatches}
 use Rattle.flow_graph.specs.Actions.{GraphThread, FlowState}
 use Rattle.flow_graph.proofs.Public.{found_in, lowered_threads}
-use Rattle.log_states.specs.Logs.{Record}
-use Rattle.thread_code.specs.Plans.{Plan, Thread, IsThread, IsNodeOf, IsPlan, locks_held, set_before, locks_before, mask_before}
-use Rattle.thread_code.proofs.Public.{has_held, mask_has_held, mask_of_none, none_in_mask}
+use Rattle.boundary_code.specs.Boundaries.{is_empty}
+use Rattle.boundary_code.proofs.Public.{none_there}
+use Rattle.log_states.specs.Logs.{Record, AreLoggable}
+use Rattle.thread_code.specs.Plans.{Plan, Thread, IsThread, IsNodeOf, IsPlan, locks_held, locks_held_from, set_before, locks_before}
+use Rattle.thread_code.proofs.Public.{has_held, held_fits, held_read_back}
 use Rattle.recovered_threads.specs.RecordDescriptions.{Code, IsOrderly, Describes, between, inside, locks_of}
 use Rattle.recovered_threads.specs.Laws.{LocksAreHeld, PointsHaveLocks, RecordsAreApart}
 use Rattle.recovered_threads.proofs.NodesBeforeSteps.{left_at, standing_at}
@@ -46,30 +47,22 @@ locks_hold : (n : ℕ) (holders : List (Option ℕ)) (lock : ℕ) →
 locks_hold n holders lock =
     (λ e. (holds_is n holders lock).0 (sym (has_held (held_by n holders) lock) ∙ e), λ e. has_held (held_by n holders) lock ∙ (holds_is n holders lock).1 e)
 
-zero_twice : (k : ℕ) → (k == 0) ≡ (0 + 2 * k == 0)
-zero_twice zero = refl
-zero_twice (suc k) =
-    let one : (suc k == 0) ≡ false = grind arith in
-    let other : (0 + 2 * suc k == 0) ≡ false = grind arith in
-    one ∙ sym other
-
--- the mask is 0 where a thread holds none
-none_is : (at n : ℕ) (holders : List (Option ℕ)) → is_none (held_from at holders n) ≡ (mask_of (held_by n holders) == 0)
+-- there is none where a thread holds none
+none_is : (at n : ℕ) (holders : List (Option ℕ)) → is_none (held_from at holders n) ≡ is_empty (locks_held_from at (held_by n holders))
 none_is at n [] = refl
 none_is at n (o ∷ holders) = by (is_held_by n o) (none_is (at + 1) n holders)
   where
-    by : (b : Bool) → is_none (held_from (at + 1) holders n) ≡ (mask_of (held_by n holders) == 0) →
-        is_none (cond b (Some at) (held_from (at + 1) holders n)) ≡ (cond b 1 0 + 2 * mask_of (held_by n holders) == 0)
-    by true h = let e : (1 + 2 * mask_of (held_by n holders) == 0) ≡ false = grind arith in sym e
-    by false h = h ∙ zero_twice (mask_of (held_by n holders))
+    by : (b : Bool) → is_none (held_from (at + 1) holders n) ≡ is_empty (locks_held_from (at + 1) (held_by n holders)) →
+        is_none (cond b (Some at) (held_from (at + 1) holders n))
+        ≡ is_empty (cond b (at ∷ locks_held_from (at + 1) (held_by n holders)) (locks_held_from (at + 1) (held_by n holders)))
+    by true h = refl
+    by false h = h
 
-pub none_where : (n : ℕ) (holders : List (Option ℕ)) → holds_none holders n ≡ (mask_of (held_by n holders) == 0)
+pub none_where : (n : ℕ) (holders : List (Option ℕ)) → holds_none holders n ≡ is_empty (locks_held (held_by n holders))
 none_where n holders = none_is 0 n holders
 
--- and has no locks
 no_locks_where : (n : ℕ) (holders : List (Option ℕ)) → holds_none holders n ≡ true → locks_held (held_by n holders) ≡ []
-no_locks_where n holders none =
-    none_in_mask 0 (held_by n holders) (eqb-true (mask_of (held_by n holders)) 0 (sym (none_where n holders) ∙ none))
+no_locks_where n holders none = none_there (locks_held (held_by n holders)) (sym (none_where n holders) ∙ none)
 
 -- who holds none holds this one neither
 pub holds_none_is : (n : ℕ) (holders : List (Option ℕ)) (lock : ℕ) → holds_none holders n ≡ true → slice_get holders lock ≡ Some (Some n) → ⊥
@@ -107,18 +100,16 @@ module _ (p : Plan) (kept : FlowState) (plan : IsPlan p) (orderly : IsOrderly p 
       ap (λ (table : List Held). slice_index_or table step []) (get_or_from_slice_get p.held n sets.0 [] sets.1)
       ∙ (get_or_from_slice_get sets.0 step held [] there_is ∙ ap (λ (os : List (Option ℕ)). held_by n os) (sym orderly.matches.holders))
 
-  pub mask_is : mask_before p t graph_thread.at ≡ mask_of (held_by t.number kept.holders)
-  mask_is = ap mask_of set_is
-
   pub locks_is : locks_before p t graph_thread.at ≡ locks_held (held_by t.number kept.holders)
   locks_is = ap locks_held set_is
 
-  pub few_held : length (held_by t.number kept.holders) ≤ 64
+  few_held : length (held_by t.number kept.holders) ≤ 64
   few_held = omega (arith, length-map kept.holders (λ o. is_held_by t.number o), orderly.locks, plan.formed.shared.mutexes)
 
-  -- the mask before the node has these locks
-  pub mask_has_locks : locks_in (mask_before p t graph_thread.at) ≡ locks_before p t graph_thread.at
-  mask_has_locks = ap locks_in mask_is ∙ (mask_has_held (held_by t.number kept.holders) few_held ∙ sym locks_is)
+  -- a log can hold the locks before the node
+  pub are_loggable : AreLoggable (locks_before p t graph_thread.at)
+  are_loggable = subst AreLoggable (sym locks_is)
+      (record { fits = held_fits (held_by t.number kept.holders) few_held; read_back = held_read_back (held_by t.number kept.holders) few_held })
 
 -- ---- Records
 
@@ -151,8 +142,7 @@ pub points_have_locks : PointsHaveLocks
 points_have_locks p code kept r plan orderly (between none point) = (λ e. point, λ e. between_locks r point)
 points_have_locks p code kept r plan orderly (inside some i) = (
   λ e.
-      let is : mask_of (held_by code.thread.number kept.holders) ≡ 0 =
-      mask_of_none 0 (held_by code.thread.number kept.holders) (sym (locks_are p code kept r plan orderly (inside some i)) ∙ e) in
-      absurd (true≢false (ap (λ (mask : ℕ). mask == 0) (sym is) ∙ (sym (none_where code.thread.number kept.holders) ∙ some))),
+      let is : locks_held (held_by code.thread.number kept.holders) ≡ [] = sym (locks_are p code kept r plan orderly (inside some i)) ∙ e in
+      absurd (true≢false (ap is_empty (sym is) ∙ (sym (none_where code.thread.number kept.holders) ∙ some))),
   λ e. absurd (i.point e),
 )

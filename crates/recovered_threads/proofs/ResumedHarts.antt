@@ -1,16 +1,16 @@
 -- A hart that is resumed goes on where its record says.
-use Rattle.std.proofs.Common.{◌≡◌, ℕ, zero, suc, ◌+◌, ◌*◌, ◌<◌, List, [], map, get_or, refl, ap, arith, sym, ◌∙◌, subst, add-zero}
+use Rattle.std.proofs.Common.{◌≡◌, ℕ, ◌+◌, ◌*◌, ◌<◌, List, [], refl, ap, arith, sym, ◌∙◌, subst}
 use Rattle.std.specs.List.{Contains}
 use Rattle.ido_base.specs.Layout.{bank_bytes}
 use Rattle.rv64_isa.specs.declared.object.Slot.{Slot}
 use Rattle.rv64_isa.specs.declared.phase.Phase.TheVariants.{Resume}
 use Rattle.rv64_isa.specs.Rows.{read}
-use Rattle.rv64_isa.specs.Machine.{World, bank_of, resume_of, resumed_register, numbers_from}
+use Rattle.rv64_isa.specs.Machine.{World, bank_of, resume_of, resumed_register}
 use Rattle.boundary_code.specs.Boundaries.{AtBank}
 use Rattle.log_states.specs.Logs.{Record, nothing_recorded, IsRecord}
 use Rattle.log_states.specs.Machines.{config_of}
 use Rattle.log_states.specs.Laws as log
-use Rattle.log_states.proofs.Public.{ends, log_facts}
+use Rattle.log_states.proofs.Public.{ends, log_facts, mapped}
 use Rattle.hart_runs.specs.Calls as runs
 use Rattle.hart_runs.proofs.Public.{moved_harts_begin, resumes_step}
 use Rattle.flow_graph.specs.Actions.{FlowState, seen_by}
@@ -21,13 +21,8 @@ use Rattle.recovered_threads.specs.RecordDescriptions.{Code, ResumesAt, at_chose
 use Rattle.recovered_threads.specs.RecoveryStates.{IsRecoveredHart, ResumesThread}
 use Rattle.recovered_threads.specs.Laws.{HartsGoOn}
 
-element : (f : ℕ → ℕ) (at count i : ℕ) → i < count → get_or (map f (numbers_from at count)) i 0 ≡ f (at + i)
-element f at zero i below = absurd (let z : ⊥ = omega (arith, below) in z)
-element f at (suc count) zero below = ap f (sym (add-zero at))
-element f at (suc count) (suc i) below = let e : at + 1 + i ≡ at + suc i = omega arith in element f (at + 1) count i (omega (arith, below)) ∙ ap f e
-
 -- an address of the thread's table
-resumed_there : (p : Plan) (code : Code p) (node address : ℕ) → IsNodeOf code.thread node → ResumesAt p code node address →
+pub resumed_there : (p : Plan) (code : Code p) (node address : ℕ) → IsNodeOf code.thread node → ResumesAt p code node address →
     c.IsResumeAddress p code.thread code.is.places address
 resumed_there p code node address own (at_chosen chosen) = c.at_chosen node own chosen
 resumed_there p code node address own (past_lock from mutex is from_own at locks) = c.past_lock from mutex node is from_own at locks
@@ -65,7 +60,7 @@ module _ (program : List (List Slot)) (p : Plan) (code : Code p) (kept : FlowSta
       let below : register < 32 = (is_record.live register mine).exists in
       let e : 0 + register ≡ register = omega arith in
       step.registers register below
-      ∙ (sym (element (resumed_register w.words h) 0 32 register below ∙ ap (resumed_register w.words h) e) ∙ recovered.registers ready.inside register mine)
+      ∙ (sym (mapped (resumed_register w.words h) 0 32 register below ∙ ap (resumed_register w.words h) e) ∙ recovered.registers ready.inside register mine)
 
   goes_on : ResumesThread program code kept w i.hart r
   goes_on = record {

@@ -4,7 +4,6 @@ use Rattle.std.proofs.lemmas.Bool.{true≢false}
 use Rattle.std.proofs.lemmas.Option.{none-some, same_Some}
 use Rattle.ido_base.specs.declared.event.Event.TheVariants.{Crash}
 use Rattle.source_machine.specs.Mutexes.{held_by}
-use Rattle.lock_discipline.specs.Masks.{mask_of}
 use Rattle.rv64_isa.specs.declared.object.Slot.{Slot}
 use Rattle.rv64_isa.specs.declared.phase.Phase.TheVariants.{Take, Resume, Done}
 use Rattle.rv64_isa.specs.Machine.{World, bank_of, resume_of, start_of, after_event}
@@ -38,12 +37,9 @@ bank_two = refl
 resumes_two : resume_of two_locks.point ≡ 4096
 resumes_two = refl
 
--- what a thread holds, as its locks and as a mask
+-- what a thread holds
 holds_two : locks_held (held_by 3 (Some 3 ∷ Some 1 ∷ Some 3 ∷ None ∷ [])) ≡ 0 ∷ 2 ∷ []
 holds_two = refl
-
-mask_two : mask_of (held_by 3 (Some 3 ∷ Some 1 ∷ Some 3 ∷ None ∷ [])) ≡ 5
-mask_two = refl
 
 abbrev with_holders : List (Option ℕ) → World
 with_holders holders = record { words = []; harts = []; holders = holders; recovering = true }

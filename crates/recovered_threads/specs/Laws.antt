@@ -22,7 +22,7 @@ use Rattle.log_states.specs.Machines.{config_of}
 use Rattle.log_states.specs.Laws.{recorded_by, IsRecoverable}
 use Rattle.log_states.specs.LogInvariant.{LogInv}
 use Rattle.hart_runs.specs.Calls.{IsInPhase}
-use Rattle.thread_code.specs.Plans.{Plan, IsPlan, IsNodeOf, mask_before}
+use Rattle.thread_code.specs.Plans.{Plan, IsPlan, IsNodeOf, locks_before}
 use Rattle.thread_code.specs.RegistersAtNodes.{Enters}
 use Rattle.thread_code.specs.NodeCodeEffects.{keeping}
 use Rattle.recovered_threads.specs.RecordDescriptions.{Code, Codes, IsOrderly, ResumesAt, Describes, AllDescribe, locks_of}
@@ -129,7 +129,7 @@ pub record AtBoundary (p : Plan) (code : Code p) (s : FlowState) (bank resume : 
   pub there : slice_get s.graph_threads code.thread.number ≡ Some graph_thread
   pub goes_on : graph_thread.ended ≡ false
   pub own : IsNodeOf code.thread graph_thread.at
-  pub resumes : mask_before p code.thread graph_thread.at ≢ 0 → ResumesAt p code graph_thread.at resume
+  pub resumes : locks_before p code.thread graph_thread.at ≢ [] → ResumesAt p code graph_thread.at resume
   pub enters : Enters p code.thread graph_thread.at (seen_by s graph_thread) bank x
   -- an instruction's address, and registers of 64 bits
   pub aligned : resume % 4 ≡ 0

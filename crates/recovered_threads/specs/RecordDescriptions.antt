@@ -11,7 +11,7 @@ use Rattle.flow_graph.specs.Lockstep.{Matches}
 use Rattle.flow_graph.specs.IdempotentCuts.{IsChosen}
 use Rattle.flow_graph.specs.Liveness.{NodeAt}
 use Rattle.log_states.specs.Logs.{Record}
-use Rattle.thread_code.specs.Plans.{Plan, Thread, IsThread, IsNodeOf, locks_before, mask_before}
+use Rattle.thread_code.specs.Plans.{Plan, Thread, IsThread, IsNodeOf, locks_before}
 use Rattle.thread_code.specs.RegistersAtNodes.{Enters}
 use Rattle.thread_code.specs.Programs.{IsThreadCode}
 
@@ -48,7 +48,7 @@ pub data ResumesAt (p : Plan) (code : Code p) (node : ℕ) : (address : ℕ) →
   past_lock : (from mutex : ℕ) (is : Node) → IsNodeOf code.thread from → NodeAt p.graph from is → is.action ≡ Lock mutex node →
       ResumesAt p code node (code.is.places.after from)
   past_unlock : (from mutex : ℕ) (is : Node) → IsNodeOf code.thread from → NodeAt p.graph from is → is.action ≡ Unlock mutex node →
-      mask_before p code.thread node ≢ 0 → ResumesAt p code node (code.is.places.after from)
+      locks_before p code.thread node ≢ [] → ResumesAt p code node (code.is.places.after from)
 
 -- the thread stands at a node of a section, and the record is what a boundary keeps there
 pub record IsInside (p : Plan) (code : Code p) (kept : FlowState) (r : Record) : Type 0 where

@@ -13,5 +13,6 @@ pub use Rattle.recovery_semantics.proofs.StableHistories.{index_map}
 pub use Rattle.recovery_semantics.proofs.StepEffects.{number_unstored, store_inner, store_same, storing}
 pub use Rattle.recovery_semantics.proofs.StepsKeepInvariant.{below_max}
 pub use Rattle.recovery_semantics.proofs.UncommittedReleases.{held_before, held_now, left_is_free, prefix_hands}
-pub use Rattle.recovery_semantics.proofs.VariableMemory.{at_spot, memory_crashed, memory_loaded, memory_persisted, memory_stays, memory_stored}
+pub use Rattle.recovery_semantics.proofs.VariableMemory.{at_spot, elements_past, memory_crashed, memory_loaded, memory_persisted, memory_stays, memory_stored}
+pub use Rattle.recovery_semantics.proofs.VariableMemory.{variable_found, variable_past}
 pub use Rattle.recovery_semantics.proofs.WholeExecutions.{executions_resume}

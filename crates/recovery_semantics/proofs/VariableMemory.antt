@@ -32,7 +32,7 @@ elements_at words kind number (suc n) (suc e) h =
     let is : number + bytes_of kind + bytes_of kind * e ≡ number + bytes_of kind * suc e = omega arith in
     elements_at words kind (number + bytes_of kind) n e (omega (arith, h)) ∙ ap (λ (k : ℕ). element_in kind (k % 8) (word_at words (k / 8))) is
 
-elements_past : (words : List Word) (kind : Kind) (number count e : ℕ) → count ≤ e → slice_index_or (elements_in words kind number count) e none ≡ none
+pub elements_past : (words : List Word) (kind : Kind) (number count e : ℕ) → count ≤ e → slice_index_or (elements_in words kind number count) e none ≡ none
 elements_past words kind number zero e h = refl
 elements_past words kind number (suc n) zero h = absurd (omega (arith, h))
 elements_past words kind number (suc n) (suc e) h = elements_past words kind (number + bytes_of kind) n e (omega (arith, h))
@@ -45,13 +45,13 @@ pub sizes_same : (spots : List Spot) (old new : List Word) → sizes (memory_in 
 sizes_same [] old new = refl
 sizes_same (s ∷ ss) old new = λ i. (elements_size new s.kind s.start s.elements ∙ sym (elements_size old s.kind s.start s.elements)) i ∷ sizes_same ss old new i
 
-variable_found : (spots : List Spot) (words : List Word) (v : ℕ) (s : Spot) → slice_get spots v ≡ Some s →
+pub variable_found : (spots : List Spot) (words : List Word) (v : ℕ) (s : Spot) → slice_get spots v ≡ Some s →
     slice_index_or (memory_in spots words) v [] ≡ variable_in words s
 variable_found [] words v s h = cc
 variable_found (x ∷ spots) words zero s h = let is : x ≡ s = cc in ap (variable_in words) is
 variable_found (x ∷ spots) words (suc v) s h = variable_found spots words v s h
 
-variable_past : (spots : List Spot) (words : List Word) (v : ℕ) → slice_get spots v ≡ None → slice_index_or (memory_in spots words) v [] ≡ []
+pub variable_past : (spots : List Spot) (words : List Word) (v : ℕ) → slice_get spots v ≡ None → slice_index_or (memory_in spots words) v [] ≡ []
 variable_past [] words v h = refl
 variable_past (x ∷ spots) words zero h = cc
 variable_past (x ∷ spots) words (suc v) h = variable_past spots words v h

@@ -31,6 +31,7 @@ use Rattle.recovery_semantics.proofs.Public.{reads_are_right as resumed_reads_ar
 use Rattle.region_attempts.specs.GraphStates.{flow_kept, flow_now, flow_solo, node_of}
 use Rattle.region_attempts.specs.AttemptsInRegion.{Resumes, StaysInside}
 use Rattle.region_attempts.specs.Laws.{LiveIsRight, ReadsHere, ReadAfter, ReadsAreRight, ReadsStayRight, ReadsAreAsMade, ReadersGuard, ReadersGuardStill}
+use Rattle.region_attempts.specs.Laws.{RerunReadsNothingOverwritten}
 use Rattle.region_attempts.proofs.StepBisimulation.{IsThere, is_there, guarded_at}
 use Rattle.region_attempts.proofs.GraphRuns.{inner_runs, matched_run, alone}
 use Rattle.region_attempts.proofs.Nodes.{read_held, StoresHere, owing_at, owes_at, writing_stores, written_of, reads_nothing}
@@ -332,7 +333,7 @@ module _ (x : f.Flat) (b : Boundaries) (w : IsWellFormed x) (cuts : AreCuts (low
   right = let within = r.within in resumed_reads_are_right x old t one.variable one.element i r.now_guards
       (λ k low l wr. rewritten (omega (arith, low, l, within)) k l low wr)
 
-pub reads_are_right : ReadsAreRight
+reads_are_right : ReadsAreRight
 reads_are_right x b old schedule t one w cuts i by stays r =
     let kept = flow_kept x schedule in
     let match = kept_matches x w old.kept schedule by in
@@ -350,7 +351,7 @@ reads_are_right x b old schedule t one w cuts i by stays r =
       now_guards = reader_guards x w old t i kept match one r;
     })
 
-pub reads_stay_right : ReadsStayRight
+reads_stay_right : ReadsStayRight
 reads_stay_right x b old schedule t steps one w cuts i by stays r =
     let kept = flow_kept x schedule in
     let match = kept_matches x w old.kept schedule by in
@@ -375,7 +376,10 @@ pub readers_guard_still : ReadersGuardStill
 readers_guard_still x old schedule t steps one w i by r =
     guards_now x w old t steps i (flow_kept x schedule) (kept_matches x w old.kept schedule by) one r
 
-pub reads_are_as_made : ReadsAreAsMade
+reads_are_as_made : ReadsAreAsMade
 reads_are_as_made x b old schedule t steps one w cuts i by stays r few =
     reads_stay_right x b old schedule t steps one w cuts i by stays r
     ∙ as_made x w old t steps i (flow_kept x schedule) (kept_matches x w old.kept schedule by) one r few
+
+pub rerun_reads_nothing_overwritten : RerunReadsNothingOverwritten
+rerun_reads_nothing_overwritten = record { here = reads_are_right; after = reads_stay_right; made = reads_are_as_made }

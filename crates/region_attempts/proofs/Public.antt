@@ -1,5 +1,5 @@
 -- What crates above may use of this crate's proofs, passed on from one place. Declares nothing.
-pub use Rattle.region_attempts.proofs.AttemptReads.{kept_good, readers_guard, reads_are_right}
+pub use Rattle.region_attempts.proofs.AttemptReads.{kept_good, readers_guard, rerun_reads_nothing_overwritten}
 pub use Rattle.region_attempts.proofs.ExecutionsStayInRegion.{executions_stay}
 pub use Rattle.region_attempts.proofs.GraphFollowsSource.{graph_follows, graph_settles, graph_stands}
 pub use Rattle.region_attempts.proofs.GraphRuns.{inner_runs, matched_run, own_step}

@@ -68,6 +68,13 @@ ReadsAreAsMade = (x : f.Flat) (b : Boundaries) (m : Config) (schedule : List ℕ
     ReadAfter x (flow_kept x schedule) m thread steps one → (attempt_of m thread).done ≤ suc steps →
     live_number (history_at m.memory one.variable one.element) ≡ number_at (solo m.kept thread steps) one.variable one.element
 
+-- The fact of regions that recovery rests on, beside those of a log: a region that is run again reads nothing that an earlier attempt has overwritten.
+pub record RerunReadsNothingOverwritten : Type 0 where
+  -- at the node where the thread stands, and still after later steps
+  pub here : ReadsAreRight
+  pub after : ReadsStayRight
+  pub made : ReadsAreAsMade
+
 -- the thread has the mutexes that guard what it reads
 abbrev pub ReadersGuard : Type 0
 ReadersGuard = (x : f.Flat) (m : Config) (schedule : List ℕ) (thread : ℕ) (one : Element) → IsWellFormed x → Invariant x m → IsKeptBy x m.kept schedule →

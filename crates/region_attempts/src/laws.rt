@@ -1,7 +1,7 @@
 //! Laws of attempts at regions: nothing is computed here.
 ghost use Rattle.region_attempts.specs.Laws.{AttemptsAreWhole, EventsStay, GraphFollows, GraphSettles, GraphMatches, InsideIsRegion};
 ghost use Rattle.region_attempts.specs.Laws.{ExecutionsStay, NextResumes, NothingIsWritten, ReadersGuard, ReadersGuardStill};
-ghost use Rattle.region_attempts.specs.Laws.{ReadsAreAsMade, ReadsAreRight, ReadsStayRight, StartStays, StoresAreCleaned, WritersStore};
+ghost use Rattle.region_attempts.specs.Laws.{RerunReadsNothingOverwritten, StartStays, StoresAreCleaned, WritersStore};
 
 /// The graph's states match the source's, as of what is kept and now; a thread's graph thread is what its own steps alone leave; and the graph
 /// follows each event: where a thread's steps are kept, its graph thread is kept as it is now.
@@ -36,12 +36,14 @@ pub fn next_resumes()
 /// What a thread reads in an attempt that stays within its region is the source's number, whatever earlier attempts have overwritten:
 /// at the node where it stands, and still after its steps; and until it goes on from the node after that one it is the number of the
 /// state in which the step that reads it is made.
-pub fn reads_are_right()
-    ensures guard { ReadersGuard }
-    ensures guard_still { ReadersGuardStill }
-    ensures right { ReadsAreRight }
-    ensures still { ReadsStayRight }
-    ensures made { ReadsAreAsMade }
+pub fn rerun_reads_nothing_overwritten()
+    ensures { RerunReadsNothingOverwritten }
+{}
+
+/// What a thread reads in an attempt it guards: at the node where it stands, and still after its steps.
+pub fn readers_guard()
+    ensures here { ReadersGuard }
+    ensures still { ReadersGuardStill }
 {}
 
 /// A thread writes at nodes that store, in their locations; one that has done nothing has written nothing.

@@ -1,7 +1,7 @@
 -- Addresses of items that lie one after another: they go up by whole words, and a mark's instruction takes one.
 use Rattle.std.proofs.Common.{◌≡◌, ℕ, zero, suc, ◌+◌, ◌-◌, ◌*◌, ◌%◌, ◌^◌, ◌<◌, ◌≤◌, List, [], ◌∷◌, ◌++◌, length, map, replicate, refl, ap, sym, ◌∙◌}
 use Rattle.std.proofs.Common.{arith, subst}
-use Rattle.std.proofs.Common.{inl, inr, Bool, true, false, Some, None, ◌==◌, lit≤}
+use Rattle.std.proofs.Common.{inl, inr, Bool, true, false, Some, None, lit≤}
 use Rattle.std.specs.Prelude.{slice_get, slice_index_or, Contains, if◌then◌else◌, ◌⊎◌}
 use Rattle.std.proofs.lemmas.Bool.{true≢false}
 use Rattle.std.proofs.lemmas.List.{append-nil}
@@ -14,7 +14,7 @@ use Rattle.rv64_isa.specs.declared.object.Slot.TheVariants.{Row}
 use Rattle.rv64_isa.specs.Rows.{Effect}
 use Rattle.rv64_link.specs.LabelledCode.{does, most_words_of, least_words_of, is_mark, is_resume, positions_from, fences_of}
 use Rattle.rv64_link.specs.LinkedCode.{IsRoom, IsLinked}
-use Rattle.boundary_code.specs.Boundaries.{Boundary, AtBank, bank_effects, commit_effects}
+use Rattle.boundary_code.specs.Boundaries.{Boundary, AtBank, bank_effects, commit_effects, is_empty}
 use Rattle.code_runs.specs.ComputingRuns.{LocalConfig}
 use Rattle.code_runs.specs.CodeTraces as walks
 use Rattle.code_runs.specs.CodeTraces.{Program, MarkedEnvironment, Meets, Observation, Trace, GoesThrough}
@@ -253,7 +253,7 @@ module _ (items : List CodeItem) (none : Weightless items) where
   unfolding linked
   no_boundary b is =
       let goes = (is.at site).keeps (replicate 32 0) 0 zeros in
-      sees b (1 % 2 ^ 64) (b.mask == 0) (nothing_seen goes.steps _ _ _ goes.walks)
+      sees b (1 % 2 ^ 64) (is_empty b.locks) (nothing_seen goes.steps _ _ _ goes.walks)
 
 pub boundary_grows : (b : Boundary) (piece : List CodeItem) → IsBoundaryPiece b piece → (at : ℕ → ℕ) (k : ℕ) → Lies at k piece → at k < at (k + length piece)
 boundary_grows b piece is at k lie = elim (grows_or_not at k piece lie) [

@@ -1,12 +1,11 @@
 -- What is emitted for a thread is its code.
-use Rattle.std.proofs.Common.{inl, inr, ◌≡◌, ◌≢◌, ℕ, zero, suc, ◌+◌, ◌-◌, ◌*◌, ◌/◌, ◌<◌, ◌≤◌, List, [], ◌∷◌, ◌++◌, length, map, refl, ap, sym, ◌∙◌}
+use Rattle.std.proofs.Common.{inl, inr, ◌≡◌, ℕ, zero, suc, ◌+◌, ◌-◌, ◌*◌, ◌/◌, ◌<◌, ◌≤◌, List, [], ◌∷◌, ◌++◌, length, map, refl, ap, sym, ◌∙◌}
 use Rattle.std.proofs.Common.{arith, subst}
-use Rattle.std.proofs.Common.{Bool, true, false, Some, ◌==◌}
+use Rattle.std.proofs.Common.{Bool, true, false, Some}
 use Rattle.std.specs.Prelude.{slice_get, sum_by, Contains, if◌then◌else◌, ◌⊎◌}
 use Rattle.std.specs.List.{concat}
 use Rattle.std.specs.List.Sorted.{IsStrictlyIncreasing}
 use Rattle.std.proofs.lemmas.Bool.{cases_lt}
-use Rattle.std.proofs.lemmas.Bool.Decides.{nat_tests}
 use Rattle.std.proofs.lemmas.List.{length-append}
 use Rattle.std.proofs.lemmas.List.Elements.{Contains-append_left, Contains-append_right, Contains-append_cases}
 use Rattle.std.proofs.lemmas.Option.{none-some, same_Some, slice_get_within, slice_get_cases}
@@ -14,6 +13,8 @@ use Rattle.c_tree.specs.Flats as f
 use Rattle.c_tree.specs.Prices.{node_price}
 use Rattle.rv64_isa.specs.declared.object.CodeItem.{CodeItem}
 use Rattle.rv64_link.specs.LabelledCode.{most_words_of, is_mark, is_resume, positions_from}
+use Rattle.boundary_code.specs.Boundaries.{is_empty}
+use Rattle.boundary_code.proofs.Public.{not_empty, some_there}
 use Rattle.code_runs.specs.CodeTraces.{Program}
 use Rattle.flow_graph.specs.declared.graph.Part.{Part}
 use Rattle.flow_graph.specs.Nodes.{Action, Eval, Store, Test, Lock, Unlock, End, Node, Graph}
@@ -22,7 +23,7 @@ use Rattle.flow_graph.specs.Liveness.{NodeAt}
 use Rattle.flow_graph.specs.Lowering.{lowered, parts, part, thread_count, thread_nodes, threads_nodes}
 use Rattle.flow_graph.proofs.Public.{length-thread_nodes}
 use Rattle.node_code.specs.JoinedPieces.{joined, AreClosed}
-use Rattle.thread_code.specs.Plans.{Plan, IsPlan, Thread, IsThread, IsNodeOf, mask_before}
+use Rattle.thread_code.specs.Plans.{Plan, IsPlan, Thread, IsThread, IsNodeOf, locks_before}
 use Rattle.thread_code.specs.NodeCodeEffects.{Places}
 use Rattle.thread_code.specs.Programs.{action_nodes, mark_of, IsOn, IsNodeCode, IsResumeAddress, at_chosen, past_lock, past_unlock, IsThreadCode}
 use Rattle.rv64_codegen.specs.ThreadPieces.{Choices, AreChoices, IsNodePiece, ArePieces, IsCodeOfThread, EmittedIsCode}
@@ -298,12 +299,6 @@ module _ (p : Plan) (plan : IsPlan p) (t : Thread) (thread : IsThread p t) (c : 
       subst (λ (ns : List ℕ). Contains ns a) (sym (placed.resumes_are t program pieces closed n))
       (in_joined resumes i (resumes_of m.a) a (resumes_there i m) has)
 
-  not_zero : (mask : ℕ) → (mask == 0) ≡ false → mask ≢ 0
-  not_zero mask e = grind (arith, nat_tests)
-
-  is_zero_not : (mask : ℕ) → mask ≢ 0 → (mask == 0) ≡ false
-  is_zero_not mask e = grind (arith, nat_tests)
-
   after_resumed : (node : ℕ) (is : Node) (a : ℕ) → IsNodeOf t node → NodeAt p.graph node is → (action : Action) → is.action ≡ action →
       Contains (resumes_after p t places action node) a → IsResumeAddress p t places a
   after_resumed node is a of found (Eval target value next) same has = absurd (let l : has.0 < 0 = has.1 in omega (arith, l))
@@ -311,13 +306,13 @@ module _ (p : Plan) (plan : IsPlan p) (t : Thread) (thread : IsThread p t) (c : 
   after_resumed node is a of found (Test condition holds fails) same has = absurd (let l : has.0 < 0 = has.1 in omega (arith, l))
   after_resumed node is a of found (Lock mutex next) same has =
       subst (λ (b : ℕ). IsResumeAddress p t places b) (contains_one (places.after node) a has) (past_lock node mutex next is of found same)
-  after_resumed node is a of found (Unlock mutex next) same has = by (mask_before p t next == 0) refl has
+  after_resumed node is a of found (Unlock mutex next) same has = by (is_empty (locks_before p t next)) refl has
     where
-      by : (none : Bool) → (mask_before p t next == 0) ≡ none → Contains (if none then [] else places.after node ∷ []) a → IsResumeAddress p t places a
+      by : (none : Bool) → (is_empty (locks_before p t next)) ≡ none → Contains (if none then [] else places.after node ∷ []) a → IsResumeAddress p t places a
       by true e has = absurd (let l : has.0 < 0 = has.1 in omega (arith, l))
       by false e has =
           subst (λ (b : ℕ). IsResumeAddress p t places b) (contains_one (places.after node) a has)
-          (past_unlock node mutex next is of found same (not_zero (mask_before p t next) e))
+          (past_unlock node mutex next is of found same (some_there (locks_before p t next) e))
   after_resumed node is a of found End same has = absurd (let l : has.0 < 0 = has.1 in omega (arith, l))
 
   resumed_first : (i : ℕ) → i < length pieces → (m : Node_at i) (a : ℕ) (r : ResumesAre p t places m.a.is.action (t.part.first + i) (resumes_of m.a)) →
@@ -389,7 +384,7 @@ module _ (p : Plan) (plan : IsPlan p) (t : Thread) (thread : IsThread p t) (c : 
       let b : ℕ = places.after (t.part.first + k.number) in
       subst (λ (j : ℕ). Contains program.resumes (places.after j)) k.is
       (after_there k.number m (ap (λ (z : Action). resumes_after p t places z (t.part.first + k.number)) same ∙
-      ap (λ (none : Bool). if none then [] else b ∷ []) (is_zero_not (mask_before p t next) holds)))
+      ap (λ (none : Bool). if none then [] else b ∷ []) (not_empty (locks_before p t next) holds)))
 
   ascend : IsStrictlyIncreasing program.resumes
   ascend =

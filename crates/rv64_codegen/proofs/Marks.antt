@@ -1,18 +1,18 @@
 -- The marks of a node's piece where it stands, where it may be resumed, and that its places lie within it.
 use Rattle.std.proofs.Common.{inl, inr, ◌≡◌, ℕ, ◌+◌, ◌*◌, ◌<◌, ◌≤◌, List, [], ◌∷◌, ◌++◌, length, map, refl, ap, sym, ◌∙◌, arith, subst, Bool, true, false}
-use Rattle.std.proofs.Common.{◌==◌}
 use Rattle.std.specs.Prelude.{Contains, if◌then◌else◌}
 use Rattle.std.proofs.lemmas.Bool.{cases_eq}
 use Rattle.c_tree.specs.Exprs as e
 use Rattle.rv64_isa.specs.declared.object.CodeItem.{CodeItem}
 use Rattle.rv64_link.specs.LabelledCode.{is_mark, is_resume, positions_from}
+use Rattle.boundary_code.specs.Boundaries.{is_empty}
 use Rattle.code_runs.specs.CodeTraces.{Program, MarkedEnvironment, Meets}
 use Rattle.flow_graph.specs.Nodes.{Action, Eval, Store, Test, Lock, Unlock, End, Node}
 use Rattle.flow_graph.specs.IdempotentCuts.{IsChosen}
 use Rattle.flow_graph.specs.Liveness.{NodeAt}
 use Rattle.node_code.specs.Sites.{Site}
 use Rattle.node_code.proofs.Public.{Lies}
-use Rattle.thread_code.specs.Plans.{Plan, Thread, mask_before}
+use Rattle.thread_code.specs.Plans.{Plan, Thread, locks_before}
 use Rattle.thread_code.specs.NodeCodeEffects.{Places}
 use Rattle.thread_code.specs.Programs.{mark_of, IsOn, IsCallWithin, IsWithin}
 use Rattle.rv64_codegen.specs.ThreadPieces.{Choices, IsGuarded, GoesTo, IsChoosing, turned, straight, IsDoing, boundary_before}
@@ -31,7 +31,7 @@ resumes_after p t places (Eval target value next) node = []
 resumes_after p t places (Store variable kind next) node = []
 resumes_after p t places (Test condition holds fails) node = []
 resumes_after p t places (Lock mutex next) node = places.after node ∷ []
-resumes_after p t places (Unlock mutex next) node = if mask_before p t next == 0 then [] else places.after node ∷ []
+resumes_after p t places (Unlock mutex next) node = if is_empty (locks_before p t next) then [] else places.after node ∷ []
 resumes_after p t places End node = []
 
 -- where the node may be resumed: at its core after a chosen boundary, and after what it does
@@ -178,7 +178,7 @@ module _ (p : Plan) (t : Thread) (c : Choices) (node : ℕ) (is : Node) (found :
     says (Unlock mutex next) d call = record {
       marks = at_core (d.0.at middle_site).marks;
       no_marks = goes_marks next d.1;
-      resumes = (d.0.at middle_site).resumes ∙ ap (λ (y : ℕ). if mask_before p t next == 0 then [] else y ∷ []) (sym g.after);
+      resumes = (d.0.at middle_site).resumes ∙ ap (λ (y : ℕ). if is_empty (locks_before p t next) then [] else y ∷ []) (sym g.after);
       no_resumes = goes_resumes next d.1;
       last = (d.0.at middle_site).after ∙ ap (λ (y : ℕ). y + 4) (sym call);
     }
@@ -310,7 +310,7 @@ module _ (p : Plan) (t : Thread) (c : Choices) (node : ℕ) (is : Node) (found :
     after_ascends (Store variable kind following) w low up = past (Store variable kind following) w low up
     after_ascends (Test condition holds fails) w low up = past (Test condition holds fails) w low up
     after_ascends (Lock mutex following) w low up = one_ascends w.call.0 w.call.1 w.call.2 low up
-    after_ascends (Unlock mutex following) w low up = by (mask_before p t following == 0)
+    after_ascends (Unlock mutex following) w low up = by (is_empty (locks_before p t following))
       where
         by : (none : Bool) → Ascends low next (if none then [] else places.after node ∷ [])
         by true = past (Unlock mutex following) w low up

@@ -123,7 +123,7 @@ module _ (p : Plan) (t : Thread) (c : Choices) (plan : IsPlan p) (of : IsThread 
       (met s meets) in
       let lockstep : boundary_observations b bank (addr core_at) x ≡ boundary_observations (keeping p t places node) bank (places.core node) x =
       ap (λ (z : ℕ). boundary_observations b bank z x) (sym agrees.core) ∙
-      ap (λ (ls : List ℕ). boundary_observations (record { thread = t.number; mask = b.mask; live = ls; resume = pos 0 }) bank (places.core node) x)
+      ap (λ (ls : List ℕ). boundary_observations (record { thread = t.number; locks = b.locks; live = ls; resume = pos 0 }) bank (places.core node) x)
       (sym (agrees.live node)) in
       subst (λ (ss : List Observation). GoesThrough s (fragment x (places.entry node) (places.core node) words) ss P) lockstep
       (moved s x (places.entry node) (places.entry node) (addr core_at) (places.core node) words (boundary_observations b bank (addr core_at) x) P refl
@@ -286,7 +286,7 @@ module _ (p : Plan) (t : Thread) (c : Choices) (plan : IsPlan p) (of : IsThread 
       let at_call : locks.call + 4 ≡ places.call node + 4 = ap (λ (z : ℕ). z + 4) (lock_call mutex next d s (met s meets) ∙ sym call) in
       let lockstep : boundary_observations b m.bank (addr on_at) x ≡ boundary_observations (keeping p t places next) m.bank (places.after node) x =
       ap (λ (z : ℕ). boundary_observations b m.bank z x) (sym agrees.after) ∙
-      ap (λ (ls : List ℕ). boundary_observations (record { thread = t.number; mask = b.mask; live = ls; resume = pos 0 }) m.bank (places.after node) x)
+      ap (λ (ls : List ℕ). boundary_observations (record { thread = t.number; locks = b.locks; live = ls; resume = pos 0 }) m.bank (places.after node) x)
       (sym (agrees.live next)) in
       subst (λ (k : ℕ). GoesThrough s (fragment x (places.call node + 4) (places.after node) (places.words k))
       (boundary_observations (keeping p t places next) m.bank (places.after node) x) P) (sym same)

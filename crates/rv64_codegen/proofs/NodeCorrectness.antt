@@ -36,7 +36,7 @@ use Rattle.node_code.specs.Pieces.{store_observations, boundary_observations, ba
 use Rattle.node_code.specs.Pieces.{Asks, Makes, Locks, Unlocks, IsEndPiece, takes, gives, ends}
 use Rattle.node_code.specs.Sites.{Site, label_of}
 use Rattle.node_code.proofs.Public.{fragment, weaker, moved}
-use Rattle.thread_code.specs.Plans.{Plan, Thread, IsThread, IsPlan, IsNodeOf, IsKept, of_local, of_address, of_value, homes, mask_before}
+use Rattle.thread_code.specs.Plans.{Plan, Thread, IsThread, IsPlan, IsNodeOf, IsKept, of_local, of_address, of_value, homes, locks_before}
 use Rattle.thread_code.specs.RegistersAtNodes.{HasPending, IsPendingIn, Enters, source_of, IsAnswered}
 use Rattle.thread_code.specs.NodeCodeEffects.{Places, Entrance, kind_at, keeping, Asking, Storing, Performs}
 use Rattle.thread_code.proofs.Public.{enters_again}
@@ -399,7 +399,7 @@ module _ (p : Plan) (t : Thread) (c : Choices) (plan : IsPlan p) (of : IsThread 
           let observations : List Observation = Mark ∷ boundary_observations (keeping p t places next) bank (places.after node) x in
           let lockstep : Mark ∷ boundary_observations b bank (to goes_at) x ≡ observations =
           ap (λ (z : ℕ). Mark ∷ boundary_observations b bank z x) (sym after) ∙
-          ap (λ (ls : List ℕ). Mark ∷ boundary_observations (record { thread = t.number; mask = mask_before p t next; live = ls; resume = pos 0 }) bank
+          ap (λ (ls : List ℕ). Mark ∷ boundary_observations (record { thread = t.number; locks = locks_before p t next; live = ls; resume = pos 0 }) bank
           (places.after node) x) (sym (live next)) in
           within x (places.call node) observations P
           (moved s x (to does_at) (to does_at) unlocks.call (places.call node) does_words observations P refl (sym call)

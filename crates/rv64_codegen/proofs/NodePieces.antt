@@ -5,6 +5,7 @@ use Rattle.std.specs.Prelude.{slice_get, slice_index_or, sum_by, IsTrue, Vec, po
 use Rattle.std.specs.Global.{Global}
 use Rattle.std.specs.List.{list_all}
 use Rattle.std.proofs.lemmas.List.Sums.{sum_by-append}
+use Rattle.ido_base.specs.Locks.{locks_in}
 use Rattle.ido_base.specs.declared.limits.TheConstants.{MOST_PRICE, MOST_THREADS}
 use Rattle.c_tree.specs.Exprs as e
 use Rattle.c_tree.specs.Prices.{node_price}
@@ -19,7 +20,7 @@ use Rattle.flow_graph.specs.Liveness.{NodeAt}
 use Rattle.flow_graph.proofs.Public.{found_in}
 use Rattle.node_code.specs.declared.kept.Kept as kept
 use Rattle.node_code.specs.Pieces.{Appends, boundary_of}
-use Rattle.thread_code.specs.Plans.{Plan, Thread, IsNodeOf, homes, mask_before}
+use Rattle.thread_code.specs.Plans.{Plan, Thread, IsNodeOf, homes, locks_before}
 use Rattle.thread_code.specs.Programs.{action_nodes}
 use Rattle.rv64_codegen.specs.declared.thread.ThreadPlan as opened
 use Rattle.rv64_codegen.specs.Evaluations.{IsAtHome, NeedFew}
@@ -47,8 +48,8 @@ flagged (true ∷ xs) zero = (λ h. refl, λ h. refl)
 flagged (false ∷ xs) zero = (λ h. cc, λ h. cc)
 flagged (x ∷ xs) (suc k) = flagged xs k
 
-abbrev made : ℕ → ℕ → List ℕ → (resume : ℕ) → Boundary
-made thread mask live resume = record { thread = thread; mask = mask; live = live; resume = pos resume }
+abbrev made : ℕ → List ℕ → List ℕ → (resume : ℕ) → Boundary
+made thread locks live resume = record { thread = thread; locks = locks; live = live; resume = pos resume }
 
 module _ (x : opened.ThreadPlan) (o : IsOpen x) where
   abbrev p : Plan
@@ -88,8 +89,8 @@ module _ (x : opened.ThreadPlan) (o : IsOpen x) where
 
   pub boundary_is : (node : ℕ) (k : kept.Kept) (resume : ℕ) → IsKeptFor x node k → boundary_of k resume ≡ boundary_before p t c node resume
   boundary_is node k resume is =
-      ap (λ (n : ℕ). made n k.mask k.live.now resume) is.thread_is ∙ ap (λ (m : ℕ). made x.number m k.live.now resume) is.mask_is
-      ∙ ap (λ (l : List ℕ). made x.number (mask_before p t node) l resume) is.live_is
+      ap (λ (n : ℕ). made n (locks_in k.mask) k.live.now resume) is.thread_is ∙ ap (λ (ls : List ℕ). made x.number ls k.live.now resume) is.locks_are
+      ∙ ap (λ (l : List ℕ). made x.number (locks_before p t node) l resume) is.live_is
 
   pub few_live : (node : ℕ) → IsNodeOf t node → length (c.live node) ≤ 20
   few_live node own = (live_at node own).few

@@ -3,7 +3,7 @@ use Rattle.std.proofs.Common.{◌≡◌, ⊎_elim, refl, ℕ, zero, suc, ◌+◌
 use Rattle.std.proofs.Common.{None, Bool, true, false, cond}
 use Rattle.std.specs.Prelude.{slice_get, slice_index_or, nat_lt, find}
 use Rattle.std.specs.Option.{option_map}
-use Rattle.std.proofs.lemmas.Option.{slice_get_within}
+use Rattle.std.proofs.lemmas.Option.{slice_get_within, get_or_from_slice_get}
 use Rattle.std.proofs.lemmas.List.Sums.{sum_by-cons}
 use Rattle.ido_base.specs.declared.location.Location.{Location}
 use Rattle.ido_base.specs.declared.limits.TheConstants.{MOST_PRICE, MOST_THREADS}
@@ -14,13 +14,14 @@ use Rattle.c_tree.specs.Prices.{node_price, thread_price}
 use Rattle.c_tree.specs.Temporaries.{price_fault}
 use Rattle.c_tree.specs.WellFormed.{AreFlatStatements}
 use Rattle.lock_discipline.specs.HeldSetsByStep.{assign_steps, steps, steps_of_all, steps_of_arms, thread_steps}
+use Rattle.lock_discipline.proofs.Public.{held_length}
 use Rattle.flow_graph.specs.declared.graph.Part.{Part}
 use Rattle.flow_graph.specs.Nodes.{Action, Eval, Store, Test, Lock, Unlock, End, Node, Graph}
 use Rattle.flow_graph.specs.IdempotentCuts.{IsChosen, Writes}
 use Rattle.flow_graph.specs.Liveness.{NodeAt}
 use Rattle.flow_graph.specs.Lowering.{assign_count, count, statements_count, arms_count, thread_count, thread_nodes, threads_nodes, part, parts}
 use Rattle.flow_graph.proofs.Public.{length-thread_nodes, all_at, found_in, lowered_nodes, lowered_threads, ShapedAs, node_shaped}
-use Rattle.thread_code.specs.Plans.{Plan, Thread, IsPlan, IsThread, IsNodeOf}
+use Rattle.thread_code.specs.Plans.{Plan, Thread, IsPlan, IsThread, IsNodeOf, set_before}
 use Rattle.thread_code.specs.Programs.{action_nodes}
 use Rattle.rv64_codegen.proofs.LoweredNodes.{price_of, prices, price_thread, IsLoweredNode, sound_thread, sound_at, part_is, node_of_thread}
 
@@ -220,3 +221,17 @@ module _ (p : Plan) (plan : IsPlan p) where
         or_there [] k y g = cc
         or_there (x ∷ xs) zero y g = cc
         or_there (x ∷ xs) (suc k) y g = or_there xs k y g
+
+    -- no set has more mutexes than a mask has bits
+    pub few_held : (node : ℕ) → IsNodeOf t node → length (set_before p t node) ≤ 64
+    few_held node own =
+        let step = node - t.part.first in
+        let there = found_in p.held t.number held_there in
+        let sets = plan.held.sets t.number th.text there.0 th.of_text there.1 in
+        let is : slice_index_or p.held t.number [] ≡ there.0 = get_or_from_slice_get p.held t.number there.0 [] there.1 in
+        let inside : step < length there.0 = subst (λ (s : List Held). step < length s) is (held_sets node own) in
+        let one = found_in there.0 step inside in
+        let set : set_before p t node ≡ one.0 =
+        ap (λ (s : List Held). slice_index_or s step []) is ∙ get_or_from_slice_get there.0 step one.0 [] one.1 in
+        let long : length one.0 ≡ length p.flat.mutexes = held_length p.flat th.text step one.0 ((sets.exactly step one.0).0 one.1) in
+        omega (arith, ap (λ (h : Held). length h) set, long, plan.formed.shared.mutexes)

@@ -15,7 +15,7 @@ use Rattle.flow_graph.specs.IdempotentCuts.{IsChosen}
 use Rattle.flow_graph.specs.Liveness.{NodeAt}
 use Rattle.node_code.specs.Pieces.{IsStorePiece, IsBoundaryPiece, IsLockPiece, IsUnlockPiece, IsEnd, IsJump}
 use Rattle.node_code.specs.JoinedPieces.{joined}
-use Rattle.thread_code.specs.Plans.{Plan, IsPlan, Thread, IsThread, IsNodeOf, AreKept, homes, mask_before}
+use Rattle.thread_code.specs.Plans.{Plan, IsPlan, Thread, IsThread, IsNodeOf, AreKept, homes, locks_before}
 use Rattle.thread_code.specs.Programs.{IsThreadCode, action_nodes}
 use Rattle.rv64_codegen.specs.Evaluations.{IsEvaluation, IsTest}
 
@@ -37,7 +37,7 @@ module _ (p : Plan) (t : Thread) (c : Choices) where
 
   -- the boundary that keeps what is live at the node's entry, and resumes so many bytes after its end
   abbrev pub boundary_before : (node : ℕ) → (resume : ℕ) → Boundary
-  boundary_before node resume = record { thread = t.number; mask = mask_before p t node; live = c.live node; resume = pos resume }
+  boundary_before node resume = record { thread = t.number; locks = locks_before p t node; live = c.live node; resume = pos resume }
 
   -- ---- A node
 

@@ -1,10 +1,11 @@
 -- The numbers of held locks, and the mask that has a bit for each.
 use Rattle.std.proofs.Common.{◌≡◌, ℕ, zero, suc, ◌+◌, ◌*◌, ◌/◌, ◌%◌, ◌^◌, ◌<◌, ◌≤◌, ◌==◌, ◌||◌, List, [], ◌∷◌, length, refl, ap, ap₂, arith, ◌∙◌, cond}
-use Rattle.std.proofs.Common.{Bool, true, false, pow-suc}
+use Rattle.std.proofs.Common.{Bool, true, false, pow-suc, pow_mono, lt_of_lt_of_le, subst, sym}
 use Rattle.std.proofs.lemmas.Bool.{or_left, ne_eqb, eq-eqb}
 use Rattle.ido_base.specs.Locks.{has_lock, locks_from, locks_in, mask_with}
 use Rattle.c_tree.specs.LockDiscipline.{Held, holds}
 use Rattle.lock_discipline.specs.Masks.{mask_of}
+use Rattle.lock_discipline.proofs.Public.{mask_of-bound}
 use Rattle.thread_code.specs.Plans.{locks_held_from, locks_held}
 
 -- ---- The mask
@@ -47,16 +48,14 @@ with_held_from at (false ∷ held) =
 pub mask_with_held : (held : Held) → mask_with (locks_held held) ≡ mask_of held
 mask_with_held held = with_held_from 0 held ∙ (let e : mask_of held * 1 ≡ mask_of held = omega arith in e)
 
--- there is none exactly where the mask is 0
-pub none_in_mask : (at : ℕ) (held : Held) → mask_of held ≡ 0 → locks_held_from at held ≡ []
-none_in_mask at [] e = refl
-none_in_mask at (true ∷ held) e = absurd (let z : ⊥ = omega (arith, e) in z)
-none_in_mask at (false ∷ held) e = none_in_mask (at + 1) held (omega (arith, e))
+-- a log can hold them
+pub held_fits : (held : Held) → length held ≤ 64 → mask_with (locks_held held) < 2 ^ 64
+held_fits held few =
+    subst (λ (mask : ℕ). mask < 2 ^ 64) (sym (mask_with_held held))
+    (lt_of_lt_of_le (mask_of-bound held) (pow_mono {i = length held} {j = 64} few))
 
-pub mask_of_none : (at : ℕ) (held : Held) → locks_held_from at held ≡ [] → mask_of held ≡ 0
-mask_of_none at [] e = refl
-mask_of_none at (true ∷ held) e = cc
-mask_of_none at (false ∷ held) e = let z : mask_of held ≡ 0 = mask_of_none (at + 1) held e in omega (arith, z)
+pub held_read_back : (held : Held) → length held ≤ 64 → locks_in (mask_with (locks_held held)) ≡ locks_held held
+held_read_back held few = ap locks_in (mask_with_held held) ∙ mask_has_held held few
 
 -- ---- Each lock
 

@@ -1,19 +1,16 @@
 -- Registers at a node, and others that hold what a boundary keeps.
-use Rattle.std.proofs.Common.{◌≡◌, refl, ◌∙◌, ℕ, List, Some, ap}
-use Rattle.std.specs.Prelude.{slice_get, slice_index, Contains}
-use Rattle.ido_ints.specs.declared.kinds.Kind.{Kind}
+use Rattle.std.proofs.Common.{◌≡◌, refl, ◌∙◌, ℕ, List}
+use Rattle.std.specs.Prelude.{slice_index, Contains}
 use Rattle.ido_ints.specs.TypedNumbers.{Typed}
-use Rattle.c_tree.specs.Source.{Pending}
 use Rattle.rv64_isa.specs.Rows.{read}
 use Rattle.memory_layout.specs.Roles.{pending_address, pending_value}
-use Rattle.boundary_code.specs.Boundaries.{AtBank}
 use Rattle.operator_code.specs.ComputingCode.{Carries}
 use Rattle.flow_graph.specs.Nodes.{Action, Eval, Store, Test, Lock, Unlock, End, Node}
 use Rattle.flow_graph.specs.Actions.{Seen}
 use Rattle.flow_graph.specs.IdempotentCuts.{IsStoreNode, stores}
 use Rattle.flow_graph.specs.Liveness.{NodeAt}
 use Rattle.thread_code.specs.Plans.{Plan, Thread, IsKept, of_local, of_address, of_value, AreKept}
-use Rattle.thread_code.specs.RegistersAtNodes.{HasPending, IsPendingIn, Enters}
+use Rattle.thread_code.specs.RegistersAtNodes.{HasPending, IsPendingIn}
 use Rattle.thread_code.specs.Laws.{EntersAgain}
 
 carries_on : (x y : List ℕ) (r : ℕ) (v : Typed) → read y r ≡ read x r → Carries x r v → Carries y r v

@@ -1,5 +1,5 @@
 -- What follows from a thread's registers representing what it sees.
-use Rattle.std.specs.Prelude.{◌≡◌, ℕ, ◌^◌, ◌<◌, List, Contains}
+use Rattle.std.specs.Prelude.{◌≡◌, ℕ, List, Contains}
 use Rattle.rv64_isa.specs.Rows.{read}
 use Rattle.boundary_code.specs.Boundaries.{AtBank}
 use Rattle.flow_graph.specs.Actions.{Seen}

@@ -1,5 +1,5 @@
 -- What the code of each node does, by the node's effect.
-use Rattle.std.specs.Prelude.{◌≡◌, ℕ, pos, ◌+◌, ◌-◌, List, [], ◌∷◌, map, slice_get, slice_set, Option, Some, None, Bool, ◌==◌, if◌then◌else◌}
+use Rattle.std.specs.Prelude.{◌≡◌, ℕ, pos, List, [], ◌∷◌, map, slice_get, slice_set, Option, Some, None, Bool}
 use Rattle.ido_base.specs.Layout.{variable_at}
 use Rattle.ido_ints.specs.declared.kinds.Kind.{Kind}
 use Rattle.ido_ints.specs.Kinds.{bytes_of}
@@ -8,14 +8,14 @@ use Rattle.c_tree.specs.Programs as v
 use Rattle.c_tree.specs.Source.{Pending}
 use Rattle.c_tree.specs.WellFormed.{shape_of}
 use Rattle.rv64_isa.specs.declared.instr.Instr.{Instr}
-use Rattle.rv64_isa.specs.Rows.{Effect, Stores, Cleans, row, read}
+use Rattle.rv64_isa.specs.Rows.{Stores, row, read}
 use Rattle.rv64_link.specs.LinkedCode.{IsInstructionAt}
 use Rattle.memory_layout.specs.Roles as roles
-use Rattle.boundary_code.specs.Boundaries.{Boundary, boundary_effects}
+use Rattle.boundary_code.specs.Boundaries.{Boundary}
 use Rattle.node_code.specs.Pieces.{store_observations, boundary_observations, bank_after, takes, gives, ends}
 use Rattle.flow_graph.specs.Actions as a
-use Rattle.code_runs.specs.CodeTraces.{Program, MarkedEnvironment, Meets, Observation, Mark, Does, Fragment, GoesThrough, seen_effects}
-use Rattle.thread_code.specs.Plans.{Plan, Thread, mask_before}
+use Rattle.code_runs.specs.CodeTraces.{Program, MarkedEnvironment, Meets, Observation, Mark, GoesThrough}
+use Rattle.thread_code.specs.Plans.{Plan, Thread, locks_before}
 use Rattle.thread_code.specs.RegistersAtNodes.{Enters}
 
 -- where the code of a thread's nodes is, by their numbers
@@ -71,7 +71,7 @@ module _ (p : Plan) (t : Thread) (c : Places) where
 
   -- a boundary that keeps what is live at the entry of the node
   abbrev pub keeping : (node : ℕ) → Boundary
-  keeping node = record { thread = t.number; mask = mask_before p t node; live = c.live node; resume = pos 0 }
+  keeping node = record { thread = t.number; locks = locks_before p t node; live = c.live node; resume = pos 0 }
 
   -- from an address the code leads to an address, within as many instructions as the node has words
   abbrev pub Passing : Entrance → (from to : ℕ) → List Observation → (has : List ℕ → Type 0) → Type 0

@@ -9,7 +9,6 @@ use Rattle.c_tree.specs.Temporaries.{price_fault}
 use Rattle.c_tree.specs.LockDiscipline.{Held, numbers_below}
 use Rattle.memory_layout.specs.declared.roles.TheConstants.{LOCALS}
 use Rattle.memory_layout.specs.Roles.{pending_address, pending_value}
-use Rattle.lock_discipline.specs.Masks.{mask_of}
 use Rattle.lock_discipline.specs.HeldSetsByStep.{AreAllSetsOf}
 use Rattle.flow_graph.specs.declared.graph.Part.{Part}
 use Rattle.flow_graph.specs.Nodes.{Graph}
@@ -73,12 +72,9 @@ locks_held held = locks_held_from 0 held
 abbrev pub set_before : Plan → Thread → (node : ℕ) → Held
 set_before p t node = slice_index_or (slice_index_or p.held t.number []) (node - t.part.first) []
 
--- the locks held there, and bit i for lock i
+-- the locks held there
 abbrev pub locks_before : Plan → Thread → (node : ℕ) → List ℕ
 locks_before p t node = locks_held (set_before p t node)
-
-abbrev pub mask_before : Plan → Thread → (node : ℕ) → ℕ
-mask_before p t node = mask_of (set_before p t node)
 
 -- ---- Registers to keep
 

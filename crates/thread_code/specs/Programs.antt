@@ -1,24 +1,21 @@
 -- That a program is the code of a thread: all that is said of it above, where no instruction is looked at again.
-use Rattle.std.specs.Prelude.{◌≡◌, ◌≢◌, ◌↔◌, ℕ, ◌+◌, ◌-◌, ◌*◌, ◌^◌, ◌<◌, ◌≤◌, List, [], ◌∷◌, length}
-use Rattle.std.specs.Prelude.{map, slice_get, slice_index_or, Contains, Some, Bool, true, false, sum_by}
+use Rattle.std.specs.Prelude.{◌≡◌, ◌≢◌, ◌↔◌, ℕ, ◌+◌, ◌-◌, ◌*◌, ◌≤◌, [], length}
+use Rattle.std.specs.Prelude.{map, slice_get, slice_index_or, Contains, Some, false}
 use Rattle.std.specs.List.Sorted.{IsStrictlyIncreasing}
 use Rattle.c_tree.specs.Exprs as e
-use Rattle.c_tree.specs.LockDiscipline.{numbers_below}
 use Rattle.c_tree.specs.Prices.{node_price, nodes_of}
 use Rattle.c_tree.specs.WellFormed.{shape_of}
 use Rattle.rv64_isa.specs.declared.instr.Instr.TheVariants.{Ecall}
-use Rattle.rv64_isa.specs.declared.object.CodeItem.{CodeItem}
-use Rattle.rv64_isa.specs.declared.object.Slot.{Slot}
 use Rattle.flow_graph.specs.Nodes.{Action, Eval, Store, Test, Lock, Unlock, End, Node}
 use Rattle.flow_graph.specs.Actions.{effect_of, Effect}
 use Rattle.flow_graph.specs.OmittedCleans.{IsCleanedLater}
 use Rattle.flow_graph.specs.IdempotentCuts.{Boundaries, IsChosen}
 use Rattle.flow_graph.specs.Liveness.{NodeAt}
-use Rattle.rv64_link.specs.LabelledCode.{most_words_of, one_if}
-use Rattle.rv64_link.specs.LinkedCode.{IsLinked, IsInstructionAt, AreInstructions}
-use Rattle.code_runs.specs.CodeTraces.{Program, MarkedEnvironment, Meets, marked}
-use Rattle.thread_code.specs.Plans.{Plan, Thread, IsThread, IsNodeOf, AreKept, mask_before}
-use Rattle.thread_code.specs.RegistersAtNodes.{Enters, IsAnswered, source_of}
+use Rattle.rv64_link.specs.LabelledCode.{one_if}
+use Rattle.rv64_link.specs.LinkedCode.{IsInstructionAt, AreInstructions}
+use Rattle.code_runs.specs.CodeTraces.{Program, Meets, marked}
+use Rattle.thread_code.specs.Plans.{Plan, Thread, IsNodeOf, AreKept, locks_before}
+use Rattle.thread_code.specs.RegistersAtNodes.{IsAnswered, source_of}
 use Rattle.thread_code.specs.NodeCodeEffects.{Places, Entrance, EntersAt, Performs, BoundaryCode, GoesOnAfter}
 
 -- expression nodes of a node, a target's index included
@@ -119,7 +116,7 @@ module _ (p : Plan) (t : Thread) (c : Places) where
     at_chosen : (node : ℕ) → IsNodeOf t node → IsChosen p.graph p.boundaries node → IsResumeAddress (c.core node)
     past_lock : (node mutex next : ℕ) (is : Node) → IsNodeOf t node → NodeAt p.graph node is → is.action ≡ Lock mutex next → IsResumeAddress (c.after node)
     past_unlock : (node mutex next : ℕ) (is : Node) → IsNodeOf t node → NodeAt p.graph node is → is.action ≡ Unlock mutex next →
-        mask_before p t next ≢ 0 → IsResumeAddress (c.after node)
+        locks_before p t next ≢ [] → IsResumeAddress (c.after node)
 
 -- the program does what the nodes of the thread do, one after another in their order
 pub record IsThreadCode (p : Plan) (t : Thread) (program : Program) : Type 0 where

@@ -1,5 +1,5 @@
 -- What a thread's registers hold where the code of a node begins.
-use Rattle.std.specs.Prelude.{◌≡◌, ℕ, ℤ, pos, ◌^◌, ◌<◌, List, map, length, slice_get, slice_index, slice_index_or, Option, Some}
+use Rattle.std.specs.Prelude.{◌≡◌, ℕ, pos, ◌^◌, ◌<◌, List, map, length, slice_get, slice_index, slice_index_or, Option, Some}
 use Rattle.ido_base.specs.Layout.{variable_at}
 use Rattle.ido_ints.specs.declared.kinds.Kind.{Kind}
 use Rattle.ido_ints.specs.TypedNumbers.{typed}

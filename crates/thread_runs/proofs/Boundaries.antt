@@ -5,7 +5,7 @@ use Rattle.std.specs.List.{list_any, filter}
 use Rattle.std.proofs.lemmas.Bool.{cond_both, le-leb}
 use Rattle.ido_base.specs.Layout.{in_range, aligned, point_at, slot_at, logs_base, variables_base}
 use Rattle.rv64_isa.specs.Rows.{Effect, Continues, Loads, Stores, Cleans, Fences, Calls, read}
-use Rattle.boundary_code.specs.Boundaries.{Boundary, boundary_effects, bank_effects, commit_effects, lines_in_use}
+use Rattle.boundary_code.specs.Boundaries.{Boundary, boundary_effects, bank_effects, commit_effects, lines_in_use, is_empty}
 use Rattle.code_runs.specs.CodeTraces.{MarkedEnvironment, seen_effects}
 use Rattle.hart_runs.specs.HartsOnRuns.{is_access, MayGo}
 use Rattle.thread_runs.specs.CodeFragments.{AreEffectsApart, ReadsVariables}
@@ -137,10 +137,10 @@ boundary_on_log : (threads : ℕ) (b : Boundary) (bank resume : ℕ) (x : List �
     AreOnLog threads (boundary_effects b bank resume x)
 unfolding AreOnLog
 boundary_on_log threads b bank resume x t k live =
-    cond_both (b.mask == 0) (commit_effects b.thread 0) (bank_effects b bank x ++ commit_effects b.thread ((resume + bank) % 2 ^ 64))
+    cond_both (is_empty b.locks) (commit_effects b.thread 0) (bank_effects b bank x ++ commit_effects b.thread ((resume + bank) % 2 ^ 64))
     (λ (es : List Effect). AreOnLog threads es) (λ _. commit_on_log threads b.thread 0 t)
     (λ _. both_on_log threads (bank_effects b bank x) (commit_effects b.thread ((resume + bank) % 2 ^ 64)) (
-      first,
+      first _,
       both_on_log threads (map (λ r. Stores (slot_at b.thread bank r) 8 (read x r)) b.live)
           (map (λ line. Cleans (slot_at b.thread bank (8 * line))) (lines_in_use (0 ∷ b.live)))
           (stores_on_log threads b.thread bank t k x b.live live)
@@ -149,8 +149,8 @@ boundary_on_log threads b bank resume x t k live =
     )
     (commit_on_log threads b.thread ((resume + bank) % 2 ^ 64) t))
   where
-    first : OnLog threads (Stores (slot_at b.thread bank 0) 8 b.mask)
-    first = slot_store threads b.thread bank t k 0 b.mask (omega arith)
+    first : (value : ℕ) → OnLog threads (Stores (slot_at b.thread bank 0) 8 value)
+    first value = slot_store threads b.thread bank t k 0 value (omega arith)
 
 -- each goes where it may
 pub boundary_may : (threads : ℕ) (b : Boundary) (bank resume : ℕ) (x : List ℕ) → b.thread < threads → bank < 2 →

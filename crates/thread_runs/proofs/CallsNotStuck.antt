@@ -1,5 +1,5 @@
 -- Threads at calls that they may make are not stuck.
-use Rattle.std.proofs.Common.{◌≡◌, ◌∙◌, ap, ℕ, List, subst, Some}
+use Rattle.std.proofs.Common.{◌≡◌, ◌∙◌, ap, ℕ, List, subst}
 use Rattle.std.specs.Prelude.{slice_get}
 use Rattle.rv64_isa.specs.Rows.{read}
 use Rattle.flow_graph.specs.Nodes.{Action, Lock, Unlock, End}

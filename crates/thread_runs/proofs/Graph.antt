@@ -192,7 +192,7 @@ core_mark c (Lock mutex next) seen node e eq n = absurd (let k : true ≡ false 
 core_mark c (Unlock mutex next) seen node e eq n = refl
 core_mark c End seen node e eq n = refl
 
-any_at : (marks : List ℕ) (i x : ℕ) → slice_get marks i ≡ Some x → list_any (λ mark. mark == x) marks ≡ true
+pub any_at : (marks : List ℕ) (i x : ℕ) → slice_get marks i ≡ Some x → list_any (λ mark. mark == x) marks ≡ true
 any_at [] i x e = absurd (none_some x e)
 any_at (m ∷ ms) zero x e = ap (λ (b : Bool). b || list_any (λ mark. mark == x) ms) (eq-eqb m x (some_same m x e))
 any_at (m ∷ ms) (suc i) x e = either (m == x) (list_any (λ mark. mark == x) ms) (any_at ms i x e)

@@ -46,7 +46,7 @@ cleans_once (Cleans address) = omega arith
 cleans_once Fences = omega arith
 cleans_once Calls = omega arith
 
-cleans_on : (s : MarkedEnvironment) (n : ℕ) (m to : LocalConfig) (seen : List Observation) → Trace s n m seen to → cleans_in seen ≤ n
+pub cleans_on : (s : MarkedEnvironment) (n : ℕ) (m to : LocalConfig) (seen : List Observation) → Trace s n m seen to → cleans_in seen ≤ n
 cleans_on s zero m to seen w = let e : cleans_in seen ≡ 0 = ap cleans_in w.1 in omega (arith, e)
 cleans_on s (suc n) m to seen w =
     let e : Effect = row w.3.instr m.registers m.pc in

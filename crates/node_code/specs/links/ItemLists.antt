@@ -1,5 +1,5 @@
 -- The items of pieces. What they do is said in Pieces.
-use Rattle.std.specs.Prelude.{ℕ, List, [], ◌∷◌, ◌++◌, map, Bool, ◌==◌, if◌then◌else◌}
+use Rattle.std.specs.Prelude.{ℕ, List, [], ◌∷◌, ◌++◌, map, Bool, if◌then◌else◌}
 use Rattle.rv64_isa.specs.declared.instr.Instr.{Instr}
 use Rattle.rv64_isa.specs.declared.instr.Instr.TheVariants.{Store, OpImmediate, CboClean, Ecall}
 use Rattle.rv64_isa.specs.declared.instr.StoreKind.{StoreKind}
@@ -48,5 +48,6 @@ boundary_items boundary = plain boundary ++ ResumeNext ∷ []
 abbrev pub lock_items : (mutex : ℕ) → (boundary : List Instr) → List CodeItem
 lock_items mutex boundary = plain (asking mutex 1) ++ (MarkNext ∷ Instruction Ecall ∷ []) ++ boundary_items boundary
 
-abbrev pub unlock_items : (mutex mask : ℕ) → (boundary : List Instr) → List CodeItem
-unlock_items mutex mask boundary = (MarkNext ∷ plain boundary) ++ (plain (asking mutex 2) ++ (Instruction Ecall ∷ (if mask == 0 then [] else ResumeNext ∷ [])))
+-- it is resumed nowhere where the boundary ends a section
+abbrev pub unlock_items : (mutex : ℕ) → (ends : Bool) → (boundary : List Instr) → List CodeItem
+unlock_items mutex ends boundary = (MarkNext ∷ plain boundary) ++ (plain (asking mutex 2) ++ (Instruction Ecall ∷ (if ends then [] else ResumeNext ∷ [])))

@@ -3,6 +3,7 @@ use Rattle.std.specs.Prelude.{◌≡◌, ◌↔◌, ℕ, ◌+◌, ◌-◌, ◌*�
 use Rattle.std.specs.Prelude.{Bool, true, false, not}
 use Rattle.std.specs.Prelude.{Vec}
 use Rattle.std.specs.Global.{Global}
+use Rattle.ido_base.specs.Locks.{locks_in}
 use Rattle.c_tree.specs.Exprs as e
 use Rattle.c_tree.specs.Flats as f
 use Rattle.c_tree.specs.Temporaries.{assign_exprs}
@@ -18,7 +19,7 @@ use Rattle.flow_graph.specs.OmittedCleans.{IsCleanedLater}
 use Rattle.flow_graph.specs.IdempotentCuts.{IsChosen}
 use Rattle.node_code.specs.declared.kept.Kept as kept
 use Rattle.node_code.specs.Pieces.{IsBoundaryPiece}
-use Rattle.thread_code.specs.Plans.{Plan, Thread, IsPlan, IsThread, IsNodeOf, homes, mask_before}
+use Rattle.thread_code.specs.Plans.{Plan, Thread, IsPlan, IsThread, IsNodeOf, homes, locks_before}
 use Rattle.thread_code.specs.Programs.{action_nodes}
 use Rattle.rv64_codegen.specs.declared.thread.ThreadPlan as opened
 use Rattle.rv64_codegen.specs.Evaluations.{NeedFew}
@@ -90,7 +91,7 @@ pub record HasAction (x : opened.ThreadPlan) (node : ℕ) (action : Action) : Ty
 -- what a boundary keeps that lets the thread go on at the node
 pub record IsKeptFor (x : opened.ThreadPlan) (node : ℕ) (k : kept.Kept) : Type 0 where
   pub thread_is : k.thread ≡ x.number
-  pub mask_is : k.mask ≡ mask_before (plan_in x) (thread_of x) node
+  pub locks_are : locks_in k.mask ≡ locks_before (plan_in x) (thread_of x) node
   pub live_is : k.live.now ≡ (choices_of x).live node
 
 -- ---- Pieces

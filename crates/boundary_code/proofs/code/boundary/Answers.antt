@@ -1,27 +1,33 @@
-use Rattle.std.proofs.Common.{◌≡◌, ◌≤◌, ◌+◌, length, ◌==◌, ℕ, List, true, false, subst, ap, sym, ◌∙◌, eq-eqb, arith}
+use Rattle.std.proofs.Common.{◌≡◌, ◌≢◌, ◌≤◌, ◌<◌, ◌+◌, ◌^◌, length, ℕ, List, true, false, subst, ap, sym, ◌∙◌, eq-eqb, rules}
 use Rattle.std.specs.Prelude.{ℤ}
 use Rattle.std.specs.Int.{cast_signed, cast_unsigned, w32}
 use Rattle.std.proofs.lemmas.Int.{to_z-of_z}
-use Rattle.std.proofs.lemmas.Bool.Decides.{nat_tests}
+use Rattle.std.proofs.lemmas.Bool.{ne_eqb}
 use Rattle.std.proofs.lemmas.Result.{IfOk-weaker}
 use Rattle.ido_base.specs.Layout.{log_of}
+use Rattle.ido_base.specs.Locks.{locks_in, mask_with}
+use Rattle.ido_base.proofs.Public.{mask_of_locks}
 use Rattle.rv64_isa.specs.declared.instr.Instr.{Instr}
 use Rattle.rv64_isa.specs.Signed.{twos_complement}
 use Rattle.operator_code.specs.StraightLineCode.{IsConstant}
-use Rattle.boundary_code.specs.Boundaries.{Boundary, HasEffects, HasOffset, KeepsRegisters}
+use Rattle.boundary_code.specs.Boundaries.{Boundary, HasEffects, HasOffset, KeepsRegisters, is_empty}
 use Rattle.boundary_code.specs.links.InstructionLists.{boundary_list, last_list}
 use Rattle.boundary_code.proofs.WholeBoundaries.{Pieces, boundary-effects, boundary-offset, boundary-others, last-effects, last-offset, last-others}
+use Rattle.boundary_code.proofs.EmptyLists.{empty_where}
 use Rattle.boundary_code.proofs.Lengths.{boundary_short, last_short}
 use Rattle.boundary_code.proofs.code.boundary.Goals as goal
 
 is_log : (value thread : ℕ) (log : List Instr) → value ≡ log_of thread → IsConstant 31 value log → IsConstant 31 (log_of thread) log
 is_log value thread log e c = subst (λ (n : ℕ). IsConstant 31 n log) e c
 
-no_mask : (mask : ℕ) → mask ≡ 0 → (mask == 0) ≡ true
-no_mask mask e = eq-eqb mask 0 e
+no_mask : (mask : ℕ) → mask < 2 ^ 64 → mask ≡ 0 → is_empty (locks_in mask) ≡ true
+no_mask mask small e = empty_where mask small ∙ eq-eqb mask 0 e
 
-some_mask : (mask : ℕ) → (mask ≡ 0 → ⊥) → (mask == 0) ≡ false
-some_mask mask n = grind (arith, nat_tests)
+some_mask : (mask : ℕ) → mask < 2 ^ 64 → mask ≢ 0 → is_empty (locks_in mask) ≡ false
+some_mask mask small n = empty_where mask small ∙ ne_eqb mask 0 n
+
+is_mask : (mask : ℕ) (code : List Instr) → mask < 2 ^ 64 → IsConstant 7 mask code → IsConstant 7 (mask_with (locks_in mask)) code
+is_mask mask code small c = subst (λ (n : ℕ). IsConstant 7 n code) (sym (mask_of_locks mask small)) c
 
 listed : (log log' mask mask' code : List Instr) (live : List ℕ) (resume resume' : ℤ) → log' ≡ log → mask' ≡ mask → resume' ≡ resume →
     code ≡ boundary_list log' mask' live (twos_complement 32 resume') →
@@ -33,25 +39,25 @@ listed log log' mask mask' code live resume resume' e f g k =
 
 pub returns-then-mask-eq0-clause-effects : goal.returns-then-mask-eq0-clause-effects
 returns-then-mask-eq0-clause-effects c =
-    let b : Boundary = record { thread = c.args.thread; mask = c.args.mask; live = c.args.live.now; resume = c.args.resume } in
+    let b : Boundary = record { thread = c.args.thread; locks = locks_in c.args.mask; live = c.args.live.now; resume = c.args.resume } in
     IfOk-weaker c.emit_last_boundary.result _ _
     (λ code k. subst (λ (is : List Instr). HasEffects b is) (sym (k ∙ ap (λ (is : List Instr). last_list is) c.deref.ensures.value))
-    (last-effects b c.in_ok-log.log.items c.requires.thread (no_mask c.args.mask c.if-mask-eq0.true)
+    (last-effects b c.in_ok-log.log.items c.requires.thread (no_mask c.args.mask (search rules) c.if-mask-eq0.true)
     (is_log c.log_of.result c.args.thread c.in_ok-log.log.items c.log_of.ensures c.in_ok-log.ensures.code)))
     c.emit_last_boundary.ensures
 
 pub returns-then-mask-eq0-clause-offset : goal.returns-then-mask-eq0-clause-offset
 returns-then-mask-eq0-clause-offset c =
-    let b : Boundary = record { thread = c.args.thread; mask = c.args.mask; live = c.args.live.now; resume = c.args.resume } in
+    let b : Boundary = record { thread = c.args.thread; locks = locks_in c.args.mask; live = c.args.live.now; resume = c.args.resume } in
     IfOk-weaker c.emit_last_boundary.result _ _
-    (λ code k. subst (λ (is : List Instr). HasOffset c.args.mask is) (sym (k ∙ ap (λ (is : List Instr). last_list is) c.deref.ensures.value))
-    (last-offset c.args.mask c.args.thread c.in_ok-log.log.items c.requires.thread (no_mask c.args.mask c.if-mask-eq0.true)
+    (λ code k. subst (λ (is : List Instr). HasOffset (locks_in c.args.mask) is) (sym (k ∙ ap (λ (is : List Instr). last_list is) c.deref.ensures.value))
+    (last-offset (locks_in c.args.mask) c.args.thread c.in_ok-log.log.items c.requires.thread (no_mask c.args.mask (search rules) c.if-mask-eq0.true)
     (is_log c.log_of.result c.args.thread c.in_ok-log.log.items c.log_of.ensures c.in_ok-log.ensures.code)))
     c.emit_last_boundary.ensures
 
 pub returns-then-mask-eq0-clause-others : goal.returns-then-mask-eq0-clause-others
 returns-then-mask-eq0-clause-others c =
-    let b : Boundary = record { thread = c.args.thread; mask = c.args.mask; live = c.args.live.now; resume = c.args.resume } in
+    let b : Boundary = record { thread = c.args.thread; locks = locks_in c.args.mask; live = c.args.live.now; resume = c.args.resume } in
     IfOk-weaker c.emit_last_boundary.result _ _
     (λ code k. subst (λ (is : List Instr). KeepsRegisters is) (sym (k ∙ ap (λ (is : List Instr). last_list is) c.deref.ensures.value))
     (last-others c.args.thread c.in_ok-log.log.items c.requires.thread
@@ -60,15 +66,15 @@ returns-then-mask-eq0-clause-others c =
 
 pub returns-clause-effects : goal.returns-clause-effects
 returns-clause-effects c =
-    let b : Boundary = record { thread = c.args.thread; mask = c.args.mask; live = c.args.live.now; resume = c.args.resume } in
+    let b : Boundary = record { thread = c.args.thread; locks = locks_in c.args.mask; live = c.args.live.now; resume = c.args.resume } in
     let pieces : Pieces b c.in_ok-log.log.items c.in_ok-record.record.items = record {
       thread = c.requires.thread;
-      some = some_mask c.args.mask c.if-mask-eq0.false;
+      some = some_mask c.args.mask (search rules) c.if-mask-eq0.false;
       live = c.requires.live;
       low = c.requires.low;
       high = c.requires.high;
       is_log = is_log c.log_of.result c.args.thread c.in_ok-log.log.items c.log_of.ensures c.in_ok-log.ensures.code;
-      is_mask = c.in_ok-record.ensures.code;
+      is_mask = is_mask c.args.mask c.in_ok-record.record.items (search rules) c.in_ok-record.ensures.code;
     } in
     IfOk-weaker c.emit_boundary.result _ _
     (λ code k. subst (λ (is : List Instr). HasEffects b is)
@@ -79,18 +85,18 @@ returns-clause-effects c =
 
 pub returns-clause-offset : goal.returns-clause-offset
 returns-clause-offset c =
-    let b : Boundary = record { thread = c.args.thread; mask = c.args.mask; live = c.args.live.now; resume = c.args.resume } in
+    let b : Boundary = record { thread = c.args.thread; locks = locks_in c.args.mask; live = c.args.live.now; resume = c.args.resume } in
     let pieces : Pieces b c.in_ok-log.log.items c.in_ok-record.record.items = record {
       thread = c.requires.thread;
-      some = some_mask c.args.mask c.if-mask-eq0.false;
+      some = some_mask c.args.mask (search rules) c.if-mask-eq0.false;
       live = c.requires.live;
       low = c.requires.low;
       high = c.requires.high;
       is_log = is_log c.log_of.result c.args.thread c.in_ok-log.log.items c.log_of.ensures c.in_ok-log.ensures.code;
-      is_mask = c.in_ok-record.ensures.code;
+      is_mask = is_mask c.args.mask c.in_ok-record.record.items (search rules) c.in_ok-record.ensures.code;
     } in
     IfOk-weaker c.emit_boundary.result _ _
-    (λ code k. subst (λ (is : List Instr). HasOffset c.args.mask is)
+    (λ code k. subst (λ (is : List Instr). HasOffset (locks_in c.args.mask) is)
     (sym (listed c.in_ok-log.log.items c.deref-2.result.now c.in_ok-record.record.items c.deref-3.result.now _ c.args.live.now c.args.resume
     (cast_signed w32 (cast_unsigned w32 c.args.resume)) c.deref-2.ensures.value c.deref-3.ensures.value (to_z-of_z w32 c.args.resume c.ranges.resume) k))
     (boundary-offset b c.in_ok-log.log.items c.in_ok-record.record.items pieces))
@@ -98,15 +104,15 @@ returns-clause-offset c =
 
 pub returns-clause-others : goal.returns-clause-others
 returns-clause-others c =
-    let b : Boundary = record { thread = c.args.thread; mask = c.args.mask; live = c.args.live.now; resume = c.args.resume } in
+    let b : Boundary = record { thread = c.args.thread; locks = locks_in c.args.mask; live = c.args.live.now; resume = c.args.resume } in
     let pieces : Pieces b c.in_ok-log.log.items c.in_ok-record.record.items = record {
       thread = c.requires.thread;
-      some = some_mask c.args.mask c.if-mask-eq0.false;
+      some = some_mask c.args.mask (search rules) c.if-mask-eq0.false;
       live = c.requires.live;
       low = c.requires.low;
       high = c.requires.high;
       is_log = is_log c.log_of.result c.args.thread c.in_ok-log.log.items c.log_of.ensures c.in_ok-log.ensures.code;
-      is_mask = c.in_ok-record.ensures.code;
+      is_mask = is_mask c.args.mask c.in_ok-record.record.items (search rules) c.in_ok-record.ensures.code;
     } in
     IfOk-weaker c.emit_boundary.result _ _
     (λ code k. subst (λ (is : List Instr). KeepsRegisters is)

@@ -20,7 +20,7 @@ returns-clause-translated c =
       initial = c.in_ok-code.ensures.initial;
       mutexes = c.in_ok-code.ensures.mutexes;
     }) plan
-    c.in_ok-object.object c.in_ok-object.marks c.in_ok-cuts.cuts refl c.in_ok-cuts.ensures.minimal c.in_ok-object.ensures.linked
+    c.in_ok-object.object c.in_ok-object.marks c.in_ok-cuts.cuts refl c.in_ok-cuts.ensures.minimal c.in_ok-cuts.ensures.fewest c.in_ok-object.ensures.linked
     c.in_ok-object.ensures.initial c.in_ok-object.ensures.mutexes
 
 pub resume_table-requires-clause-plan : goal.resume_table-requires-clause-plan
@@ -37,7 +37,7 @@ resume_table-requires-clause-marked c =
       initial = c.in_ok-code.ensures.initial;
       mutexes = c.in_ok-code.ensures.mutexes;
     }) plan
-    c.in_ok-object.object c.in_ok-object.marks c.in_ok-cuts.cuts refl c.in_ok-cuts.ensures.minimal c.in_ok-object.ensures.linked
+    c.in_ok-object.object c.in_ok-object.marks c.in_ok-cuts.cuts refl c.in_ok-cuts.ensures.minimal c.in_ok-cuts.ensures.fewest c.in_ok-object.ensures.linked
     c.in_ok-object.ensures.initial c.in_ok-object.ensures.mutexes
 
 pub returns-clause-resumes : goal.returns-clause-resumes
@@ -51,6 +51,6 @@ returns-clause-resumes c =
       initial = c.in_ok-code.ensures.initial;
       mutexes = c.in_ok-code.ensures.mutexes;
     }) plan
-    c.in_ok-object.object c.in_ok-object.marks c.in_ok-cuts.cuts refl c.in_ok-cuts.ensures.minimal c.in_ok-object.ensures.linked
+    c.in_ok-object.object c.in_ok-object.marks c.in_ok-cuts.cuts refl c.in_ok-cuts.ensures.minimal c.in_ok-cuts.ensures.fewest c.in_ok-object.ensures.linked
     c.in_ok-object.ensures.initial c.in_ok-object.ensures.mutexes
     c.in_ok-resumes.resumes.items c.in_ok-resumes.ensures

@@ -1,4 +1,6 @@
 use Rattle.std.proofs.Common.{ap, sym, ◌∙◌, arith}
+use Rattle.ido_base.specs.Locks.{mask_with}
+use Rattle.boundary_code.proofs.Public.{none_with}
 use Rattle.flow_graph.specs.Nodes.{action_of, node_of}
 use Rattle.rv64_codegen.specs.Plans.{plan_of}
 use Rattle.flat_compile.specs.links.ResumePlacesByNode.{thread_in}
@@ -33,7 +35,7 @@ returns-then-mask-eq0 c =
     let p = plan_of q in
     frees p (thread_in p c.args.number c.args.part) c.args.node (node_of c.index.result.now) c.requires.own
     (at_node q c.args.number c.args.part c.args.node c.requires c.index.result.now c.index.ensures) c.in-Unlock.mutex c.in-Unlock.next
-    (ap action_of c.in-Unlock.is) (sym c.mask.ensures ∙ c.if-mask-eq0.true)
+    (ap action_of c.in-Unlock.is) (none_with _ (sym c.mask.ensures ∙ c.if-mask-eq0.true))
 
 pub returns-else-mask-eq0 : goal.returns-else-mask-eq0
 returns-else-mask-eq0 c =
@@ -41,7 +43,7 @@ returns-else-mask-eq0 c =
     let p = plan_of q in
     unlocks p (thread_in p c.args.number c.args.part) c.args.node (node_of c.index.result.now) c.requires.own
     (at_node q c.args.number c.args.part c.args.node c.requires c.index.result.now c.index.ensures) c.in-Unlock.mutex c.in-Unlock.next
-    (ap action_of c.in-Unlock.is) (λ e. c.if-mask-eq0.false (c.mask.ensures ∙ e))
+    (ap action_of c.in-Unlock.is) (λ e. c.if-mask-eq0.false (c.mask.ensures ∙ ap mask_with e))
 
 pub returns-in_default : goal.returns-in_default
 returns-in_default c =

@@ -1,0 +1,2 @@
+-- What crates above may use of this crate's proofs, passed on from one place. Declares nothing.
+pub use Rattle.boundary_code.proofs.EmptyLists.{empty_where, none_there, none_with, not_empty, some_there}
