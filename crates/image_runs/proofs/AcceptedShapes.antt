@@ -1,0 +1,209 @@
+-- What an image without a fault has after its source has the shape.
+use Rattle.std.proofs.Common.{◌≡◌, ◌≢◌, refl, ℕ, suc, ◌-◌, ◌%◌, ◌<◌, ◌≤◌, List, [], ◌∷◌, length, map, ap, sym, ◌∙◌, subst, arith}
+use Rattle.std.proofs.Common.{Option, Some, inl, inr, true}
+use Rattle.std.specs.Prelude.{slice_get, slice_index, ◌==◌}
+use Rattle.std.proofs.lemmas.Bool.{cases_Bool, cases_lt, cond-true, cond-false, eqb-true, eqb-false, ne_eqb}
+use Rattle.std.proofs.lemmas.List.{length-map}
+use Rattle.std.proofs.lemmas.List.Elements.{All-contains}
+use Rattle.std.proofs.lemmas.Option.{none-some, same_Some}
+use Rattle.ido_base.specs.declared.location.Location.{Location}
+use Rattle.ido_base.specs.Layout.{logs_base, point_at, slot_at}
+use Rattle.ido_base.specs.Locks.{has_lock, locks_in}
+use Rattle.ido_base.proofs.Public.{no_locks}
+use Rattle.ido_base.specs.Words.{Word, word_of}
+use Rattle.ido_ints.specs.declared.kinds.Kind.{Kind}
+use Rattle.c_tree.specs.Flats.{Flat}
+use Rattle.memory_layout.specs.declared.point.Point.{Point}
+use Rattle.memory_layout.specs.declared.point.Point.TheVariants.{Idle, At}
+use Rattle.memory_layout.specs.Points.{point_of}
+use Rattle.memory_layout.specs.Roles.{pending_address}
+use Rattle.rv64_isa.specs.Executables.{Executable}
+use Rattle.rv64_isa.specs.Programs.{slot_of}
+use Rattle.rv64_isa.specs.Machine.{durable_at, durable_point, bank_of, resume_of, recorded, record_of}
+use Rattle.rv64_isa.specs.Rows.{read}
+use Rattle.flow_graph.specs.Nodes.{Node}
+use Rattle.flow_graph.specs.Liveness.{NodeAt, IsLive}
+use Rattle.log_states.specs.Logs.{IsKeepable, IsWord, log_word}
+use Rattle.thread_code.specs.Plans.{Plan, Thread, locks_before}
+use Rattle.recovered_threads.specs.RecordDescriptions.{Code, ResumesAt}
+use Rattle.recovered_threads.specs.RecordDescriptions as telling
+use Rattle.crash_simulation.specs.Systems.{System, IsSystem, flat_of}
+use Rattle.flat_compile.specs.declared.resumes.LiveLocal.{LiveLocal}
+use Rattle.flat_compile.specs.declared.resumes.Resume.{Resume}
+use Rattle.flat_compile.specs.ResumePlaces.{Spot, IsSpot, address_in, goes_on_at, IsResumeOf, AreResumes, resumes_at}
+use Rattle.flat_compile.specs.ResumePlaces as places
+use Rattle.image_checks.specs.Logs.{logged, point_in, slot_in, mask_by, mask_in, HoldsLock}
+use Rattle.image_checks.specs.Checks.{IsForm, IsElementOf, HasLocal, HasAddress, resume_at, IsResumableLog, IsUnshared}
+use Rattle.image_checks.specs.Checks as checks
+use Rattle.image_runs.specs.Shapes.{GoesOnAt, HasThreadShape, HasShape}
+use Rattle.image_runs.specs.Shapes as shapes
+use Rattle.image_runs.specs.Laws.{AcceptedHaveShape}
+use Rattle.image_runs.proofs.SpreadWords as spread
+use Rattle.image_runs.proofs.ResumedLocals.{local_keepable, read_back, resumed_there}
+
+-- ---- What a point says
+
+zero_of : (w : ℕ) → point_of w ≡ Idle → w ≡ 0
+zero_of w h = elim (cases_Bool (w == 0)) [
+  | inl zeroth ↦ eqb-true w 0 zeroth
+  | inr other_than ↦ (let z : At (w - w % 2) (w % 2) ≡ Idle = sym (cond-false (w == 0) Idle (At (w - w % 2) (w % 2)) other_than) ∙ h in cc z)
+]
+
+record Names (w address bank : ℕ) : Type 0 where
+  some : w ≢ 0
+  address_is : address ≡ resume_of w
+  bank_is : bank ≡ bank_of w
+
+names : (w address bank : ℕ) → point_of w ≡ At address bank → Names w address bank
+names w address bank h = elim (cases_Bool (w == 0)) [
+  | inl zeroth ↦ (let z : Idle ≡ At address bank = sym (cond-true (w == 0) Idle (At (w - w % 2) (w % 2)) zeroth) ∙ h in cc z)
+  | inr other_than ↦
+      let z : At (w - w % 2) (w % 2) ≡ At address bank = sym (cond-false (w == 0) Idle (At (w - w % 2) (w % 2)) other_than) ∙ h in
+      record { some = eqb-false w 0 other_than; address_is = cc z; bank_is = cc z }
+]
+
+-- ---- An entry of the table
+
+found_at : (rs : List Resume) (address : ℕ) (r : Resume) → resume_at rs address ≡ Some r → (k : ℕ) × (slice_get rs k ≡ Some r) × (r.address ≡ address)
+found_at [] address r h = absurd (none-some r h)
+found_at (x ∷ rs) address r h = elim (cases_Bool (x.address == address)) [
+  | inl zeroth ↦
+      let is : x ≡ r = same_Some x r (sym (cond-true (x.address == address) (Some x) (resume_at rs address) zeroth) ∙ h) in
+      (0, ap (λ (z : Resume). Some z) is, sym (ap (λ (z : Resume). z.address) is) ∙ eqb-true x.address address zeroth)
+  | inr other_than ↦
+      let more = found_at rs address r (sym (cond-false (x.address == address) (Some x) (resume_at rs address) other_than) ∙ h) in
+      (suc more.0, more.1, more.2)
+]
+
+resumes_by : (p : Plan) (code : Code p) (spot : Spot) → IsSpot p code.thread spot → ResumesAt p code (goes_on_at spot) (address_in code.is.places spot)
+resumes_by p code _ (places.at_chosen node own chosen) = telling.at_chosen chosen
+resumes_by p code _ (places.past_lock node mutex next is own there locks) = telling.past_lock node mutex is own there locks
+resumes_by p code _ (places.past_unlock node mutex next is own there unlocks holds) = telling.past_unlock node mutex is own there unlocks holds
+
+-- ---- The words of the logs, where the machine has them
+
+module _ (words : List Word) (logs : List ℕ) (there : (address : ℕ) → logs_base ≤ address → durable_at words address ≡ logged logs address) where
+  point_is : (n : ℕ) → point_in logs n ≡ point_of (durable_point words n)
+  point_is n = ap point_of (sym (there (point_at n) (omega arith)))
+
+  locks_there : (n : ℕ) → record_of words n ≡ locks_in (mask_in logs n)
+  locks_there n =
+      let w : ℕ = durable_point words n in
+      let own : List ℕ = locks_in (recorded words n 0) in
+      let at : Point = At (w - w % 2) (w % 2) in
+      elim (cases_Bool (w == 0)) [
+        | inl zeroth ↦
+            cond-true (w == 0) [] own zeroth
+            ∙ sym (ap (λ (p : Point). locks_in (mask_by p logs n)) (point_is n ∙ cond-true (w == 0) Idle at zeroth) ∙ no_locks)
+        | inr other_than ↦
+            cond-false (w == 0) [] own other_than
+            ∙ (ap locks_in (there (slot_at n (bank_of w) 0) (omega arith))
+            ∙ sym (ap (λ (p : Point). locks_in (mask_by p logs n)) (point_is n ∙ cond-false (w == 0) Idle at other_than)))
+      ]
+
+  apart_by : (threads g h lock : ℕ) → ((l : ℕ) → IsUnshared logs threads l) → g < threads → h < threads → has_lock (record_of words g) lock ≡ true →
+      has_lock (record_of words h) lock ≡ true → g ≡ h
+  apart_by threads g h lock none gb hb gl hl =
+      let own : HoldsLock logs g lock = ap (λ (ls : List ℕ). has_lock ls lock) (sym (locks_there g)) ∙ gl in
+      let other : HoldsLock logs h lock = ap (λ (ls : List ℕ). has_lock ls lock) (sym (locks_there h)) ∙ hl in
+      elim (cases_lt g h) [
+        | inl less ↦ absurd (none lock g h less hb own other)
+        | inr no_less ↦ elim (cases_lt h g) [
+          | inl more ↦ absurd (none lock h g more gb other own)
+          | inr no_more ↦ omega (arith, no_less, no_more)
+        ]
+      ]
+
+  module _ (y : System) (s : IsSystem y) (code : Code y.plan) where
+    abbrev t : Thread
+    t = code.thread
+
+    abbrev n : ℕ
+    n = code.thread.number
+
+    module _ (address bank : ℕ) (r : Resume) (w : Names (durable_point words n) address bank) (of : IsResumeOf y.plan t code.is.places r)
+        (at : r.address ≡ address) (right : checks.IsRight (flat_of y).variables logs n bank r) where
+      slot_there : (slot : ℕ) → recorded words n slot ≡ slot_in logs n bank slot
+      slot_there slot =
+          there (slot_at n (bank_of (durable_point words n)) slot) (omega arith) ∙ ap (λ (b : ℕ). slot_in logs n b slot) (sym w.bank_is)
+
+      register_there : (register : ℕ) → IsKeepable register → read (shapes.resumed y.plan code words) register ≡ slot_in logs n bank register
+      register_there register k = resumed_there words n register k ∙ slot_there register
+
+      locks : record_of words n ≡ locks_before y.plan t r.node
+      locks =
+          cond-false (durable_point words n == 0) [] (locks_in (recorded words n 0)) (ne_eqb (durable_point words n) 0 w.some)
+          ∙ (ap locks_in (slot_there 0 ∙ (right.mask ∙ of.found.mask_is)) ∙ read_back y.plan s.plan t code.of r.node)
+
+      local_there : (local : ℕ) (k : Kind) → slice_get t.kinds local ≡ Some k → IsLive y.plan.graph local r.node →
+          IsForm k (read (shapes.resumed y.plan code words) (slice_index t.registers local))
+      local_there local k kind live =
+          let l : LiveLocal = record { local = local; kind = k; register = slice_index t.registers local } in
+          let has : HasLocal logs n bank l =
+          All-contains (HasLocal logs n bank) r.live.items l right.locals
+          ((of.found.live l).1 (record { kind_is = kind; live = live; register_is = refl })) in
+          subst (λ (word : ℕ). IsForm k word) (sym (register_there (slice_index t.registers local) (local_keepable y.plan s.plan t code.of local k kind))) has
+
+      pending_there : (is : Node) (location : Location) → NodeAt y.plan.graph r.node is → is.writes ≡ Some location →
+          IsElementOf (flat_of y).variables location (read (shapes.resumed y.plan code words) pending_address)
+      pending_there is location at_node writes =
+          let has : IsElementOf (flat_of y).variables location (slot_in logs n bank 28) =
+          subst (λ (o : Option Location). HasAddress (flat_of y).variables logs n bank o) (of.found.pending_is is at_node ∙ writes) right.address in
+          let kept : IsKeepable 28 = record { is_register = omega arith; exists = omega arith; not_offset = λ e. (let z : 28 ≡ 3 = e in cc z) } in
+          subst (λ (word : ℕ). IsElementOf (flat_of y).variables location word) (sym (register_there 28 kept)) has
+
+      goes_on : GoesOnAt y.plan code words r.node
+      goes_on = record {
+        own = of.found.own;
+        resumes = subst (λ (a : ℕ). ResumesAt y.plan code r.node a) (of.at ∙ (at ∙ w.address_is))
+            (subst (λ (m : ℕ). ResumesAt y.plan code m (address_in code.is.places of.spot)) of.goes_on (resumes_by y.plan code of.spot of.is));
+        locks = locks;
+        locals = local_there;
+        pending = pending_there;
+      }
+
+    thread_shape : (rs : List Resume) → AreResumes y.plan t code.program code.is rs → IsResumableLog (flat_of y).variables rs logs n →
+        HasThreadShape y.plan code words
+    thread_shape rs are (checks.idle none) = shapes.idle (zero_of (durable_point words n) (sym (point_is n) ∙ none))
+    thread_shape rs are (checks.resumed address bank r point found right) =
+        let w = names (durable_point words n) address bank (sym (point_is n) ∙ point) in
+        let e = found_at rs address r found in
+        shapes.resumes r.node w.some (goes_on address bank r w (are.each e.0 r e.1) e.2 right)
+
+-- ---- All of it
+
+pub accepted_have_shape : AcceptedHaveShape
+accepted_have_shape flat object marks cuts table state r is wf =
+    let y : System = r.translated.system in
+    let s : IsSystem y = r.translated.is in
+    let bytes = r.translated.limits.bytes in
+    let own = is.variables in
+    let few : length state.variables ≤ 8192 = omega (arith, bytes, own) in
+    let program : length y.runs.program ≡ length object.code.items =
+    ap (λ (x : Executable). length x.program) r.translated.runs ∙ length-map object.code.items (λ code. map slot_of code.items) in
+    let count = s.count in
+    let logs = is.logs in
+    let long = spread.size state.variables state.logs few in
+    let words = map word_of (spread.words state.variables state.logs few) in
+    let mapped = length-map (spread.words state.variables state.logs few) word_of in
+    let there = spread.logged_there state.variables state.logs few in
+    record {
+      size = omega (arith, long, logs, program, count);
+      logs = λ n below. record {
+        exists = omega (arith, long, logs, program, count, below, mapped);
+        each = λ i inside. subst IsWord (sym (spread.word_there (spread.words state.variables state.logs few) (log_word n i)))
+            (spread.word_fits (slice_index (spread.words state.variables state.logs few) (log_word n i))
+            (spread.bits state.variables state.logs few is.variable_words is.log_words (log_word n i)));
+      };
+      threads = λ n below.
+          let code = s.codes.each n below in
+          let number : n ≡ code.thread.number = sym (s.codes.number n below) in
+          let within : n < length table = subst (λ (k : ℕ). n < k) (sym r.are.count) below in
+          let log : IsResumableLog (flat_of y).variables (resumes_at table n) state.logs code.thread.number =
+          subst (λ (k : ℕ). IsResumableLog (flat_of y).variables (resumes_at table n) state.logs k) number
+          (subst (λ (x : Flat). IsResumableLog x.variables (resumes_at table n) state.logs n) (sym r.translated.of_flat) (wf.logs n within)) in
+          thread_shape words state.logs there y s code (resumes_at table n) (r.are.each n below) log;
+      apart = λ g h lock gb hb gl hl.
+          apart_by words state.logs there (length table) g h lock wf.mutexes (subst (λ (k : ℕ). g < k) (sym r.are.count) gb)
+          (subst (λ (k : ℕ). h < k) (sym r.are.count) hb) gl hl;
+    }

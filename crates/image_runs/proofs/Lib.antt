@@ -1,0 +1,4 @@
+mod SpreadWords
+mod ResumedLocals
+mod AcceptedShapes
+mod LeftShapes

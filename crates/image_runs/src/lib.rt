@@ -1,0 +1,4 @@
+//! Durable words of any origin that have the shape of what a crash leaves: nothing is computed here.
+#![tactic(auto)]
+
+pub mod laws;
