@@ -1,8 +1,10 @@
 //! Legs with answers that were followed by hand, and a gate at which two workers meet.
 use crate::endless::Endless;
+use crate::points::Points;
 use core_rows::Counter;
 use hart_driver::drive::{Driven, drive};
 use hart_driver::stop::Stop;
+use hart_driver::sweep::sweep;
 use ido_base::evictions::Evictions;
 use ido_outside::{Gate, OpenGate};
 use std::sync::atomic::{AtomicU64, Ordering};
@@ -131,5 +133,73 @@ fn beside(rt: HostRuntime) -> Result<(), Fail> {
     assert_eq!(rt; stops.as_slice(), [Stop::Turns, Stop::Turns].as_slice());
     assert_eq!(rt; core.journal.len(), 2_000);
     assert_eq!(rt; gate.met.load(Ordering::SeqCst), 2 * MEETINGS);
+    Ok(())
+}
+
+/// A gate that holds the points 0 and 3, each until the other has come.
+#[derive(Drop)]
+struct Ends {
+    first: AtomicU64,
+    last: AtomicU64,
+    /// How often one of them has found that the other one has come too.
+    met: AtomicU64,
+}
+
+impl Ends {
+    /// Tells that a point has come, and waits until the other one has.
+    fn meet(&self, mine: &AtomicU64, other: &AtomicU64) {
+        mine.fetch_add(1, Ordering::SeqCst);
+        for _ in 0..LOOKS {
+            if other.load(Ordering::SeqCst) > 0 {
+                self.met.fetch_add(1, Ordering::SeqCst);
+                return;
+            }
+        }
+    }
+}
+
+impl Gate for Ends {
+    fn pass(&self, point: u32, turn: u64) {
+        if turn != 1 {
+            return;
+        }
+        match point {
+            0 => self.meet(&self.first, &self.last),
+            3 => self.meet(&self.last, &self.first),
+            _ => {}
+        }
+    }
+}
+
+/// Outcomes are found beside each other, the first of four beside the last, and come in order.
+#[test]
+fn swept_beside(rt: HostRuntime) -> Result<(), Fail> {
+    let gate = Ends {
+        first: AtomicU64::new(0),
+        last: AtomicU64::new(0),
+        met: AtomicU64::new(0),
+    };
+    let points = Points { alloc: rt.alloc() };
+    let outcomes = sweep(&rt, rt.alloc(), &points, 3, &gate)?;
+    assert_eq!(rt; gate.met.load(Ordering::SeqCst), 2);
+    assert_eq!(rt; outcomes.len(), 4);
+    for (k, outcome) in outcomes.iter().enumerate() {
+        assert_eq!(rt;
+            (outcome.settled, outcome.report.bytes()),
+            (k % 2 == 0, [k as u8].as_slice())
+        );
+    }
+    Ok(())
+}
+
+/// Each of 201 points comes once, in order, whatever part it stands in.
+#[test]
+fn swept(rt: HostRuntime) -> Result<(), Fail> {
+    let points = Points { alloc: rt.alloc() };
+    for last in [0, 1, 2, 30, 31, 32, 33, 63, 64, 65, 200] {
+        let outcomes = sweep(&rt, rt.alloc(), &points, last, &OpenGate)?;
+        let numbers = outcomes.iter().flat_map(|o| o.report.bytes().iter());
+        assert!(rt; numbers.copied().eq(0..=last as u8), "{last}");
+    }
     Ok(())
 }

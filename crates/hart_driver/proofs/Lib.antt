@@ -7,3 +7,4 @@ mod BoardLegs
 mod Rounds
 mod BoardEnds
 mod DrivenLegs
+mod PointsInOrder

@@ -1,3 +1,4 @@
 pub mod Legs
 pub mod Driven
+pub mod Outcomes
 pub mod links

@@ -4,6 +4,8 @@
 
 pub mod drive;
 pub mod finishing;
+pub mod report;
 pub mod running;
 pub mod start;
 pub mod stop;
+pub mod sweep;
