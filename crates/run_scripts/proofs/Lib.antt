@@ -3,6 +3,8 @@ mod EventsWithinRoom
 mod ScriptTargetsExist
 mod Gaps
 mod Lines
+mod FewLines
+mod RoundsMade
 mod Numbers
 mod LineReader
 mod MergedRuns
@@ -14,5 +16,7 @@ mod DrawnRuns
 mod FourNumbers
 mod GeneratedTexts
 mod JournalLines
+mod JournalReads
+mod EnabledSteps
 mod MadeEvents
 mod Worked

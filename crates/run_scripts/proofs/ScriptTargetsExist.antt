@@ -7,13 +7,13 @@ use Rattle.ido_base.specs.Layout.{line_count}
 use Rattle.run_scripts.specs.Pieces.{Piece, lines_at}
 use Rattle.run_scripts.specs.Schedules.{is_digit, number_limit}
 use Rattle.run_scripts.specs.Scripts.{Fault, LineRead, Says, Fails, Rule, any_number, hart_number, line_number, mask_number}
-use Rattle.run_scripts.specs.Scripts.{number_then, argument_then, end_then, steps_line, evict_line, line_of, Line, Read}
+use Rattle.run_scripts.specs.Scripts.{number_then, argument_then, end_then, steps_line, enabled_line, evict_line, line_of, Line, Read}
 use Rattle.run_scripts.specs.Scripts.{Lines, Refused, before_lines, with_line, lines_of, read, IsDoable, IsEviction}
 use Rattle.run_scripts.specs.declared.script.Command.{Command}
 use Rattle.run_scripts.specs.declared.script.Line as declared
 use Rattle.run_scripts.specs.links.ScriptViews.{line_of as shown}
 use Rattle.std.proofs.lemmas.List.Elements.{All-from_recursion}
-use Rattle.run_scripts.specs.declared.script.Command.TheVariants.{Steps, Point, Fence, Evict, Crash}
+use Rattle.run_scripts.specs.declared.script.Command.TheVariants.{Steps, Point, Fence, Enabled, Evict, Crash}
 
 -- ---- Numbers that aren't refused
 
@@ -94,6 +94,11 @@ module _ (harts : ℕ) where
       subst (IsDoable harts (IsEviction harts)) (ended count.next count.rest (Steps hart.number count.number) x count.says)
       (hart_fits harts hart.place hart.number hart.fits)
 
+  enabled_doable : (place : ℕ) (bytes : List ℕ) (x : Command) → enabled_line place bytes ≡ Says x → IsDoable harts (IsEviction harts) x
+  enabled_doable place bytes x e =
+      let count = argument_taken any_number place bytes (λ count p after. end_then p after (Enabled count)) x e in
+      subst (IsDoable harts (IsEviction harts)) (ended count.next count.rest (Enabled count.number) x count.says) tt
+
   evict_doable : (place : ℕ) (bytes : List ℕ) (x : Command) → evict_line harts place bytes ≡ Says x → IsDoable harts (IsEviction harts) x
   evict_doable place bytes x e =
       let line = argument_taken (line_number harts) place bytes
@@ -113,8 +118,9 @@ module _ (harts : ℕ) where
       either (c == 115) _ _ x (steps_doable (place + 1) cs x)
       (either (c == 98) _ _ x (one_line Point (place + 1) cs x (λ n h. h))
       (either (c == 102) _ _ x (one_line Fence (place + 1) cs x (λ n h. h))
+      (either (c == 103) _ _ x (enabled_doable (place + 1) cs x)
       (either (c == 101) _ _ x (evict_doable (place + 1) cs x)
-      (either (c == 99) _ _ x (λ s. subst (IsDoable harts (IsEviction harts)) (ended (place + 1) cs Crash x s) tt) (λ s. cc))))) e
+      (either (c == 99) _ _ x (λ s. subst (IsDoable harts (IsEviction harts)) (ended (place + 1) cs Crash x s) tt) (λ s. cc)))))) e
 
   -- ---- All lines
 

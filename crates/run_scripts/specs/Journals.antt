@@ -5,7 +5,7 @@ use Rattle.ido_base.specs.declared.event.Event.{Event}
 use Rattle.ido_base.specs.declared.event.Event.TheVariants as events
 use Rattle.run_scripts.specs.Reports.{line}
 use Rattle.run_scripts.specs.declared.script.Command.{Command}
-use Rattle.run_scripts.specs.declared.script.Command.TheVariants.{Steps, Point, Fence, Evict, Crash}
+use Rattle.run_scripts.specs.declared.script.Command.TheVariants.{Steps, Point, Fence, Enabled, Evict, Crash}
 
 -- a step of a hart before what lines make
 abbrev pub with_step : (hart : ℕ) → List Command → List Command
@@ -24,6 +24,7 @@ unfoldable pub command_text : Command → List ℕ
 command_text (Steps hart count) = line (codes "s " ++ decimal hart ++ codes " " ++ decimal count)
 command_text (Point hart) = line (codes "b " ++ decimal hart)
 command_text (Fence hart) = line (codes "f " ++ decimal hart)
+command_text (Enabled count) = line (codes "g " ++ decimal count)
 command_text (Evict evicted mask) = line (codes "e " ++ decimal evicted ++ codes " " ++ decimal mask)
 command_text Crash = line (codes "c")
 

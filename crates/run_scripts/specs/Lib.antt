@@ -1,9 +1,12 @@
 pub mod Draws
+pub mod FewEvents
 pub mod GeneratedSources
 pub mod Journals
+pub mod Laws
 pub mod Pieces
 pub mod Plays
 pub mod Reports
+pub mod Rounds
 pub mod Runs
 pub mod Schedules
 pub mod Scripts

@@ -6,7 +6,7 @@ use Rattle.ido_base.specs.Layout.{line_count}
 use Rattle.run_scripts.specs.Pieces.{Piece, lines_at}
 use Rattle.run_scripts.specs.Schedules.{is_digit, number_limit}
 use Rattle.run_scripts.specs.declared.script.Command.{Command}
-use Rattle.run_scripts.specs.declared.script.Command.TheVariants.{Steps, Point, Fence, Evict, Crash}
+use Rattle.run_scripts.specs.declared.script.Command.TheVariants.{Steps, Point, Fence, Enabled, Evict, Crash}
 
 -- a fault of a script
 pub data Fault : Type 0 where
@@ -64,7 +64,7 @@ abbrev pub end_then : (place : ℕ) → List ℕ → Command → LineRead
 end_then place [] command = Says command
 end_then place (c ∷ cs) command = Fails (BadWord place)
 
--- `s H N`, `b H`, `f H` and `e LINE MASK`, each after its letter
+-- `s H N`, `b H`, `f H`, `g N` and `e LINE MASK`, each after its letter
 abbrev pub steps_line : (harts place : ℕ) → List ℕ → LineRead
 steps_line harts place bytes =
     argument_then (hart_number harts) place bytes (λ hart p after. argument_then any_number p after (λ count q end. end_then q end (Steps hart count)))
@@ -74,6 +74,9 @@ point_line harts place bytes = argument_then (hart_number harts) place bytes (λ
 
 abbrev pub fence_line : (harts place : ℕ) → List ℕ → LineRead
 fence_line harts place bytes = argument_then (hart_number harts) place bytes (λ hart p after. end_then p after (Fence hart))
+
+abbrev pub enabled_line : (place : ℕ) → List ℕ → LineRead
+enabled_line place bytes = argument_then any_number place bytes (λ count p after. end_then p after (Enabled count))
 
 abbrev pub evict_line : (harts place : ℕ) → List ℕ → LineRead
 evict_line harts place bytes =
@@ -86,6 +89,7 @@ line_of harts place (c ∷ cs) =
     if c == 115 then steps_line harts (place + 1) cs
     else if c == 98 then point_line harts (place + 1) cs
     else if c == 102 then fence_line harts (place + 1) cs
+    else if c == 103 then enabled_line (place + 1) cs
     else if c == 101 then evict_line harts (place + 1) cs
     else if c == 99 then end_then (place + 1) cs Crash
     else Fails (BadWord place)
@@ -122,6 +126,7 @@ abbrev pub IsDoable : (harts : ℕ) → (ℕ → ℕ → Type 0) → Command →
 IsDoable harts evictable (Steps hart count) = hart < harts
 IsDoable harts evictable (Point hart) = hart < harts
 IsDoable harts evictable (Fence hart) = hart < harts
+IsDoable harts evictable (Enabled count) = Unit {0}
 IsDoable harts evictable (Evict line mask) = evictable line mask
 IsDoable harts evictable Crash = Unit {0}
 

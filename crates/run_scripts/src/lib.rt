@@ -5,12 +5,15 @@
 pub mod draw;
 pub mod events;
 pub mod evictor;
+pub mod few;
 pub mod generated;
 pub mod journal;
+pub mod laws;
 mod number;
 mod piece;
 pub mod play;
 pub mod report;
+pub mod rounds;
 pub mod runs;
 pub mod schedule;
 pub mod script;

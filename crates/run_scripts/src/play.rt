@@ -3,7 +3,7 @@ ghost use Rattle.std.specs.Prelude.{◌≡◌, ◌↔◌, ◌+◌, ◌-◌, ◌<
 ghost use Rattle.ido_base.specs.declared.event.Event.TheVariants as events;
 ghost use Rattle.ido_base.specs.Cores.{IsValid, played, passed_count};
 ghost use Rattle.run_scripts.specs.Scripts.{IsDoable};
-ghost use Rattle.run_scripts.specs.Plays.{line_events, script_events, excess_at, steps_until};
+ghost use Rattle.run_scripts.specs.Plays.{enabled_steps, line_events, script_events, excess_at, steps_until};
 ghost use Rattle.run_scripts.specs.links.Goals.{reaches};
 ghost use Rattle.run_scripts.specs.links.ScriptViews as views;
 
@@ -14,7 +14,7 @@ use ido_base::machine::Core;
 use ido_base::place::Place;
 use thiserror::Error;
 
-/// The events go past 4,000,000 with those of this line.
+/// The events go past as many as there may be with those of this line.
 #[derive(Clone, Copy, Debug, PartialEq, Eq, Drop, Error)]
 #[error("too many events")]
 pub struct TooManyEvents {
@@ -105,6 +105,34 @@ fn play_until<C: Core>(core: &mut C, hart: u32, goal: Goal, floor: u64) -> bool
     true
 }
 
+/// Makes steps of harts that are enabled, each of the least such hart, as long as there is one and room above the floor, at most so
+/// many. Answers whether room was enough.
+fn play_enabled<C: Core>(core: &mut C, count: u32, floor: u64) -> bool
+    requires floor { floor ≤ C.space core.old }
+    ensures opening { C.opening core.new ≡ C.opening core.old }
+    ensures history { C.history core.new
+        ≡ C.history core.old ++ take (C.space core.old - floor)
+        (enabled_steps C.behaviour (C.hart_count core.old) count (played C.behaviour (C.opening core.old) (C.history core.old))) }
+    ensures all { result
+        ≡ nat_le (length (enabled_steps C.behaviour (C.hart_count core.old) count (played C.behaviour (C.opening core.old) (C.history core.old))))
+        (C.space core.old - floor) }
+    ensures room { C.space core.new + length (C.history core.new) ≡ C.space core.old + length (C.history core.old) }
+    ensures floor { floor ≤ C.space core.new }
+    ensures harts { C.hart_count core.new ≡ C.hart_count core.old }
+    ensures evictable { (line mask : ℕ) → C.evictable core.new line mask ↔ C.evictable core.old line mask }
+{
+    for _ in 0..count {
+        let Some(hart) = core.can_step() else {
+            return true;
+        };
+        if core.room() == floor {
+            return false;
+        }
+        core.event(Event::Step(hart));
+    }
+    true
+}
+
 /// Makes an event if there is room above the floor. Answers whether there was.
 fn play_event<C: Core>(core: &mut C, event: Event, floor: u64) -> bool
     requires valid { IsValid (C.hart_count core.old) (C.evictable core.old) event }
@@ -125,14 +153,15 @@ fn play_event<C: Core>(core: &mut C, event: Event, floor: u64) -> bool
 }
 
 /// Makes the events of a line as long as there is room above the floor. Answers whether these were all of them.
-fn play_line<C: Core>(core: &mut C, command: Command, floor: u64) -> bool
+pub(crate) fn play_line<C: Core>(core: &mut C, command: Command, floor: u64) -> bool
     requires doable { IsDoable (C.hart_count core.old) (C.evictable core.old) command }
     requires floor { floor ≤ C.space core.old }
     ensures opening { C.opening core.new ≡ C.opening core.old }
     ensures history { C.history core.new
         ≡ C.history core.old ++ take (C.space core.old - floor)
-        (line_events C.behaviour (played C.behaviour (C.opening core.old) (C.history core.old)) command) }
-    ensures all { result ≡ nat_le (length (line_events C.behaviour (played C.behaviour (C.opening core.old) (C.history core.old)) command))
+        (line_events C.behaviour (C.hart_count core.old) (played C.behaviour (C.opening core.old) (C.history core.old)) command) }
+    ensures all { result ≡ nat_le
+        (length (line_events C.behaviour (C.hart_count core.old) (played C.behaviour (C.opening core.old) (C.history core.old)) command))
         (C.space core.old - floor) }
     ensures room { C.space core.new + length (C.history core.new) ≡ C.space core.old + length (C.history core.old) }
     ensures floor { floor ≤ C.space core.new }
@@ -143,9 +172,40 @@ fn play_line<C: Core>(core: &mut C, command: Command, floor: u64) -> bool
         Command::Steps { hart, count } => play_steps(core, hart, u64::from(count), floor),
         Command::Point { hart } => play_until(core, hart, Goal::Point, floor),
         Command::Fence { hart } => play_until(core, hart, Goal::Fence, floor),
+        Command::Enabled { count } => play_enabled(core, count, floor),
         Command::Evict { line, mask } => play_event(core, Event::Evict { line, mask }, floor),
         Command::Crash => play_event(core, Event::Crash, floor),
     }
+}
+
+/// Makes the events of a script on a core, at most so many of them. Where there are more, the answer is the line whose events go past that, and those
+/// before the excess are made.
+pub fn play_first<C: Core>(script: &Script, core: &mut C, most: u64) -> Result<(), TooManyEvents>
+    requires lines { All (λ line. IsDoable (C.hart_count core.old) (C.evictable core.old) line.command) script.now.lines.items }
+    requires room { most ≤ C.space core.old }
+    ensures opening { C.opening core.new ≡ C.opening core.old }
+    ensures events { C.history core.new
+        ≡ C.history core.old ++ take most
+        (script_events C.behaviour (C.hart_count core.old) (played C.behaviour (C.opening core.old) (C.history core.old))
+        (map views.line_of script.now.lines.items)) }
+    ensures whole { IfOk result (λ x.
+        excess_at C.behaviour (C.hart_count core.old) (played C.behaviour (C.opening core.old) (C.history core.old)) most
+        (map views.line_of script.now.lines.items) ≡ None) }
+    ensures excess { IfErr result (λ e.
+        excess_at C.behaviour (C.hart_count core.old) (played C.behaviour (C.opening core.old) (C.history core.old)) most
+        (map views.line_of script.now.lines.items)
+        ≡ Some e.line.0) }
+    ensures room { C.space core.new + length (C.history core.new) ≡ C.space core.old + length (C.history core.old) }
+    ensures harts { C.hart_count core.new ≡ C.hart_count core.old }
+    ensures evictable { (line mask : ℕ) → C.evictable core.new line mask ↔ C.evictable core.old line mask }
+{
+    let floor = core.room() - most;
+    for line in &script.lines {
+        if !play_line(core, line.command, floor) {
+            return Err(TooManyEvents { line: line.place });
+        }
+    }
+    Ok(())
 }
 
 /// Makes the events of a script on a core, at most 4,000,000 of them. Where there are more, the answer is the line
@@ -156,21 +216,18 @@ pub fn play<C: Core>(script: &Script, core: &mut C) -> Result<(), TooManyEvents>
     ensures opening { C.opening core.new ≡ C.opening core.old }
     ensures events { C.history core.new
         ≡ C.history core.old ++ take MOST_EVENTS
-        (script_events C.behaviour (played C.behaviour (C.opening core.old) (C.history core.old)) (map views.line_of script.now.lines.items)) }
+        (script_events C.behaviour (C.hart_count core.old) (played C.behaviour (C.opening core.old) (C.history core.old))
+        (map views.line_of script.now.lines.items)) }
     ensures whole { IfOk result (λ x.
-        excess_at C.behaviour (played C.behaviour (C.opening core.old) (C.history core.old)) MOST_EVENTS (map views.line_of script.now.lines.items) ≡ None) }
+        excess_at C.behaviour (C.hart_count core.old) (played C.behaviour (C.opening core.old) (C.history core.old)) MOST_EVENTS
+        (map views.line_of script.now.lines.items) ≡ None) }
     ensures excess { IfErr result (λ e.
-        excess_at C.behaviour (played C.behaviour (C.opening core.old) (C.history core.old)) MOST_EVENTS (map views.line_of script.now.lines.items)
+        excess_at C.behaviour (C.hart_count core.old) (played C.behaviour (C.opening core.old) (C.history core.old)) MOST_EVENTS
+        (map views.line_of script.now.lines.items)
         ≡ Some e.line.0) }
     ensures room { C.space core.new + length (C.history core.new) ≡ C.space core.old + length (C.history core.old) }
     ensures harts { C.hart_count core.new ≡ C.hart_count core.old }
     ensures evictable { (line mask : ℕ) → C.evictable core.new line mask ↔ C.evictable core.old line mask }
 {
-    let floor = core.room() - MOST_EVENTS;
-    for line in &script.lines {
-        if !play_line(core, line.command, floor) {
-            return Err(TooManyEvents { line: line.place });
-        }
-    }
-    Ok(())
+    play_first(script, core, MOST_EVENTS)
 }

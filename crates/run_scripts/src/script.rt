@@ -4,7 +4,7 @@ ghost use Rattle.std.specs.List.{prefix_len};
 ghost use Rattle.ido_base.specs.declared.limits.TheConstants.{MOST_INPUT_BYTES};
 ghost use Rattle.run_scripts.specs.Schedules.{is_digit};
 ghost use Rattle.run_scripts.specs.Scripts.{LineRead, Says, Fails, number_then, argument_then, end_then, steps_line, point_line};
-ghost use Rattle.run_scripts.specs.Scripts.{fence_line, evict_line, line_of, read, Lines, Refused, IsDoable, IsEviction};
+ghost use Rattle.run_scripts.specs.Scripts.{fence_line, enabled_line, evict_line, line_of, read, Lines, Refused, IsDoable, IsEviction};
 ghost use Rattle.run_scripts.specs.declared.script.Command.{Command};
 ghost use Rattle.run_scripts.specs.declared.script.Command.TheVariants as c;
 ghost use Rattle.run_scripts.specs.links.ScriptViews as views;
@@ -30,6 +30,8 @@ pub enum Command {
     Point { hart: u32 },
     /// `f H`: steps of hart H until it has just finished a fence.
     Fence { hart: u32 },
+    /// `g N`: N steps, each of the least hart that is enabled, and fewer exactly where none is.
+    Enabled { count: u32 },
     /// `e LINE MASK`: an eviction of the words of a line that the mask chooses.
     Evict { line: u32, mask: u32 },
     /// `c`: a crash.
@@ -262,6 +264,16 @@ fn fence_line(line: &[u8], place: u32, harts: u32) -> Result<Command, ScriptFaul
     Ok(Command::Fence { hart })
 }
 
+/// The line `g N`.
+fn enabled_line(line: &[u8], place: u32) -> Result<Command, ScriptFault>
+    requires within { 1 ≤ length line.now }
+    requires short { place + length line.now < 2 ^ 32 }
+    ensures { views.IsLineRead (enabled_line (place + 1) (drop 1 line.now)) result }
+{
+    let count = last_argument(line, place, 1, Rule::Any)?;
+    Ok(Command::Enabled { count })
+}
+
 /// The line `e LINE MASK`.
 fn evict_line(line: &[u8], place: u32, harts: u32) -> Result<Command, ScriptFault>
     requires within { 1 ≤ length line.now }
@@ -297,6 +309,7 @@ fn command_of(line: &[u8], place: u32, harts: u32) -> Result<Command, ScriptFaul
         b's' => steps_line(line, place, harts),
         b'b' => point_line(line, place, harts),
         b'f' => fence_line(line, place, harts),
+        b'g' => enabled_line(line, place),
         b'e' => evict_line(line, place, harts),
         b'c' => crash_line(line, place),
         _ => Err(ScriptFault::Word(Place(place))),

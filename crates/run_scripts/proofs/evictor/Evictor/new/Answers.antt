@@ -1,4 +1,4 @@
-use Rattle.std.proofs.Common.{sym, ap, ◌∙◌}
+use Rattle.std.proofs.Common.{ap, ◌∙◌}
 use Rattle.rand_xoshiro.specs.SplitMix64.{mix_u64}
 use Rattle.run_scripts.specs.Draws.{drawn_eviction, drawn_evictions}
 use Rattle.run_scripts.proofs.DrawnEvictions.{words_from}

@@ -1,0 +1,137 @@
+-- A script of few events, made line by line.
+use Rattle.std.proofs.Common.{◌≡◌, refl, ℕ, ◌+◌, ◌<◌, ◌≤◌, List, [], ◌∷◌, ◌++◌, length, take, drop, map, get_or, true, false}
+use Rattle.std.proofs.Common.{nat_le, sym, ◌∙◌, ap, arith, append_assoc, length-append}
+use Rattle.std.proofs.lemmas.Grind.{common_steps}
+use Rattle.std.proofs.lemmas.Bool.{leb-true, leb-false}
+use Rattle.std.proofs.lemmas.List.{append-nil, at_drop_more, map-append, take-append-drop, take_more}
+use Rattle.ido_base.specs.declared.event.Event.{Event}
+use Rattle.ido_base.specs.Cores.{Behaviour, played}
+use Rattle.ido_base.proofs.Public.{played-append}
+use Rattle.run_scripts.specs.Scripts.{Line}
+use Rattle.run_scripts.specs.declared.script.Line as declared
+use Rattle.run_scripts.specs.links.ScriptViews.{line_of}
+use Rattle.run_scripts.specs.Plays.{line_events, script_events}
+use Rattle.run_scripts.specs.FewEvents.{IsExcess, PassesAt, of_few, of_script}
+use Rattle.run_scripts.specs.declared.few.Excess.TheVariants.{Few, Script}
+use Rattle.run_scripts.proofs.EventsWithinRoom.{take_all}
+
+-- lines up to one, that line, and those after it
+pub parted : (items : List declared.Line) (i : ℕ) (d : declared.Line) → i < length items →
+    map line_of items ≡ map line_of (take i items) ++ line_of (get_or items i d) ∷ map line_of (drop (i + 1) items)
+parted items i d within =
+    ap (map line_of) (sym (take-append-drop i items)) ∙ map-append line_of (take i items) (drop i items)
+    ∙ ap (λ (ls : List Line). map line_of (take i items) ++ ls) (at_drop_more (map line_of) items i d within)
+
+pub taken_more : (items : List declared.Line) (i : ℕ) (d : declared.Line) → i < length items →
+    map line_of (take (i + 1) items) ≡ map line_of (take i items) ++ line_of (get_or items i d) ∷ []
+taken_more items i d within = ap (map line_of) (take_more items i d within) ∙ map-append line_of (take i items) (get_or items i d ∷ [])
+
+pub taken_all : (items : List declared.Line) (i : ℕ) → length items ≤ i → map line_of (take i items) ≡ map line_of items
+taken_all items i past = grind (arith, common_steps)
+
+module _ {M : Type 0} (b : Behaviour M) (harts : ℕ) where
+  pub events_snoc : (m : M) (lines : List Line) (line : Line) →
+      script_events b harts m (lines ++ line ∷ [])
+      ≡ script_events b harts m lines ++ line_events b harts (played b m (script_events b harts m lines)) line.command
+  events_snoc m [] line = append-nil (line_events b harts m line.command)
+  events_snoc m (l ∷ ls) line =
+      let es = line_events b harts m l.command in
+      let rest = script_events b harts (played b m es) ls in
+      ap (λ (xs : List Event). es ++ xs) (events_snoc (played b m es) ls line)
+      ∙ sym (append_assoc es rest (line_events b harts (played b (played b m es) rest) line.command))
+      ∙ ap (λ (n : M). (es ++ rest) ++ line_events b harts n line.command) (sym (played-append b m es rest))
+
+  module _ (opening : M) (before now : List Event) (done : List Line) (line : Line)
+      (so_far : now ≡ before ++ script_events b harts (played b opening before) done) where
+    -- what the core represents now
+    at : played b opening now ≡ played b (played b opening before) (script_events b harts (played b opening before) done)
+    at = ap (played b opening) so_far ∙ played-append b opening before (script_events b harts (played b opening before) done)
+
+    pub with_line : script_events b harts (played b opening before) (done ++ line ∷ [])
+        ≡ script_events b harts (played b opening before) done ++ line_events b harts (played b opening now) line.command
+    with_line =
+        events_snoc (played b opening before) done line
+        ∙ ap (λ (n : M). script_events b harts (played b opening before) done ++ line_events b harts n line.command) (sym at)
+
+    pub many_with_line : length (script_events b harts (played b opening before) (done ++ line ∷ []))
+        ≡ length (script_events b harts (played b opening before) done) + length (line_events b harts (played b opening now) line.command)
+    many_with_line =
+        ap length with_line ∙ length-append (script_events b harts (played b opening before) done) (line_events b harts (played b opening now) line.command)
+
+    pub now_with_line : (new : List Event) → new ≡ now ++ line_events b harts (played b opening now) line.command →
+        new ≡ before ++ script_events b harts (played b opening before) (done ++ line ∷ [])
+    now_with_line new more =
+        let es = line_events b harts (played b opening now) line.command in
+        more ∙ ap (λ (xs : List Event). xs ++ es) so_far ∙ append_assoc before (script_events b harts (played b opening before) done) es
+        ∙ ap (λ (xs : List Event). before ++ xs) (sym with_line)
+
+-- lines up to one have been made, and the next one follows, for which there is so much room
+module _ {M : Type 0} (b : Behaviour M) (harts kept : ℕ) (equal : kept ≡ harts) (opening held : M) (same : held ≡ opening) (before now : List Event)
+    (shown items : List declared.Line)
+    (is : shown ≡ items) (i : ℕ) (d : declared.Line) (within : i < length shown)
+    (so_far : now ≡ before ++ script_events b harts (played b opening before) (map line_of (take i items))) (left : ℕ)
+    (room : left + length (script_events b harts (played b opening before) (map line_of (take i items))) ≡ 4000000) where
+  abbrev done : List Line
+  done = map line_of (take i items)
+
+  abbrev line : Line
+  line = line_of (get_or shown i d)
+
+  abbrev es : List Event
+  es = line_events b kept (played b held now) (line_of (get_or shown i d)).command
+
+  at_once : es ≡ line_events b harts (played b opening now) line.command
+  at_once =
+      ap (λ (m : M). line_events b kept (played b m now) line.command) same
+      ∙ ap (λ (n : ℕ). line_events b n (played b opening now) line.command) equal
+
+  with_next : done ++ line ∷ [] ≡ map line_of (take (i + 1) items)
+  with_next =
+      ap (λ (xs : List declared.Line). map line_of (take i items) ++ line_of (get_or xs i d) ∷ []) is
+      ∙ sym (taken_more items i d (omega (arith, within, ap length is)))
+
+  many : length (script_events b harts (played b opening before) (done ++ line ∷ []))
+      ≡ length (script_events b harts (played b opening before) done) + length es
+  many =
+      many_with_line b harts opening before now done line so_far
+      ∙ ap (λ (xs : List Event). length (script_events b harts (played b opening before) done) + length xs) (sym at_once)
+
+  passes : (most : ℕ) → length (script_events b harts (played b opening before) done) ≤ most →
+      most < length (script_events b harts (played b opening before) done) + length es →
+      PassesAt b harts (played b opening before) most (map line_of items) done line (map line_of (drop (i + 1) items))
+  passes most few more = record {
+    is = parted items i d (omega (arith, within, ap length is))
+        ∙ ap (λ (xs : List declared.Line). map line_of (take i items) ++ line_of (get_or xs i d) ∷ map line_of (drop (i + 1) items)) (sym is);
+    few = few;
+    more = omega (arith, many, more);
+  }
+
+  pub past_script : (most : ℕ) → length (script_events b harts (played b opening before) done) ≤ most → most ≤ 4000000 → nat_le (length es) left ≡ false →
+      IsExcess b harts (played b opening before) most (map line_of items) (Script (get_or shown i d).place)
+  past_script most few fits past =
+      let big = leb-false (length es) left past in
+      of_script done (map line_of (drop (i + 1) items)) line (get_or shown i d).place (passes most few (omega (arith, big, room, fits))) refl
+      (omega (arith, many, big, room))
+
+  pub past_few : (most : ℕ) → length (script_events b harts (played b opening before) done) ≤ most → nat_le (length es) left ≡ true →
+      most < length (script_events b harts (played b opening before) done) + length es →
+      IsExcess b harts (played b opening before) most (map line_of items) (Few (get_or shown i d).place)
+  past_few most few within more =
+      let fits = leb-true (length es) left within in
+      of_few done (map line_of (drop (i + 1) items)) line (get_or shown i d).place (passes most few more) refl (omega (arith, many, fits, room))
+
+  module _ (enough : nat_le (length es) left ≡ true) (new : List Event) (made : new ≡ now ++ take left es) where
+    all_made : new ≡ now ++ es
+    all_made = made ∙ ap (λ (xs : List Event). now ++ xs) (take_all es left (leb-true (length es) left enough))
+
+    pub so_many : length new ≡ length now + length es
+    so_many = ap length all_made ∙ length-append now es
+
+    pub made_more : new ≡ before ++ script_events b harts (played b opening before) (map line_of (take (i + 1) items))
+    made_more =
+        now_with_line b harts opening before now done line so_far new (all_made ∙ ap (λ (xs : List Event). now ++ xs) at_once)
+        ∙ ap (λ (ls : List Line). before ++ script_events b harts (played b opening before) ls) with_next
+
+    pub many_more : length (script_events b harts (played b opening before) (map line_of (take (i + 1) items)))
+        ≡ length (script_events b harts (played b opening before) done) + length es
+    many_more = ap (λ (ls : List Line). length (script_events b harts (played b opening before) ls)) (sym with_next) ∙ many

@@ -1,0 +1,56 @@
+//! The play of a script of few events.
+ghost use Rattle.std.specs.Prelude.{◌≡◌, ◌+◌, ◌≤◌, ◌++◌, All, length, map, OnOk, IfErr};
+ghost use Rattle.ido_base.specs.declared.limits.TheConstants.{MOST_EVENTS};
+ghost use Rattle.ido_base.specs.Cores.{played};
+ghost use Rattle.run_scripts.specs.FewEvents.{IsExcess};
+ghost use Rattle.run_scripts.specs.Plays.{script_events};
+ghost use Rattle.run_scripts.specs.Scripts.{IsDoable};
+ghost use Rattle.run_scripts.specs.links.ScriptViews as views;
+
+use crate::play::play_line;
+use crate::script::Script;
+use ido_base::limits::MOST_EVENTS;
+use ido_base::machine::Core;
+use ido_base::place::Place;
+use thiserror::Error;
+
+/// Why a script isn't played to its end: the first line whose events go past as many as there may be.
+#[derive(Clone, Copy, Debug, PartialEq, Eq, Drop, Error)]
+pub enum Excess {
+    /// With those of the line that stands here there are more than 4,000,000.
+    #[error("more events than a script makes")]
+    Script(Place),
+    /// With those of the line that stands here there are not so many, but more than the few that there may be.
+    #[error("more events than there may be")]
+    Few(Place),
+}
+
+/// Makes the events of a script on a core, where they are at most so many. Else the answer is the first line whose events go past that.
+pub fn play_few<C: Core>(script: &Script, core: &mut C, most: u64) -> Result<(), Excess>
+    requires lines { All (λ line. IsDoable (C.hart_count core.old) (C.evictable core.old) line.command) script.now.lines.items }
+    requires room { MOST_EVENTS ≤ C.space core.old }
+    requires few { most ≤ MOST_EVENTS }
+    ensures opening { C.opening core.new ≡ C.opening core.old }
+    ensures events { OnOk result (C.history core.new
+        ≡ C.history core.old
+        ++ script_events C.behaviour (C.hart_count core.old) (played C.behaviour (C.opening core.old) (C.history core.old))
+        (map views.line_of script.now.lines.items)) }
+    ensures few { OnOk result (
+        length (script_events C.behaviour (C.hart_count core.old) (played C.behaviour (C.opening core.old) (C.history core.old))
+        (map views.line_of script.now.lines.items))
+        ≤ most) }
+    ensures excess { IfErr result (λ e.
+        IsExcess C.behaviour (C.hart_count core.old) (played C.behaviour (C.opening core.old) (C.history core.old)) most
+        (map views.line_of script.now.lines.items) e) }
+{
+    let floor = core.room() - MOST_EVENTS;
+    for line in &script.lines {
+        if !play_line(core, line.command, floor) {
+            return Err(Excess::Script(line.place));
+        }
+        if core.room() - floor + most < MOST_EVENTS {
+            return Err(Excess::Few(line.place));
+        }
+    }
+    Ok(())
+}
