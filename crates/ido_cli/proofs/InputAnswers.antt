@@ -11,7 +11,7 @@ use Rattle.ido_cli.specs.declared.play.Asked.{Asked}
 use Rattle.ido_cli.specs.declared.play.Asked.TheVariants as asks
 use Rattle.ido_cli.specs.declared.said.Said.{Said}
 use Rattle.ido_cli.specs.Answers.{AnswerToInput, CommandAnswer, IsSourcePastLimits, ListAnswer, LiveAnswer, Refuses}
-use Rattle.ido_cli.specs.Answers.{ScriptedAnswer, SeededAnswer, SourceAnswer, no_object, past_limits, within_limits}
+use Rattle.ido_cli.specs.Answers.{ScriptedAnswer, SeededAnswer, SourceAnswer, SweepAnswer, no_object, past_limits, within_limits}
 use Rattle.ido_cli.specs.Inputs.{source_of}
 use Rattle.ido_cli.specs.links.RunRequests.{Says, command_asking, command_making}
 use Rattle.ido_cli.specs.Refusals.{line_at_byte, object_fault_code, object_fault_place}
@@ -31,6 +31,7 @@ pub made : {E : Type 0} (product : Product) (input : List ℕ) (r : Result Said 
     IfOk r (λ said. AnswerToInput (command_making product) input said.status said.output.items)
 made products.Object input (Ok said) short answer = within_limits (λ long. omega (arith, short, long)) answer
 made products.Regions input (Ok said) short answer = within_limits (λ long. omega (arith, short, long)) answer
+made products.Order input (Ok said) short answer = within_limits (λ long. omega (arith, short, long)) answer
 made product input (Err e) short answer = tt
 
 pub draws : {E : Type 0} (seed turns : ℕ) (crashes input : List ℕ) (r : Result Said E) → length input ≤ MOST_SOURCE_BYTES
@@ -51,6 +52,7 @@ pub made_past : (product : Product) (input : List ℕ) (status : ℕ) (output : 
     AnswerToInput (command_making product) input status output
 made_past products.Object input status output past refuses = past_limits past refuses
 made_past products.Regions input status output past refuses = past_limits past refuses
+made_past products.Order input status output past refuses = past_limits past refuses
 
 pub plays : {E : Type 0} (asked : Asked) (input source : List ℕ) (r : Result Said E) → length input ≤ MOST_INPUT_BYTES → length source ≤ MOST_SOURCE_BYTES →
     source ≡ source_of input
@@ -74,3 +76,10 @@ pub runs : {E : Type 0} (input source : List ℕ) (r : Result Said E) → length
 runs input source (Ok said) short short_source is answer =
     within_limits (not_past input short (subst (λ s. length s ≤ MOST_SOURCE_BYTES) is short_source)) answer
 runs input source (Err e) short short_source is answer = tt
+
+pub sweeps : {E : Type 0} (input source : List ℕ) (r : Result Said E) → length input ≤ MOST_INPUT_BYTES → length source ≤ MOST_SOURCE_BYTES →
+    source ≡ source_of input
+    → IfOk r (λ said. SweepAnswer input said.status said.output.items) → IfOk r (λ said. AnswerToInput command.Sweep input said.status said.output.items)
+sweeps input source (Ok said) short short_source is answer =
+    within_limits (not_past input short (subst (λ s. length s ≤ MOST_SOURCE_BYTES) is short_source)) answer
+sweeps input source (Err e) short short_source is answer = tt

@@ -30,8 +30,13 @@ mod CompiledLimits
 mod CompiledImages
 mod RecoveredRuns
 mod DrawnLives
+mod SweptTables
+mod CrashRuns
 mod ScriptAnswers
 mod RefusedSources
 mod RunImageAnswers
 mod RecoveredImages
 mod SameContents
+mod JournalInputs
+mod JournalAnswers
+mod OrderedLives

@@ -114,36 +114,40 @@ module _ (flat : f.Flat) (object : Object) (marks : Marks) (cuts : Cuts) (lines 
   module _ (room cap : ℕ) (old : Course) (is : old ≡ new_life object marks cap) where
     -- no line is too much, and all of it is played
     pub has_played : (life : Course) → opening_of life ≡ opening_of old →
-        life.journal ≡ old.journal ++ take room (script_events living (played living (opening_of old) old.journal) lines) →
-        excess_at living (played living (opening_of old) old.journal) room lines ≡ None →
+        life.journal ≡ old.journal ++ take room (script_events living (length old.runs.program) (played living (opening_of old) old.journal) lines) →
+        excess_at living (length old.runs.program) (played living (opening_of old) old.journal) room lines ≡ None →
         HasPlayed object marks life (events_by (translation_to flat object marks cuts) lines)
     has_played life opening journal none =
         let begin = opening_of (new_life object marks cap) in
-        let here = subst (λ (x : Course). excess_at living (played living (opening_of x) x.journal) room lines ≡ None) is none in
+        let harts = length (new_life object marks cap).runs.program in
+        let here = subst (λ (x : Course). excess_at living (length x.runs.program) (played living (opening_of x) x.journal) room lines ≡ None) is none in
         let made = subst (λ (x : Course). life.journal
-        ≡ x.journal ++ take room (script_events living (played living (opening_of x) x.journal) lines)) is journal in
+        ≡ x.journal ++ take room (script_events living (length x.runs.program) (played living (opening_of x) x.journal) lines)) is journal in
         record {
           begins = opening ∙ ap opening_of is;
-          journal = made ∙ take_all room (script_events living begin lines) (events_fit living begin room lines here);
+          journal = made ∙ take_all room (script_events living harts begin lines) (events_fit living harts begin room lines here);
         }
 
-    pub fits : excess_at living (played living (opening_of old) old.journal) room lines ≡ None →
+    pub fits : excess_at living (length old.runs.program) (played living (opening_of old) old.journal) room lines ≡ None →
         length (events_by (translation_to flat object marks cuts) lines) ≤ room
     fits none =
-        let here = subst (λ (x : Course). excess_at living (played living (opening_of x) x.journal) room lines ≡ None) is none in
-        events_fit living (beginning (translation_to flat object marks cuts)) room lines here
+        let here = subst (λ (x : Course). excess_at living (length x.runs.program) (played living (opening_of x) x.journal) room lines ≡ None) is none in
+        events_fit living (length (translation_to flat object marks cuts).runs.program) (beginning (translation_to flat object marks cuts)) room lines here
 
-    pub passed_at : (place : ℕ) → excess_at living (played living (opening_of old) old.journal) room lines ≡ Some place →
-        excess_at living (beginning (translation_to flat object marks cuts)) room lines ≡ Some place
+    pub passed_at : (place : ℕ) → excess_at living (length old.runs.program) (played living (opening_of old) old.journal) room lines ≡ Some place →
+        excess_at living (length (translation_to flat object marks cuts).runs.program) (beginning (translation_to flat object marks cuts)) room
+        lines ≡ Some place
     passed_at place some =
-        subst (λ (x : Course). excess_at living (played living (opening_of x) x.journal) room lines ≡ Some place) is some
+        subst (λ (x : Course). excess_at living (length x.runs.program) (played living (opening_of x) x.journal) room lines ≡ Some place) is some
 
   pub refused : (Says : List Event → ℕ → List ℕ → Type 0) (input : List ℕ) (begins place status : ℕ) (output : List ℕ) →
-      excess_at living (beginning (translation_to flat object marks cuts)) MOST_EVENTS lines ≡ Some place →
+      excess_at living (length (translation_to flat object marks cuts).runs.program) (beginning (translation_to flat object marks cuts)) MOST_EVENTS
+      lines ≡ Some place →
       IsRefusedAt 6 (codes "E1") input (begins + place) status output →
       ScriptAnswer (translation_to flat object marks cuts) Says (record { lines = lines; input = input; begins = begins }) status output
   refused Says input begins place status output some told =
-      too_long (events_pass living (beginning (translation_to flat object marks cuts)) MOST_EVENTS place lines some) place some told
+      too_long (events_pass living (length (translation_to flat object marks cuts).runs.program) (beginning (translation_to flat object marks cuts)) MOST_EVENTS
+      place lines some) place some told
 
 -- ---- What is reported
 

@@ -8,7 +8,8 @@ use Rattle.ido_compile.specs.CompileAnswers.{IsCompileAnswer}
 use Rattle.ido_compile.specs.links.FrontEndAnswers.{IsFrontAnswer, IsRefusal}
 use Rattle.ido_compile.specs.declared.error.CompileError.{CompileError}
 use Rattle.ido_compile.specs.declared.error.CompileError.TheVariants as error
-use Rattle.ido_cli.specs.Answers.{CompileAnswer, uncompiled, RegionsAnswer, uncut, ScriptedAnswer, unplayed, SourceAnswer, unaccepted, SeededAnswer, undrawn}
+use Rattle.ido_cli.specs.Answers.{CompileAnswer, uncompiled, OrderAnswer, unlocked, RegionsAnswer, uncut}
+use Rattle.ido_cli.specs.Answers.{ScriptedAnswer, unplayed, SourceAnswer, unaccepted, SeededAnswer, undrawn}
 use Rattle.ido_cli.specs.Inputs.{source_of}
 use Rattle.ido_cli.specs.Refusals.{code_of, line_at}
 use Rattle.ido_cli.specs.links.CompileRefusals.{TellsRefusal}
@@ -22,6 +23,11 @@ pub regions_refused : (source : List ℕ) (found : CompileError) → IsRefusal s
     TellsRefusal found source status output → RegionsAnswer source status output
 regions_refused source (error.Refused x) refused status output told = uncut x.rule x.place refused told
 regions_refused source error.Memory refused status output none = absurd none
+
+pub order_refused : (source : List ℕ) (found : CompileError) → IsFrontAnswer source (Err found) → (status : ℕ) (output : List ℕ) →
+    TellsRefusal found source status output → OrderAnswer source status output
+order_refused source (error.Refused x) refused status output told = unlocked x.rule x.place refused told
+order_refused source error.Memory refused status output none = absurd none
 
 pub draw_refused : (seed turns : ℕ) (crashes source : List ℕ) (found : CompileError) → IsCompileAnswer source (Err found) → (status : ℕ) (output : List ℕ) →
     TellsRefusal found source status output → SeededAnswer seed turns crashes source status output

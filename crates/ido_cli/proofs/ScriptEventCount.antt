@@ -32,23 +32,23 @@ some_after room place at more own rest some past = by (nat_lt room own) refl
         omega (arith, within, others)
 
 -- where no line goes past the room, there is room for all
-pub events_fit : {M : Type 0} (b : Behaviour M) (m : M) (room : ℕ) (lines : List Line) → excess_at b m room lines ≡ None →
-    length (script_events b m lines) ≤ room
-events_fit b m room [] none = omega arith
-events_fit b m room (line ∷ lines) none =
-    let own = line_events b m line.command in
+pub events_fit : {M : Type 0} (b : Behaviour M) (harts : ℕ) (m : M) (room : ℕ) (lines : List Line) → excess_at b harts m room lines ≡ None →
+    length (script_events b harts m lines) ≤ room
+events_fit b harts m room [] none = omega arith
+events_fit b harts m room (line ∷ lines) none =
+    let own = line_events b harts m line.command in
     let next = played b m own in
-    let count = none_after room line.place (excess_at b next (room - length own) lines) (length own) (length (script_events b next lines)) none
-    (events_fit b next (room - length own) lines) in
-    omega (arith, count, length-append own (script_events b next lines))
+    let count = none_after room line.place (excess_at b harts next (room - length own) lines) (length own) (length (script_events b harts next lines)) none
+    (events_fit b harts next (room - length own) lines) in
+    omega (arith, count, length-append own (script_events b harts next lines))
 
 -- where a line goes past the room, there is no room for all
-pub events_pass : {M : Type 0} (b : Behaviour M) (m : M) (room at : ℕ) (lines : List Line) → excess_at b m room lines ≡ Some at →
-    room < length (script_events b m lines)
-events_pass b m room at [] some = absurd (cc some)
-events_pass b m room at (line ∷ lines) some =
-    let own = line_events b m line.command in
+pub events_pass : {M : Type 0} (b : Behaviour M) (harts : ℕ) (m : M) (room at : ℕ) (lines : List Line) → excess_at b harts m room lines ≡ Some at →
+    room < length (script_events b harts m lines)
+events_pass b harts m room at [] some = absurd (cc some)
+events_pass b harts m room at (line ∷ lines) some =
+    let own = line_events b harts m line.command in
     let next = played b m own in
-    let count = some_after room line.place at (excess_at b next (room - length own) lines) (length own) (length (script_events b next lines)) some
-    (events_pass b next (room - length own) at lines) in
-    omega (arith, count, length-append own (script_events b next lines))
+    let count = some_after room line.place at (excess_at b harts next (room - length own) lines) (length own) (length (script_events b harts next lines)) some
+    (events_pass b harts next (room - length own) at lines) in
+    omega (arith, count, length-append own (script_events b harts next lines))

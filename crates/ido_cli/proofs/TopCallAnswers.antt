@@ -22,7 +22,10 @@ use Rattle.ido_cli.specs.Inputs.{source_of}
 use Rattle.ido_cli.specs.Plays.{IsRunBy, too_long, ran as ran_by}
 use Rattle.ido_cli.specs.Answers.{CompileAnswer, uncompiled, compiled, RegionsAnswer, uncut, cut, ScriptedAnswer}
 use Rattle.ido_cli.specs.Answers.{unplayed, no_script, of_script, SourceAnswer, unaccepted, no_schedule, of_schedule}
+use Rattle.ido_cli.specs.Answers.{OrderAnswer, unlocked, unordered, ordered}
 use Rattle.ido_cli.specs.Answers.{CommandAnswer, ListAnswer, no_object, of_object, RecoverAnswer, no_image, of_image, SeededAnswer, undrawn, drawn}
+use Rattle.ido_cli.specs.Answers.{SweepAnswer, no_points, of_points, unswept}
+use Rattle.ido_cli.specs.Sweeps.{status_of, swept, too_long as past_script, too_many as past_few}
 use Rattle.ido_cli.specs.Answers.{LiveAnswer, unrun, ran as ran_on_threads, LoadAnswer, unloaded, loaded}
 use Rattle.ido_cli.specs.Answers.{IsPastLimits, AnswerToInput, past_limits, within_limits, Answer, Refuses, wrong_words, taken_words}
 use Rattle.ido_cli.specs.Answers.{IsAnswer, IsAnswered, Outside, answered, no_memory, sink_failed, source_failed}
@@ -40,11 +43,13 @@ long_is_past command.Play input reads long = inl long
 long_is_past command.Source input reads long = inl long
 long_is_past command.List input reads long = long
 long_is_past command.Image input reads long = inl long
+long_is_past command.Order input reads long = omega (arith, long)
 long_is_past (command.Recover turns) input reads long = long
 long_is_past (command.Make rounds seed) input reads long = cc reads
 long_is_past (command.Seeded seed turns crashes) input reads long = omega (arith, long)
 long_is_past (command.Live turns crashes evict journal) input reads long = omega (arith, long)
 long_is_past (command.Load rounds seed) input reads long = cc reads
+long_is_past command.Sweep input reads long = inl long
 
 pub said_to_long_input : (c : Command) (left : Option (List ℕ)) (said : Said) → IsTaken c left None → Refuses 6 said.status (codes "limit") said.output.items →
     IsSaidToInput c left said
@@ -68,11 +73,13 @@ any_input command.Play input other status output unread answer = cc unread
 any_input command.Source input other status output unread answer = cc unread
 any_input command.List input other status output unread answer = cc unread
 any_input command.Image input other status output unread answer = cc unread
+any_input command.Order input other status output unread answer = cc unread
 any_input (command.Recover turns) input other status output unread answer = cc unread
 any_input (command.Make rounds seed) input other status output unread (past_limits past refused) = absurd past
 any_input (command.Make rounds seed) input other status output unread (within_limits within answer) = within_limits (λ past. past) answer
 any_input (command.Seeded seed turns crashes) input other status output unread answer = cc unread
 any_input (command.Live turns crashes evict journal) input other status output unread answer = cc unread
+any_input command.Sweep input other status output unread answer = cc unread
 any_input (command.Load rounds seed) input other status output unread (past_limits past refused) = absurd past
 any_input (command.Load rounds seed) input other status output unread (within_limits within answer) = within_limits (λ past. past) answer
 
@@ -139,6 +146,11 @@ of_regions : (source : List ℕ) (status : ℕ) (output : List ℕ) → RegionsA
 of_regions source status output (uncut found place is refused) h = not_four_or_seven status 1 refused.0 (inl (omega arith)) h
 of_regions source status output (cut flat is c made e told) h = not_four_or_seven status 0 e (inl (omega arith)) h
 
+of_order : (source : List ℕ) (status : ℕ) (output : List ℕ) → OrderAnswer source status output → (status ≡ 4) ⊎ (status ≡ 7) → ⊥
+of_order source status output (unlocked found place is refused) h = not_four_or_seven status 1 refused.0 (inl (omega arith)) h
+of_order source status output (unordered flat is fault breaks e told) h = not_four_or_seven status 1 e (inl (omega arith)) h
+of_order source status output (ordered flat is none e told) h = not_four_or_seven status 0 e (inl (omega arith)) h
+
 of_scripted : (Says : Translation → List Event → ℕ → List ℕ → Type 0) →
     ((c : Translation) (events : List Event) (status : ℕ) (output : List ℕ) → Says c events status output → (status ≡ 4) ⊎ (status ≡ 7) → ⊥) →
     (input : List ℕ) (status : ℕ) (output : List ℕ) → ScriptedAnswer Says input status output → (status ≡ 4) ⊎ (status ≡ 7) → ⊥
@@ -147,6 +159,17 @@ of_scripted Says others input status output (no_script flat is x read refused) h
 of_scripted Says others input status output (of_script flat is lines read c made (too_long many place excess refused)) h =
     not_four_or_seven status 6 refused.0 (inr refl) h
 of_scripted Says others input status output (of_script flat is lines read c made (ran_by fits said)) h = others c _ status output said h
+
+by_settled : (settled : Bool) (status : ℕ) → status ≡ status_of settled → (status ≡ 4) ⊎ (status ≡ 7) → ⊥
+by_settled true status e h = not_four_or_seven status 0 e (inl (omega arith)) h
+by_settled false status e h = not_four_or_seven status 3 e (inl (omega arith)) h
+
+of_sweep : (input : List ℕ) (status : ℕ) (output : List ℕ) → SweepAnswer input status output → (status ≡ 4) ⊎ (status ≡ 7) → ⊥
+of_sweep input status output (unswept found place is refused) h = not_four_or_seven status 1 refused.0 (inl (omega arith)) h
+of_sweep input status output (no_points flat is x read refused) h = not_four_or_seven status 6 refused.0 (inr refl) h
+of_sweep input status output (of_points flat is lines read c made (past_script place excess refused)) h = not_four_or_seven status 6 refused.0 (inr refl) h
+of_sweep input status output (of_points flat is lines read c made (past_few place excess refused)) h = not_four_or_seven status 6 refused.0 (inr refl) h
+of_sweep input status output (of_points flat is lines read c made (swept few all)) h = by_settled _ status all.status_is h
 
 of_recover : (turns : ℕ) (input : List ℕ) (status : ℕ) (output : List ℕ) → RecoverAnswer turns input status output → (status ≡ 4) ⊎ (status ≡ 7) → ⊥
 of_recover turns input status output (no_image error is e told) h = not_four_or_seven status 6 e (inr refl) h
@@ -181,11 +204,13 @@ of_command command.Source input status output answer h = of_source input status 
 of_command command.List input status output answer h = of_list input status output answer h
 of_command command.Image input status output answer h =
     of_scripted (IsImageAfter (source_of input)) (λ c events s o image. not_four_or_seven s 0 image.status_is (inl (omega arith))) input status output answer h
+of_command command.Order input status output answer h = of_order input status output answer h
 of_command (command.Recover turns) input status output answer h = of_recover turns input status output answer h
 of_command (command.Make rounds seed) input status output answer h = not_four_or_seven status 0 answer.status_is (inl (omega arith)) h
 of_command (command.Seeded seed turns crashes) input status output answer h = of_seeded seed turns crashes input status output answer h
 of_command (command.Live turns crashes evict journal) input status output answer h = of_live turns crashes evict journal input status output answer h
 of_command (command.Load rounds seed) input status output answer h = of_load rounds seed status output answer h
+of_command command.Sweep input status output answer h = of_sweep input status output answer h
 
 of_input : (c : Command) (input : List ℕ) (status : ℕ) (output : List ℕ) → AnswerToInput c input status output → (status ≡ 4) ⊎ (status ≡ 7) → ⊥
 of_input c input status output (past_limits past refused) h = not_four_or_seven status 6 refused.0 (inr refl) h

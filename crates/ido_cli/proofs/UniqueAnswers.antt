@@ -1,5 +1,6 @@
 -- Words and an input have one answer, where it stands on no compilation.
-use Rattle.std.proofs.Common.{◌≡◌, ℕ, ◌+◌, List, [], ◌∷◌, length, Option, Some, None, Result, Ok, Err, Bool, true, false, sym, ap, ap₂, ◌∙◌, subst, arith}
+use Rattle.std.proofs.Common.{◌≡◌, ℕ, ◌+◌, List, [], ◌∷◌, length, Option, Some, None, Result, Ok}
+use Rattle.std.proofs.Common.{Err, Bool, true, false, codes, sym, ap, ap₂, ◌∙◌, subst, arith}
 use Rattle.ido_base.specs.declared.event.Event.{Event}
 use Rattle.ido_base.specs.declared.place.Place.{Place}
 use Rattle.c_tree.specs.Flats as f
@@ -16,7 +17,8 @@ use Rattle.ido_cli.specs.Commands.{command_of}
 use Rattle.ido_cli.specs.Draws.{IsGenerated}
 use Rattle.ido_cli.specs.Images.{IsImageAfter}
 use Rattle.ido_cli.specs.Plays.{IsRunBy, ScriptAnswer, too_long, ran as ran_by}
-use Rattle.ido_cli.specs.Refusals.{IsRefusedAt, code_of, fault_code, fault_place, line_at, line_at_byte, line_at_step, object_fault_code, object_fault_place}
+use Rattle.ido_cli.specs.Refusals.{IsRefusedAt, code_of, fault_code, fault_place, line_after, line_at}
+use Rattle.ido_cli.specs.Refusals.{line_at_byte, line_at_step, object_fault_code, object_fault_place}
 use Rattle.ido_cli.specs.Refusals.{script_fault_code, script_fault_place, stop_code}
 use Rattle.object_format.specs.Contents.{Contents}
 use Rattle.file_fields.specs.Fields as fields
@@ -25,7 +27,11 @@ use Rattle.ido_cli.specs.Runs.{RunAnswer, ran, stopped, status_by}
 use Rattle.ido_cli.specs.Inputs.{source_of, rest_of}
 use Rattle.ido_cli.specs.Answers.{CommandAnswer, CompileAnswer, uncompiled, compiled, RegionsAnswer, uncut, cut, PlayAnswer}
 use Rattle.ido_cli.specs.Answers.{ScriptedAnswer, unplayed, no_script, of_script, ImageAnswer, RecoverAnswer, no_image, of_image}
+use Rattle.ido_cli.specs.Answers.{OrderAnswer, unlocked, unordered, ordered}
+use Rattle.lock_order.specs.LockOrder.{OrderFault, order_fault}
 use Rattle.ido_cli.specs.Answers.{SeededAnswer, undrawn, drawn, LiveAnswer, unrun, ran as ran_on_threads, LoadAnswer, unloaded, loaded}
+use Rattle.ido_cli.specs.Answers.{SweepAnswer, no_points, of_points, unswept}
+use Rattle.ido_cli.specs.Sweeps.{SweptScript, status_of, swept, too_long as past_script, too_many as past_few}
 use Rattle.run_scripts.specs.GeneratedSources.{generated_source}
 use Rattle.ido_cli.specs.Answers.{SourceAnswer, unaccepted, no_schedule, of_schedule, rest_begins, ListAnswer, no_object}
 use Rattle.ido_cli.specs.Answers.{of_object, AnswerToInput, IsPastLimits, past_limits, within_limits, wrong_words, taken_words}
@@ -106,6 +112,31 @@ module _ (one_flat : OneFlat) (one_fault : OneFault) (not_both : NotBoth) (one_s
       let same : x ≡ y = cc both in
       (e ∙ sym h, told ∙ ap (λ z. listing z.code) same ∙ sym more)
 
+  -- ---- An input of `order`
+
+  one_order : (source : List ℕ) (status other : ℕ) (output written : List ℕ) → OrderAnswer source status output → OrderAnswer source other written →
+      Same status other output written
+  one_order source status other output written (unlocked found place is (e, told)) (unlocked again elsewhere also (h, more)) =
+      let both = one_fault source found again place elsewhere is also in
+      (e ∙ sym h, told ∙ ap₂ (λ rule (at : Place). line_at (code_of rule) source at.0) both.0 both.1 ∙ sym more)
+  one_order source status other output written (unlocked found place is told) (unordered flat accepted fault broken h more) =
+      absurd (not_both source flat found place accepted is)
+  one_order source status other output written (unlocked found place is told) (ordered flat accepted none h more) =
+      absurd (not_both source flat found place accepted is)
+  one_order source status other output written (unordered flat accepted fault broken e told) (unlocked found place is more) =
+      absurd (not_both source flat found place accepted is)
+  one_order source status other output written (ordered flat accepted none e told) (unlocked found place is more) =
+      absurd (not_both source flat found place accepted is)
+  one_order source status other output written (unordered flat is x broken e told) (unordered flat' is' y broken' h more) =
+      let both : Some x ≡ Some y = sym broken ∙ ap order_fault (one_flat source flat flat' is is') ∙ broken' in
+      let same : x ≡ y = cc both in
+      (e ∙ sym h, told ∙ ap (λ (z : OrderFault). line_after (codes "L7") source z.place.0 z.earlier.0) same ∙ sym more)
+  one_order source status other output written (unordered flat is x broken e told) (ordered flat' is' none h more) =
+      let both : Some x ≡ None = sym broken ∙ ap order_fault (one_flat source flat flat' is is') ∙ none in cc both
+  one_order source status other output written (ordered flat is none e told) (unordered flat' is' y broken h more) =
+      let both : None ≡ Some y = sym none ∙ ap order_fault (one_flat source flat flat' is is') ∙ broken in cc both
+  one_order source status other output written (ordered flat is none e told) (ordered flat' is' none' h more) = (e ∙ sym h, told ∙ sym more)
+
   -- ---- A source that is made
 
   one_generated : (rounds seed status other : ℕ) (output written : List ℕ) → IsGenerated rounds seed status output → IsGenerated rounds seed other written →
@@ -176,6 +207,22 @@ module _ (one_flat : OneFlat) (one_fault : OneFault) (not_both : NotBoth) (one_s
       of_scripted (IsImageAfter (source_of input)) (λ c events s o image one. let zero = image.status_is in omega (arith, zero, one)) input
       status output answer
 
+  not_by_settled : (settled : Bool) (status : ℕ) → status ≡ status_of settled → status ≡ 1 → ⊥
+  not_by_settled true status e one = omega (arith, e, one)
+  not_by_settled false status e one = omega (arith, e, one)
+
+  not_of_points : (c : Translation) (lines : List scripts.Line) (input : List ℕ) (begins status : ℕ) (output : List ℕ) →
+      SweptScript c (record { lines = lines; input = input; begins = begins }) status output → status ≡ 1 → ⊥
+  not_of_points c lines input begins status output (past_script place excess refused) one = let six = refused.0 in omega (arith, six, one)
+  not_of_points c lines input begins status output (past_few place excess refused) one = let six = refused.0 in omega (arith, six, one)
+  not_of_points c lines input begins status output (swept few all) one = not_by_settled _ status all.status_is one
+
+  of_sweep : (input : List ℕ) (status : ℕ) (output : List ℕ) → SweepAnswer input status output → Verdict (source_of input) status output
+  of_sweep input status output (unswept found place is told) = breaks found place is told
+  of_sweep input status output (no_points flat is x read told) = keeps flat is (λ one. let six = told.0 in omega (arith, six, one))
+  of_sweep input status output (of_points flat is lines read c made answer) =
+      keeps flat is (not_of_points c lines input (rest_begins input) status output answer)
+
   not_of_recover : (turns : ℕ) (input : List ℕ) (status : ℕ) (output : List ℕ) → RecoverAnswer turns input status output → status ≡ 1 → ⊥
   not_of_recover turns input status output (no_image error is e told) one = omega (arith, e, one)
   not_of_recover turns input status output (of_image image is recovery) one = not_by_unsettled _ status recovery.reported.status_is one
@@ -204,6 +251,29 @@ module _ (one_flat : OneFlat) (one_fault : OneFault) (not_both : NotBoth) (one_s
         let two = misspelling other written more in
         (one.0 ∙ sym two.0, one.1 ∙ sym two.1)
 
+  -- that of a sweep
+  module _ (input : List ℕ) (flat : f.Flat) (is : IsAccepted (source_of input) flat) (x : scripts.Fault)
+      (bad : scripts.read (length flat.threads) (rest_of input) ≡ scripts.Refused x) where
+    read_again : (other : f.Flat) → IsAccepted (source_of input) other → scripts.read (length other.threads) (rest_of input) ≡ scripts.Refused x
+    read_again other also = ap (λ (z : f.Flat). scripts.read (length z.threads) (rest_of input)) (one_flat (source_of input) other flat also is) ∙ bad
+
+    no_sweep : (status : ℕ) (output : List ℕ) → SweepAnswer input status output →
+        IsRefusedAt 6 (script_fault_code x) input (rest_begins input + script_fault_place x) status output
+    no_sweep status output (unswept found place broken told) = absurd (not_both (source_of input) flat found place is broken)
+    no_sweep status output (no_points other also y read told) =
+        let both : scripts.Refused y ≡ scripts.Refused x = sym read ∙ read_again other also in
+        let same : y ≡ x = cc both in
+        subst (λ z. IsRefusedAt 6 (script_fault_code z) input (rest_begins input + script_fault_place z) status output) same told
+    no_sweep status output (of_points other also lines read c made answer) =
+        let both : scripts.Lines lines ≡ scripts.Refused x = sym read ∙ read_again other also in cc both
+
+    one_missing_sweep : (status other : ℕ) (output written : List ℕ) → SweepAnswer input status output → SweepAnswer input other written →
+        Same status other output written
+    one_missing_sweep status other output written told more =
+        let one = no_sweep status output told in
+        let two = no_sweep other written more in
+        (one.0 ∙ sym two.0, one.1 ∙ sym two.1)
+
   -- ---- All words
 
   one_within : (d : c.Command) (input : List ℕ) (status other : ℕ) (output written : List ℕ) → (IsPastLimits d input → ⊥) → IsUncompiled (Some d) input status →
@@ -229,6 +299,9 @@ module _ (one_flat : OneFlat) (one_fault : OneFault) (not_both : NotBoth) (one_s
       one_refusal (source_of input) status other output written one (of_image_of input status output told) (of_image_of input other written more)
   one_within command.Image input status other output written within (misspelled takes flat is x bad) told more =
       one_misspelling (IsImageAfter (source_of input)) input flat is x bad status other output written told more
+  one_within command.Order input status other output written within (plain n) told more = one_order input status other output written told more
+  one_within command.Order input status other output written within (breaks_rule one) told more = one_order input status other output written told more
+  one_within command.Order input status other output written within (misspelled takes flat is x bad) told more = absurd takes
   one_within (command.Recover turns) input status other output written within (plain n) told more = absurd n
   one_within (command.Recover turns) input status other output written within (breaks_rule one) told more =
       absurd (not_of_recover turns input status output told one)
@@ -253,6 +326,11 @@ module _ (one_flat : OneFlat) (one_fault : OneFault) (not_both : NotBoth) (one_s
       one_refusal (generated_source rounds seed) status other output written one (of_load rounds seed status output told)
       (of_load rounds seed other written more)
   one_within (command.Load rounds seed) input status other output written within (misspelled takes flat is x bad) told more = absurd takes
+  one_within command.Sweep input status other output written within (plain n) told more = absurd n
+  one_within command.Sweep input status other output written within (breaks_rule one) told more =
+      one_refusal (source_of input) status other output written one (of_sweep input status output told) (of_sweep input other written more)
+  one_within command.Sweep input status other output written within (misspelled takes flat is x bad) told more =
+      one_missing_sweep input flat is x bad status other output written told more
   one_within command.Source input status other output written within (plain n) told more = one_source input status other output written told more
   one_within command.Source input status other output written within (breaks_rule one) told more = one_source input status other output written told more
   one_within command.Source input status other output written within (misspelled takes flat is x bad) told more =

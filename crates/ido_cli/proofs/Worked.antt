@@ -61,6 +61,10 @@ image_is_taken : command_of (codes "ido" ∷ codes "image" ∷ []) ≡ Some comm
 unfolding command_of clap_on_literals
 image_is_taken = refl
 
+order_is_taken : command_of (codes "ido" ∷ codes "order" ∷ []) ≡ Some command.Order
+unfolding command_of clap_on_literals
+order_is_taken = refl
+
 recover_is_taken : command_of (codes "ido" ∷ codes "recover" ∷ codes "1000000" ∷ []) ≡ Some (command.Recover 1000000)
 unfolding command_of clap_on_literals
 recover_is_taken = refl

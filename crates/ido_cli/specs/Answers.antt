@@ -15,6 +15,7 @@ use Rattle.file_fields.specs.Fields as fields
 use Rattle.image_checks.specs.declared.error.ImageError.{ImageError}
 use Rattle.ido_cli.specs.declared.compiled_image.Image as i
 use Rattle.ido_cli.specs.CompiledImages.{IsImageAnswer}
+use Rattle.lock_order.specs.LockOrder.{OrderFault, order_fault}
 use Rattle.object_format.specs.Contents.{Contents, contents_of}
 use Rattle.object_format.specs.ObjectDecoder as o
 use Rattle.object_format.specs.ObjectEncoder.{spelling}
@@ -34,10 +35,11 @@ use Rattle.ido_cli.specs.ObjectListing.{listing}
 use Rattle.ido_cli.specs.Loads.{IsSummaryOf}
 use Rattle.ido_cli.specs.Plays.{IsRunBy, IsTranslationOf, ScriptAnswer, beginning}
 use Rattle.ido_cli.specs.Recoveries.{IsRecovery}
-use Rattle.ido_cli.specs.Refusals.{IsRefusedAt, code_of, fault_code, fault_place, image_line, line_at_byte}
+use Rattle.ido_cli.specs.Refusals.{IsRefusedAt, code_of, fault_code, fault_place, image_line, line_after, line_at_byte}
 use Rattle.ido_cli.specs.Refusals.{object_fault_code, object_fault_place, script_fault_code, script_fault_place}
 use Rattle.ido_cli.specs.Regions.{regions}
 use Rattle.ido_cli.specs.Runs.{RunAnswer}
+use Rattle.ido_cli.specs.Sweeps.{SweptScript}
 use Rattle.ido_cli.specs.ThreadedRuns.{AreLegs, IsLoadedRun, evictions_by}
 
 -- the whole input, or the source text in it
@@ -51,11 +53,13 @@ IsPastLimits command.Play input = IsSourcePastLimits input
 IsPastLimits command.Source input = IsSourcePastLimits input
 IsPastLimits command.List input = MOST_INPUT_BYTES < length input
 IsPastLimits command.Image input = IsSourcePastLimits input
+IsPastLimits command.Order input = MOST_SOURCE_BYTES < length input
 IsPastLimits (command.Recover turns) input = MOST_INPUT_BYTES < length input
 IsPastLimits (command.Make rounds seed) input = ⊥
 IsPastLimits (command.Seeded seed turns crashes) input = MOST_SOURCE_BYTES < length input
 IsPastLimits (command.Live turns crashes evict journal) input = MOST_SOURCE_BYTES < length input
 IsPastLimits (command.Load rounds seed) input = ⊥
+IsPastLimits command.Sweep input = IsSourcePastLimits input
 
 -- a status and an output: `refused` and what is refused
 abbrev pub Refuses : (refused status : ℕ) → (what output : List ℕ) → Type 0
@@ -94,6 +98,17 @@ pub data RegionsAnswer (source : List ℕ) (status : ℕ) (output : List ℕ) : 
   cut : (flat : f.Flat) → IsAccepted source flat → (c : Translation) → IsTranslationOf flat c → status ≡ 0 →
       output ≡ regions source (lowered flat) c.boundaries flat.threads → RegionsAnswer source status output
 
+-- ---- `order`
+
+-- what a source is answered: that each thread locks its mutexes in the order in which they are declared, or the first `lock` that breaks it
+pub data OrderAnswer (source : List ℕ) (status : ℕ) (output : List ℕ) : Type 0 where
+  unlocked : (found : r.Rule) (place : Place) → IsRefusedBy source found place → IsRefusedAt 1 (code_of found) source place.0 status output →
+      OrderAnswer source status output
+  unordered : (flat : f.Flat) → IsAccepted source flat → (fault : OrderFault) → order_fault flat ≡ Some fault → status ≡ 1 →
+      output ≡ line_after (codes "L7") source fault.place.0 fault.earlier.0 → OrderAnswer source status output
+  ordered : (flat : f.Flat) → IsAccepted source flat → order_fault flat ≡ None → status ≡ 0 → output ≡ line (codes "ordered") →
+      OrderAnswer source status output
+
 -- ---- `play` and `image`
 
 -- what an input of a source and a script is answered, by what is to be said of a translation and the script's events
@@ -114,6 +129,18 @@ PlayAnswer input status output = ScriptedAnswer IsRunBy input status output
 -- the bytes of the image that a crash after the run would leave
 abbrev pub ImageAnswer : (input : List ℕ) → (status : ℕ) → (output : List ℕ) → Type 0
 ImageAnswer input status output = ScriptedAnswer (IsImageAfter (source_of input)) input status output
+
+-- ---- `sweep`
+
+-- what an input of a source and a script is answered
+pub data SweepAnswer (input : List ℕ) (status : ℕ) (output : List ℕ) : Type 0 where
+  unswept : (found : r.Rule) (place : Place) → IsRefusedBy (source_of input) found place →
+      IsRefusedAt 1 (code_of found) (source_of input) place.0 status output → SweepAnswer input status output
+  no_points : (flat : f.Flat) → IsAccepted (source_of input) flat → (x : e.Fault) → e.read (length flat.threads) (rest_of input) ≡ e.Refused x →
+      IsRefusedAt 6 (script_fault_code x) input (rest_begins input + script_fault_place x) status output → SweepAnswer input status output
+  of_points : (flat : f.Flat) → IsAccepted (source_of input) flat → (lines : List e.Line) → e.read (length flat.threads) (rest_of input) ≡ e.Lines lines →
+      (c : Translation) → IsTranslationOf flat c → SweptScript c (record { lines = lines; input = input; begins = rest_begins input }) status output →
+      SweepAnswer input status output
 
 -- ---- `seeded`
 
@@ -177,11 +204,13 @@ CommandAnswer command.Play input status output = PlayAnswer input status output
 CommandAnswer command.Source input status output = SourceAnswer input status output
 CommandAnswer command.List input status output = ListAnswer input status output
 CommandAnswer command.Image input status output = ImageAnswer input status output
+CommandAnswer command.Order input status output = OrderAnswer input status output
 CommandAnswer (command.Recover turns) input status output = RecoverAnswer turns input status output
 CommandAnswer (command.Make rounds seed) input status output = IsGenerated rounds seed status output
 CommandAnswer (command.Seeded seed turns crashes) input status output = SeededAnswer seed turns crashes input status output
 CommandAnswer (command.Live turns crashes evict journal) input status output = LiveAnswer turns crashes evict journal input status output
 CommandAnswer (command.Load rounds seed) input status output = LoadAnswer rounds seed status output
+CommandAnswer command.Sweep input status output = SweepAnswer input status output
 
 -- what an input of a command is answered
 pub data AnswerToInput (c : Command) (input : List ℕ) (status : ℕ) (output : List ℕ) : Type 0 where

@@ -74,16 +74,17 @@ load_shape = record (new_shape (codes "load")) {
   rules = number_rule (codes "N") (parser.Unsigned 1 most_loaded_rounds) ∷ number_rule (codes "SEED") (parser.Unsigned 0 (2 ^ 32 - 1)) ∷ [];
 }
 
--- one of the commands is required; the first six take no word of their own
+-- one of the commands is required; the first seven and the last take no word of their own
 abbrev pub table : App
 table =
     let top = record (new_shape (codes "ido")) { subcommand_required = true } in
     let one = with_subcommand (record { top = top; subs = [] }) (new_shape (codes "compile")) in
     let two = with_subcommand (with_subcommand one (new_shape (codes "list"))) (new_shape (codes "regions")) in
     let three = with_subcommand (with_subcommand two (new_shape (codes "play"))) (new_shape (codes "source")) in
-    let four = with_subcommand (with_subcommand three (new_shape (codes "image"))) recover_shape in
+    let order = with_subcommand (with_subcommand three (new_shape (codes "image"))) (new_shape (codes "order")) in
+    let four = with_subcommand order recover_shape in
     let five = with_subcommand (with_subcommand four make_shape) seeded_shape in
-    with_subcommand (with_subcommand five live_shape) load_shape
+    with_subcommand (with_subcommand (with_subcommand five live_shape) load_shape) (new_shape (codes "sweep"))
 
 -- ---- Which command is named
 
@@ -148,11 +149,13 @@ command_by_name name rows =
     else if is_named (codes "play") name then Some command.Play
     else if is_named (codes "source") name then Some command.Source
     else if is_named (codes "image") name then Some command.Image
+    else if is_named (codes "order") name then Some command.Order
     else if is_named (codes "recover") name then recover_in rows
     else if is_named (codes "make") name then make_in rows
     else if is_named (codes "seeded") name then seeded_in rows
     else if is_named (codes "live") name then live_in rows
     else if is_named (codes "load") name then load_in rows
+    else if is_named (codes "sweep") name then Some command.Sweep
     else None
 
 -- the command that the words name, the program's name first; none where `clap` finds a fault in them, or answers by its help
@@ -174,11 +177,12 @@ is_unread (Some command) = not (reads_input command)
 
 -- ---- What runs on threads
 
--- harts run in threads of their own for the command
+-- harts, or runs, have threads of their own for the command
 abbrev pub needs_threads : c.Command → Bool
 needs_threads (command.Live turns crashes evict journal) = true
 needs_threads (command.Recover turns) = true
 needs_threads (command.Load rounds seed) = true
+needs_threads command.Sweep = true
 needs_threads _ = false
 
 -- the words are taken, and name such a command

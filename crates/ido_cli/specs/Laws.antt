@@ -1,19 +1,21 @@
--- What words and an input are answered is at most one thing, and an image that `image` wrote is recovered from.
-use Rattle.std.specs.Prelude.{◌≡◌, ◌≤◌, ℕ, List, length, Option, Some, None}
+-- What words and an input are answered is at most one thing; an image that `image` wrote is recovered from, and a journal is played.
+use Rattle.std.specs.Prelude.{◌≡◌, ◌≤◌, ℕ, List, All, length, true, Option, Some, None}
 use Rattle.ido_base.specs.declared.event.Event.{Event}
+use Rattle.ido_base.specs.Cores.{IsValid}
 use Rattle.ido_base.specs.declared.limits.TheConstants.{MOST_EVENTS}
 use Rattle.c_tree.specs.Flats.{Flat}
 use Rattle.flow_graph.specs.Refusals.{IsAccepted}
 use Rattle.compiler_correctness.specs.Translations.{Translation}
-use Rattle.run_scripts.specs.Scripts.{Fault, Refused, read}
+use Rattle.run_scripts.specs.Journals.{ends_line, journal_text}
+use Rattle.run_scripts.specs.Scripts.{Fault, IsEviction, Refused, read}
 use Rattle.ido_cli.specs.declared.command.Command.{Command}
 use Rattle.ido_cli.specs.declared.command.Command.TheVariants as command
 use Rattle.ido_cli.specs.Commands.{command_of}
 use Rattle.ido_cli.specs.Images.{IsImageAfter}
 use Rattle.ido_cli.specs.Inputs.{source_of, rest_of}
-use Rattle.ido_cli.specs.Plays.{IsTranslationOf}
+use Rattle.ido_cli.specs.Plays.{IsRunBy, IsTranslationOf}
 use Rattle.ido_cli.specs.Recoveries.{IsRecoveredRun}
-use Rattle.ido_cli.specs.Answers.{Answer, IsPastLimits, RecoverAnswer}
+use Rattle.ido_cli.specs.Answers.{Answer, IsPastLimits, PlayAnswer, RecoverAnswer}
 
 -- what is written stands on no compilation, nor on how threads ran
 abbrev pub IsPlain : Option Command → Type 0
@@ -24,11 +26,13 @@ IsPlain (Some command.Regions) = ⊥
 IsPlain (Some command.Play) = ⊥
 IsPlain (Some command.Source) = Unit {0}
 IsPlain (Some command.Image) = ⊥
+IsPlain (Some command.Order) = Unit {0}
 IsPlain (Some (command.Recover turns)) = ⊥
 IsPlain (Some (command.Make rounds seed)) = Unit {0}
 IsPlain (Some (command.Seeded seed turns crashes)) = ⊥
 IsPlain (Some (command.Live turns crashes evict journal)) = ⊥
 IsPlain (Some (command.Load rounds seed)) = ⊥
+IsPlain (Some command.Sweep) = ⊥
 
 -- the command takes a script after its source
 abbrev pub TakesScript : Option Command → Type 0
@@ -39,11 +43,13 @@ TakesScript (Some command.Regions) = ⊥
 TakesScript (Some command.Play) = Unit {0}
 TakesScript (Some command.Source) = ⊥
 TakesScript (Some command.Image) = Unit {0}
+TakesScript (Some command.Order) = ⊥
 TakesScript (Some (command.Recover turns)) = ⊥
 TakesScript (Some (command.Make rounds seed)) = ⊥
 TakesScript (Some (command.Seeded seed turns crashes)) = ⊥
 TakesScript (Some (command.Live turns crashes evict journal)) = ⊥
 TakesScript (Some (command.Load rounds seed)) = ⊥
+TakesScript (Some command.Sweep) = Unit {0}
 
 -- What is said stands on no compilation: the command compiles nothing, or what it is asked is refused before, since the input is past the limits, its source
 -- breaks
@@ -65,3 +71,14 @@ abbrev pub RunsAreRecovered : Type 0
 RunsAreRecovered = (source image : List ℕ) (flat : Flat) (c : Translation) (before : List Event) (turns status answer : ℕ) (output : List ℕ) →
     IsAccepted source flat → IsTranslationOf flat c → length before ≤ MOST_EVENTS → IsImageAfter source c before status image →
     RecoverAnswer turns image answer output → IsRecoveredRun source c before turns answer output
+
+-- a source that ends with an LF, and in which no line is `%%`
+pub record IsAlone (source : List ℕ) : Type 0 where
+  pub ends : ends_line source ≡ true
+  pub whole : source_of source ≡ source
+
+-- a journal of events of such a source is answered by `play` with what is said of these events
+abbrev pub JournalsArePlayed : Type 0
+JournalsArePlayed = (source : List ℕ) (events : List Event) (flat : Flat) (status : ℕ) (output : List ℕ) → IsAlone source → IsAccepted source flat →
+    length events ≤ MOST_EVENTS → All (IsValid (length flat.threads) (IsEviction (length flat.threads))) events →
+    PlayAnswer (journal_text source events) status output → (c : Translation) × IsTranslationOf flat c × IsRunBy c events status output

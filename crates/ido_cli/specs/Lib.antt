@@ -3,6 +3,7 @@ pub mod Refusals
 pub mod Runs
 pub mod Inputs
 pub mod Reports
+pub mod OrderedLives
 pub mod Plays
 pub mod Images
 pub mod CompiledImages
@@ -10,6 +11,7 @@ pub mod ImagesReadAgain
 pub mod Draws
 pub mod ThreadedRuns
 pub mod Loads
+pub mod Sweeps
 pub mod Recoveries
 pub mod Regions
 pub mod Deliveries

@@ -39,7 +39,7 @@ beginning c = record {
 
 -- the events that the lines make, one line after another, each by what the machine is before it
 abbrev pub events_by : Translation → List Line → List Event
-events_by c lines = script_events living (beginning c) lines
+events_by c lines = script_events living (length c.runs.program) (beginning c) lines
 
 -- the source runs by the schedule, from its start and with no crash, until every thread stands between sections; the output is the report of that run
 pub record IsSourceRun (flat : f.Flat) (schedule : List ℕ) (output : List ℕ) : Type 0 where
@@ -67,6 +67,7 @@ pub record PlacedScript : Type 0 where
 -- be said of its events.
 pub data ScriptAnswer (c : Translation) (Says : List Event → (status : ℕ) → (output : List ℕ) → Type 0) (script : PlacedScript) (status : ℕ)
     (output : List ℕ) : Type 0 where
-  too_long : MOST_EVENTS < length (events_by c script.lines) → (place : ℕ) → excess_at living (beginning c) MOST_EVENTS script.lines ≡ Some place →
+  too_long : MOST_EVENTS < length (events_by c script.lines) → (place : ℕ) →
+      excess_at living (length c.runs.program) (beginning c) MOST_EVENTS script.lines ≡ Some place →
       IsRefusedAt 6 (codes "E1") script.input (script.begins + place) status output → ScriptAnswer c Says script status output
   ran : length (events_by c script.lines) ≤ MOST_EVENTS → Says (events_by c script.lines) status output → ScriptAnswer c Says script status output

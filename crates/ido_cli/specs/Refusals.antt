@@ -89,6 +89,15 @@ object_fault_place (fields.Rest place) = place
 unfoldable pub line_at : (code text : List ℕ) → (place : ℕ) → List ℕ
 line_at code text place = line (codes "refused " ++ code ++ codes " at " ++ decimal (line_of text place) ++ codes ":" ++ decimal (column_of text place))
 
+-- `1:92`
+unfoldable pub place_text : (text : List ℕ) → (place : ℕ) → List ℕ
+place_text text place = decimal (line_of text place) ++ codes ":" ++ decimal (column_of text place)
+
+-- `refused L7 at 1:92 after 1:83`
+unfoldable pub line_after : (code text : List ℕ) → (place earlier : ℕ) → List ℕ
+line_after code text place earlier =
+    line (codes "refused " ++ code ++ codes " at " ++ place_text text place ++ codes " after " ++ place_text text earlier)
+
 -- `refused Q3 at step 6`
 unfoldable pub line_at_step : (code : List ℕ) → (step : ℕ) → List ℕ
 line_at_step code step = line (codes "refused " ++ code ++ codes " at step " ++ decimal step)

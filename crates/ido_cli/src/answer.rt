@@ -14,6 +14,7 @@ use crate::live::{LiveRun, live_answer};
 use crate::load::load_answer;
 use crate::make::make_answer;
 use crate::object::compile_answer;
+use crate::order::order_answer;
 use crate::play::{Asked, scripted_answer};
 use crate::recover::recover_answer;
 use crate::refusal::refused;
@@ -21,6 +22,7 @@ use crate::regions::regions_answer;
 use crate::said::Said;
 use crate::seeded::seeded_answer;
 use crate::source::source_answer;
+use crate::sweep::sweep_answer;
 use ido_base::limits::MOST_SOURCE_BYTES;
 use ido_base::memory::OutOfMemory;
 use ido_outside::Gate;
@@ -35,6 +37,8 @@ enum Product {
     Object,
     /// The nodes of its graph, and the boundaries among them.
     Regions,
+    /// Whether its threads lock in order.
+    Order,
 }
 
 /// The answer to a source text.
@@ -45,10 +49,11 @@ fn product_answer(alloc: Global, product: Product, source: &[u8]) -> Result<Said
     match product {
         Product::Object => compile_answer(alloc, source),
         Product::Regions => regions_answer(alloc, source),
+        Product::Order => order_answer(alloc, source),
     }
 }
 
-/// The answer to an input of `compile` or of `regions`.
+/// The answer to an input of `compile`, `regions` or `order`.
 fn product_input(alloc: Global, product: Product, input: &[u8]) -> Result<Said, OutOfMemory>
     ensures { IfOk result (λ said. AnswerToInput (command_making product) input.now said.status said.output.items) }
 {
@@ -115,6 +120,23 @@ fn live_input<R: Threads + Wait + Sync, G: Gate + Sync>(
     live_answer(rt, alloc, input, asked, gate)
 }
 
+/// The answer to an input of `sweep`.
+fn sweep_input<R: Threads + Wait + Sync, G: Gate + Sync>(
+    rt: &R,
+    alloc: Global,
+    input: &[u8],
+    gate: &G,
+) -> Result<Said, OutOfMemory>
+    requires { length input.now ≤ MOST_INPUT_BYTES }
+    ensures { IfOk result (λ said. AnswerToInput command.Sweep input.now said.status said.output.items) }
+{
+    let (source, script) = split(input);
+    if source.len() > MOST_SOURCE_BYTES {
+        return refused(alloc, 6, b"refused limit\n");
+    }
+    sweep_answer(rt, alloc, input, source, script, gate)
+}
+
 /// The answer to an input of a command that needs no threads.
 pub fn answer(alloc: Global, command: Command, input: &[u8]) -> Result<Said, OutOfMemory>
     requires alone { needs_threads command ≡ false }
@@ -128,17 +150,19 @@ pub fn answer(alloc: Global, command: Command, input: &[u8]) -> Result<Said, Out
         Command::Play => scripted_input(alloc, Asked::Report, input),
         Command::Source => source_input(alloc, input),
         Command::Image => scripted_input(alloc, Asked::Image, input),
+        Command::Order => product_input(alloc, Product::Order, input),
         Command::Make { rounds, seed } => make_answer(alloc, rounds, seed),
         Command::Seeded {
             seed,
             turns,
             crashes,
         } => seeded_input(alloc, input, seed, turns, &crashes),
-        Command::Live { .. } | Command::Recover { .. } | Command::Load { .. } => unreachable!(),
+        Command::Live { .. } | Command::Recover { .. } | Command::Load { .. } | Command::Sweep =>
+            unreachable!(),
     }
 }
 
-/// The answer to an input of a command that needs threads. The gate is passed before each turn of a worker.
+/// The answer to an input of a command that needs threads. The gate is passed before each turn of a worker, and before each point of a sweep.
 pub fn threaded_answer<R: Threads + Wait + Sync, G: Gate + Sync>(
     rt: &R,
     alloc: Global,
@@ -167,12 +191,14 @@ pub fn threaded_answer<R: Threads + Wait + Sync, G: Gate + Sync>(
         }
         Command::Recover { turns } => recover_answer(rt, alloc, input, turns, gate),
         Command::Load { rounds, seed } => load_answer(rt, alloc, rounds, seed, gate),
+        Command::Sweep => sweep_input(rt, alloc, input, gate),
         Command::Compile
         | Command::List
         | Command::Regions
         | Command::Play
         | Command::Source
         | Command::Image
+        | Command::Order
         | Command::Make { .. }
         | Command::Seeded { .. } => unreachable!(),
     }

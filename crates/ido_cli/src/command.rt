@@ -35,6 +35,8 @@ pub enum Command {
     Source,
     /// Writes what a crash after a script would leave.
     Image,
+    /// Whether each thread of a source locks its mutexes in the order in which they are declared.
+    Order,
     /// Resumes what a crash has left, by so many turns of each hart, 0 to 1,000,000.
     Recover {
         turns: u32,
@@ -63,6 +65,8 @@ pub enum Command {
         rounds: u32,
         seed: u32,
     },
+    /// Runs a compiled source by a script up to each of its events, and on from a crash there.
+    Sweep,
 }
 
 impl Command {
@@ -73,13 +77,13 @@ impl Command {
         !matches!(self, Command::Make { .. } | Command::Load { .. })
     }
 
-    /// Whether harts run in threads of their own for it.
+    /// Whether harts, or runs, have threads of their own for it.
     pub fn needs_threads(&self) -> bool
         ensures { result ≡ needs_threads self.now }
     {
         matches!(
             self,
-            Command::Live { .. } | Command::Recover { .. } | Command::Load { .. }
+            Command::Live { .. } | Command::Recover { .. } | Command::Load { .. } | Command::Sweep
         )
     }
 }
@@ -247,11 +251,13 @@ fn table<'a>(alloc: Global) -> Result<clap::Command<'a>, AllocError>
     let four = with_command(alloc, three, "play")?;
     let five = with_command(alloc, four, "source")?;
     let six = with_command(alloc, five, "image")?;
-    let seven = with_recover(alloc, six)?;
-    let eight = with_make(alloc, seven)?;
-    let nine = with_seeded(alloc, eight)?;
-    let ten = with_live(alloc, nine)?;
-    with_load(alloc, ten)
+    let seven = with_command(alloc, six, "order")?;
+    let eight = with_recover(alloc, seven)?;
+    let nine = with_make(alloc, eight)?;
+    let ten = with_seeded(alloc, nine)?;
+    let eleven = with_live(alloc, ten)?;
+    let twelve = with_load(alloc, eleven)?;
+    with_command(alloc, twelve, "sweep")
 }
 
 /// The number of 32 bits that a word of this name is.
@@ -410,11 +416,13 @@ fn command_by_name(
         "play" => Ok(Some(Command::Play)),
         "source" => Ok(Some(Command::Source)),
         "image" => Ok(Some(Command::Image)),
+        "order" => Ok(Some(Command::Order)),
         "recover" => Ok(recover_in(matches)),
         "make" => Ok(make_in(matches)),
         "seeded" => seeded_in(alloc, matches),
         "live" => live_in(alloc, matches),
         "load" => Ok(load_in(matches)),
+        "sweep" => Ok(Some(Command::Sweep)),
         _ => Ok(None),
     }
 }

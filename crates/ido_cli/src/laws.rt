@@ -1,12 +1,16 @@
 //! Laws of what is answered: nothing is computed here.
 ghost use Rattle.ido_cli.specs.CompiledLives.{LivesAreCompiled, LivesOfFilesAreCompiled};
 ghost use Rattle.ido_cli.specs.ImagesReadAgain.{RunImagesAreRead};
-ghost use Rattle.ido_cli.specs.Laws.{OneAnswer, RunsAreRecovered};
+ghost use Rattle.ido_cli.specs.OrderedLives.{OrderedLivesGoOn};
+ghost use Rattle.ido_cli.specs.Laws.{JournalsArePlayed, OneAnswer, RunsAreRecovered};
 
 use compiler_correctness::laws::machines_record;
 use crash_simulation::laws::machines_resume;
+use deadlock_freedom::laws::none_deadlocks;
 use ido_compile::laws::{files_begin, one_verdict};
 use image_checks::laws::runs_leave_no_fault;
+use run_scripts::laws::journals_are_played_back;
+use run_tracker::life::Life;
 use source_machine::laws::one_stop;
 
 /// Words that don't ask for what stands on a compilation, and an input, have at most one answer: the status and the output of
@@ -29,6 +33,16 @@ pub fn lives_are_compiled()
     files_begin();
 }
 
+/// A life of a text that `order` calls ordered comes to no standstill: after every list of events, steps, evictions and crashes in any order, `can_step` finds
+/// a
+/// hart unless each has ended or is done with its recovery. It says nothing of threads of the host.
+pub fn ordered_lives_go_on()
+    ensures { OrderedLivesGoOn }
+{
+    lives_are_compiled();
+    none_deadlocks();
+}
+
 /// What `write_image` makes of a run is read by `read_image` as what it is: the same source, words and schedule. It is refused
 /// only where the source is compiled to another translation than the one that ran.
 pub fn run_images_are_read()
@@ -46,4 +60,13 @@ pub fn runs_are_recovered()
     ensures { RunsAreRecovered }
 {
     run_images_are_read();
+}
+
+/// What `live --journal` writes of a source that ends with an LF and has no line `%%` is an input of `play`, which answers it with the report of the very
+/// events that are told: it is refused nowhere, and the source is compiled again, to which translation isn't said.
+pub fn journals_are_played()
+    ensures { JournalsArePlayed }
+{
+    one_verdict();
+    journals_are_played_back::<Life>();
 }

@@ -17,6 +17,7 @@ mod load;
 mod make;
 mod mnemonic;
 mod object;
+mod order;
 mod play;
 mod recover;
 mod refusal;
@@ -25,6 +26,8 @@ mod report;
 mod said;
 mod seeded;
 mod source;
+mod sweep;
+mod table;
 mod top;
 
 pub use compiled_image::{Image, read_image};

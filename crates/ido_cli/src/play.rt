@@ -70,7 +70,7 @@ fn script_answer(
 }
 
 /// The refusal of a script that begins at a place of an input.
-fn script_refused(
+pub fn script_refused(
     alloc: Global,
     input: &[u8],
     begins: u64,

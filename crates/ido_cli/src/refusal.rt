@@ -2,7 +2,7 @@
 ghost use Rattle.std.specs.Prelude.{◌≡◌, ◌<◌, ◌≤◌, ◌^◌, length, IfOk};
 ghost use Rattle.ido_base.specs.Places.{column_of, line_of};
 ghost use Rattle.ido_base.specs.declared.limits.TheConstants.{MOST_SOURCE_BYTES};
-ghost use Rattle.ido_cli.specs.Refusals.{code_of, fault_code, fault_place, line_at, line_at_byte, line_at_register};
+ghost use Rattle.ido_cli.specs.Refusals.{code_of, fault_code, fault_place, line_after, line_at, line_at_byte, place_text, line_at_register};
 ghost use Rattle.ido_cli.specs.Refusals.{line_at_step, line_at_thread, line_of_threads, stop_code};
 ghost use Rattle.ido_cli.specs.links.CompileRefusals.{TellsRefusal};
 ghost use Rattle.run_scripts.specs.Schedules as s;
@@ -95,6 +95,39 @@ pub fn refused_at(
     let output = format!(in alloc; "refused {code} at {line}:{column}\n")?;
     Ok(Said {
         status,
+        output: output.into_bytes(),
+    })
+}
+
+/// A place of a text, as it is written.
+#[tactic(auto, unfolding(crate::specs::Refusals::place_text))]
+fn place_text(alloc: Global, text: &[u8], place: Place) -> Result<String, OutOfMemory>
+    requires { length text.now < 2 ^ 31 }
+    ensures { IfOk result (λ said. said.bytes.items ≡ place_text text.now place.0) }
+{
+    let (line, column) = place_in(text, u64::from(place.0));
+    let written = format!(in alloc; "{line}:{column}")?;
+    Ok(written)
+}
+
+/// The refusal of a source by a code at a place of it, after another place.
+#[tactic(auto, unfolding(crate::specs::Refusals::line_after))]
+pub fn refused_after(
+    alloc: Global,
+    code: &str,
+    text: &[u8],
+    place: Place,
+    earlier: Place,
+) -> Result<Said, OutOfMemory>
+    requires { length text.now < 2 ^ 31 }
+    ensures status { IfOk result (λ said. said.status ≡ 1) }
+    ensures output { IfOk result (λ said. said.output.items ≡ line_after code.now text.now place.0 earlier.0) }
+{
+    let place = place_text(alloc, text, place)?;
+    let earlier = place_text(alloc, text, earlier)?;
+    let output = format!(in alloc; "refused {code} at {place} after {earlier}\n")?;
+    Ok(Said {
+        status: 1,
         output: output.into_bytes(),
     })
 }

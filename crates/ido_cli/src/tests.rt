@@ -103,6 +103,7 @@ fn left_to_threads(rt: HostRuntime) -> Result<(), Fail> {
         ["ido", "live", "5"].as_slice(),
         &["ido", "recover", "5"],
         &["ido", "load", "1", "0"],
+        &["ido", "sweep"],
     ] {
         let words = words_of(rt.alloc(), texts)?;
         let mut source = MemSource::new(ADD_ONE.to_vec(rt.alloc())?, 10, vec![in rt.alloc(); 1]?);
@@ -252,5 +253,50 @@ fn replayed(rt: HostRuntime) -> Result<(), Fail> {
             assert_eq!(rt; own, (status, report.to_vec(rt.alloc())?), "{texts:?}");
         }
     }
+    Ok(())
+}
+
+/// A gate that holds the points 0 and 3, each until the other has come.
+#[derive(Drop)]
+struct Ends {
+    meeting: Meeting,
+}
+
+impl Gate for Ends {
+    fn pass(&self, point: u32, turn: u64) {
+        match point {
+            0 => self
+                .meeting
+                .meet(&self.meeting.first, &self.meeting.second, turn),
+            3 => self
+                .meeting
+                .meet(&self.meeting.second, &self.meeting.first, turn),
+            _ => {}
+        }
+    }
+}
+
+/// Points of a sweep are looked at beside each other, the first of four beside the last.
+#[test]
+fn swept_beside(rt: HostRuntime) -> Result<(), Fail> {
+    let words = words_of(rt.alloc(), &["ido", "sweep"])?;
+    let mut bytes = ADD_ONE.to_vec(rt.alloc())?;
+    bytes.extend_from_slice(b"\n%%\ns 0 3\n")?;
+    let mut source = SureSource::new(bytes, 65_536);
+    let mut sink = SureSink::new(rt.alloc(), 200, 7)?;
+    let gate = Ends {
+        meeting: Meeting::new(),
+    };
+    let status = ido(&rt, rt.alloc(), &words, &mut source, &mut sink, &gate);
+    assert_eq!(rt; gate.meeting.missed.load(Ordering::SeqCst), false);
+    assert_eq!(rt; gate.meeting.first.load(Ordering::SeqCst), 1);
+    assert_eq!(rt; gate.meeting.second.load(Ordering::SeqCst), 1);
+    assert_eq!(rt;
+        (status, sink.written()),
+        (
+            0,
+            Some(b"from 0 to 3\nx = 5\nended 0 0\nschedule\n".as_slice())
+        )
+    );
     Ok(())
 }

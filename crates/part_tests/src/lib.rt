@@ -22,3 +22,5 @@ mod regions;
 mod registers;
 #[cfg(test)]
 mod scripts;
+#[cfg(test)]
+mod straight;

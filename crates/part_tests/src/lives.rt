@@ -1,7 +1,7 @@
-//! The journal of a life.
-ghost use Rattle.std.specs.Prelude.{◌≡◌, [], length, IfOk};
+//! The journal of a life, and what runs ahead of a hart of one.
+ghost use Rattle.std.specs.Prelude.{◌≡◌, ◌+◌, ◌<◌, ◌≤◌, ℕ, [], length, IfOk};
 
-use ido_base::event::Event;
+use ido_base::event::{Event, Reply};
 use ido_base::machine::Core;
 use ido_base::memory::OutOfMemory;
 use run_tracker::life::Life;
@@ -80,5 +80,73 @@ fn a_life_may_be_handed_to_a_thread(rt: HostRuntime) -> Result<(), Fail> {
     let mut life = life_of(rt.alloc())?;
     life.event(Event::Step(1));
     assert_eq!(rt; events_of_handed(life), 1);
+    Ok(())
+}
+
+/// addi x5, x0, 7; add x6, x5, x5; lui x8, 0x10000: three instructions that touch registers alone. sd x6, 0(x8).
+const STRAIGHT: [u32; 4] = [0x0070_0293, 0x0052_8333, 0x1000_0437, 0x0064_3023];
+
+/// One thread with this code, whose first and third words are marks.
+fn straight_life(alloc: Global) -> Result<Life, OutOfMemory>
+    ensures threads { IfOk result (λ life. length life.runs.program ≡ 1) }
+    ensures none { IfOk result (λ life. life.journal ≡ []) }
+    ensures room { IfOk result (λ life. life.cap ≡ 8) }
+{
+    let mut code: Vec<Vec<u32>> = Vec::new(alloc);
+    let mut threads = Vec::new(alloc);
+    code.push(STRAIGHT.to_vec(alloc)?)?;
+    threads.push(ThreadMarks {
+        nodes: vec![in alloc; 0x0001_0000u64, 0x0001_0008u64]?,
+        resumes: Vec::new(alloc),
+    })?;
+    let object = Object {
+        code,
+        initial: Vec::new(alloc),
+        mutexes: 0,
+    };
+    Life::new(alloc, &object, &Marks { threads }, 8)
+}
+
+/// One more instruction of what runs ahead, if it is local.
+fn go_ahead<C: Core>(local: &mut C::Local) -> bool
+    ensures stays { (m : C.Meaning) (hart : ℕ) → C.is_local m hart local.old → C.is_local m hart local.new }
+    ensures few { C.ahead_by local.new ≤ C.ahead_by local.old + 1 }
+{
+    C::ahead(local)
+}
+
+/// Whether hart 0 goes ahead, at each of four times; whether the core adopts that, and again; whether the hart goes ahead once it
+/// begins there, and whether that is adopted.
+fn run_ahead<C: Core>(core: &mut C, alloc: Global) -> Result<[bool; 8], OutOfMemory>
+    requires some { 0 < C.hart_count core.old }
+    requires room { 8 ≤ C.space core.old }
+{
+    let mut local = core.local(alloc, 0)?;
+    let one = go_ahead::<C>(&mut local);
+    let two = go_ahead::<C>(&mut local);
+    let three = go_ahead::<C>(&mut local);
+    let four = go_ahead::<C>(&mut local);
+    let adopted = core.adopt(0, &local);
+    let again = core.adopt(0, &local);
+    core.refresh(0, &mut local);
+    let five = go_ahead::<C>(&mut local);
+    let last = core.room() > 0 && core.adopt(0, &local);
+    Ok([one, two, three, four, adopted, again, five, last])
+}
+
+#[test]
+fn ahead_of_a_hart(rt: HostRuntime) -> Result<(), Fail> {
+    let mut life = straight_life(rt.alloc())?;
+    assert_eq!(rt; life.can_step(), Some(0));
+    let ran = run_ahead(&mut life, rt.alloc())?;
+    assert_eq!(rt; ran, [true, true, true, false, true, false, false, true]);
+    assert_eq!(rt; life.events(), 3);
+    assert_eq!(rt;
+        life.journal(rt.alloc())?.as_slice(),
+        [Event::Step(0); 3].as_slice()
+    );
+    assert!(rt; life.harts() > 0 && life.room() > 0);
+    assert_eq!(rt; life.event(Event::Step(0)), Reply::Moved);
+    assert_eq!(rt; life.live_word(0, 0), 14);
     Ok(())
 }

@@ -25,3 +25,4 @@ Says asked.Image source c events status output = IsImageAfter source c events st
 abbrev pub command_making : Product → Command
 command_making product.Object = command.Compile
 command_making product.Regions = command.Regions
+command_making product.Order = command.Order

@@ -26,8 +26,10 @@ returns c =
     let four = c.in_ok-four.ensures ∙ ap (named (codes "play")) three in
     let five = c.in_ok-five.ensures ∙ ap (named (codes "source")) four in
     let six = c.in_ok-six.ensures ∙ ap (named (codes "image")) five in
-    let seven = c.in_ok-seven.ensures ∙ ap (λ (a : App). with_subcommand a recover_shape) six in
-    let eight = c.in_ok-eight.ensures ∙ ap (λ (a : App). with_subcommand a make_shape) seven in
-    let nine = c.in_ok-nine.ensures ∙ ap (λ (a : App). with_subcommand a seeded_shape) eight in
-    let ten = c.in_ok-ten.ensures ∙ ap (λ (a : App). with_subcommand a live_shape) nine in
-    IfOk-weaker c.with_load.result _ _ (λ made is. is ∙ ap (λ (a : App). with_subcommand a load_shape) ten) c.with_load.ensures
+    let seven = c.in_ok-seven.ensures ∙ ap (named (codes "order")) six in
+    let eight = c.in_ok-eight.ensures ∙ ap (λ (a : App). with_subcommand a recover_shape) seven in
+    let nine = c.in_ok-nine.ensures ∙ ap (λ (a : App). with_subcommand a make_shape) eight in
+    let ten = c.in_ok-ten.ensures ∙ ap (λ (a : App). with_subcommand a seeded_shape) nine in
+    let eleven = c.in_ok-eleven.ensures ∙ ap (λ (a : App). with_subcommand a live_shape) ten in
+    let twelve = c.in_ok-twelve.ensures ∙ ap (λ (a : App). with_subcommand a load_shape) eleven in
+    IfOk-weaker c.with_command-8.result _ _ (λ made is. is ∙ ap (named (codes "sweep")) twelve) c.with_command-8.ensures

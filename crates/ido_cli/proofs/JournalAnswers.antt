@@ -1,0 +1,129 @@
+-- What `play` answers to a journal.
+use Rattle.std.proofs.Common.{◌≡◌, ℕ, suc, ◌+◌, ◌<◌, ◌≤◌, List, [], ◌∷◌, ◌++◌, length, All, map, Bool, true, codes, flat_map}
+use Rattle.std.proofs.Common.{refl, sym, ap, subst, ◌∙◌, ◌==◌, if◌then◌else◌, arith, append_assoc}
+use Rattle.std.proofs.lemmas.Bool.{eqb-true}
+use Rattle.std.proofs.lemmas.List.{length-map}
+use Rattle.std.specs.Prelude.{◌-◌, slice_index}
+use Rattle.ido_base.specs.declared.event.Event.{Event}
+use Rattle.ido_base.specs.declared.limits.TheConstants.{MOST_EVENTS}
+use Rattle.ido_base.specs.Cores.{IsValid}
+use Rattle.ido_base.specs.Places.{line_feed}
+use Rattle.c_tree.specs.Flats as f
+use Rattle.rv64_isa.specs.Programs.{slot_of}
+use Rattle.flow_graph.specs.Refusals.{IsAccepted, IsRefusedBy}
+use Rattle.compiler_correctness.specs.Translations.{Translation}
+use Rattle.ido_compile.proofs.Public.{few_accepted}
+use Rattle.ido_compile.specs.Verdicts.{OneFlat, NotBoth}
+use Rattle.run_scripts.specs.Journals.{command_text, commands_of, ends_line, journal_text}
+use Rattle.run_scripts.specs.Laws.{ArePlayedBack, IsPlayedBack}
+use Rattle.run_scripts.specs.Plays.{script_events}
+use Rattle.run_scripts.specs.Reports.{line}
+use Rattle.run_scripts.specs.Scripts as scripts
+use Rattle.run_scripts.specs.Scripts.{IsEviction}
+use Rattle.run_tracker.specs.ObjectLives.{living}
+use Rattle.ido_cli.specs.Answers.{PlayAnswer, ScriptedAnswer, unplayed, no_script, of_script}
+use Rattle.ido_cli.specs.Inputs.{rest_from, rest_of, source_from, source_of}
+use Rattle.ido_cli.specs.Laws.{IsAlone, JournalsArePlayed}
+use Rattle.ido_cli.specs.Plays.{IsRunBy, IsTranslationOf, ScriptAnswer, beginning, events_by, too_long, ran}
+use Rattle.ido_cli.proofs.JournalInputs.{Ends, split_at}
+use Rattle.ido_cli.proofs.PlayedRuns.{as_many_threads}
+
+ends : (source : List ℕ) → ends_line source ≡ true → Ends source
+ends [] e = cc e
+ends (c ∷ []) e = eqb-true c line_feed e
+ends (c ∷ d ∷ ds) e =
+    let n : length (c ∷ d ∷ ds) - 1 ≡ suc (length (d ∷ ds) - 1) = omega arith in
+    let more : slice_index (c ∷ d ∷ ds) (length (c ∷ d ∷ ds) - 1) ≡ slice_index (d ∷ ds) (length (d ∷ ds) - 1) = ap (slice_index (c ∷ d ∷ ds)) n in
+    ends (d ∷ ds) (sym (ap (λ (b : ℕ). b == line_feed) more) ∙ e)
+
+abbrev script_of : List Event → List ℕ
+script_of events = flat_map command_text (commands_of events)
+
+text_is : (source : List ℕ) (events : List Event) → ends_line source ≡ true → journal_text source events ≡ source ++ (line (codes "%%") ++ script_of events)
+unfolding journal_text
+text_is source events e =
+    ap (λ (b : Bool). (if b then source else line source) ++ line (codes "%%") ++ script_of events) e
+    ∙ append_assoc source (line (codes "%%")) (script_of events)
+
+module _ (source : List ℕ) (events : List Event) (alone : IsAlone source) where
+  parts : (source_of (journal_text source events) ≡ source) × (rest_of (journal_text source events) ≡ script_of events)
+  unfolding source_of rest_of
+  parts =
+      let text = text_is source events alone.ends in
+      let both = split_at (script_of events) true source (ends source alone.ends) alone.whole in
+      (ap (source_from true) text ∙ both.0, ap (rest_from true) text ∙ both.1)
+
+threads_are : (flat : f.Flat) (c : Translation) → IsTranslationOf flat c → length c.runs.program ≡ length flat.threads
+threads_are flat c made =
+    ap (λ (z : Translation). length z.runs.program) made.is ∙ length-map made.object.code.items (λ code. map slot_of code.items)
+    ∙ as_many_threads flat made.object made.marks made.cuts made.translated
+
+-- an input whose source text and script are known
+module _ (one_flat : OneFlat) (not_both : NotBoth) (input source script : List ℕ) (source_is : source_of input ≡ source) (script_is : rest_of input ≡ script)
+    (flat : f.Flat) (accepted : IsAccepted source flat) (lines : List scripts.Line)
+    (read_is : scripts.read (length flat.threads) script ≡ scripts.Lines lines) where
+  same_flat : (other : f.Flat) → IsAccepted (source_of input) other → other ≡ flat
+  same_flat other is = one_flat source other flat (subst (λ (text : List ℕ). IsAccepted text other) source_is is) accepted
+
+  reading : (other : f.Flat) → IsAccepted (source_of input) other → scripts.read (length other.threads) (rest_of input) ≡ scripts.Lines lines
+  reading other is =
+      ap (λ (z : f.Flat). scripts.read (length z.threads) (rest_of input)) (same_flat other is)
+      ∙ ap (scripts.read (length flat.threads)) script_is ∙ read_is
+
+  same_lines : (other : f.Flat) → IsAccepted (source_of input) other → (found : List scripts.Line) →
+      scripts.read (length other.threads) (rest_of input) ≡ scripts.Lines found → found ≡ lines
+  same_lines other is found read = equal found lines (sym read ∙ reading other is)
+    where
+      equal : (xs ys : List scripts.Line) → scripts.Lines xs ≡ scripts.Lines ys → xs ≡ ys
+      equal xs ys e = cc e
+
+  none_refused : (other : f.Flat) → IsAccepted (source_of input) other → (x : scripts.Fault) →
+      scripts.read (length other.threads) (rest_of input) ≡ scripts.Refused x → ⊥
+  none_refused other is x read = apart x lines (sym read ∙ reading other is)
+    where
+      apart : (x : scripts.Fault) (xs : List scripts.Line) → scripts.Refused x ≡ scripts.Lines xs → ⊥
+      apart x xs e = cc e
+
+  module _ (Says : Translation → List Event → (status : ℕ) → (output : List ℕ) → Type 0) where
+    -- what is answered is of this script, and of a translation of this form
+    record IsOfScript (status : ℕ) (output : List ℕ) : Type 0 where
+      translation : Translation
+      made : IsTranslationOf flat translation
+      begins : ℕ
+      says : ScriptAnswer translation (Says translation) (record { lines = lines; input = input; begins = begins }) status output
+
+    of_script_at : (other : f.Flat) → other ≡ flat → (found : List scripts.Line) → found ≡ lines → (c : Translation) → IsTranslationOf other c →
+        (begins status : ℕ) (output : List ℕ) →
+        ScriptAnswer c (Says c) (record { lines = found; input = input; begins = begins }) status output → IsOfScript status output
+    of_script_at other same found equal c made begins status output answer = record {
+      translation = c;
+      made = subst (λ (z : f.Flat). IsTranslationOf z c) same made;
+      begins = begins;
+      says = subst (λ (ls : List scripts.Line). ScriptAnswer c (Says c) (record { lines = ls; input = input; begins = begins }) status output) equal answer;
+    }
+
+    is_of_script : (status : ℕ) (output : List ℕ) → ScriptedAnswer Says input status output → IsOfScript status output
+    is_of_script status output (unplayed found place is told) =
+        absurd (not_both source flat found place accepted (subst (λ (text : List ℕ). IsRefusedBy text found place) source_is is))
+    is_of_script status output (no_script other is x read told) = absurd (none_refused other is x read)
+    is_of_script status output (of_script other is found read c made answer) =
+        of_script_at other (same_flat other is) found (same_lines other is found read) c made _ status output answer
+
+module _ (flat : f.Flat) (events : List Event) (played : IsPlayedBack living (length flat.threads) events) (few : length events ≤ MOST_EVENTS)
+    (c : Translation) (made : IsTranslationOf flat c) where
+  events_are : events_by c played.lines ≡ events
+  events_are = ap (λ n. script_events living n (beginning c) played.lines) (threads_are flat c made) ∙ played.events_are (beginning c)
+
+  run_is : (input : List ℕ) (begins status : ℕ) (output : List ℕ) →
+      ScriptAnswer c (IsRunBy c) (record { lines = played.lines; input = input; begins = begins }) status output → IsRunBy c events status output
+  run_is input begins status output (too_long many place excess refused) = let n = ap length events_are in absurd (omega (arith, many, n, few))
+  run_is input begins status output (ran fits said) = subst (λ (es : List Event). IsRunBy c es status output) events_are said
+
+pub journals_are_played : OneFlat → NotBoth → ArePlayedBack living → JournalsArePlayed
+journals_are_played one_flat not_both back source events flat status output alone accepted few valid answer =
+    let limit : length events < 4294967296 = omega (arith, few) in
+    let played = back (length flat.threads) events (few_accepted source flat accepted) limit valid in
+    let both = parts source events alone in
+    let it = is_of_script one_flat not_both (journal_text source events) source (script_of events) both.0 both.1 flat accepted played.lines played.read_is
+    IsRunBy status output answer in
+    (it.translation, it.made, run_is flat events played few it.translation it.made (journal_text source events) it.begins status output it.says)

@@ -1,0 +1,238 @@
+//! Boundaries of straight code, and labels that show that there can't be fewer.
+ghost use Rattle.std.specs.Prelude.{◌≡◌, IfOk, Some};
+ghost use Rattle.flow_graph.specs.Nodes.{graph_of};
+ghost use Rattle.region_cutter.specs.FewestCuts.{IsStretch};
+ghost use Rattle.region_cutter.specs.declared.straight.Stretch as spec;
+
+use c_tree::expr::{Expr, Lvalue, Placed};
+use flow_graph::graph::{Action, Graph, Node};
+use ido_base::location::Location;
+use ido_base::memory::OutOfMemory;
+use ido_base::place::Place;
+use ido_ints::Kind;
+use region_checker::{LabelError, Least, check_labels};
+use region_cutter::{Stretch, cut, fewest, stretches};
+use std::alloc::{AllocError, Global};
+use std::test::Fail;
+
+const KIND: Kind = Kind::Int;
+
+fn scalar(variable: u32) -> Location {
+    Location {
+        variable,
+        lo: 0,
+        hi: 0,
+    }
+}
+
+fn step(a: Global, action: Action<'_>) -> Node<'_> {
+    Node {
+        place: Place(0),
+        action,
+        uses: Vec::new(a),
+        assigns: None,
+        reads: Vec::new(a),
+        writes: None,
+    }
+}
+
+/// Adds a step that reads these variables, if there are any, and a step that stores into this one, if there is one.
+fn assign<'a>(
+    a: Global,
+    nodes: &mut Vec<Node<'a>>,
+    target: &'a Lvalue,
+    value: &'a Placed,
+    written: Option<u32>,
+    reads: &[u32],
+) -> Result<(), AllocError> {
+    let mut reading = step(
+        a,
+        Action::Eval {
+            target,
+            value,
+            next: nodes.len() + 1,
+        },
+    );
+    for variable in reads {
+        reading.reads.push(scalar(*variable))?;
+    }
+    nodes.push(reading)?;
+    if let Some(variable) = written {
+        let mut store = step(
+            a,
+            Action::Store {
+                variable,
+                kind: KIND,
+                next: nodes.len() + 1,
+            },
+        );
+        store.writes = Some(scalar(variable));
+        nodes.push(store)?;
+    }
+    Ok(())
+}
+
+/// A lock, these assignments, an unlock, the end.
+fn section<'a>(
+    a: Global,
+    target: &'a Lvalue,
+    value: &'a Placed,
+    assignments: &[(Option<u32>, &[u32])],
+) -> Result<Graph<'a>, AllocError> {
+    let mut nodes = Vec::new(a);
+    nodes.push(step(a, Action::Lock { mutex: 0, next: 1 }))?;
+    for (written, reads) in assignments {
+        assign(a, &mut nodes, target, value, *written, reads)?;
+    }
+    let unlock = nodes.len();
+    nodes.push(step(
+        a,
+        Action::Unlock {
+            mutex: 0,
+            next: unlock + 1,
+        },
+    ))?;
+    nodes.push(step(a, Action::End))?;
+    Ok(Graph {
+        nodes,
+        threads: Vec::new(a),
+    })
+}
+
+fn target() -> Lvalue {
+    Lvalue::Local {
+        local: 0,
+        kind: KIND,
+    }
+}
+
+fn value() -> Placed {
+    Placed {
+        place: Place(0),
+        expr: Expr::Variable {
+            place: Place(0),
+            variable: 0,
+            kind: KIND,
+        },
+    }
+}
+
+/// What is assigned to which variable, and before which nodes the fewest boundaries stand.
+const SECTIONS: [(&[(Option<u32>, &[u32])], &[usize]); 6] = [
+    // x = y; y = x; x = y;
+    (&[(Some(0), &[1]), (Some(1), &[0]), (Some(0), &[1])], &[4]),
+    // x = x + 1;
+    (&[(Some(0), &[0])], &[2]),
+    // x = 1; x = x + 1;
+    (&[(Some(0), &[]), (Some(0), &[0])], &[]),
+    // x = x + 1; y = y + 1;
+    (&[(Some(0), &[0]), (Some(1), &[1])], &[2, 4]),
+    // i = z; x = 1; z = 1; x = x + 1; where boundaries as late as can be, one after another, would be two
+    (
+        &[
+            (None, &[2]),
+            (Some(0), &[]),
+            (Some(2), &[]),
+            (Some(0), &[0]),
+        ],
+        &[3],
+    ),
+    // x = 1; i = x + y; y = 1; x = 1;
+    (
+        &[
+            (Some(0), &[]),
+            (None, &[0, 1]),
+            (Some(1), &[]),
+            (Some(0), &[]),
+        ],
+        &[5],
+    ),
+];
+/// The first stretch of the graph.
+fn first_stretch(a: Global, graph: &Graph) -> Result<Option<Stretch>, OutOfMemory>
+    ensures { IfOk result (λ found. (s : spec.Stretch) → found ≡ Some s → IsStretch (graph_of graph.now) s.first s.past) }
+{
+    let found = stretches(a, graph)?;
+    if found.len() == 0 {
+        return Ok(None);
+    }
+    Ok(Some(found[0]))
+}
+
+#[test]
+fn fewest_boundaries(rt: HostRuntime) -> Result<(), Fail> {
+    let a = rt.alloc();
+    let target = target();
+    let value = value();
+    for (assignments, wanted) in SECTIONS {
+        let graph = section(a, &target, &value, assignments)?;
+        let mut looked = false;
+        if let Some(stretch) = first_stretch(a, &graph)? {
+            looked = true;
+            let (cuts, labels) = fewest(a, &graph, stretch.first, stretch.past)?;
+            assert_eq!(rt; &cuts[..], wanted);
+            assert_eq!(rt;
+                check_labels(a, &graph, stretch.first, stretch.past, &cuts, &labels),
+                Ok(Least)
+            );
+        }
+        assert!(rt; looked);
+        let all = cut(a, &graph)?;
+        for (node, stands) in all.before.iter().enumerate() {
+            assert!(rt;
+                *stands == wanted.contains(&node) || node + 2 >= all.before.len(),
+                "{node}"
+            );
+        }
+    }
+    Ok(())
+}
+
+/// Labels of the nodes of x = y; y = x; x = y; and of what comes after it, how many boundaries there are said to be, and what is said of that.
+const LABELS: [([usize; 7], &[usize], Result<Least, LabelError>); 6] = [
+    ([0, 1, 0, 1, 1, 1, 2], &[4], Ok(Least)),
+    ([1, 1, 1, 1, 1, 1, 2], &[4], Err(LabelError::Start)),
+    (
+        [0, 1, 0, 1, 1, 2, 2],
+        &[4],
+        Err(LabelError::Edge { from: 3, to: 6 }),
+    ),
+    (
+        [0, 2, 2, 1, 1, 1, 2],
+        &[4],
+        Err(LabelError::Edge { from: 1, to: 2 }),
+    ),
+    (
+        [0, 0, 0, 0, 0, 0, 0],
+        &[4],
+        Err(LabelError::End { label: 0, cuts: 1 }),
+    ),
+    (
+        [0, 1, 0, 1, 1, 1, 2],
+        &[3, 6],
+        Err(LabelError::End { label: 2, cuts: 2 }),
+    ),
+];
+
+#[test]
+fn labels_of_straight_code(rt: HostRuntime) -> Result<(), Fail> {
+    let a = rt.alloc();
+    let target = target();
+    let value = value();
+    let graph = section(
+        a,
+        &target,
+        &value,
+        &[(Some(0), &[1]), (Some(1), &[0]), (Some(0), &[1])],
+    )?;
+    for (labels, cuts, wanted) in LABELS {
+        let mut said = None;
+        if let Some(stretch) = first_stretch(a, &graph)? {
+            if stretch.past.saturating_sub(stretch.first) == 6 {
+                said = Some(check_labels(a, &graph, stretch.first, stretch.past, cuts, &labels));
+            }
+        }
+        assert_eq!(rt; said, Some(wanted));
+    }
+    Ok(())
+}
