@@ -12,7 +12,7 @@ PUNCTUATORS = (
 ).split()
 
 # Lines of scripts, and the word that a schedule may begin with.
-SCRIPT_LETTERS = "s b f e c".split()
+SCRIPT_LETTERS = "s b f g e c".split()
 SCHEDULE = "schedule"
 
 # Each command with the words behind it, its input and its output.
@@ -20,6 +20,7 @@ COMMANDS = (
     ("compile", "", "a source", "its object file"),
     ("list", "", "an object file", "the listing of its code"),
     ("regions", "", "a source", "its nodes, and the boundaries chosen among them"),
+    ("order", "", "a source", "`ordered`, or the first lock that is taken out of order"),
     ("play", "", "a source, a line `%%`, a script", "the report of a run of the compiled source"),
     ("image", "", "a source, a line `%%`, a script", "the image file that a crash after that run would leave"),
     ("recover", "TURNS", "an image file", "the report of the run that goes on from it, on threads"),
@@ -28,6 +29,7 @@ COMMANDS = (
     ("live", "TURNS [CRASH]... [--evict SEED] [--journal]", "a source", "the report of a run of it on threads, or with `--journal` that run, as an input of `play`"),
     ("make", "N SEED", "no input", "a source of four threads, which make N rounds each"),
     ("load", "N SEED", "no input", "that source is run on threads to its end, and what it left summed up"),
+    ("sweep", "", "a source, a line `%%`, a script", "the reports after a crash at each point of that run, equal ones told once"),
 )
 
 # Words that the script ./ido takes before a command.
