@@ -16,7 +16,7 @@ use Rattle.thread_code.specs.Plans.{Plan}
 use Rattle.recovered_threads.specs.RecordDescriptions.{Code, Describes, between, inside}
 use Rattle.crash_simulation.specs.Systems.{System, IsSystem, flat_of}
 use Rattle.crash_simulation.specs.AbstractRuns.{AbstractRun, kept_of}
-use Rattle.crash_simulation.specs.AccountRelation.{SimulatesCounted}
+use Rattle.crash_simulation.specs.AccountRelation.{SimulatesCounted, first_beginning}
 use Rattle.crash_simulation.proofs.Public.{resumed}
 use Rattle.compiler_correctness.specs.Translations.{source, IsRunnable}
 use Rattle.compiler_correctness.specs.Laws.{translation_of}
@@ -29,9 +29,9 @@ use Rattle.recovered_threads.proofs.Public.{resumed_there}
 pub as_source : (y : System) → IsSystem y → (b : AbstractRun y) → MatchesSource (flat_of y) b.config (kept_of y b)
 as_source y s b =
     let r = resumed y s b in
-    graph_stands (flat_of y) b.config b.schedule s.plan.formed r.resumed.invariant r.resumed.kept
+    graph_stands (flat_of y) b.origin b.config b.schedule s.plan.formed r.resumed.invariant r.resumed.kept
 
-module _ (y : System) (s : IsSystem y) (w : World) (steps : Steps) (resumes : SimulatesCounted y s w steps) where
+module _ (y : System) (s : IsSystem y) (w : World) (steps : Steps) (resumes : SimulatesCounted y s (first_beginning y) w steps) where
   abbrev abstract : AbstractRun y
   abstract = resumes.stands.before_commit.abstract
 

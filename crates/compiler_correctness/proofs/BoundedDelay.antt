@@ -1,5 +1,5 @@
 -- Each hart of a compiled program soon begins the next step of its thread.
-use Rattle.std.proofs.Common.{◌≡◌, ◌≢◌, inl, inr, refl, ℕ, ◌<◌, ◌≤◌, List, [], ◌∷◌, ◌++◌, length, ap, arith, sym, ◌∙◌, subst, Option, Some, None}
+use Rattle.std.proofs.Common.{◌≡◌, ◌≢◌, ◌⊎◌, inl, inr, refl, ℕ, ◌<◌, ◌≤◌, List, [], ◌∷◌, ◌++◌, length, ap, arith, sym, ◌∙◌, subst, Option, Some, None}
 use Rattle.std.proofs.Common.{Bool, true, false}
 use Rattle.std.specs.Prelude.{slice_get, ◌==◌, ◌&&◌, not, if◌then◌else◌}
 use Rattle.std.proofs.lemmas.Bool.{true≢false, cases_lt}
@@ -28,10 +28,9 @@ use Rattle.crash_simulation.specs.SimulationRelation.{Simulates}
 use Rattle.crash_simulation.specs.Laws.{EventsStand}
 use Rattle.crash_simulation.specs.InstructionSteps.{FragmentsStep, CoresStep}
 use Rattle.crash_simulation.proofs.Public.{start_simulates}
-use Rattle.compiler_correctness.specs.Translations.{HaveNoCrash, world, steps}
+use Rattle.compiler_correctness.specs.Translations.{HaveNoCrash}
 use Rattle.compiler_correctness.specs.Compilation.{has_stopped}
-use Rattle.compiler_correctness.specs.Delays as delays
-use Rattle.compiler_correctness.specs.Delays.{active_steps, is_active_step, has_waited, begun_by, IsStopped, delay}
+use Rattle.compiler_correctness.specs.Delays.{active_steps, has_waited, begun_by, IsStopped, delay}
 use Rattle.compiler_correctness.specs.Laws.{DelaysAreBounded, translation_of}
 use Rattle.compiler_correctness.proofs.OwnStores.{stands_along}
 use Rattle.compiler_correctness.proofs.MarksReached as nearing
@@ -166,13 +165,18 @@ module _ (marks : MarksPass) (law : FragmentsGoOn) (counts : ForwardCounts) (sta
         near = on_leg (entries.starts y s h below stands.before_commit.count (record { from_first = omega arith; below_end = there }));
       }
 
-  own_delay : (events more : List Event) → HaveNoCrash more →
-      delay (translation_of y) n ≤ active_steps y.runs.program (world (translation_of y) events) more n →
-      nearing.GetsOn y.runs.marks y.runs.program n (world (translation_of y) events) (steps (translation_of y) events) more
-  own_delay events more none many =
-      let near = near_along events (first_world y.runs) near_first in
+  -- where power has just returned
+  near_recovered : (w : World) → Simulates y s (after_event y.runs.program w Crash) → NearMost (after_event y.runs.program w Crash)
+  near_recovered w stands = record { stands = stands; near = crashed w }
+
+  own_delay : (v : World) (first : Steps) → NearMost v → (events more : List Event) → HaveNoCrash more →
+      delay (translation_of y) n ≤ active_steps y.runs.program (after_events y.runs.program v events) more n →
+      nearing.GetsOn y.runs.marks y.runs.program n (after_events y.runs.program v events) (steps_along y.runs.marks y.runs.program v events first) more
+  own_delay v first near_there events more none many =
+      let near = near_along events v near_there in
       let words : length code.program.code ≡ length (code_of y.runs.program n) = ap (λ (p : Program). length p.code) (s.own h below).program in
-      nearing.gets_on y.runs.marks y.runs.program n (Near y s h below) nearer more (world (translation_of y) events) (steps (translation_of y) events)
+      nearing.gets_on y.runs.marks y.runs.program n (Near y s h below) nearer more (after_events y.runs.program v events)
+      (steps_along y.runs.marks y.runs.program v events first)
       (most y s h below)
       (s.count ∙ sym near.stands.before_commit.count) near.stands.before_commit.sound none near (omega (arith, many, words))
 
@@ -209,28 +213,51 @@ module _ (y : System) (s : IsSystem y) (h : ℕ) (above : thread_count y ≤ h) 
 
 -- ---- Any hart
 
--- in the words of the law
-told : (y : System) (events more : List Event) (h : ℕ) →
-    nearing.GetsOn y.runs.marks y.runs.program h (world (translation_of y) events) (steps (translation_of y) events) more →
-    delays.GetsOn (translation_of y) events more h
-told y events more h (inl more_begun) =
-    let c = translation_of y in
-    inl (subst (λ (z : Steps). begun_by (steps c events) h < begun_by z h)
-    (sym (steps_join y.runs.marks y.runs.program events more (first_world y.runs) (first_steps (length y.runs.program) []))) more_begun)
-told y events more h (inr stopped) =
-    inr (subst (λ (w : World). IsStopped w h) (sym (worlds_join y.runs.program events more (first_world y.runs))) stopped)
+-- by the later events the hart begins one step more, or has stopped, where the machine begins with that world and that account
+abbrev pub GetsOnAfter : (y : System) → (v : World) → (first : Steps) → (events more : List Event) → (h : ℕ) → Type 0
+GetsOnAfter y v first events more h =
+    (begun_by (steps_along y.runs.marks y.runs.program v events first) h < begun_by (steps_along y.runs.marks y.runs.program v (events ++ more) first) h)
+    ⊎ IsStopped (after_events y.runs.program v (events ++ more)) h
+
+told : (y : System) (v : World) (first : Steps) (events more : List Event) (h : ℕ) →
+    nearing.GetsOn y.runs.marks y.runs.program h (after_events y.runs.program v events) (steps_along y.runs.marks y.runs.program v events first) more →
+    GetsOnAfter y v first events more h
+told y v first events more h (inl more_begun) =
+    inl (subst (λ (z : Steps). begun_by (steps_along y.runs.marks y.runs.program v events first) h < begun_by z h)
+    (sym (steps_join y.runs.marks y.runs.program events more v first)) more_begun)
+told y v first events more h (inr stopped) = inr (subst (λ (w : World). IsStopped w h) (sym (worlds_join y.runs.program events more v)) stopped)
+
+module _ (marks : MarksPass) (law : FragmentsGoOn) (counts : ForwardCounts) (stand : EventsStand) (fragments_step : FragmentsStep) (cores_step : CoresStep)
+    (y : System) (s : IsSystem y) where
+  -- a machine that simulates an abstract run, and each hart is near its next mark
+  delays_from : (v : World) (first : Steps) → Simulates y s v → ((h : ℕ) (below : h < thread_count y) →
+      NearMost marks law counts stand fragments_step cores_step y s h below v) → (events more : List Event) (h : ℕ) → HaveNoCrash more →
+      delay (translation_of y) h ≤ active_steps y.runs.program (after_events y.runs.program v events) more h → GetsOnAfter y v first events more h
+  delays_from v first begin near events more h none many = elim (cases_lt h (thread_count y)) [
+    | inl below ↦
+        let number = s.codes.number h below in
+        subst (λ (k : ℕ). delay (translation_of y) k ≤ active_steps y.runs.program (after_events y.runs.program v events) more k →
+        GetsOnAfter y v first events more k) number
+        (λ enough. told y v first events more _
+        (own_delay marks law counts stand fragments_step cores_step y s h below v first (near h below) events more none enough)) many
+    | inr above ↦
+        let stands = stands_along stand y s events v begin in
+        told y v first events more h
+        (nearing.gets_on y.runs.marks y.runs.program h (IsAbsent y s h above) (absent y s h above) more (after_events y.runs.program v events)
+        (steps_along y.runs.marks y.runs.program v events first) 0 (s.count ∙ sym stands.before_commit.count) stands.before_commit.sound none
+        (record { count = stands.before_commit.count; sound = stands.before_commit.sound }) (omega (arith, many)))
+  ]
+
+  -- where power has just returned
+  pub recovered_delays : (w : World) (first : Steps) → Simulates y s (after_event y.runs.program w Crash) → (events more : List Event) (h : ℕ) →
+      HaveNoCrash more →
+      delay (translation_of y) h ≤ active_steps y.runs.program (after_events y.runs.program (after_event y.runs.program w Crash) events) more h →
+      GetsOnAfter y (after_event y.runs.program w Crash) first events more h
+  recovered_delays w first begin =
+      delays_from (after_event y.runs.program w Crash) first begin
+      (λ h below. near_recovered marks law counts stand fragments_step cores_step y s h below w begin)
 
 pub delays_are_bounded : MarksPass → FragmentsGoOn → ForwardCounts → EventsStand → FragmentsStep → CoresStep → DelaysAreBounded
-delays_are_bounded marks law counts stand fragments_step cores_step y s events more h none many = elim (cases_lt h (thread_count y)) [
-  | inl below ↦
-      let number = s.codes.number h below in
-      subst (λ (k : ℕ). delay (translation_of y) k ≤ active_steps y.runs.program (world (translation_of y) events) more k →
-      delays.GetsOn (translation_of y) events more k) number
-      (λ enough. told y events more _ (own_delay marks law counts stand fragments_step cores_step y s h below events more none enough)) many
-  | inr above ↦
-      let stands = stands_along stand y s events (first_world y.runs) (start_simulates y s) in
-      told y events more h
-      (nearing.gets_on y.runs.marks y.runs.program h (IsAbsent y s h above) (absent y s h above) more (world (translation_of y) events)
-      (steps (translation_of y) events) 0 (s.count ∙ sym stands.before_commit.count) stands.before_commit.sound none
-      (record { count = stands.before_commit.count; sound = stands.before_commit.sound }) (omega (arith, many)))
-]
+delays_are_bounded marks law counts stand fragments_step cores_step y s events more h none many =
+    delays_from marks law counts stand fragments_step cores_step y s (first_world y.runs) (first_steps (length y.runs.program) []) (start_simulates y s)
+    (λ h below. near_first marks law counts stand fragments_step cores_step y s h below) events more h none many

@@ -25,3 +25,4 @@ mod CallAndMarkSteps
 mod DistanceToMarkFalls
 mod HartEntries
 mod BoundedDelay
+mod RecoveredRuns

@@ -26,7 +26,7 @@ use Rattle.crash_simulation.specs.Systems.{System, IsSystem, flat_of}
 use Rattle.crash_simulation.specs.ThreadGhosts.{ThreadGhost}
 use Rattle.crash_simulation.specs.SimulationRelation.{SimulatesBeforeCommit}
 use Rattle.crash_simulation.specs.InstructionSteps.{IsUnlocked, was_unlocked, begins_unlock, RunsReady, FragmentsStep, CoresStep, CallsStep}
-use Rattle.crash_simulation.specs.AccountRelation.{AreCounted, SimulatesCounted}
+use Rattle.crash_simulation.specs.AccountRelation.{AreCounted, SimulatesCounted, first_beginning}
 use Rattle.crash_simulation.specs.ReleasedSections.{AreReleased, IsCarried}
 use Rattle.crash_simulation.proofs.Public.{resumed, evicted_simulates, AreFurthest, commits_go_on, counted_by, begun_by, kept_same, pending_is, count_same}
 use Rattle.crash_simulation.proofs.Public.{start_carried, evicted_counted, released_by, evicted_released, SimulatesWith, step_with}
@@ -82,12 +82,12 @@ abbrev beginning : System → m.State
 beginning y = m.start (flat_of y)
 
 module _ (y : System) (s : IsSystem y) (w : World) (before_commit : SimulatesBeforeCommit y s w) (steps : Steps)
-    (counted : AreCounted y s w before_commit steps) where
+    (counted : AreCounted y s (first_beginning y) w before_commit steps) where
   kept_runs : m.runs_from (beginning y) steps.kept ≡ true
-  kept_runs = ap (m.runs_from (beginning y)) counted.kept ∙ (resumed y s before_commit.abstract).resumed.kept.runs
+  kept_runs = ap₂ m.runs_from (sym counted.begins) counted.kept ∙ (resumed y s before_commit.abstract).resumed.kept.runs
 
   kept_is : m.after_from (beginning y) steps.kept ≡ before_commit.abstract.config.kept
-  kept_is = ap (m.after_from (beginning y)) counted.kept ∙ (resumed y s before_commit.abstract).resumed.kept.is
+  kept_is = ap₂ m.after_from (sym counted.begins) counted.kept ∙ (resumed y s before_commit.abstract).resumed.kept.is
 
   account_runs : m.runs_from (beginning y) (steps.kept ++ steps.pending) ≡ true
   account_runs =
@@ -105,7 +105,7 @@ AreLastUnlocked y ghosts begun = (n mutex : ℕ) → (ghosts n).giving ≡ Some 
 
 -- all steps that have begun can be stepped, and lead to the state now; and no attempt goes over what an earlier one did
 record Going (y : System) (s : IsSystem y) (w : World) (steps : Steps) (releases : ℕ → ℕ) : Type 0 where
-  carried : IsCarried y s w steps releases
+  carried : IsCarried y s (first_beginning y) w steps releases
   runs : m.runs_from (beginning y) steps.begun ≡ true
   leads : m.after_from (beginning y) steps.begun ≡ now carried.resumed.stands.before_commit.abstract.config
   furthest : AreFurthest carried.resumed.stands.before_commit.abstract.config
@@ -121,7 +121,8 @@ begun_is true true h position s = refl
 
 module _ (y : System) (s : IsSystem y) (w : World) where
   -- where all that is committed is taken so, of every thread
-  going_by : (before_commit : SimulatesBeforeCommit y s w) (steps : Steps) (releases : ℕ → ℕ) (counted : AreCounted y s w before_commit steps) →
+  going_by : (before_commit : SimulatesBeforeCommit y s w) (steps : Steps) (releases : ℕ → ℕ)
+      (counted : AreCounted y s (first_beginning y) w before_commit steps) →
       AreReleased y s w before_commit releases →
       m.runs_from (beginning y) steps.begun ≡ true → m.after_from (beginning y) steps.begun ≡ now before_commit.abstract.config →
       AreFurthest before_commit.abstract.config → AreLastUnlocked y before_commit.ghosts steps.begun →
@@ -166,7 +167,7 @@ module _ (ready : RunsReady) (fragments_step : FragmentsStep) (cores_step : Core
     abbrev then_steps : Steps
     then_steps = with_step y.runs.marks y.runs.program w h steps
 
-    abbrev is : SimulatesCounted y s w steps
+    abbrev is : SimulatesCounted y s (first_beginning y) w steps
     is = going.carried.resumed
 
     abbrev then_releases : ℕ → ℕ

@@ -22,7 +22,7 @@ use Rattle.recovered_threads.proofs.Public.{logs_have_locks, takes_never_wait, l
 use Rattle.crash_simulation.specs.Systems.{System, IsSystem, flat_of, thread_count}
 use Rattle.crash_simulation.specs.AbstractRuns.{AbstractRun, kept_of, now_of}
 use Rattle.crash_simulation.specs.SimulationRelation.{IsGiving, AreHeld, AreLocked, gathering, gathered, records_of, Simulates}
-use Rattle.crash_simulation.specs.AccountRelation.{SimulatesCounted, MachinesResume}
+use Rattle.crash_simulation.specs.AccountRelation.{SimulatesCounted, MachinesResume, first_beginning}
 use Rattle.crash_simulation.proofs.Public.{orderly, all_describe, left, left_describes, log_of, unlocked_last}
 use Rattle.compiler_correctness.specs.Translations.{source}
 use Rattle.compiler_correctness.specs.Compilation.{ThreadHolds, HasJustUnlocked, HoldsAsThread, IsOn}
@@ -84,7 +84,7 @@ module _ (y : System) (s : IsSystem y) (w : World) (stands : Simulates y s w) wh
     pub are_held : IsOn hart → AreHeld w stands.before_commit.ghosts (now_of y b)
     are_held is = held_by is stands.before_commit.locks
 
-module _ (y : System) (s : IsSystem y) (w : World) (steps : Steps) (resumes : SimulatesCounted y s w steps) (h : ℕ) (hart : Hart)
+module _ (y : System) (s : IsSystem y) (w : World) (steps : Steps) (resumes : SimulatesCounted y s (first_beginning y) w steps) (h : ℕ) (hart : Hart)
     (there : slice_get w.harts h ≡ Some hart) where
   abbrev stands : Simulates y s w
   stands = resumes.stands
@@ -128,9 +128,10 @@ module _ (y : System) (s : IsSystem y) (w : World) (steps : Steps) (resumes : Si
       let b = stands.before_commit.abstract in
       let code = s.codes.each h below in
       let lists : b.schedule ++ b.config.uncommitted ≡ steps.kept ++ steps.pending = ap₂ ◌++◌ (sym resumes.counted.kept) (sym resumes.counted.pending) in
-      subst (λ (us : List ℕ). LastUnlocks (m.start (flat_of y)) us h mutex) lists
-      (subst (λ (n : ℕ). LastUnlocks (m.start (flat_of y)) (b.schedule ++ b.config.uncommitted) n mutex) (s.codes.number h below)
-      (unlocked_last y s w b code (stands.before_commit.ghosts h) (stands.before_commit.each h below) mutex gives))
+      subst (λ (from : m.State). LastUnlocks from (steps.kept ++ steps.pending) h mutex) resumes.counted.begins
+      (subst (λ (us : List ℕ). LastUnlocks b.origin.source us h mutex) lists
+      (subst (λ (n : ℕ). LastUnlocks b.origin.source (b.schedule ++ b.config.uncommitted) n mutex) (s.codes.number h below)
+      (unlocked_last y s w b code (stands.before_commit.ghosts h) (stands.before_commit.each h below) mutex gives)))
 
   record_is : (lock : ℕ) → (has_lock (record_of w.words h) lock ≡ true) ↔ ThreadHolds (source (translation_of y) steps.kept) h lock
   record_is lock =

@@ -4,12 +4,15 @@ use Rattle.ido_base.specs.declared.event.Event.{Event}
 use Rattle.flow_graph.specs.Lowering.{lowered}
 use Rattle.flow_graph.specs.IdempotentCuts.{IsMinimal}
 use Rattle.region_cutter.specs.FewestCuts.{AreFewestCuts}
+use Rattle.region_attempts.specs.Origins.{Origin}
 use Rattle.crash_simulation.specs.Systems.{System, IsSystem, flat_of}
+use Rattle.crash_simulation.specs.RecoveredWords.{IsRecoveredFrom}
 use Rattle.compiler_correctness.specs.Translations.{Translation, HaveNoCrash}
 use Rattle.compiler_correctness.specs.Delays.{AreDelaysBounded}
 use Rattle.compiler_correctness.specs.Compilation.{IsSettledAsKept, KeptScheduleGrows, AreSectionsKept, AreRecords, AreWhole, IsInStep, NeverStuck}
 use Rattle.compiler_correctness.specs.Forms.{HasForm}
-use Rattle.compiler_correctness.specs.Images.{image_of, file_of, image_in, IsCrashed, IsResumedAsKept, StayBetween, IsInFile}
+use Rattle.compiler_correctness.specs.Images.{Image, image_of, file_of, image_in, IsCrashed, IsResumedAsKept, StayBetween, IsInFile}
+use Rattle.compiler_correctness.specs.WordRuns.{RunsOn, SettlesFrom}
 use Rattle.compiler_correctness.specs.Compilations.{IsCompilation}
 
 -- what a system is to its readers
@@ -54,6 +57,16 @@ ImagesAreCrashes = (c : Translation) (before events : List Event) → IsCrashed 
 abbrev pub ImagesAreResumed : Type 0
 ImagesAreResumed = (y : System) → IsSystem y → (before events : List Event) →
     IsResumedAsKept (translation_of y) (image_of (translation_of y) before) events
+
+-- a machine that begins with words whose records describe an origin, whoever left them, runs on
+abbrev pub RecoveredWordsRunOn : Type 0
+RecoveredWordsRunOn = (y : System) (s : IsSystem y) (o : Origin (flat_of y)) (image : Image) → IsRecoveredFrom y s o image.words →
+    RunsOn (translation_of y) image
+
+-- and what it leaves is what the source leaves from there, with every section whole
+abbrev pub RecoveredWordsSettle : Type 0
+RecoveredWordsSettle = (y : System) (s : IsSystem y) (o : Origin (flat_of y)) (image : Image) → IsRecoveredFrom y s o image.words → (events : List Event) →
+    SettlesFrom (translation_of y) image o.source events
 
 -- no hart stores between the variables and the logs
 abbrev pub WordsBetweenStay : Type 0

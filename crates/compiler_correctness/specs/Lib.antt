@@ -3,5 +3,6 @@ pub mod Compilation
 pub mod Forms
 pub mod Images
 pub mod Delays
+pub mod WordRuns
 pub mod Compilations
 pub mod Laws

@@ -1,11 +1,12 @@
 //! Laws of compiled programs in the words of their readers: nothing is computed here.
 ghost use Rattle.compiler_correctness.specs.Laws.{CompiledCodeHasForm, DelaysAreBounded, FilesAreImages, FilesAreResumed, HartsNeverStick};
 ghost use Rattle.compiler_correctness.specs.Laws.{ImagesAreCrashes, ImagesAreResumed, KeptStepsGrow, MachinesAreWhole, MachinesKeepStep};
-ghost use Rattle.compiler_correctness.specs.Laws.{MachinesRecord, SectionsAreKept, SettledMachinesAreKept, SystemsAreCompilations, WordsBetweenStay};
+ghost use Rattle.compiler_correctness.specs.Laws.{MachinesRecord, RecoveredWordsRunOn, RecoveredWordsSettle, SectionsAreKept, SettledMachinesAreKept};
+ghost use Rattle.compiler_correctness.specs.Laws.{SystemsAreCompilations, WordsBetweenStay};
 
 use crash_simulation::laws::{
-    cores_step, events_stand, fragments_step, machines_resume,
-    sections_are_kept as ended_sections_are_kept,
+    cores_step, events_stand, fragments_step, machines_resume, none_is_stuck as simulating_is_free,
+    recovered_are_counted, recovered_words_simulate, sections_are_kept as ended_sections_are_kept,
 };
 use hart_runs::laws::{none_is_stuck, steps_are_counted};
 use region_cutter::laws::chosen_boundaries_are_locked;
@@ -103,6 +104,30 @@ pub fn images_are_resumed()
 {
     kept_steps_grow();
     settled_machines_are_kept();
+}
+
+/// A machine that begins with words whose records describe a state of the source runs on, whoever left them and whether a run reaches that state or not:
+/// no hart is ever stuck, none that takes its locks in recovery waits for one, and one that waits for no lock begins its next step, or has stopped, within
+/// twice its code's words and 18 of its steps while power stays on.
+pub fn recovered_words_run_on()
+    ensures { RecoveredWordsRunOn }
+{
+    cores_step();
+    events_stand();
+    marks_pass();
+    simulating_is_free();
+    recovered_words_simulate();
+    steps_are_counted();
+    fragments_go_on();
+    fragments_step();
+}
+
+/// Whatever happens in such a run, the source can be stepped from that state by all steps that are kept since, and where all harts stand between sections,
+/// durable variables are those that it has then.
+pub fn recovered_words_settle()
+    ensures { RecoveredWordsSettle }
+{
+    recovered_are_counted();
 }
 
 /// Whatever happens, no hart stores between the variables and the logs: those words are 0, durably.

@@ -1,6 +1,6 @@
 -- The machine simulates an abstract run after all events, and its account is that run's.
 use Rattle.std.proofs.Common.{◌≡◌, ◌≢◌, ◌⊎◌, inl, inr, refl, ℕ, zero, suc, ◌+◌, ◌<◌, ◌≤◌, Bool, arith, List, [], ◌∷◌, ◌++◌, length, sym, ◌∙◌}
-use Rattle.std.proofs.Common.{ap, subst, true, false, Option, Some, None}
+use Rattle.std.proofs.Common.{ap, ap₂, subst, true, false, Option, Some, None}
 use Rattle.std.specs.Prelude.{slice_get}
 use Rattle.std.proofs.lemmas.Bool.{true≢false}
 use Rattle.ido_base.specs.declared.event.Event.{Event}
@@ -21,21 +21,22 @@ use Rattle.thread_runs.specs.CodeFragments.{ExitPoint, Stage, IsOnFragment, on_m
 use Rattle.thread_runs.specs.Laws.{AreMarksOf, FragmentsGoOn}
 use Rattle.flow_graph.specs.Actions.{seen_by}
 use Rattle.recovered_threads.specs.RecordDescriptions.{Code}
-use Rattle.crash_simulation.specs.Systems.{System, IsSystem, flat_of, thread_count}
+use Rattle.crash_simulation.specs.Systems.{System, IsSystem, thread_count}
 use Rattle.crash_simulation.specs.AbstractRuns.{AbstractRun, now_of}
 use Rattle.crash_simulation.specs.ThreadGhosts.{ThreadGhost, ExitInv, ThreadInv}
 use Rattle.crash_simulation.specs.SimulationRelation.{SimulatesBeforeCommit, Simulates}
 use Rattle.crash_simulation.specs.InstructionSteps.{is_bound, is_leaving, begins, IsUnlocked, was_unlocked, OnFragmentNow, IsCalling, asks, gives, ends}
 use Rattle.crash_simulation.specs.InstructionSteps.{IsReadyToStep, on_fragment, calls, at_core, OwnStep, SimulatesReady}
 use Rattle.crash_simulation.specs.InstructionSteps.{RunsReady, FragmentsStep, CoresStep, CallsStep}
-use Rattle.crash_simulation.specs.AccountRelation.{IsCountedOf, AreCounted, SimulatesCounted, MachinesResume}
+use Rattle.crash_simulation.specs.AccountRelation.{IsCountedOf, AreCounted, SimulatesCounted, MachinesResume, Beginning}
+use Rattle.crash_simulation.specs.RecoveredWords.{RecoveredAreCounted}
 use Rattle.crash_simulation.specs.ReleasedSections.{one_if, sections_kept, IsReleasedOf, in_step, cut_off}
 use Rattle.crash_simulation.specs.ReleasedSections.{AreReleased, IsCarried, ended_in_machine, SectionsAreKept}
 use Rattle.crash_simulation.proofs.LastReleases.{holders_stay_none}
 use Rattle.crash_simulation.proofs.SectionsAfterEvents.{none_more, released_by, phase_releases, still_released, ready_released}
 use Rattle.crash_simulation.proofs.SectionsAfterEvents.{own_step_released, evicted_released, crash_released}
 use Rattle.recovered_threads.proofs.Public.{same_or_other}
-use Rattle.c_tree.specs.Source.{start, ended_from}
+use Rattle.c_tree.specs.Source.{State, ended_from}
 use Rattle.rv64_isa.specs.declared.object.Slot.{Slot}
 use Rattle.crash_simulation.specs.Laws.{EventsStand, RunsSimulate}
 use Rattle.crash_simulation.proofs.LoadFreeEnvironment.{none_ahead}
@@ -51,7 +52,8 @@ use Rattle.crash_simulation.proofs.CommitSimulation.{commit_stutters, commits_co
 use Rattle.crash_simulation.proofs.AccountUpdates.{count_same}
 use Rattle.crash_simulation.proofs.LocksAfterStep.{own_ghost, other_ghost}
 use Rattle.crash_simulation.proofs.PointPositions.{none_there_counted, none_running_counted, none_there_begins, none_running_begins}
-use Rattle.crash_simulation.proofs.AccountsBeforeCommit.{none_bound, start_carried, crash_counted, still_are_counted, evicted_counted, own_step_counted}
+use Rattle.crash_simulation.proofs.AccountsBeforeCommit.{none_bound, recovered_carried, start_carried, crash_counted}
+use Rattle.crash_simulation.proofs.AccountsBeforeCommit.{still_are_counted, evicted_counted, own_step_counted}
 
 -- ---- Where steps are bound, no step is begun
 
@@ -108,7 +110,7 @@ module _ (law : FragmentsGoOn) (y : System) (s : IsSystem y) (w : World) (h : �
 -- ---- The machine that is taken to be ready is counted as before
 
 module _ (y : System) (s : IsSystem y) (w : World) (h : ℕ) (old : Simulates y s w) (ready : SimulatesReady y s w h old) (steps : Steps)
-    (counted : AreCounted y s w old.before_commit steps) where
+    {g : Beginning} (counted : AreCounted y s g w old.before_commit steps) where
   each_ready : (n : ℕ) → n < thread_count y → IsCountedOf y w ready.stands.before_commit.abstract n (ready.stands.before_commit.ghosts n) (hart_steps steps n)
   each_ready n below =
       let one = counted.each n below in
@@ -122,9 +124,10 @@ module _ (y : System) (s : IsSystem y) (w : World) (h : ℕ) (old : Simulates y 
             (o.0, o.1 ∙ (λ i. record { position = last_position (point_in w.words n); steps = begun i } ∷ []));
       }
 
-  ready_counted : AreCounted y s w ready.stands.before_commit steps
+  ready_counted : AreCounted y s g w ready.stands.before_commit steps
   ready_counted = record {
-    kept = counted.kept ∙ ap (λ (b : AbstractRun y). b.schedule) (sym ready.abstract);
+    begins = ap (λ (b : AbstractRun y). b.origin.source) ready.abstract ∙ counted.begins;
+    kept = counted.kept ∙ ap (λ (b : AbstractRun y). g.kept ++ b.schedule) (sym ready.abstract);
     pending = counted.pending ∙ ap (λ (b : AbstractRun y). b.config.uncommitted) (sym ready.abstract);
     count = counted.count;
     each = each_ready;
@@ -174,8 +177,8 @@ module _ (ready : RunsReady) (fragments_step : FragmentsStep) (cores_step : Core
   -- ---- Its steps are counted
 
   module _ (law : FragmentsGoOn) where
-    module _ (y : System) (s : IsSystem y) (w : World) (h : ℕ) (steps : Steps) (r : ℕ → ℕ) (carried : IsCarried y s w steps r) where
-      abbrev is : SimulatesCounted y s w steps
+    module _ (y : System) (s : IsSystem y) {g : Beginning} (w : World) (h : ℕ) (steps : Steps) (r : ℕ → ℕ) (carried : IsCarried y s g w steps r) where
+      abbrev is : SimulatesCounted y s g w steps
       is = carried.resumed
 
       abbrev after : World
@@ -187,7 +190,7 @@ module _ (ready : RunsReady) (fragments_step : FragmentsStep) (cores_step : Core
       -- a simulation before commit that is counted with these steps, after these releases
       pub record SimulatesWith (counts : Steps) : Type 0 where
         pub before_commit : SimulatesBeforeCommit y s after
-        pub counted : AreCounted y s after before_commit counts
+        pub counted : AreCounted y s g after before_commit counts
         pub released : AreReleased y s after before_commit then_released
         pub tried : AreFurthest is.stands.before_commit.abstract.config → AreFurthest before_commit.abstract.config
         -- what the hart's thread has still to give back, and that each other has the same
@@ -260,18 +263,18 @@ module _ (ready : RunsReady) (fragments_step : FragmentsStep) (cores_step : Core
           (holders_stay_none y.runs.program w h (ap (λ (v : World). v.holders) (sym (not_there y w h none))))
       step_with (Some hart) here = in_phase_with hart.phase (record { hart = hart; here = here; phase_is = refl })
 
-      step_carried : IsCarried y s after (steps_after y.runs.marks y.runs.program w (Step h) steps) then_released
+      step_carried : IsCarried y s g after (steps_after y.runs.marks y.runs.program w (Step h) steps) then_released
       unfolding steps_after
       step_carried =
           let t = step_with (slice_get w.harts h) refl in
           let count : length then_steps.harts ≡ length steps.harts =
           count_same (passes_mark y.runs.marks y.runs.program w h) (stores_point y.runs.program w (Step h) h) h
           (last_position (point_in after.words h)) steps in
-          subst (λ (n : ℕ). IsCarried y s after (with_all_kept after.words n then_steps) then_released) count
+          subst (λ (n : ℕ). IsCarried y s g after (with_all_kept after.words n then_steps) then_released) count
           (commits_count y s after t.before_commit then_steps then_released t.counted t.released)
 
-    event_carried : (y : System) (s : IsSystem y) (w : World) (event : Event) (steps : Steps) (r : ℕ → ℕ) → IsCarried y s w steps r →
-        IsCarried y s (after_event y.runs.program w event) (steps_after y.runs.marks y.runs.program w event steps) (released_by y.runs.program w event r)
+    event_carried : (y : System) (s : IsSystem y) {g : Beginning} (w : World) (event : Event) (steps : Steps) (r : ℕ → ℕ) → IsCarried y s g w steps r →
+        IsCarried y s g (after_event y.runs.program w event) (steps_after y.runs.marks y.runs.program w event steps) (released_by y.runs.program w event r)
     unfolding steps_after
     event_carried y s w (Step h) steps r is = step_carried y s w h steps r is
     event_carried y s w (Evict line mask) steps r is =
@@ -289,12 +292,13 @@ module _ (ready : RunsReady) (fragments_step : FragmentsStep) (cores_step : Core
         released_by program w event r n + released_count program (after_event program w event) events n ≡ r n + released_count program w (event ∷ events) n
     all_released program w event events r n = omega arith
 
-    events_carried : (y : System) (s : IsSystem y) (events : List Event) (w : World) (steps : Steps) (r : ℕ → ℕ) → IsCarried y s w steps r →
-        IsCarried y s (after_events y.runs.program w events) (steps_along y.runs.marks y.runs.program w events steps)
+    events_carried : (y : System) (s : IsSystem y) {g : Beginning} (events : List Event) (w : World) (steps : Steps) (r : ℕ → ℕ) →
+        IsCarried y s g w steps r →
+        IsCarried y s g (after_events y.runs.program w events) (steps_along y.runs.marks y.runs.program w events steps)
         (λ n. r n + released_count y.runs.program w events n)
-    events_carried y s [] w steps r is = subst (IsCarried y s w steps) (λ i n. none_more (r n) i) is
-    events_carried y s (event ∷ events) w steps r is =
-        subst (IsCarried y s (after_events y.runs.program w (event ∷ events)) (steps_along y.runs.marks y.runs.program w (event ∷ events) steps))
+    events_carried y s {g} [] w steps r is = subst (IsCarried y s g w steps) (λ i n. none_more (r n) i) is
+    events_carried y s {g} (event ∷ events) w steps r is =
+        subst (IsCarried y s g (after_events y.runs.program w (event ∷ events)) (steps_along y.runs.marks y.runs.program w (event ∷ events) steps))
         (λ i n. all_released y.runs.program w event events r n i)
         (events_carried y s events (after_event y.runs.program w event) (steps_after y.runs.marks y.runs.program w event steps)
         (released_by y.runs.program w event r)
@@ -302,6 +306,9 @@ module _ (ready : RunsReady) (fragments_step : FragmentsStep) (cores_step : Core
 
     pub machines_resume : MachinesResume
     machines_resume y s events = (events_carried y s events _ _ (λ n. 0) (start_carried y s)).resumed
+
+    pub recovered_are_counted : RecoveredAreCounted
+    recovered_are_counted y s o words kept is events = (events_carried y s events _ _ (λ n. 0) (recovered_carried y s o words kept is)).resumed
 
     -- ---- Its sections are kept
 
@@ -343,4 +350,5 @@ module _ (ready : RunsReady) (fragments_step : FragmentsStep) (cores_step : Core
           | inl below ↦ near_of y w t.abstract h (t.ghosts h) (ended_in_machine y events h) (z.released.each h below)
           | inr outside ↦ near_beyond (ended_in_machine y events h) (sections_kept y t.abstract h) (z.released.beyond h outside)
         ] in
-        subst (IsNear (ended_in_machine y events h)) (ap (λ (us : List ℕ). ended_from (start (flat_of y)) us h) (sym z.resumed.counted.kept)) near
+        subst (IsNear (ended_in_machine y events h))
+        (ap₂ (λ (from : State) (us : List ℕ). ended_from from us h) z.resumed.counted.begins (sym z.resumed.counted.kept)) near

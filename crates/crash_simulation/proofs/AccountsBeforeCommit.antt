@@ -9,7 +9,7 @@ use Rattle.ido_base.specs.declared.event.Event.TheVariants.{Step, Evict, Crash}
 use Rattle.ido_base.specs.Words.{Word, last_position}
 use Rattle.rv64_isa.specs.declared.phase.Phase.TheVariants.{Run}
 use Rattle.rv64_isa.specs.Executables.{first_world}
-use Rattle.rv64_isa.specs.Machine.{World, after_event}
+use Rattle.rv64_isa.specs.Machine.{World, after_event, after_crash_of}
 use Rattle.rv64_isa.specs.Schedule.{HartSteps, Steps, no_steps, hart_steps, first_steps, passes_mark, stores_point, with_step, steps_after}
 use Rattle.hart_runs.specs.Calls.{IsInPhase}
 use Rattle.recovery_semantics.specs.Configs.{Config}
@@ -18,15 +18,18 @@ use Rattle.recovery_semantics.proofs.Public.{counted_own, counted_other}
 use Rattle.log_states.specs.Logs.{point_in}
 use Rattle.log_states.specs.Stages.{is_store}
 use Rattle.recovered_threads.proofs.Public.{same_or_other}
-use Rattle.crash_simulation.specs.Systems.{System, IsSystem, thread_count}
+use Rattle.crash_simulation.specs.Systems.{System, IsSystem, flat_of, thread_count}
 use Rattle.crash_simulation.specs.AbstractRuns.{AbstractRun}
 use Rattle.crash_simulation.specs.ThreadGhosts.{ThreadGhost}
 use Rattle.crash_simulation.specs.SimulationRelation.{Simulates}
 use Rattle.crash_simulation.specs.InstructionSteps.{IsDoneBy, StepsOrStutters, stays, goes, is_begun, begins, is_bound, with_ghost, OwnStep}
-use Rattle.crash_simulation.specs.AccountRelation.{IsCountedOf, AreCounted}
-use Rattle.crash_simulation.specs.ReleasedSections.{in_step, IsCarried}
+use Rattle.region_attempts.specs.Origins.{Origin}
+use Rattle.crash_simulation.specs.RecoveredWords.{IsRecoveredFrom}
+use Rattle.crash_simulation.specs.AccountRelation.{IsCountedOf, AreCounted, Beginning, first_beginning}
+use Rattle.crash_simulation.specs.ReleasedSections.{sections_kept, in_step, IsCarried}
 use Rattle.crash_simulation.proofs.SimulationAtStart as starting
 use Rattle.crash_simulation.proofs.SimulationAfterCrash as crashing
+use Rattle.crash_simulation.proofs.SimulationFromWords as recovering
 use Rattle.crash_simulation.proofs.SimulationInRecovery.{SimulatesStill}
 use Rattle.crash_simulation.proofs.DisjointStores.{elsewhere}
 use Rattle.crash_simulation.proofs.StepSimulation.{simulates_after, evicted_simulates}
@@ -39,12 +42,12 @@ none_bound c is = ap (λ (b : Bool). not b && not (list_any is_store c.rest)) is
 
 -- ---- Starts and crashes
 
-nothing_counted : (count n : ℕ) → hart_steps (record { begun = []; kept = []; pending = []; harts = replicate count no_steps }) n ≡ no_steps
+pub nothing_counted : (count n : ℕ) → hart_steps (record { begun = []; kept = []; pending = []; harts = replicate count no_steps }) n ≡ no_steps
 nothing_counted zero n = refl
 nothing_counted (suc count) zero = refl
 nothing_counted (suc count) (suc n) = nothing_counted count n
 
-none_counted : (y : System) (w : World) (b : AbstractRun y) (n : ℕ) (c : ThreadGhost) (one : HartSteps) → c.committed ≡ true → steps_begun b.config n ≡ 0 →
+pub none_counted : (y : System) (w : World) (b : AbstractRun y) (n : ℕ) (c : ThreadGhost) (one : HartSteps) → c.committed ≡ true → steps_begun b.config n ≡ 0 →
     one ≡ no_steps → IsCountedOf y w b n c one
 none_counted y w b n c one committed begun none = record {
   free = λ e. (ap (λ (x : HartSteps). x.free) none ∙ sym begun, ap (λ (x : HartSteps). x.bound) none);
@@ -52,26 +55,49 @@ none_counted y w b n c one committed begun none = record {
 }
 
 pub start_counted : (y : System) (s : IsSystem y) →
-    AreCounted y s (first_world y.runs) (starting.stands y s).before_commit (first_steps (length y.runs.program) [])
+    AreCounted y s (first_beginning y) (first_world y.runs) (starting.stands y s).before_commit (first_steps (length y.runs.program) [])
 start_counted y s = record {
+  begins = refl;
   kept = refl;
   pending = refl;
   count = length-replicate (length y.runs.program) no_steps ∙ s.count;
   each = λ n below. none_counted y (first_world y.runs) _ n _ _ refl refl (nothing_counted (length y.runs.program) n);
 }
 
-abbrev pub start_carried : (y : System) (s : IsSystem y) → IsCarried y s (first_world y.runs) (first_steps (length y.runs.program) []) (λ n. 0)
+abbrev pub start_carried : (y : System) (s : IsSystem y) →
+    IsCarried y s (first_beginning y) (first_world y.runs) (first_steps (length y.runs.program) []) (λ n. 0)
 start_carried y s = record {
   resumed = record { stands = starting.stands y s; counted = start_counted y s };
   released = record { each = λ n below. in_step refl; beyond = λ n outside. refl };
 }
 
-pub crash_counted : (y : System) (s : IsSystem y) (w : World) (stands : Simulates y s w) (steps : Steps) → AreCounted y s w stands.before_commit steps →
-    AreCounted y s (after_event y.runs.program w Crash) (crashing.stands_after y s w stands).before_commit
+-- the account of a machine that begins with words goes on after what was kept
+abbrev pub recovered_carried : (y : System) (s : IsSystem y) (o : Origin (flat_of y)) (words kept : List ℕ) (is : IsRecoveredFrom y s o words) →
+    IsCarried y s (record { from = o.source; kept = kept }) (after_crash_of y.runs.program y.runs.mutexes words)
+    (first_steps (length y.runs.program) kept) (λ n. 0)
+recovered_carried y s o words kept is = record {
+  resumed = record {
+    stands = recovering.stands y s o words is;
+    counted = record {
+      begins = refl;
+      kept = sym (append-nil kept);
+      pending = refl;
+      count = length-replicate (length y.runs.program) no_steps ∙ s.count;
+      each = λ n below.
+          none_counted y (after_crash_of y.runs.program y.runs.mutexes words) _ n _ _ refl refl (nothing_counted (length y.runs.program) n);
+    };
+  };
+  released = record { each = λ n below. in_step refl; beyond = λ n outside. refl };
+}
+
+pub crash_counted : (y : System) (s : IsSystem y) {g : Beginning} (w : World) (stands : Simulates y s w) (steps : Steps) →
+    AreCounted y s g w stands.before_commit steps →
+    AreCounted y s g (after_event y.runs.program w Crash) (crashing.stands_after y s w stands).before_commit
     (steps_after y.runs.marks y.runs.program w Crash steps)
 unfolding steps_after
-crash_counted y s w stands steps counted = record {
-  kept = counted.kept ∙ sym (append-nil stands.before_commit.abstract.schedule);
+crash_counted y s {g} w stands steps counted = record {
+  begins = counted.begins;
+  kept = counted.kept ∙ ap (λ (us : List ℕ). g.kept ++ us) (sym (append-nil stands.before_commit.abstract.schedule));
   pending = refl;
   count = length-replicate (length steps.harts) no_steps ∙ counted.count;
   each = λ n below. none_counted y (after_event y.runs.program w Crash) _ n _ _ refl refl (nothing_counted (length steps.harts) n);
@@ -80,10 +106,11 @@ crash_counted y s w stands steps counted = record {
 -- ---- Where the machine simulates the same abstract run
 
 module _ (y : System) (s : IsSystem y) (w v : World) (old : Simulates y s w) (still : SimulatesStill y s w v old) (steps : Steps)
-    (counted : AreCounted y s w old.before_commit steps) where
-  pub still_are_counted : AreCounted y s v still.stands.before_commit steps
+    {g : Beginning} (counted : AreCounted y s g w old.before_commit steps) where
+  pub still_are_counted : AreCounted y s g v still.stands.before_commit steps
   still_are_counted = record {
-    kept = counted.kept ∙ ap (λ (b : AbstractRun y). b.schedule) (sym still.abstract);
+    begins = ap (λ (b : AbstractRun y). b.origin.source) still.abstract ∙ counted.begins;
+    kept = counted.kept ∙ ap (λ (b : AbstractRun y). g.kept ++ b.schedule) (sym still.abstract);
     pending = counted.pending ∙ ap (λ (b : AbstractRun y). b.config.uncommitted) (sym still.abstract);
     count = counted.count;
     each = λ n below.
@@ -95,10 +122,11 @@ module _ (y : System) (s : IsSystem y) (w v : World) (old : Simulates y s w) (st
 
 -- ---- An eviction
 
-pub evicted_counted : (y : System) (s : IsSystem y) (w : World) (line mask : ℕ) (stands : Simulates y s w) (steps : Steps) →
-    AreCounted y s w stands.before_commit steps →
-    AreCounted y s (after_event y.runs.program w (Evict line mask)) (evicted_simulates y s w line mask stands) steps
+pub evicted_counted : (y : System) (s : IsSystem y) {g : Beginning} (w : World) (line mask : ℕ) (stands : Simulates y s w) (steps : Steps) →
+    AreCounted y s g w stands.before_commit steps →
+    AreCounted y s g (after_event y.runs.program w (Evict line mask)) (evicted_simulates y s w line mask stands) steps
 evicted_counted y s w line mask stands steps counted = record {
+  begins = counted.begins;
   kept = counted.kept;
   pending = counted.pending;
   count = counted.count;
@@ -118,9 +146,17 @@ happens_pending m _ thread (commits u attempts g) by = absurd by
 happens_pending m _ thread (crashes attempts g) by = absurd by
 
 module _ (y : System) (b : AbstractRun y) (thread : ℕ) where
-  pub led_schedule : (next : AbstractRun y) → StepsOrStutters y b thread next → next.schedule ≡ b.schedule
+  led_schedule : (next : AbstractRun y) → StepsOrStutters y b thread next → next.schedule ≡ b.schedule
   led_schedule _ stays = refl
   led_schedule _ (goes next h by execution respects) = refl
+
+  led_origin : (next : AbstractRun y) → StepsOrStutters y b thread next → next.origin.source ≡ b.origin.source
+  led_origin _ stays = refl
+  led_origin _ (goes next h by execution respects) = refl
+
+  pub led_sections : (next : AbstractRun y) → StepsOrStutters y b thread next → (n : ℕ) → sections_kept y next n ≡ sections_kept y b n
+  led_sections _ stays n = refl
+  led_sections _ (goes next h by execution respects) n = refl
 
   led_pending : (next : AbstractRun y) (led : StepsOrStutters y b thread next) → next.config.uncommitted ≡ begun_by (begins led) thread b.config.uncommitted
   led_pending _ stays = refl
@@ -140,7 +176,7 @@ same_other m next thread n false differs e = ap (λ (p : List ℕ). steps_begun 
 -- ---- A step of a hart that executes instructions
 
 module _ (y : System) (s : IsSystem y) (w : World) (h : ℕ) (stands : Simulates y s w) (i : IsInPhase w h Run) (o : OwnStep y s w h stands) (steps : Steps)
-    (counted : AreCounted y s w stands.before_commit steps)
+    {g : Beginning} (counted : AreCounted y s g w stands.before_commit steps)
     (none : is_bound (stands.before_commit.ghosts h) ≡ true → passes_mark y.runs.marks y.runs.program w h ≡ false) where
   abbrev b : AbstractRun y
   b = stands.before_commit.abstract
@@ -203,10 +239,11 @@ module _ (y : System) (s : IsSystem y) (w : World) (h : ℕ) (stands : Simulates
         (sym (cond-false (n == h) o.ghost (stands.before_commit.ghosts n) (ne_eqb n h differs))) (other n below differs)
   ]
 
-  pub own_step_counted : AreCounted y s after (simulates_after y s w h stands i o) then_steps
+  pub own_step_counted : AreCounted y s g after (simulates_after y s w h stands i o) then_steps
   unfolding IsCountedAt
   own_step_counted = record {
-    kept = kept_same begun points h position steps ∙ (counted.kept ∙ sym (led_schedule y b h o.next o.led));
+    begins = led_origin y b h o.next o.led ∙ counted.begins;
+    kept = kept_same begun points h position steps ∙ (counted.kept ∙ ap (λ (us : List ℕ). g.kept ++ us) (sym (led_schedule y b h o.next o.led)));
     pending = pending_is begun points h position steps ∙ (ap (begun_by begun h) counted.pending ∙ sym pending);
     count = count_same begun points h position steps ∙ counted.count;
     each = each;

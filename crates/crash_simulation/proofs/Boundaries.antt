@@ -1,7 +1,7 @@
 -- Boundaries that a thread's code begins: they can be recovered from, and their records describe the state.
 use Rattle.std.proofs.Common.{◌≡◌, ◌≢◌, refl, ℕ, zero, suc, ◌+◌, ◌-◌, ◌*◌, ◌%◌, ◌^◌, ◌<◌, ◌≤◌, List, [], ◌∷◌, length, map, sym, ◌∙◌}
 use Rattle.std.proofs.Common.{ap, subst, arith, Option, Some, true}
-use Rattle.std.specs.Prelude.{slice_get, slice_index, sum_by, take, Bool, false, None, nat_le, ◌/◌, ◌==◌, ◌&&◌, if◌then◌else◌}
+use Rattle.std.specs.Prelude.{slice_get, slice_index, sum_by, take, Bool, false, None, ℤ, nat_le, ◌/◌, ◌==◌, ◌&&◌, if◌then◌else◌}
 use Rattle.std.proofs.lemmas.Bool.{and_parts, leb-true, eqb-true}
 use Rattle.std.proofs.lemmas.Bool.Decides.{nat_tests}
 use Rattle.std.proofs.lemmas.Option.{none-some, slice_get_within}
@@ -38,7 +38,7 @@ use Rattle.region_attempts.proofs.Public.{is_there, owes_at}
 use Rattle.variable_words.proofs.Public.{well_formed_placed, addresses_reach}
 use Rattle.log_states.specs.Laws.{recorded_by, IsRecoverable}
 use Rattle.thread_code.specs.Plans.{Plan, IsNodeOf, IsKept, of_local, of_address, of_value, IsPlan, locks_before}
-use Rattle.thread_code.specs.RegistersAtNodes.{IsPendingIn, HasPending, Enters}
+use Rattle.thread_code.specs.RegistersAtNodes.{IsPendingIn, HasLowBytes, HasPending, Enters}
 use Rattle.thread_code.specs.NodeCodeEffects.{Places, keeping}
 use Rattle.thread_code.specs.Programs.{IsCalling}
 use Rattle.thread_runs.specs.CodeFragments.{IsLockOf, IsUnlockOf}
@@ -224,7 +224,7 @@ module _ (p : Plan) (code : Code p) (plan : IsPlan p) (s : FlowState) (good : Go
         subst (λ (k : ℕ). k < 2 ^ 64) (sym (pending_there is variable kind next at stores_there store.0 store.1).address) (address_small store.0 store.1)
     kept_small register (of_value (stores is variable kind next at stores_there)) =
         let store = store_ahead is variable kind next at stores_there in
-        carried_small register _ (pending_there is variable kind next at stores_there store.0 store.1).value
+        (pending_there is variable kind next at stores_there store.0 store.1).value.below
 
     -- ---- All registers cut to 64 bits
 
@@ -246,6 +246,15 @@ module _ (p : Plan) (code : Code p) (plan : IsPlan p) (s : FlowState) (good : Go
     cut_carries register v carries =
         record { held = carries.held; form = cut_same register (carried_small register v carries) ∙ carries.form }
 
+    cut_low : (register : ℕ) (k : Kind) (number : ℤ) → HasLowBytes x register k number → HasLowBytes cut register k number
+    cut_low register k number has =
+        let same = cut_same register has.below in
+        record {
+          held = has.held;
+          below = subst (λ (v : ℕ). v < 2 ^ 64) (sym same) has.below;
+          low = ap (λ (v : ℕ). v % 2 ^ (8 * bytes_of k)) same ∙ has.low;
+        }
+
     cut_pending : (is : Node) → NodeAt p.graph graph_thread.at is → (a : Action) → is.action ≡ a → IsPendingIn p a (seen_by s graph_thread) cut
     cut_pending is at (Eval target value next) e = tt
     cut_pending is at (Store variable kind next) e = λ store owes.
@@ -253,7 +262,7 @@ module _ (p : Plan) (code : Code p) (plan : IsPlan p) (s : FlowState) (good : Go
         record {
           variable_is = has.variable_is;
           address = cut_same _ (kept_small _ (of_address (stores is variable kind next at e))) ∙ has.address;
-          value = cut_carries _ _ has.value;
+          value = cut_low _ _ _ has.value;
           below = has.below;
         }
     cut_pending is at (Test condition holds fails) e = tt

@@ -1,12 +1,11 @@
 -- Where boundaries have been committed, the steps before them are kept.
 use Rattle.std.proofs.Common.{◌≡◌, ◌≢◌, ◌⊎◌, inl, inr, refl, ℕ, zero, suc, ◌<◌, ◌≤◌, ◌==◌, List, [], ◌∷◌, ◌++◌, length, replicate, not, ◌&&◌, sym, ◌∙◌, ap}
-use Rattle.std.proofs.Common.{subst, arith, Bool, true, false, slice_set}
+use Rattle.std.proofs.Common.{append_assoc, subst, arith, Bool, true, false, slice_set}
 use Rattle.std.specs.Prelude.{◌+◌, slice_get, nat_le, is_some, if◌then◌else◌}
 use Rattle.std.specs.Option.{option_map}
 use Rattle.std.proofs.lemmas.Bool.{true≢false, cond-true, cond-false}
 use Rattle.c_tree.specs.Flats as f
 use Rattle.c_tree.specs.Source as m
-use Rattle.c_tree.specs.Source.{start}
 use Rattle.rv64_isa.specs.declared.phase.Phase.{Phase}
 use Rattle.rv64_isa.specs.declared.phase.Phase.TheVariants.{Take, Wait, Resume, Run, Done, Ended}
 use Rattle.ido_base.specs.Words.{last_position}
@@ -20,6 +19,7 @@ use Rattle.recovery_semantics.specs.Configs.{now, attempt_of}
 use Rattle.recovery_semantics.specs.Events.{IsSettled, steps_begun}
 use Rattle.recovery_semantics.specs.Laws.{HasLocked, HasUnlocked, LastUnlocks}
 use Rattle.recovery_semantics.proofs.Public.{equal_self, unequal_of, since_settles}
+use Rattle.region_attempts.specs.Origins.{Origin}
 use Rattle.region_attempts.specs.GraphStates.{flow_solo}
 use Rattle.region_attempts.specs.AttemptsInRegion.{HasCome, IsBeforeBoundary, SettlesThere}
 use Rattle.region_attempts.proofs.Public.{attempts_are_whole, graph_stands}
@@ -38,7 +38,7 @@ use Rattle.crash_simulation.specs.AbstractRuns.{AbstractRun, kept_of, now_of}
 use Rattle.crash_simulation.specs.ThreadGhosts.{ThreadGhost, ExitInv, on_fragment, at_core, IsRunningThread, Rests, InPhase, ThreadInv, committed}
 use Rattle.crash_simulation.specs.SimulationRelation.{AreHeld, AreLocked, gathering, gathered, SimulatesBeforeCommit, Simulates}
 use Rattle.crash_simulation.specs.InstructionSteps.{is_bound}
-use Rattle.crash_simulation.specs.AccountRelation.{IsCountedOf, AreCounted}
+use Rattle.crash_simulation.specs.AccountRelation.{IsCountedOf, AreCounted, Beginning, first_beginning}
 use Rattle.crash_simulation.specs.ReleasedSections.{one_if, sections_kept, IsReleasedOf, in_step, cut_off, AreReleased, IsCarried}
 use Rattle.crash_simulation.specs.Laws.{CommitStutters}
 use Rattle.crash_simulation.proofs.AccountsAtCommit.{not_kept, kept_is, pending_is, count_same, own_is, other_is}
@@ -93,7 +93,7 @@ module _ (y : System) (s : IsSystem y) (w : World) (b : AbstractRun y) (code : C
     node = t.graph_thread.at;
     steps = some;
     at =
-        let alone = (graph_stands x b.config b.schedule s.plan.formed (invariant y s b) (kept_by y s b)).alone u in
+        let alone = (graph_stands x b.origin b.config b.schedule s.plan.formed (invariant y s b) (kept_by y s b)).alone u in
         ap (option_map (λ (z : GraphThread). z.at))
         (ap (λ (n : ℕ). slice_get (flow_solo x (kept_of y b) u n).graph_threads u) (sym h.1) ∙ (sym alone ∙ t.walks));
     stands = h.0.stands;
@@ -166,7 +166,7 @@ module _ (y : System) (s : IsSystem y) (w : World) (before_commit : SimulatesBef
 abbrev seen : World → ThreadGhost → LogConfig
 seen w c = record { words = w.words; queue = []; rest = c.rest }
 
-module _ (y : System) (s : IsSystem y) (w : World) where
+module _ (y : System) (s : IsSystem y) (w : World) (g : Beginning) where
   abbrev HasCommitted : SimulatesBeforeCommit y s w → (thread : ℕ) → Type 0
   HasCommitted before_commit n = is_committed n (seen w (before_commit.ghosts n)) ≡ (before_commit.ghosts n).committed
 
@@ -174,6 +174,7 @@ module _ (y : System) (s : IsSystem y) (w : World) where
   record IsTaken (before_commit : SimulatesBeforeCommit y s w) (thread : ℕ) : Type 0 where
     next : AbstractRun y
     memory : next.config.memory ≡ before_commit.abstract.config.memory
+    origin : next.origin ≡ before_commit.abstract.origin
     schedule : next.schedule ≡ before_commit.abstract.schedule ++ replicate (steps_begun before_commit.abstract.config thread) thread
     pending : next.config.uncommitted ≡ without (steps_begun before_commit.abstract.config thread) thread before_commit.abstract.config.uncommitted
     own_begun : steps_begun next.config thread ≡ 0
@@ -194,7 +195,7 @@ module _ (y : System) (s : IsSystem y) (w : World) where
     tried : AreFurthest before_commit.abstract.config → AreFurthest after.abstract.config
     giving : (n : ℕ) → (after.ghosts n).giving ≡ (before_commit.ghosts n).giving
     -- as the machine's account has it
-    counted : (steps : Steps) → AreCounted y s w before_commit steps → AreCounted y s w after (with_kept w.words thread steps)
+    counted : (steps : Steps) → AreCounted y s g w before_commit steps → AreCounted y s g w after (with_kept w.words thread steps)
     released : (r : ℕ → ℕ) → AreReleased y s w before_commit r → AreReleased y s w after r
 
   module _ (before_commit : SimulatesBeforeCommit y s w) (k : ℕ) where
@@ -214,6 +215,7 @@ module _ (y : System) (s : IsSystem y) (w : World) where
       taken_still none done = record {
         next = b;
         memory = refl;
+        origin = refl;
         schedule = sym (append-nil b.schedule) ∙ ap (λ (n : ℕ). b.schedule ++ replicate n k) (sym none);
         pending = ap (λ (n : ℕ). without n k b.config.uncommitted) (sym none);
         own_begun = none;
@@ -239,6 +241,7 @@ module _ (y : System) (s : IsSystem y) (w : World) where
           record {
             next = next;
             memory = refl;
+            origin = refl;
             schedule = refl;
             pending = refl;
             own_begun = own_begun y s b k attempts m.settled m.there;
@@ -254,7 +257,7 @@ module _ (y : System) (s : IsSystem y) (w : World) where
                 (subst (λ (n : ℕ). steps_begun next.config n ≡ 0) (sym number) (own_begun y s b k attempts m.settled m.there))
                 (subst (λ (n : ℕ). (attempt_of next.config n).done ≡ 0) (sym number) (own_done y s b k attempts m.settled m.there))
                 (own_describes y s b k attempts m.settled m.there code c.new number)
-                (subst (λ (n : ℕ). (mutex : ℕ) → HasUnlocked b.config n mutex → LastUnlocks (start (flat_of y)) next.schedule n mutex) (sym number)
+                (subst (λ (n : ℕ). (mutex : ℕ) → HasUnlocked b.config n mutex → LastUnlocks next.origin.source next.schedule n mutex) (sym number)
                 (unlock_kept y s b k attempts m.settled m.there));
             others = λ n below apart is same.
                 let number : (s.codes.each n below).thread.number ≡ n = s.codes.number n below in
@@ -323,7 +326,7 @@ module _ (y : System) (s : IsSystem y) (w : World) where
 
       -- ---- The account
 
-      module _ (below : k < thread_count y) (steps : Steps) (counted : AreCounted y s w before_commit steps) (bound : is_bound c ≡ true)
+      module _ (below : k < thread_count y) (steps : Steps) (counted : AreCounted y s g w before_commit steps) (bound : is_bound c ≡ true)
           (reached : nat_le (last_position (point_in w.words k)) (point_in w.words k).durable ≡ true) where
         abbrev mine_counted : IsCountedOf y w b k c (hart_steps steps k)
         mine_counted = counted.each k below
@@ -351,11 +354,13 @@ module _ (y : System) (s : IsSystem y) (w : World) where
                   );
             })
 
-        counted_after : AreCounted y s w after (with_kept w.words k steps)
+        counted_after : AreCounted y s g w after (with_kept w.words k steps)
         unfolding after
         counted_after = record {
+          begins = ap (λ (o : Origin (flat_of y)). o.source) one.origin ∙ counted.begins;
           kept = kept_is y w b k c steps mine_counted bound reached
-              ∙ (ap (λ (us : List ℕ). us ++ replicate (steps_begun b.config k) k) counted.kept ∙ sym one.schedule);
+              ∙ (ap (λ (us : List ℕ). us ++ replicate (steps_begun b.config k) k) counted.kept
+              ∙ (append_assoc g.kept b.schedule (replicate (steps_begun b.config k) k) ∙ ap (λ (us : List ℕ). g.kept ++ us) (sym one.schedule)));
           pending = pending_is y w b k c steps mine_counted bound reached
               ∙ (ap (without (steps_begun b.config k) k) counted.pending ∙ sym one.pending);
           count = count_same y w b k c steps mine_counted bound reached ∙ counted.count;
@@ -375,7 +380,7 @@ module _ (y : System) (s : IsSystem y) (w : World) where
             let ends : m.ended_from b.config.kept (replicate (steps_begun b.config k) k) k ≡ one_if (is_some c.giving && (c.new.point == 0)) =
             subst (λ (n : ℕ). m.ended_from b.config.kept (replicate (steps_begun b.config n) n) n ≡ one_if (is_some c.giving && (c.new.point == 0)))
             (s.codes.number k below) (leaves y s w b code c (before_commit.each k below) not_yet) in
-            kept_more y s b one.next k one.schedule k ∙ ap (λ (n : ℕ). sections_kept y b k + n) ends
+            kept_more y s b one.next k one.origin one.schedule k ∙ ap (λ (n : ℕ). sections_kept y b k + n) ends
 
         own_released_by : IsReleasedOf y w b k c (r k) → IsReleasedOf y w one.next k (ghosts k) (r k)
         own_released_by (in_step e) =
@@ -387,9 +392,9 @@ module _ (y : System) (s : IsSystem y) (w : World) where
 
         other_released_by : (n : ℕ) → n ≢ k → IsReleasedOf y w b n (before_commit.ghosts n) (r n) → IsReleasedOf y w one.next n (ghosts n) (r n)
         other_released_by n apart (in_step e) =
-            in_step (kept_others y s b one.next k one.schedule n apart ∙ (e ∙ ap (λ (z : Bool). r n
+            in_step (kept_others y s b one.next k one.origin one.schedule n apart ∙ (e ∙ ap (λ (z : Bool). r n
             + one_if (z && (is_some (before_commit.ghosts n).giving && ((before_commit.ghosts n).new.point == 0)))) (sym (other_taken n apart))))
-        other_released_by n apart (cut_off i e) = cut_off i (kept_others y s b one.next k one.schedule n apart ∙ e)
+        other_released_by n apart (cut_off i e) = cut_off i (kept_others y s b one.next k one.origin one.schedule n apart ∙ e)
 
         own_released : IsReleasedOf y w one.next k (ghosts k) (r k)
         own_released = own_released_by (released.each k below)
@@ -402,7 +407,7 @@ module _ (y : System) (s : IsSystem y) (w : World) where
             | inr apart ↦ other_released_by n apart (released.each n inside)
           ];
           beyond = λ n outside.
-              kept_others y s b one.next k one.schedule n (λ e. omega (arith, outside, below, e)) ∙ released.beyond n outside;
+              kept_others y s b one.next k one.origin one.schedule n (λ e. omega (arith, outside, below, e)) ∙ released.beyond n outside;
         }
 
       catches : k < thread_count y → c.committed ≡ false → is_committed k (seen w c) ≡ true → is_bound c ≡ true →
@@ -434,7 +439,7 @@ module _ (y : System) (s : IsSystem y) (w : World) where
       tried = λ furthest. furthest;
       giving = λ n. refl;
       counted = λ steps counted.
-          subst (AreCounted y s w before_commit) (sym (not_kept y w b k c steps (counted.each k below) bound)) counted;
+          subst (AreCounted y s g w before_commit) (sym (not_kept y w b k c steps (counted.each k below) bound)) counted;
       released = λ r released. released;
     }
 
@@ -475,7 +480,7 @@ module _ (y : System) (s : IsSystem y) (w : World) where
       source : now before_commit.abstract.config ≡ now first.abstract.config
       tried : AreFurthest first.abstract.config → AreFurthest before_commit.abstract.config
       giving : (n : ℕ) → (before_commit.ghosts n).giving ≡ (first.ghosts n).giving
-      counted : (steps : Steps) → AreCounted y s w first steps → AreCounted y s w before_commit (with_all_kept w.words count steps)
+      counted : (steps : Steps) → AreCounted y s g w first steps → AreCounted y s g w before_commit (with_all_kept w.words count steps)
       released : (r : ℕ → ℕ) → AreReleased y s w first r → AreReleased y s w before_commit r
 
     caught_by : (k n : ℕ) → n < suc k → (h : HaveCommittedAll k) (one : CatchesUp h.before_commit k) → (n ≡ k) ⊎ (n ≢ k) → HasCommitted one.after n
@@ -530,40 +535,41 @@ module _ (y : System) (s : IsSystem y) (w : World) where
     stands_giving = all_have.giving
 
     -- the machine has kept the steps that are bound to durable points
-    resumed_by : (steps : Steps) (r : ℕ → ℕ) → AreCounted y s w first steps → AreReleased y s w first r →
-        IsCarried y s w (with_all_kept w.words (length steps.harts) steps) r
+    resumed_by : (steps : Steps) (r : ℕ → ℕ) → AreCounted y s g w first steps → AreReleased y s w first r →
+        IsCarried y s g w (with_all_kept w.words (length steps.harts) steps) r
     unfolding stands
     resumed_by steps r counted released = record {
       resumed = record {
         stands = stands;
         counted =
-            subst (λ (n : ℕ). AreCounted y s w all_have.before_commit (with_all_kept w.words n steps)) (sym counted.count) (all_have.counted steps counted);
+            subst (λ (n : ℕ). AreCounted y s g w all_have.before_commit (with_all_kept w.words n steps)) (sym counted.count) (all_have.counted steps counted);
       };
       released = all_have.released r released;
     }
 
 pub commit_stutters : CommitStutters
-commit_stutters y s w before_commit = stands y s w before_commit
+commit_stutters y s w before_commit = stands y s w (first_beginning y) before_commit
 
-pub commits_count : (y : System) (s : IsSystem y) (w : World) (before_commit : SimulatesBeforeCommit y s w) (steps : Steps) (r : ℕ → ℕ) →
-    AreCounted y s w before_commit steps →
-    AreReleased y s w before_commit r → IsCarried y s w (with_all_kept w.words (length steps.harts) steps) r
-commits_count y s w before_commit steps r counted released = resumed_by y s w before_commit steps r counted released
+pub commits_count : (y : System) (s : IsSystem y) {g : Beginning} (w : World) (before_commit : SimulatesBeforeCommit y s w) (steps : Steps) (r : ℕ → ℕ) →
+    AreCounted y s g w before_commit steps →
+    AreReleased y s w before_commit r → IsCarried y s g w (with_all_kept w.words (length steps.harts) steps) r
+commits_count y s {g} w before_commit steps r counted released = resumed_by y s w g before_commit steps r counted released
 
 -- the state now is the same then, and what each thread has still to give back; and where each attempt has come as far as any before, so it has
-pub record CatchesUpNow (y : System) (s : IsSystem y) (w : World) (before_commit : SimulatesBeforeCommit y s w) (steps : Steps) (r : ℕ → ℕ) : Type 0 where
-  pub carried : IsCarried y s w (with_all_kept w.words (length steps.harts) steps) r
+pub record CatchesUpNow (y : System) (s : IsSystem y) (g : Beginning) (w : World) (before_commit : SimulatesBeforeCommit y s w) (steps : Steps) (r : ℕ → ℕ) :
+    Type 0 where
+  pub carried : IsCarried y s g w (with_all_kept w.words (length steps.harts) steps) r
   pub source : now carried.resumed.stands.before_commit.abstract.config ≡ now before_commit.abstract.config
   pub tried : AreFurthest before_commit.abstract.config → AreFurthest carried.resumed.stands.before_commit.abstract.config
   pub giving : (n : ℕ) → (carried.resumed.stands.before_commit.ghosts n).giving ≡ (before_commit.ghosts n).giving
 
-pub commits_go_on : (y : System) (s : IsSystem y) (w : World) (before_commit : SimulatesBeforeCommit y s w) (steps : Steps) (r : ℕ → ℕ) →
-    AreCounted y s w before_commit steps →
-    AreReleased y s w before_commit r → CatchesUpNow y s w before_commit steps r
+pub commits_go_on : (y : System) (s : IsSystem y) {g : Beginning} (w : World) (before_commit : SimulatesBeforeCommit y s w) (steps : Steps) (r : ℕ → ℕ) →
+    AreCounted y s g w before_commit steps →
+    AreReleased y s w before_commit r → CatchesUpNow y s g w before_commit steps r
 unfolding resumed_by
-commits_go_on y s w before_commit steps r counted released = record {
-  carried = resumed_by y s w before_commit steps r counted released;
-  source = stands_now y s w before_commit;
-  tried = stands_furthest y s w before_commit;
-  giving = stands_giving y s w before_commit;
+commits_go_on y s {g} w before_commit steps r counted released = record {
+  carried = resumed_by y s w g before_commit steps r counted released;
+  source = stands_now y s w g before_commit;
+  tried = stands_furthest y s w g before_commit;
+  giving = stands_giving y s w g before_commit;
 }

@@ -557,7 +557,7 @@ module _ (y : System) (s : IsSystem y) (w : World) (b : AbstractRun y) (memory_i
       before_by Arrives f un some = absurd (some_rest f.0.rest)
       before_by Keeps f un some =
           let r = (resumed y s b).resumed in
-          let alone = (graph_stands (flat_of y) b.config b.schedule s.plan.formed r.invariant r.kept).alone thread in
+          let alone = (graph_stands (flat_of y) b.origin b.config b.schedule s.plan.formed r.invariant r.kept).alone thread in
           let there : slice_get (flow_solo (flat_of y) (kept_of y b) thread (attempt_of b.config thread).done).graph_threads thread ≡ Some t.graph_thread =
           ap (λ (n : ℕ). slice_get (flow_solo (flat_of y) (kept_of y b) thread n).graph_threads thread) (sym f.1) ∙ (sym alone ∙ t.walks) in
           inl (record { node = t.graph_thread.at; steps = some; at = ap (option_map (λ (x : GraphThread). x.at)) there; stands = f.0.stands })
@@ -575,8 +575,9 @@ module _ (y : System) (s : IsSystem y) (w : World) (b : AbstractRun y) (memory_i
           cleaned =
               let r = resumed y s b in
               let within = f.within in
-              stores_are_cleaned (flat_of y) y.plan.boundaries (shapes_of y) y.left_out b.config b.schedule thread f.before v e s.plan.formed (cuts y s b)
-              s.left_out r.resumed.invariant r.resumed.kept (r.inside thread) (before_by o.exit o.fits un (omega (arith, within))) f.within f.writes
+              stores_are_cleaned (flat_of y) y.plan.boundaries (shapes_of y) y.left_out b.origin b.config b.schedule thread f.before v e s.plan.formed
+              (cuts y s b) s.left_out r.resumed.invariant r.resumed.kept (r.inside thread) (before_by o.exit o.fits un (omega (arith, within)))
+              f.within f.writes
 
           by : IsComing y w b code c t.log.hart v e f.position → f.position ≤ (history_at (memory_in (places_of y) after.words) v e).durable
           by (is_reached r) =

@@ -78,15 +78,15 @@ module _ (y : System) (s : IsSystem y) (b : AbstractRun y) where
       FollowsEvent (flat_of y) (kept_of y b) (now_of y b) (flow_now (flat_of y) (kept_of y b) next) h
   follows_on next h none =
       let r = (resumed y s b).resumed in
-      subst (λ (schedule : List ℕ). FollowsEvent (flat_of y) (kept_of y b) (now_of y b) (flow_now (flat_of y) (flow_kept (flat_of y) schedule) next) h)
+      subst (λ (schedule : List ℕ). FollowsEvent (flat_of y) (kept_of y b) (now_of y b) (flow_now (flat_of y) (flow_kept (flat_of y) b.origin schedule) next) h)
       (ap (λ (k : List ℕ). b.schedule ++ k) none ∙ append-nil b.schedule)
-      (graph_follows (flat_of y) b.config next b.schedule s.plan.formed r.invariant r.kept h)
+      (graph_follows (flat_of y) b.origin b.config next b.schedule s.plan.formed r.invariant r.kept h)
 
   -- a thread's own steps alone leave its graph thread as it is now
   pub alone : (t : ℕ) → slice_get (now_of y b).graph_threads t ≡ slice_get (flow_solo (flat_of y) (kept_of y b) t (steps_begun b.config t)).graph_threads t
   alone t =
       let r = (resumed y s b).resumed in
-      (graph_stands (flat_of y) b.config b.schedule s.plan.formed r.invariant r.kept).alone t
+      (graph_stands (flat_of y) b.origin b.config b.schedule s.plan.formed r.invariant r.kept).alone t
 
   -- where the attempt goes on, it is at the node of its graph thread
   pub boundary_after_is : (t : ℕ) (graph_thread : GraphThread) → IsGoing b.config t → slice_get (now_of y b).graph_threads t ≡ Some graph_thread →

@@ -6,7 +6,9 @@ mod LoadFreeEnvironment
 mod LastReleases
 mod ThreadUpdates
 mod SettledMemory
+mod SimulationWhileGathering
 mod SimulationAfterCrash
+mod SimulationFromWords
 mod SimulationAtStart
 mod UnchangedMemory
 mod SimulationInRecovery

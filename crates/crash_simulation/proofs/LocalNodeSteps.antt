@@ -61,7 +61,7 @@ quiet_plain a.Ends quiet = refl
 pub matches_now : (y : System) (s : IsSystem y) (b : AbstractRun y) → Matches (flat_of y) (now_of y b) (now b.config)
 matches_now y s b =
     let r = (resumed y s b).resumed in
-    (graph_stands (flat_of y) b.config b.schedule s.plan.formed r.invariant r.kept).now_matches
+    (graph_stands (flat_of y) b.origin b.config b.schedule s.plan.formed r.invariant r.kept).now_matches
 
 module _ (y : System) (s : IsSystem y) (w : World) (h : ℕ) (stands : Simulates y s w) (below : h < thread_count y) (core : AtCoreNow y s w h stands below)
     (marks : MarksPass) (node : Node) (at : NodeAt (lowered (flat_of y)) (thread_of y s w h stands below).graph_thread.at node) (e : a.Effect)

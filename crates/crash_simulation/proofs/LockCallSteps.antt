@@ -162,7 +162,7 @@ module _ (y : System) (s : IsSystem y) (w : World) (h : ℕ) (stands : Simulates
   pub now_holders : (now_of y b).holders ≡ (now b.config).holders
   now_holders =
       let r = (resumed y s b).resumed in
-      (graph_stands (flat_of y) b.config b.schedule s.plan.formed r.invariant r.kept).now_matches.holders
+      (graph_stands (flat_of y) b.origin b.config b.schedule s.plan.formed r.invariant r.kept).now_matches.holders
 
   -- what the thread holds in what is kept it holds now, where none of its steps has unlocked it
   pub kept_held : ((mutex : ℕ) → ¬ (HasUnlocked b.config thread mutex)) → ((lock : ℕ) → slice_get (now_of y b).holders lock ≢ Some (Some thread)) →
@@ -378,10 +378,11 @@ module _ (y : System) (s : IsSystem y) (w : World) (h : ℕ) (stands : Simulates
       now_is =
           let r = (resumed y s b).resumed in
           let follows : graph_step (lowered (flat_of y)) (now_of y b) thread ≡
-          Some (flow_now (flat_of y) (flow_kept (flat_of y) (b.schedule ++ [])) then_config) =
-          graph_follows (flat_of y) b.config then_config b.schedule s.plan.formed r.invariant r.kept happened in
+          Some (flow_now (flat_of y) (flow_kept (flat_of y) b.origin (b.schedule ++ [])) then_config) =
+          graph_follows (flat_of y) b.origin b.config then_config b.schedule s.plan.formed r.invariant r.kept happened in
           let here : graph_step (lowered (flat_of y)) (now_of y b) thread ≡ Some (now_of y then_abstract) =
-          subst (λ (ks : List ℕ). graph_step (lowered (flat_of y)) (now_of y b) thread ≡ Some (flow_now (flat_of y) (flow_kept (flat_of y) ks) then_config))
+          subst (λ (ks : List ℕ). graph_step (lowered (flat_of y)) (now_of y b) thread ≡
+          Some (flow_now (flat_of y) (flow_kept (flat_of y) b.origin ks) then_config))
           (append-nil b.schedule) follows in
           same_Some _ _ (sym here ∙ takes_it y s b code t.graph_thread t.walks mutex next lock now_is_free)
 

@@ -55,7 +55,7 @@ module _ (y : System) (s : IsSystem y) (b : AbstractRun y) (code : Code y.plan) 
   matches : Matches (flat_of y) (now_of y b) (now b.config)
   matches =
       let r = (resumed y s b).resumed in
-      (graph_stands (flat_of y) b.config b.schedule s.plan.formed r.invariant r.kept).now_matches
+      (graph_stands (flat_of y) b.origin b.config b.schedule s.plan.formed r.invariant r.kept).now_matches
 
   keeps : StateKeeps (flat_of y) (now b.config)
   keeps = run_keeps (flat_of y) b.config.kept b.config.uncommitted (resumed y s b).resumed.invariant.keeps

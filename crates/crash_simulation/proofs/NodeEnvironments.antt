@@ -27,7 +27,7 @@ use Rattle.flow_graph.specs.Liveness.{NodeAt}
 use Rattle.flow_graph.specs.Lockstep.{Matches}
 use Rattle.flow_graph.specs.Actions.{Seen, GraphThread, seen_by}
 use Rattle.flow_graph.specs.Paths.{Element, reads_of}
-use Rattle.flow_graph.proofs.Public.{Good, good_after}
+use Rattle.flow_graph.proofs.Public.{Good}
 use Rattle.hart_runs.specs.HartsOnRuns.{is_width, is_access, environment_of, Agrees}
 use Rattle.hart_runs.specs.Laws.{program_at}
 use Rattle.recovery_semantics.specs.ElementHistories.{history_at, live_number, number_at, Memory}
@@ -36,7 +36,7 @@ use Rattle.recovery_semantics.specs.Configs.{now}
 use Rattle.recovery_semantics.specs.Events.{IsGoing}
 use Rattle.recovery_semantics.proofs.Public.{memory_loaded}
 use Rattle.region_attempts.specs.Laws.{ReadsHere}
-use Rattle.region_attempts.proofs.Public.{rerun_reads_nothing_overwritten, readers_guard, kept_good, graph_stands}
+use Rattle.region_attempts.proofs.Public.{rerun_reads_nothing_overwritten, readers_guard, graph_stands}
 use Rattle.thread_code.specs.RegistersAtNodes.{IsAnswered, source_of}
 use Rattle.thread_runs.specs.CodeFragments.{ReadsVariables, IsPlaced}
 use Rattle.thread_runs.proofs.Public.{plans_are_placed}
@@ -44,7 +44,7 @@ use Rattle.recovered_threads.specs.RecordDescriptions.{Code}
 use Rattle.crash_simulation.specs.Systems.{System, IsSystem, IsOwnCode, flat_of, places_of, thread_count}
 use Rattle.crash_simulation.specs.AbstractRuns.{AbstractRun, kept_of, now_of}
 use Rattle.crash_simulation.specs.ThreadGhosts.{ThreadGhost, AnswersGuarded}
-use Rattle.crash_simulation.proofs.StatesMatchSource.{cuts, resumed}
+use Rattle.crash_simulation.proofs.StatesMatchSource.{cuts, resumed, now_good}
 use Rattle.crash_simulation.proofs.SimulationAtStart.{environments_meet}
 use Rattle.crash_simulation.proofs.Elements.{room}
 use Rattle.crash_simulation.proofs.DisjointElements.{element_ends}
@@ -188,15 +188,15 @@ module _ (y : System) (s : IsSystem y) (w : World) (b : AbstractRun y) (code : C
     pub guards_here : (one : Element) → Contains ones one → Guards (flat_of y) (now b.config) code.thread.number one.variable
     guards_here one of =
         let r = (resumed y s b).resumed in
-        readers_guard (flat_of y) b.config b.schedule code.thread.number one s.plan.formed r.invariant r.kept (reads_here one of)
+        readers_guard (flat_of y) b.origin b.config b.schedule code.thread.number one s.plan.formed r.invariant r.kept (reads_here one of)
 
     matches : Matches (flat_of y) (now_of y b) (now b.config)
     matches =
         let r = (resumed y s b).resumed in
-        (graph_stands (flat_of y) b.config b.schedule s.plan.formed r.invariant r.kept).now_matches
+        (graph_stands (flat_of y) b.origin b.config b.schedule s.plan.formed r.invariant r.kept).now_matches
 
     good_now : Good (flat_of y) (now_of y b)
-    good_now = good_after (flat_of y) b.config.uncommitted s.plan.formed (kept_of y b) (kept_good (flat_of y) s.plan.formed b.schedule)
+    good_now = now_good y s b
 
     loaded_here : (one : Element) → Contains ones one → Loaded (source_of y.plan code.thread seen) (reading ones).around.loads one
     loaded_here one of it there within =
@@ -207,7 +207,7 @@ module _ (y : System) (s : IsSystem y) (w : World) (b : AbstractRun y) (code : C
         let may : (reads_all vs ones address bytes && is_access (length w.harts) address bytes) ≡ true =
         and_both (reads_all vs ones address bytes) (is_access (length w.harts) address bytes) (reads_there vs ones one it of there within) access in
         let right =
-        rerun_reads_nothing_overwritten.here (flat_of y) y.plan.boundaries b.config b.schedule code.thread.number one s.plan.formed (cuts y s b)
+        rerun_reads_nothing_overwritten.here (flat_of y) y.plan.boundaries b.origin b.config b.schedule code.thread.number one s.plan.formed (cuts y s b)
         r.resumed.invariant r.resumed.kept (r.inside code.thread.number) (reads_here one of) in
         let is_at : IsAtSpot (spots_of vs) one.variable one.element it.kind (byte_number address) =
         (addresses_reach vs (length w.harts) one.variable one.element it (room y s) there within).at in

@@ -41,9 +41,9 @@ use Rattle.crash_simulation.proofs.UnmovedThreads.{IsUnmoved}
 
 -- ---- In the source
 
-module _ (y : System) (b : AbstractRun y) (next : Config) (execution : Execution (flat_of y) next b.schedule)
-    (respects : RespectsAll (flat_of y) y.plan.boundaries execution)
-    (code : Code y.plan) (c : ThreadGhost) (still : IsUnmoved (flat_of y) b.schedule b.config next code.thread.number) where
+module _ (y : System) (b : AbstractRun y) (next : Config) (execution : Execution (flat_of y) b.origin.source next b.schedule)
+    (respects : RespectsAll (flat_of y) y.plan.boundaries b.origin execution)
+    (code : Code y.plan) (c : ThreadGhost) (still : IsUnmoved (flat_of y) b.origin b.schedule b.config next code.thread.number) where
   abbrev n : ℕ
   n = code.thread.number
 

@@ -7,11 +7,10 @@ use Rattle.ido_base.specs.declared.event.Event.TheVariants.{Step}
 use Rattle.rv64_isa.specs.declared.phase.Phase.TheVariants.{Run}
 use Rattle.rv64_isa.specs.Rows.{Effect}
 use Rattle.rv64_isa.specs.Machine.{Hart, World, after_event}
-use Rattle.flow_graph.specs.Actions.{GraphThread}
+use Rattle.flow_graph.specs.Actions.{GraphThread, FlowState}
 use Rattle.recovery_semantics.specs.Attempts.{Writes}
 use Rattle.recovery_semantics.specs.Configs.{attempt_of}
 use Rattle.recovery_semantics.specs.VariableSpots.{memory_in}
-use Rattle.region_attempts.specs.GraphStates.{flow_kept}
 use Rattle.log_states.specs.Logs.{Record}
 use Rattle.log_states.specs.Machines.{IsNext, IsElsewhere, config_of}
 use Rattle.log_states.specs.LogInvariant.{LogInv}
@@ -19,7 +18,7 @@ use Rattle.log_states.proofs.Public.{steps_keep, ends_committed}
 use Rattle.hart_runs.specs.RunSteps.{is_clean}
 use Rattle.recovered_threads.specs.RecordDescriptions.{Code, Describes}
 use Rattle.recovered_threads.proofs.Public.{same_or_other}
-use Rattle.crash_simulation.specs.Systems.{System, IsSystem, flat_of, places_of, thread_count}
+use Rattle.crash_simulation.specs.Systems.{System, IsSystem, places_of, thread_count}
 use Rattle.crash_simulation.specs.AbstractRuns.{AbstractRun, kept_of, now_of}
 use Rattle.crash_simulation.specs.ThreadGhosts.{ThreadGhost, record_kept, IsInAttempt, InPhase, IsFlushed, ThreadInv}
 use Rattle.crash_simulation.specs.SimulationRelation.{AreHeld, AreLocked, Simulates}
@@ -124,7 +123,7 @@ module _ (y : System) (s : IsSystem y) (w : World) (h : ℕ) (stands : Simulates
 
   -- ---- The thread, between boundaries
 
-  module _ (next : AbstractRun y) (schedule : next.schedule ≡ abstract.schedule) (goes : IsInAttempt y abstract code ghost) (cleans : List Effect)
+  module _ (next : AbstractRun y) (same : kept_of y next ≡ kept_of y abstract) (goes : IsInAttempt y abstract code ghost) (cleans : List Effect)
       (clean : (effect : Effect) → Contains cleans effect → is_clean effect ≡ true) (elsewhere : IsElsewhere y.runs.program w number number)
       (graph_thread : GraphThread) (walks : slice_get (now_of y next).graph_threads number ≡ Some graph_thread) where
     log_after : LogInv number ghost.old ghost.new after []
@@ -144,7 +143,7 @@ module _ (y : System) (s : IsSystem y) (w : World) (h : ℕ) (stands : Simulates
         record {
           log = log_after;
           no_sooner = λ _. ends_committed number ghost.old ghost.new (config_of after log_after.hart []) log_after.log refl;
-          describes = subst (λ (sch : List ℕ). Describes y.plan code (flow_kept (flat_of y) sch) ghost.new) (sym schedule) told;
+          describes = subst (λ (kept : FlowState). Describes y.plan code kept ghost.new) (sym same) told;
           will_describe = λ un. absurd (true≢false un);
           unlocked = λ mutex gives over. absurd (none-some mutex gives);
           cleans = clean;

@@ -25,8 +25,9 @@ abbrev pub config_with : Config → (pending : List ℕ) → Memory → List Att
 config_with m pending memory attempts = record { kept = m.kept; uncommitted = pending; memory = memory; attempts = attempts }
 
 module _ (y : System) (w v : World) (b : AbstractRun y) (code : Code y.plan) (c : ThreadGhost) (none : c.cleans ≡ []) (old : Hart)
-    (pending : List ℕ) (memory : Memory) (attempts : List Attempt) (execution : Execution (flat_of y) (config_with b.config pending memory attempts) b.schedule)
-    (respects : RespectsAll (flat_of y) y.plan.boundaries execution) (new : ThreadGhost) (after : Hart) where
+    (pending : List ℕ) (memory : Memory) (attempts : List Attempt)
+    (execution : Execution (flat_of y) b.origin.source (config_with b.config pending memory attempts) b.schedule)
+    (respects : RespectsAll (flat_of y) y.plan.boundaries b.origin execution) (new : ThreadGhost) (after : Hart) where
   abbrev next : AbstractRun y
   next = abstract_next y b (config_with b.config pending memory attempts) execution respects
 

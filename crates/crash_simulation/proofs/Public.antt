@@ -21,8 +21,9 @@ pub use Rattle.crash_simulation.proofs.RecordsAfterCrash.{left, left_describes, 
 pub use Rattle.crash_simulation.proofs.SectionsAfterEvents.{evicted_released, released_by}
 pub use Rattle.crash_simulation.proofs.SettledMemory.{settled_is_kept}
 pub use Rattle.crash_simulation.proofs.SimulationAtStart.{row_of, start_simulates, zero_local, zero_read}
+pub use Rattle.crash_simulation.proofs.SimulationFromWords.{crashed_again}
 pub use Rattle.crash_simulation.proofs.SimulationInRecovery.{all_describe, phase_of}
-pub use Rattle.crash_simulation.proofs.StatesMatchSource.{free_holds_none, kept_matches, orderly, resumed}
+pub use Rattle.crash_simulation.proofs.StatesMatchSource.{free_holds_none, kept_good, kept_matches, orderly, resumed}
 pub use Rattle.crash_simulation.proofs.StepSimulation.{evicted_simulates}
 pub use Rattle.crash_simulation.proofs.StoreNodeSteps.{mark as store_node_steps_mark}
 pub use Rattle.crash_simulation.proofs.UnlockNodeSteps.{mark as unlock_node_steps_mark}

@@ -1,5 +1,5 @@
 -- How many sections end by steps of one thread that are kept.
-use Rattle.std.proofs.Common.{◌≡◌, ◌≢◌, refl, ℕ, zero, suc, ◌+◌, ◌≤◌, List, [], ◌∷◌, ◌++◌, replicate, ap, sym, ◌∙◌, subst, arith}
+use Rattle.std.proofs.Common.{◌≡◌, ◌≢◌, refl, ℕ, zero, suc, ◌+◌, ◌≤◌, List, [], ◌∷◌, ◌++◌, replicate, ap, ap₂, sym, ◌∙◌, subst, arith}
 use Rattle.std.proofs.Common.{Option, Some, None, Bool, true, false}
 use Rattle.std.specs.Prelude.{is_some, not, ◌&&◌, ◌==◌}
 use Rattle.std.proofs.lemmas.Bool.{true≢false}
@@ -19,6 +19,7 @@ use Rattle.recovery_semantics.specs.Configs.{Invariant, now, attempt_of}
 use Rattle.recovery_semantics.specs.Events.{steps_begun}
 use Rattle.recovery_semantics.specs.Laws.{HasLocked, HasUnlocked, IsKeptBy}
 use Rattle.recovery_semantics.proofs.Public.{solo_holders, last_first, more_empty, LastStep, prefix_runs, last_step}
+use Rattle.region_attempts.specs.Origins.{Origin}
 use Rattle.region_attempts.proofs.Public.{graph_stands}
 use Rattle.thread_runs.specs.CodeFragments.{ExitPoint, Arrives, Keeps, Asks, Took, Gives, Ends}
 use Rattle.recovered_threads.specs.RecordDescriptions.{Code}
@@ -166,7 +167,7 @@ module _ (y : System) (s : IsSystem y) (w : World) (b : AbstractRun y) (code : C
         let test = describes_test y code (now_of y b) c.new (t.will_describe not_yet) in
         between_same (now b.config) next u same
         ∙ (ap (λ (hs : List (Option ℕ)). holds_none hs u)
-        (sym (graph_stands x b.config b.schedule s.plan.formed i (kept_by y s b)).now_matches.holders) ∙ sym test)
+        (sym (graph_stands x b.origin b.config b.schedule s.plan.formed i (kept_by y s b)).now_matches.holders) ∙ sym test)
 
     unlock_ends : (mutex : ℕ) → unlocks z u ≡ Some mutex → m.ends_section z next u ≡ one_if (c.new.point == 0)
     unlock_ends mutex is =
@@ -217,15 +218,16 @@ module _ (y : System) (s : IsSystem y) (w : World) (b : AbstractRun y) (code : C
 
 -- ---- The schedule with the thread's steps after it
 
-module _ (y : System) (s : IsSystem y) (b next : AbstractRun y) (k : ℕ) (schedule : next.schedule ≡ b.schedule ++ replicate (steps_begun b.config k) k) where
+module _ (y : System) (s : IsSystem y) (b next : AbstractRun y) (k : ℕ) (origin : next.origin ≡ b.origin)
+    (schedule : next.schedule ≡ b.schedule ++ replicate (steps_begun b.config k) k) where
   abbrev steps : List ℕ
   steps = replicate (steps_begun b.config k) k
 
   pub kept_more : (n : ℕ) → sections_kept y next n ≡ sections_kept y b n + m.ended_from b.config.kept steps n
   kept_more n =
-      let by : IsKeptBy (flat_of y) b.config.kept b.schedule = kept_by y s b in
-      ap (λ (us : List ℕ). m.ended_from (m.start (flat_of y)) us n) schedule
-      ∙ ((goes_on (m.start (flat_of y)) b.schedule steps by.runs).ended n
+      let by : IsKeptBy b.origin.source b.config.kept b.schedule = kept_by y s b in
+      ap₂ (λ (o : Origin (flat_of y)) (us : List ℕ). m.ended_from o.source us n) origin schedule
+      ∙ ((goes_on b.origin.source b.schedule steps by.runs).ended n
       ∙ ap (λ (z : m.State). sections_kept y b n + m.ended_from z steps n) by.is)
 
   pub kept_others : (n : ℕ) → n ≢ k → sections_kept y next n ≡ sections_kept y b n

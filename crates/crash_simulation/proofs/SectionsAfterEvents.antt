@@ -6,7 +6,7 @@ use Rattle.std.proofs.lemmas.Bool.{true≢false, cases_Bool, and_parts, cond-tru
 use Rattle.std.proofs.lemmas.List.{append-nil}
 use Rattle.ido_base.specs.declared.event.Event.{Event}
 use Rattle.ido_base.specs.declared.event.Event.TheVariants.{Step, Evict, Crash}
-use Rattle.c_tree.specs.Source.{start, ended_from}
+use Rattle.c_tree.specs.Source.{ended_from}
 use Rattle.rv64_isa.specs.declared.object.Slot.{Slot}
 use Rattle.rv64_isa.specs.declared.phase.Phase.{Phase}
 use Rattle.rv64_isa.specs.declared.phase.Phase.TheVariants.{Take, Wait, Resume, Run, Done, Ended}
@@ -19,7 +19,7 @@ use Rattle.hart_runs.proofs.Public.{takes_step, waits_step, resumes_step, stoppe
 use Rattle.log_states.specs.Stages.{left_by_crash}
 use Rattle.recovered_threads.specs.RecoveryStates.{Gathers}
 use Rattle.recovered_threads.proofs.Public.{same_there, same_or_other, holds_none_is}
-use Rattle.crash_simulation.specs.Systems.{System, IsSystem, flat_of, thread_count}
+use Rattle.crash_simulation.specs.Systems.{System, IsSystem, thread_count}
 use Rattle.crash_simulation.specs.AbstractRuns.{AbstractRun}
 use Rattle.crash_simulation.specs.ThreadGhosts.{ThreadGhost}
 use Rattle.crash_simulation.specs.SimulationRelation.{Simulates}
@@ -31,7 +31,7 @@ use Rattle.crash_simulation.proofs.SimulationInRecovery.{SimulatesStill}
 use Rattle.crash_simulation.proofs.SimulationAfterCrash as crashing
 use Rattle.crash_simulation.proofs.StepSimulation.{simulates_after, evicted_simulates}
 use Rattle.crash_simulation.proofs.CommitSimulation.{stopped_rests}
-use Rattle.crash_simulation.proofs.AccountsBeforeCommit.{led_schedule}
+use Rattle.crash_simulation.proofs.AccountsBeforeCommit.{led_sections}
 
 -- the releases after an event
 abbrev pub released_by : List (List Slot) → World → Event → (released : ℕ → ℕ) → (thread : ℕ) → ℕ
@@ -159,7 +159,7 @@ module _ (y : System) (s : IsSystem y) (w : World) (h : ℕ) (stands : Simulates
   later = after_event y.runs.program w (Step h)
 
   kept_own : (n : ℕ) → sections_kept y o.next n ≡ sections_kept y stands.before_commit.abstract n
-  kept_own n = ap (λ (us : List ℕ). ended_from (start (flat_of y)) us n) (led_schedule y stands.before_commit.abstract h o.next o.led)
+  kept_own n = led_sections y stands.before_commit.abstract h o.next o.led n
 
   own_lag : Releases y w h (stands.before_commit.ghosts h) o.ghost →
       r h + one_if (is_leaving (stands.before_commit.ghosts h)) ≡ then_own h + one_if (is_leaving o.ghost)
@@ -274,7 +274,7 @@ module _ (y : System) (s : IsSystem y) (w : World) (stands : Simulates y s w) (r
       }
 
   kept_crashed : (n : ℕ) → sections_kept y (crashing.stands_after y s w stands).before_commit.abstract n ≡ sections_kept y stands.before_commit.abstract n
-  kept_crashed n = ap (λ (us : List ℕ). ended_from (start (flat_of y)) us n) (append-nil stands.before_commit.abstract.schedule)
+  kept_crashed n = ap (λ (us : List ℕ). ended_from stands.before_commit.abstract.origin.source us n) (append-nil stands.before_commit.abstract.schedule)
 
   abbrev Crashed : ℕ → Type 0
   Crashed n =

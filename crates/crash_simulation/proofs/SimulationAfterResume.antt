@@ -90,7 +90,7 @@ module _ (y : System) (s : IsSystem y) (w : World) (h : ℕ) (stands : Simulates
     same_graph_thread : go.told.graph_thread ≡ (stands.before_commit.each h below).graph_thread
     same_graph_thread =
         let r = resumed y s b in
-        let alone = (graph_stands (flat_of y) b.config b.schedule s.plan.formed r.resumed.invariant r.resumed.kept).alone c.thread.number in
+        let alone = (graph_stands (flat_of y) b.origin b.config b.schedule s.plan.formed r.resumed.invariant r.resumed.kept).alone c.thread.number in
         let kept : slice_get (now_of y b).graph_threads c.thread.number ≡ slice_get (kept_of y b).graph_threads c.thread.number =
         alone ∙ ap (λ (n : ℕ). slice_get (flow_solo (flat_of y) (kept_of y b) c.thread.number n).graph_threads c.thread.number) rests.begun in
         same_there (slice_get (kept_of y b).graph_threads c.thread.number) go.told.graph_thread (stands.before_commit.each h below).graph_thread go.told.there

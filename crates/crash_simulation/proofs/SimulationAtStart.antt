@@ -11,6 +11,7 @@ use Rattle.ido_ints.proofs.Public.{Holds-zero}
 use Rattle.operator_code.specs.ComputingCode.{Carries}
 use Rattle.operator_code.proofs.Public.{zero_form}
 use Rattle.c_tree.specs.Flats as f
+use Rattle.c_tree.specs.Source as m
 use Rattle.rv64_isa.specs.declared.instr.Instr.{Instr}
 use Rattle.rv64_isa.specs.declared.object.Slot.{Slot}
 use Rattle.rv64_isa.specs.declared.object.Slot.TheVariants.{Row}
@@ -30,8 +31,12 @@ use Rattle.flow_graph.specs.Nodes.{Action, Eval, Store, Test, Lock, Unlock, End,
 use Rattle.flow_graph.specs.Lowering.{lowered, parts, part, thread_count}
 use Rattle.flow_graph.specs.Actions.{Seen, GraphThread, graph_thread_start, seen_by}
 use Rattle.flow_graph.proofs.Public.{contains_none}
+use Rattle.recovery_semantics.specs.ElementHistories.{memory_of}
 use Rattle.recovery_semantics.specs.Attempts.{no_attempt, attempt_at}
 use Rattle.recovery_semantics.specs.Executions.{first_config, begins}
+use Rattle.recovery_semantics.proofs.Public.{fresh_are_stable}
+use Rattle.region_attempts.specs.Origins.{Origin}
+use Rattle.region_attempts.proofs.Public.{free_at_boundaries, start_free, start_origin}
 use Rattle.variable_words.proofs.Public.{starts_hold}
 use Rattle.log_states.specs.Logs.{nothing_recorded}
 use Rattle.log_states.specs.Machines.{config_of}
@@ -110,8 +115,19 @@ module _ (y : System) (s : IsSystem y) where
   abbrev w : World
   w = first_world y.runs
 
+  abbrev origin : Origin (flat_of y)
+  origin = start_origin (flat_of y) s.plan.formed s.disciplined
+
   abbrev abstract : AbstractRun y
-  abstract = record { config = first_config (flat_of y); schedule = []; execution = begins; respects = tt }
+  abstract =
+      let from = m.start (flat_of y) in
+      record {
+        origin = origin;
+        config = first_config (flat_of y) from (memory_of from);
+        schedule = [];
+        execution = begins (memory_of from) (fresh_are_stable from);
+        respects = free_at_boundaries (flat_of y) y.plan.boundaries origin (start_free (flat_of y) s.plan.formed s.disciplined);
+      }
 
   abbrev ghosts : ℕ → ThreadGhost
   ghosts n = record { old = nothing_recorded; new = nothing_recorded; rest = []; committed = true; cleans = []; giving = None }

@@ -1,20 +1,27 @@
 -- The kept state and the state now match ones of the source, in which mutexes are held by threads.
-use Rattle.std.proofs.Common.{◌≡◌, refl, ℕ, zero, suc, ◌+◌, List, [], ◌∷◌, replicate, sym, subst}
+use Rattle.std.proofs.Common.{◌≡◌, refl, ℕ, zero, suc, ◌+◌, List, [], ◌∷◌, length, replicate, sym, ◌∙◌, ap, subst, arith}
 use Rattle.std.proofs.Common.{Option, Some, None, true}
 use Rattle.std.specs.Prelude.{slice_get, is_none}
+use Rattle.std.specs.List.{AllZip}
 use Rattle.std.proofs.lemmas.Option.{none-some}
+use Rattle.std.proofs.lemmas.List.{length-map}
 use Rattle.ido_base.specs.Locks.{held_from}
+use Rattle.c_tree.specs.Flats as f
+use Rattle.c_tree.specs.Source as m
+use Rattle.c_tree.specs.WellFormed.{IsWellFormed}
+use Rattle.c_ranges.specs.RunInvariants.{IsThreadOf}
 use Rattle.flow_graph.specs.Nodes.{Graph}
 use Rattle.flow_graph.specs.Lowering.{lowered}
 use Rattle.flow_graph.specs.IdempotentCuts.{AreCuts}
 use Rattle.flow_graph.specs.Lockstep.{Matches}
-use Rattle.flow_graph.specs.Actions.{FlowState, graph_start, graph_step, graph_after}
-use Rattle.flow_graph.proofs.Public.{Good, good_start, good_after}
+use Rattle.flow_graph.specs.Actions.{FlowState, graph_thread_start, graph_step, graph_after}
+use Rattle.flow_graph.proofs.Public.{Good, begins_lockstep, good_after}
+use Rattle.region_attempts.specs.Origins.{Origin}
 use Rattle.region_attempts.specs.Laws.{StaysResumed}
-use Rattle.region_attempts.proofs.Public.{executions_stay, graph_stands}
+use Rattle.region_attempts.proofs.Public.{executions_stay, graph_stands, kept_good as kept_good_of}
 use Rattle.thread_code.specs.Plans.{Plan, IsPlan}
 use Rattle.recovered_threads.specs.RecordDescriptions.{IsOrderly}
-use Rattle.recovered_threads.proofs.Public.{starts_orderly, steps_orderly}
+use Rattle.recovered_threads.proofs.Public.{steps_orderly}
 use Rattle.crash_simulation.specs.Systems.{System, IsSystem, flat_of}
 use Rattle.crash_simulation.specs.AbstractRuns.{AbstractRun, kept_of, now_of}
 
@@ -29,6 +36,33 @@ orderly_by p s t ts (Some next) plan is h more = more next (steps_orderly p s ne
 pub after_orderly : (p : Plan) → IsPlan p → (schedule : List ℕ) (s : FlowState) → IsOrderly p s → IsOrderly p (graph_after p.graph s schedule)
 after_orderly p plan [] s is = is
 after_orderly p plan (t ∷ ts) s is = orderly_by p s t ts (graph_step p.graph s t) plan is refl (after_orderly p plan ts)
+
+-- ---- An execution begins with one
+
+zip_length : {A B : Type 0} (R : A → B → Type 0) (xs : List A) (ys : List B) → AllZip R xs ys → length ys ≡ length xs
+zip_length R [] [] h = refl
+zip_length R [] (y ∷ ys) h = absurd h
+zip_length R (x ∷ xs) [] h = absurd h
+zip_length R (x ∷ xs) (y ∷ ys) h = ap suc (zip_length R xs ys h.1)
+
+-- the graph has as many threads as the form
+as_many : (x : f.Flat) → IsWellFormed x → length (lowered x).threads ≡ length x.threads
+as_many x w = sym (length-map (lowered x).threads graph_thread_start) ∙ (begins_lockstep x w).count ∙ length-map x.threads m.thread_start
+
+pub begins_orderly : (p : Plan) → IsPlan p → (o : Origin p.flat) → IsOrderly p o.flow
+begins_orderly p plan o =
+    let all : length o.source.threads ≡ length p.graph.threads =
+    zip_length (λ (t : f.Thread) (thread : m.Thread). IsThreadOf p.flat t.locals thread) p.flat.threads o.source.threads o.formed.threads
+    ∙ sym (as_many p.flat plan.formed) ∙ ap (λ (graph : Graph). length graph.threads) (sym plan.lowered) in
+    record {
+      source = o.source;
+      matches = o.matches;
+      keeps = o.keeps;
+      count = o.matches.count ∙ all;
+      locks = ap (λ (hs : List (Option ℕ)). length hs) o.matches.holders ∙ o.formed.holders;
+      holders = λ lock n held.
+          let below = o.holders lock n (ap (λ (hs : List (Option ℕ)). slice_get hs lock) (sym o.matches.holders) ∙ held) in omega (arith, below, all);
+    }
 
 -- ---- Of locks that are all free none is held
 
@@ -47,18 +81,18 @@ module _ (y : System) (s : IsSystem y) (b : AbstractRun y) where
   pub cuts : AreCuts (lowered (flat_of y)) y.plan.boundaries
   cuts = subst (λ (graph : Graph). AreCuts graph y.plan.boundaries) s.plan.lowered s.plan.cuts
 
-  pub resumed : StaysResumed (flat_of y) y.plan.boundaries b.config b.schedule
-  resumed = executions_stay (flat_of y) y.plan.boundaries b.config b.schedule s.plan.formed cuts s.disciplined b.execution b.respects
+  pub resumed : StaysResumed (flat_of y) y.plan.boundaries b.origin b.config b.schedule
+  resumed = executions_stay (flat_of y) y.plan.boundaries b.origin b.config b.schedule s.plan.formed cuts b.execution b.respects
 
   pub kept_matches : Matches (flat_of y) (kept_of y b) b.config.kept
-  kept_matches = (graph_stands (flat_of y) b.config b.schedule s.plan.formed resumed.resumed.invariant resumed.resumed.kept).kept_matches
+  kept_matches = (graph_stands (flat_of y) b.origin b.config b.schedule s.plan.formed resumed.resumed.invariant resumed.resumed.kept).kept_matches
 
   -- ---- The kept state and the state now
 
   pub orderly : IsOrderly y.plan (kept_of y b)
   orderly =
-      subst (λ (graph : Graph). IsOrderly y.plan (graph_after graph (graph_start graph (flat_of y)) b.schedule)) s.plan.lowered
-      (after_orderly y.plan s.plan b.schedule (graph_start y.plan.graph (flat_of y)) (starts_orderly y.plan s.plan))
+      subst (λ (graph : Graph). IsOrderly y.plan (graph_after graph b.origin.flow b.schedule)) s.plan.lowered
+      (after_orderly y.plan s.plan b.schedule b.origin.flow (begins_orderly y.plan s.plan b.origin))
 
   pub now_orderly : IsOrderly y.plan (now_of y b)
   now_orderly =
@@ -67,7 +101,7 @@ module _ (y : System) (s : IsSystem y) (b : AbstractRun y) where
 
   -- what is pending in the kept state lies where it should
   pub kept_good : Good (flat_of y) (kept_of y b)
-  kept_good = good_after (flat_of y) b.schedule s.plan.formed (graph_start (lowered (flat_of y)) (flat_of y)) (good_start (flat_of y) s.plan.formed)
+  kept_good = kept_good_of (flat_of y) s.plan.formed b.origin b.schedule
 
   pub now_good : Good (flat_of y) (now_of y b)
   now_good = good_after (flat_of y) b.config.uncommitted s.plan.formed (kept_of y b) kept_good

@@ -52,12 +52,12 @@ module _ (y : System) (s : IsSystem y) (w : World) (event : Event) (sound : IsWe
   pub led_on : (next : AbstractRun y) → StepsOrStutters y b thread next → ThreadInv y (after_event y.runs.program w event) next (s.codes.each n below) c
   led_on _ stays =
       stands_on y b b.config b.execution b.respects (s.codes.each n below) c
-      (stays_unmoved (flat_of y) b.schedule b.config (s.codes.each n below).thread.number) w event sound of_others moves agrees t
+      (stays_unmoved (flat_of y) b.origin b.schedule b.config (s.codes.each n below).thread.number) w event sound of_others moves agrees t
   led_on _ (goes next h by execution respects) =
       let r = (resumed y s b).resumed in
       let number = s.codes.number n below in
       stands_on y b next execution respects (s.codes.each n below) c
-      (unmoved (flat_of y) s.plan.formed b.schedule b.config next r.invariant r.kept thread (s.codes.each n below).thread.number
+      (unmoved (flat_of y) s.plan.formed b.origin b.schedule b.config next r.invariant r.kept thread (s.codes.each n below).thread.number
       (λ e. differs (sym number ∙ e)) h by)
       w event sound of_others moves agrees t
 
@@ -138,7 +138,8 @@ module _ (y : System) (s : IsSystem y) (w : World) (line mask : ℕ) (stands : S
   abbrev next : Config
   next = record before.abstract.config { memory = persisted }
 
-  abbrev abstract_persisted : (l : Execution (flat_of y) next before.abstract.schedule) × RespectsAll (flat_of y) y.plan.boundaries l
+  abbrev abstract_persisted : (l : Execution (flat_of y) before.abstract.origin.source next before.abstract.schedule)
+      × RespectsAll (flat_of y) y.plan.boundaries before.abstract.origin l
   abstract_persisted = leads_on y before.abstract next (persists persisted raises) refl tt
 
   abbrev run_after : AbstractRun y

@@ -1,7 +1,7 @@
 -- A hart at the code of a node that makes its thread's pending store.
 use Rattle.std.proofs.Common.{◌≡◌, ◌≢◌, ◌⊎◌, inl, inr, refl, ℕ, zero, suc, ◌<◌, List, [], ◌∷◌, ◌++◌, length, ap, sym, ◌∙◌, subst, arith, Option, Some, None}
 use Rattle.std.proofs.Common.{Bool, true, false}
-use Rattle.std.specs.Prelude.{slice_get, slice_index_or, Contains, ℤ, if◌then◌else◌}
+use Rattle.std.specs.Prelude.{slice_get, slice_index_or, Contains, ℤ, ◌*◌, ◌%◌, ◌^◌, if◌then◌else◌}
 use Rattle.std.specs.List.{AllZip}
 use Rattle.std.specs.Option.{option_map}
 use Rattle.std.proofs.lemmas.Bool.{true≢false, ne_eqb}
@@ -25,6 +25,7 @@ use Rattle.rv64_isa.specs.Rows as r
 use Rattle.rv64_isa.specs.Rows.{Effect}
 use Rattle.rv64_isa.specs.Machine.{Hart, World}
 use Rattle.rv64_isa.specs.Schedule.{is_running, is_point_store}
+use Rattle.memory_layout.specs.Roles.{pending_value}
 use Rattle.code_runs.specs.CodeTraces.{MarkedEnvironment}
 use Rattle.variable_words.proofs.Public.{addresses_reach, variables_apart}
 use Rattle.flow_graph.specs.Nodes.{Node, Action, Store}
@@ -74,6 +75,11 @@ use Rattle.crash_simulation.proofs.MarksAtNodes.{inside, environment, at_some_ma
 use Rattle.crash_simulation.proofs.LocalNodeSteps.{matches_now}
 use Rattle.crash_simulation.proofs.MarkSteps as passing
 use Rattle.crash_simulation.proofs.MarkSteps.{passed_step}
+
+-- memory takes of a value the bytes that a store writes
+stored_low : (ws : List Word) (number count v w : ℕ) → v % 2 ^ (8 * count) ≡ w % 2 ^ (8 * count) →
+    words.stored ws number count v ≡ words.stored ws number count w
+stored_low ws number count v w same = rw same refl
 
 same_tail : (x z : Effect) (xs zs : List Effect) → x ∷ xs ≡ z ∷ zs → zs ≡ xs
 same_tail x z xs zs e = cc
@@ -132,9 +138,6 @@ module _ (y : System) (s : IsSystem y) (w : World) (h : ℕ) (stands : Simulates
 
   abbrev address : ℕ
   address = variable_at (shapes_of y) store.variable store.element
-
-  abbrev value : ℕ
-  value = register_form_of (typed k store.number)
 
   kind_is : kind_at (flat_of y).variables store.variable ≡ Some k
   kind_is = slice_get-map (λ (x : Variable). x.kind) (flat_of y).variables store.variable ∙ ap (option_map (λ (x : Variable). x.kind)) formed.found
@@ -215,12 +218,15 @@ module _ (y : System) (s : IsSystem y) (w : World) (h : ℕ) (stands : Simulates
   module _ (p : laws.PassesMark y.plan (code y s w h stands below).thread (code y s w h stands below).is.places (on_machine y.runs.program w n here) e
       (stage_after y.plan (code y s w h stands below).thread (code y s w h stands below).is.places graph_thread.at seen core.bank e) mark.steps mark.effects
       mark.at) where
+    abbrev value : ℕ
+    value = (p.made k kind_is).value
+
     effect_is : p.forward.effect ≡ r.Stores address (bytes_of k) value
-    effect_is = p.made k kind_is
+    effect_is = (p.made k kind_is).is
 
     later_is : p.later ≡ cleans
     later_is =
-        let all : r.Stores address (bytes_of k) value ∷ cleans ≡ r.Stores address (bytes_of k) value ∷ p.later =
+        let all : r.Stores address (bytes_of k) (r.read core.registers pending_value) ∷ cleans ≡ r.Stores address (bytes_of k) value ∷ p.later =
         sym (mark.seen_are k kind_is) ∙ p.effects_are ∙ ap (λ (z : Effect). effects_of z ++ p.later) effect_is in
         same_tail _ _ cleans p.later all
 
@@ -239,11 +245,12 @@ module _ (y : System) (s : IsSystem y) (w : World) (h : ℕ) (stands : Simulates
         ∙ ne_eqb (word_number address) (word_number (point_at n)) (λ same. variables_are_apart n address 0 in_variables
         (let zero : word_number (point_at n) ≡ log_word n 0 = omega arith in same ∙ zero))
 
-    words_are : v.words ≡ words.stored w.words (byte_number address) (bytes_of k) value
+    words_are : v.words ≡ words.stored w.words (byte_number address) (bytes_of k) (register_form_of (typed k store.number))
     words_are =
         let changes : Changes (record { words = w.words; queue = mark.at.on.hart.queue }) (r.Stores address (bytes_of k) value) p.forward.contents =
         subst (λ (z : Effect). Changes (record { words = w.words; queue = mark.at.on.hart.queue }) z p.forward.contents) effect_is p.forward.changes in
-        ap (λ (z : World). z.words) p.forward.world ∙ ap (λ (x : Contents). x.words) changes
+        ap (λ (z : World). z.words) p.forward.world
+        ∙ (ap (λ (x : Contents). x.words) changes ∙ stored_low w.words (byte_number address) (bytes_of k) value _ (p.made k kind_is).low)
 
     stored : IsStored b.config.memory memory store.variable store.element store.number
     stored =
@@ -251,7 +258,8 @@ module _ (y : System) (s : IsSystem y) (w : World) (h : ℕ) (stands : Simulates
         let apart : AreSpotsApart (places_of y) (length w.words) =
         variables_apart (flat_of y).variables (length w.words) (room y s) (omega (arith, size)) in
         let is_at = (addresses_reach (flat_of y).variables (length w.harts) store.variable store.element formed.it (room y s) formed.found formed.element).at in
-        let new : IsStored (memory_in (places_of y) w.words) (memory_in (places_of y) (words.stored w.words (byte_number address) (bytes_of k) value))
+        let new : IsStored (memory_in (places_of y) w.words)
+        (memory_in (places_of y) (words.stored w.words (byte_number address) (bytes_of k) (register_form_of (typed k store.number))))
         store.variable store.element store.number =
         memory_stored (places_of y) w.words store.variable store.element k (byte_number address) store.number apart is_at formed.held in
         subst (λ (old : Memory). IsStored old memory store.variable store.element store.number) stands.before_commit.memory

@@ -54,11 +54,11 @@ module _ (y : System) (s : IsSystem y) (b : AbstractRun y) where
   pub invariant : Invariant x old
   invariant = (resumed y s b).resumed.invariant
 
-  pub kept_by : IsKeptBy x old.kept b.schedule
+  pub kept_by : IsKeptBy b.origin.source old.kept b.schedule
   kept_by = (resumed y s b).resumed.kept
 
   stands : MatchesSource x old (kept_of y b)
-  stands = graph_stands x old b.schedule s.plan.formed invariant kept_by
+  stands = graph_stands x b.origin old b.schedule s.plan.formed invariant kept_by
 
   -- a thread with no step begun: a record that describes it now describes what is kept
   pub none_describes : (code : Code y.plan) (r : Record) → steps_begun old code.thread.number ≡ 0 → Describes y.plan code (now_of y b) r →
@@ -78,6 +78,7 @@ module _ (y : System) (s : IsSystem y) (b : AbstractRun y) where
   module _ (t : ℕ) (attempts : List Attempt) (settled : IsSettled old t attempts) (there : SettlesThere x y.plan.boundaries (kept_of y b) old t) where
     abbrev pub committed_run : AbstractRun y
     committed_run = record {
+      origin = b.origin;
       config = settled_by old t attempts;
       schedule = b.schedule ++ replicate (steps_begun old t) t;
       execution = then b.execution (commits t attempts settled);
@@ -89,13 +90,13 @@ module _ (y : System) (s : IsSystem y) (b : AbstractRun y) where
 
     -- all states now are as they were
     pub now_same : now_of y committed_run ≡ now_of y b
-    now_same = graph_follows x old (settled_by old t attempts) b.schedule s.plan.formed invariant kept_by (commits t attempts settled)
+    now_same = graph_follows x b.origin old (settled_by old t attempts) b.schedule s.plan.formed invariant kept_by (commits t attempts settled)
 
     pub source_same : now (settled_by old t attempts) ≡ now old
     source_same = rest_after x old t invariant
 
-    graph_threads : GraphThreadsSettle x old b.schedule t (kept_of y committed_run)
-    graph_threads = graph_settles x old b.schedule t s.plan.formed invariant kept_by
+    graph_threads : GraphThreadsSettle x b.origin old b.schedule t (kept_of y committed_run)
+    graph_threads = graph_settles x b.origin old b.schedule t s.plan.formed invariant kept_by
 
     -- ---- The thread
 
@@ -118,20 +119,20 @@ module _ (y : System) (s : IsSystem y) (b : AbstractRun y) where
         (subst (λ (k : ℕ). held_by k (kept_of y committed_run).holders ≡ held_by k (now_of y b).holders) (sym number) held)
 
     -- the unlock that ends its attempt is its last step that is kept then
-    pub unlock_kept : (mutex : ℕ) → HasUnlocked old t mutex → LastUnlocks (m.start x) committed_run.schedule t mutex
+    pub unlock_kept : (mutex : ℕ) → HasUnlocked old t mutex → LastUnlocks b.origin.source committed_run.schedule t mutex
     unlock_kept mutex h =
         let alone = subst (λ (n : ℕ). LastUnlocks old.kept (replicate n t) t mutex) (sym h.begun)
         (last_alone old.kept t (attempt_of old t).done mutex h.unlocks_it) in
-        last_after (m.start x) b.schedule (replicate (steps_begun old t) t) t mutex kept_by.runs
+        last_after b.origin.source b.schedule (replicate (steps_begun old t) t) t mutex kept_by.runs
         (subst (λ (z : m.State). LastUnlocks z (replicate (steps_begun old t) t) t mutex) (sym kept_by.is) alone)
 
     -- ---- Another thread
 
     module _ (u : ℕ) (apart : u ≢ t) where
       -- its last step that is kept stays so
-      pub unlock_stays : (mutex : ℕ) → LastUnlocks (m.start x) b.schedule u mutex → LastUnlocks (m.start x) committed_run.schedule u mutex
+      pub unlock_stays : (mutex : ℕ) → LastUnlocks b.origin.source b.schedule u mutex → LastUnlocks b.origin.source committed_run.schedule u mutex
       unlock_stays mutex l =
-          last_stays (m.start x) b.schedule (replicate (steps_begun old t) t) u mutex (none_of_other t u (steps_begun old t) apart) l
+          last_stays b.origin.source b.schedule (replicate (steps_begun old t) t) u mutex (none_of_other t u (steps_begun old t) apart) l
 
       abbrev longest : ℕ
       longest = (attempt_of old u).longest

@@ -82,7 +82,7 @@ module _ (y : System) (w : World) (b next : AbstractRun y) (code : Code y.plan) 
       (begun : steps_begun next.config code.thread.number ≡ 0) (done : (attempt_of next.config code.thread.number).done ≡ 0)
       (describes : Describes y.plan code (now_of y b) c.new → Describes y.plan code (kept_of y next) c.new)
       (unlocks : (mutex : ℕ) → HasUnlocked b.config code.thread.number mutex →
-      LastUnlocks (m.start (flat_of y)) next.schedule code.thread.number mutex) where
+      LastUnlocks next.origin.source next.schedule code.thread.number mutex) where
     is_taken : c.committed ≡ true → ⊥
     is_taken e = true≢false (sym e ∙ not_yet)
 

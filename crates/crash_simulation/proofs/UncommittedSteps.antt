@@ -10,7 +10,7 @@ use Rattle.crash_simulation.specs.AbstractRuns.{AbstractRun, kept_of}
 
 module _ (y : System) (b : AbstractRun y) where
   pub leads_on : (next : Config) (h : ConfigStep b.config next) → kept_steps h ≡ [] → RespectsBoundaries (flat_of y) y.plan.boundaries (kept_of y b) h →
-      (l : Execution (flat_of y) next b.schedule) × RespectsAll (flat_of y) y.plan.boundaries l
+      (l : Execution (flat_of y) b.origin.source next b.schedule) × RespectsAll (flat_of y) y.plan.boundaries b.origin l
   leads_on next h none minded =
-      subst (λ (s : List ℕ). (l : Execution (flat_of y) next s) × RespectsAll (flat_of y) y.plan.boundaries l)
+      subst (λ (s : List ℕ). (l : Execution (flat_of y) b.origin.source next s) × RespectsAll (flat_of y) y.plan.boundaries b.origin l)
       (ap (λ (k : List ℕ). b.schedule ++ k) none ∙ append-nil b.schedule) (then b.execution h, (b.respects, minded))

@@ -420,8 +420,8 @@ module _ (y : System) (s : IsSystem y) (w : World) (h : ℕ) (stands : Simulates
         let stay = resumed y s b in
         let unlocks_alone = has_unlocked.unlocks_it in
         let cleaned =
-        stores_are_cleaned (flat_of y) y.plan.boundaries (shapes_of y) y.left_out b.config b.schedule n f.before u i s.plan.formed (cuts y s b) s.left_out
-        stay.resumed.invariant stay.resumed.kept (stay.inside n) (inr (mutex, inr unlocks_alone)) f.within f.writes in
+        stores_are_cleaned (flat_of y) y.plan.boundaries (shapes_of y) y.left_out b.origin b.config b.schedule n f.before u i s.plan.formed (cuts y s b)
+        s.left_out stay.resumed.invariant stay.resumed.kept (stay.inside n) (inr (mutex, inr unlocks_alone)) f.within f.writes in
         by (f.comes cleaned)
       where
         t : ThreadInv y w b (code y s w h stands below) c

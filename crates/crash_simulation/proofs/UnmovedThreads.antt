@@ -20,27 +20,28 @@ use Rattle.recovery_semantics.specs.Events.{begun, Stores, ConfigStep, steps_loc
 use Rattle.recovery_semantics.specs.Laws.{IsKeptBy}
 use Rattle.recovery_semantics.proofs.Public.{store_same, store_inner, writes_more, counted_other, after_more, more_empty, events_keep, writers_apart}
 use Rattle.recovery_semantics.proofs.Public.{goes_alone, since_stays, since_is_persisted}
+use Rattle.region_attempts.specs.Origins.{Origin}
 use Rattle.region_attempts.specs.GraphStates.{flow_kept, flow_now}
 use Rattle.region_attempts.proofs.Public.{graph_stands, graph_follows}
 use Rattle.crash_simulation.specs.InstructionSteps.{IsDoneBy}
 
 -- a thread is where it was, in the source and in its graph, and what it has stored is as it was
-pub record IsUnmoved (x : f.Flat) (schedule : List ℕ) (old next : Config) (thread : ℕ) : Type 0 where
+pub record IsUnmoved (x : f.Flat) (o : Origin x) (schedule : List ℕ) (old next : Config) (thread : ℕ) : Type 0 where
   pub kept : next.kept ≡ old.kept
   pub begun : events.steps_begun next thread ≡ events.steps_begun old thread
   pub attempt : attempt_of next thread ≡ attempt_of old thread
-  pub graph_thread : slice_get (flow_now x (flow_kept x schedule) next).graph_threads thread
-      ≡ slice_get (flow_now x (flow_kept x schedule) old).graph_threads thread
+  pub graph_thread : slice_get (flow_now x (flow_kept x o schedule) next).graph_threads thread
+      ≡ slice_get (flow_now x (flow_kept x o schedule) old).graph_threads thread
   -- what it holds, in both
   pub held : held_by thread (now next).holders ≡ held_by thread (now old).holders
-  pub holds : held_by thread (flow_now x (flow_kept x schedule) next).holders ≡ held_by thread (flow_now x (flow_kept x schedule) old).holders
+  pub holds : held_by thread (flow_now x (flow_kept x o schedule) next).holders ≡ held_by thread (flow_now x (flow_kept x o schedule) old).holders
   pub since : (v e position : ℕ) → Writes old.kept thread (attempt_of old thread).done v e → IsSince (history_at old.memory v e) position →
       IsSince (history_at next.memory v e) position
   pub durable : (v e : ℕ) → (history_at old.memory v e).durable ≤ (history_at next.memory v e).durable
 
 -- as it is where nothing happens
-pub stays_unmoved : (x : f.Flat) (schedule : List ℕ) (old : Config) (thread : ℕ) → IsUnmoved x schedule old old thread
-stays_unmoved x schedule old thread = record {
+pub stays_unmoved : (x : f.Flat) (o : Origin x) (schedule : List ℕ) (old : Config) (thread : ℕ) → IsUnmoved x o schedule old old thread
+stays_unmoved x o schedule old thread = record {
   kept = refl;
   begun = refl;
   attempt = refl;
@@ -77,9 +78,10 @@ stored_low old new i j number s v e = ⊎_elim
 
 -- ---- Steps of another thread
 
-module _ (x : f.Flat) (w : IsWellFormed x) (schedule : List ℕ) (old : Config) (i : Invariant x old) (by : IsKeptBy x old.kept schedule) (n : ℕ) where
+module _ (x : f.Flat) (w : IsWellFormed x) (o : Origin x) (schedule : List ℕ) (old : Config) (i : Invariant x old)
+    (by : IsKeptBy o.source old.kept schedule) (n : ℕ) where
   abbrev kept : FlowState
-  kept = flow_kept x schedule
+  kept = flow_kept x o schedule
 
   module _ (u : ℕ) (other : n ≢ u) where
     -- what the thread holds after another thread's step of the source
@@ -90,21 +92,22 @@ module _ (x : f.Flat) (w : IsWellFormed x) (schedule : List ℕ) (old : Config) 
         ∙ leaves_held x (now old) next u n (run_keeps x old.kept old.uncommitted i.keeps) is other
 
     -- the thread's graph thread after another thread's step of the graph
-    graph_thread_on : (next : Config) → graph_step (lowered x) (flow_now x kept old) u ≡ Some (flow_now x (flow_kept x (schedule ++ [])) next) →
+    graph_thread_on : (next : Config) → graph_step (lowered x) (flow_now x kept old) u ≡ Some (flow_now x (flow_kept x o (schedule ++ [])) next) →
         slice_get (flow_now x kept next).graph_threads n ≡ slice_get (flow_now x kept old).graph_threads n
     graph_thread_on next h =
-        let st = keeping.stepped (lowered x) (flow_now x kept old) (flow_now x (flow_kept x (schedule ++ [])) next) u h in
-        ap (λ (ks : List ℕ). slice_get (flow_now x (flow_kept x ks) next).graph_threads n) (sym (more_empty schedule))
+        let st = keeping.stepped (lowered x) (flow_now x kept old) (flow_now x (flow_kept x o (schedule ++ [])) next) u h in
+        ap (λ (ks : List ℕ). slice_get (flow_now x (flow_kept x o ks) next).graph_threads n) (sym (more_empty schedule))
         ∙ (ap (λ (ws : List GraphThread). slice_get ws n)
-        (graph_threads_after (flow_now x kept old) (flow_now x (flow_kept x (schedule ++ [])) next) u st.graph_thread st.effect st.is)
+        (graph_threads_after (flow_now x kept old) (flow_now x (flow_kept x o (schedule ++ [])) next) u st.graph_thread st.effect st.is)
         ∙ set_other (flow_now x kept old).graph_threads u n (keeping.moved st.graph_thread st.effect) other)
 
     -- the graph's mutexes are the source's
     holds_on : (next : Config) → ConfigStep old next → next.kept ≡ old.kept → held_by n (now next).holders ≡ held_by n (now old).holders →
         held_by n (flow_now x kept next).holders ≡ held_by n (flow_now x kept old).holders
     holds_on next h same held =
-        let before = (graph_stands x old schedule w i by).now_matches in
-        let after = (graph_stands x next schedule w (events_keep x old next i h) (subst (λ (k : m.State). IsKeptBy x k schedule) (sym same) by)).now_matches in
+        let before = (graph_stands x o old schedule w i by).now_matches in
+        let after = (graph_stands x o next schedule w (events_keep x old next i h)
+        (subst (λ (k : m.State). IsKeptBy o.source k schedule) (sym same) by)).now_matches in
         ap (λ (hs : List (Option ℕ)). held_by n hs) after.holders ∙ (held ∙ ap (λ (hs : List (Option ℕ)). held_by n hs) (sym before.holders))
 
     begun_on : events.steps_begun (begun old u old.memory old.attempts) n ≡ events.steps_begun old n
@@ -145,7 +148,7 @@ module _ (x : f.Flat) (w : IsWellFormed x) (schedule : List ℕ) (old : Config) 
           (subst (λ (k : ℕ). Writes old.kept n (attempt_of next n).longest k e) same (mine v e written)) its
 
   -- what happens by one thread leaves the others
-  unmoved_by : (thread : ℕ) → n ≢ thread → (next : Config) (h : ConfigStep old next) → IsDoneBy thread h → IsUnmoved x schedule old next n
+  unmoved_by : (thread : ℕ) → n ≢ thread → (next : Config) (h : ConfigStep old next) → IsDoneBy thread h → IsUnmoved x o schedule old next n
   unmoved_by thread differs _ (steps_locally u attempts h) own =
       let other : n ≢ u = λ e. differs (e ∙ own) in
       record {
@@ -153,7 +156,7 @@ module _ (x : f.Flat) (w : IsWellFormed x) (schedule : List ℕ) (old : Config) 
         begun = begun_on u other;
         attempt = h.attempt.others n other;
         graph_thread = graph_thread_on u other (begun old u old.memory attempts)
-            (graph_follows x old (begun old u old.memory attempts) schedule w i by (steps_locally u attempts h));
+            (graph_follows x o old (begun old u old.memory attempts) schedule w i by (steps_locally u attempts h));
         held = held_on u other h.step.next h.step.is;
         holds = holds_on u other (begun old u old.memory attempts) (steps_locally u attempts h) refl (held_on u other h.step.next h.step.is);
         since = λ v e q written s. s;
@@ -167,7 +170,7 @@ module _ (x : f.Flat) (w : IsWellFormed x) (schedule : List ℕ) (old : Config) 
         begun = begun_on u other;
         attempt = h.attempt.others n other;
         graph_thread = graph_thread_on u other (begun old u memory attempts)
-            (graph_follows x old (begun old u memory attempts) schedule w i by (stores u memory attempts h));
+            (graph_follows x o old (begun old u memory attempts) schedule w i by (stores u memory attempts h));
         held = held_on u other step.next step.is;
         holds = holds_on u other (begun old u memory attempts) (stores u memory attempts h) refl (held_on u other step.next step.is);
         since = λ v e q written s. since_stays old.memory memory h.store.variable h.store.element h.store.number h.stored v e q
@@ -181,7 +184,7 @@ module _ (x : f.Flat) (w : IsWellFormed x) (schedule : List ℕ) (old : Config) 
         begun = begun_on u other;
         attempt = refl;
         graph_thread = graph_thread_on u other (begun old u old.memory old.attempts)
-            (graph_follows x old (begun old u old.memory old.attempts) schedule w i by (synchronises u h));
+            (graph_follows x o old (begun old u old.memory old.attempts) schedule w i by (synchronises u h));
         held = held_on u other h.next h.is;
         holds = holds_on u other (begun old u old.memory old.attempts) (synchronises u h) refl (held_on u other h.next h.is);
         since = λ v e q written s. s;
@@ -200,6 +203,6 @@ module _ (x : f.Flat) (w : IsWellFormed x) (schedule : List ℕ) (old : Config) 
   unmoved_by thread differs _ (commits u attempts h) own = absurd own
   unmoved_by thread differs _ (crashes attempts h) own = absurd own
 
-pub unmoved : (x : f.Flat) (w : IsWellFormed x) (schedule : List ℕ) (old next : Config) (i : Invariant x old) (by : IsKeptBy x old.kept schedule)
-    (thread n : ℕ) → n ≢ thread → (h : ConfigStep old next) → IsDoneBy thread h → IsUnmoved x schedule old next n
-unmoved x w schedule old next i by thread n differs h own = unmoved_by x w schedule old i by n thread differs next h own
+pub unmoved : (x : f.Flat) (w : IsWellFormed x) (o : Origin x) (schedule : List ℕ) (old next : Config) (i : Invariant x old)
+    (by : IsKeptBy o.source old.kept schedule) (thread n : ℕ) → n ≢ thread → (h : ConfigStep old next) → IsDoneBy thread h → IsUnmoved x o schedule old next n
+unmoved x w o schedule old next i by thread n differs h own = unmoved_by x w o schedule old i by n thread differs next h own

@@ -1,13 +1,14 @@
 -- The machine's account of begun and kept steps is that of the abstract run's config.
-use Rattle.std.specs.Prelude.{◌≡◌, ℕ, ◌<◌, List, [], ◌∷◌, length, true, false}
+use Rattle.std.specs.Prelude.{◌≡◌, ℕ, ◌<◌, List, [], ◌∷◌, ◌++◌, length, true, false}
 use Rattle.ido_base.specs.declared.event.Event.{Event}
 use Rattle.ido_base.specs.Words.{last_position}
+use Rattle.c_tree.specs.Source.{State, start}
 use Rattle.rv64_isa.specs.Executables.{first_world}
 use Rattle.rv64_isa.specs.Machine.{World, after_events}
 use Rattle.rv64_isa.specs.Schedule.{HartSteps, Steps, hart_steps, first_steps, steps_along}
 use Rattle.recovery_semantics.specs.Events.{steps_begun}
 use Rattle.log_states.specs.Logs.{point_in}
-use Rattle.crash_simulation.specs.Systems.{System, IsSystem, thread_count}
+use Rattle.crash_simulation.specs.Systems.{System, IsSystem, flat_of, thread_count}
 use Rattle.crash_simulation.specs.AbstractRuns.{AbstractRun}
 use Rattle.crash_simulation.specs.ThreadGhosts.{ThreadGhost}
 use Rattle.crash_simulation.specs.SimulationRelation.{SimulatesBeforeCommit, Simulates}
@@ -19,19 +20,29 @@ pub record IsCountedOf (y : System) (w : World) (b : AbstractRun y) (thread : �
   pub bound : is_bound c ≡ true → (steps.free ≡ 0)
       × (steps.bound ≡ record { position = last_position (point_in w.words thread); steps = steps_begun b.config thread } ∷ [])
 
-pub record AreCounted (y : System) (s : IsSystem y) (w : World) (t : SimulatesBeforeCommit y s w) (steps : Steps) : Type 0 where
-  pub kept : steps.kept ≡ t.abstract.schedule
+-- what an account goes on from: the state in which the abstract run began, and steps that were kept before
+pub record Beginning : Type 0 where
+  pub from : State
+  pub kept : List ℕ
+
+-- the source's start, and none
+abbrev pub first_beginning : System → Beginning
+first_beginning y = record { from = start (flat_of y); kept = [] }
+
+pub record AreCounted (y : System) (s : IsSystem y) (g : Beginning) (w : World) (t : SimulatesBeforeCommit y s w) (steps : Steps) : Type 0 where
+  pub begins : t.abstract.origin.source ≡ g.from
+  pub kept : steps.kept ≡ g.kept ++ t.abstract.schedule
   pub pending : steps.pending ≡ t.abstract.config.uncommitted
   pub count : length steps.harts ≡ thread_count y
   pub each : (n : ℕ) → n < thread_count y → IsCountedOf y w t.abstract n (t.ghosts n) (hart_steps steps n)
 
 -- the machine simulates an abstract run, and its steps are counted
-pub record SimulatesCounted (y : System) (s : IsSystem y) (w : World) (steps : Steps) : Type 0 where
+pub record SimulatesCounted (y : System) (s : IsSystem y) (g : Beginning) (w : World) (steps : Steps) : Type 0 where
   pub stands : Simulates y s w
-  pub counted : AreCounted y s w stands.before_commit steps
+  pub counted : AreCounted y s g w stands.before_commit steps
 
 -- the machine simulates an abstract run and its steps are counted after all events that may happen, in whatever order
 abbrev pub MachinesResume : Type 0
 MachinesResume = (y : System) (s : IsSystem y) (events : List Event) →
-    SimulatesCounted y s (after_events y.runs.program (first_world y.runs) events)
+    SimulatesCounted y s (first_beginning y) (after_events y.runs.program (first_world y.runs) events)
     (steps_along y.runs.marks y.runs.program (first_world y.runs) events (first_steps (length y.runs.program) []))

@@ -40,15 +40,15 @@ IsDoneBy thread (commits u attempts h) = ⊥
 IsDoneBy thread (crashes attempts h) = ⊥
 
 -- the abstract run with the next config, and with the same kept state
-abbrev pub abstract_next : (y : System) → (b : AbstractRun y) → (next : Config) → (execution : Execution (flat_of y) next b.schedule) →
-    RespectsAll (flat_of y) y.plan.boundaries execution → AbstractRun y
-abstract_next y b next execution respects = record { config = next; schedule = b.schedule; execution = execution; respects = respects }
+abbrev pub abstract_next : (y : System) → (b : AbstractRun y) → (next : Config) → (execution : Execution (flat_of y) b.origin.source next b.schedule) →
+    RespectsAll (flat_of y) y.plan.boundaries b.origin execution → AbstractRun y
+abstract_next y b next execution respects = record { origin = b.origin; config = next; schedule = b.schedule; execution = execution; respects = respects }
 
 -- nothing happens to the source, or one thing does that keeps no step
 pub data StepsOrStutters (y : System) (b : AbstractRun y) (thread : ℕ) : AbstractRun y → Type 0 where
   stays : StepsOrStutters y b thread b
-  goes : (next : Config) (h : ConfigStep b.config next) → IsDoneBy thread h → (execution : Execution (flat_of y) next b.schedule)
-      (respects : RespectsAll (flat_of y) y.plan.boundaries execution) → StepsOrStutters y b thread (abstract_next y b next execution respects)
+  goes : (next : Config) (h : ConfigStep b.config next) → IsDoneBy thread h → (execution : Execution (flat_of y) b.origin.source next b.schedule)
+      (respects : RespectsAll (flat_of y) y.plan.boundaries b.origin execution) → StepsOrStutters y b thread (abstract_next y b next execution respects)
 
 -- the thread may make the effect: it stores to its own log, or to an element of a variable that it guards, or nothing
 pub data MayStore (y : System) (b : AbstractRun y) (thread : ℕ) : Effect → Type 0 where

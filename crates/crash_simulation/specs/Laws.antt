@@ -1,6 +1,6 @@
 -- Laws of compiled programs in a machine.
 use Rattle.std.specs.Prelude.{◌≡◌, ◌≢◌, ◌⊎◌, ℕ, ◌<◌, List, map, true}
-use Rattle.c_tree.specs.Source.{start, after_from, runs_from}
+use Rattle.c_tree.specs.Source.{State, after_from, runs_from}
 use Rattle.ido_base.specs.declared.event.Event.{Event}
 use Rattle.ido_base.specs.declared.event.Event.TheVariants.{Step, Evict, Crash}
 use Rattle.ido_base.specs.declared.event.Reply.TheVariants.{Moved, Stuck}
@@ -12,7 +12,7 @@ use Rattle.rv64_isa.specs.Machine.{World, after_event, reply_to, durable_point}
 use Rattle.hart_runs.specs.Calls.{IsInPhase}
 use Rattle.recovery_semantics.specs.ElementHistories.{durable_number}
 use Rattle.recovery_semantics.specs.VariableSpots.{memory_in}
-use Rattle.crash_simulation.specs.Systems.{System, IsSystem, flat_of, places_of, thread_count}
+use Rattle.crash_simulation.specs.Systems.{System, IsSystem, places_of, thread_count}
 use Rattle.crash_simulation.specs.SimulationRelation.{SimulatesBeforeCommit, Simulates}
 
 -- the machine simulates an abstract run at its start
@@ -58,14 +58,15 @@ RunsSimulate =
 abbrev pub EventsStand : Type 0
 EventsStand = (y : System) (s : IsSystem y) (w : World) (event : Event) → Simulates y s w → Simulates y s (after_event y.runs.program w event)
 
--- where all durable points are 0, durable memory has exactly the variables that the source leaves by the kept schedule
-pub record IsSettled (y : System) (w : World) (schedule : List ℕ) : Type 0 where
-  pub runs : runs_from (start (flat_of y)) schedule ≡ true
-  pub durable : map (map durable_number) (memory_in (places_of y) w.words) ≡ (after_from (start (flat_of y)) schedule).variables
+-- where all durable points are 0, durable memory has exactly the variables that the source leaves by the kept schedule, from where the execution began
+pub record IsSettled (y : System) (w : World) (from : State) (schedule : List ℕ) : Type 0 where
+  pub runs : runs_from from schedule ≡ true
+  pub durable : map (map durable_number) (memory_in (places_of y) w.words) ≡ (after_from from schedule).variables
 
 abbrev pub SettledIsKept : Type 0
 SettledIsKept = (y : System) (s : IsSystem y) (w : World) (stands : Simulates y s w) →
-    ((n : ℕ) → n < thread_count y → durable_point w.words n ≡ 0) → IsSettled y w stands.before_commit.abstract.schedule
+    ((n : ℕ) → n < thread_count y → durable_point w.words n ≡ 0) →
+    IsSettled y w stands.before_commit.abstract.origin.source stands.before_commit.abstract.schedule
 
 -- no hart is ever stuck
 abbrev pub NoneIsStuck : Type 0

@@ -6,3 +6,4 @@ pub mod InstructionSteps
 pub mod AccountRelation
 pub mod ReleasedSections
 pub mod Laws
+pub mod RecoveredWords

@@ -12,14 +12,14 @@ use Rattle.crash_simulation.specs.AbstractRuns.{AbstractRun}
 use Rattle.crash_simulation.specs.ThreadGhosts.{ThreadGhost}
 use Rattle.crash_simulation.specs.SimulationRelation.{SimulatesBeforeCommit}
 use Rattle.crash_simulation.specs.InstructionSteps.{is_leaving}
-use Rattle.crash_simulation.specs.AccountRelation.{SimulatesCounted}
+use Rattle.crash_simulation.specs.AccountRelation.{Beginning, SimulatesCounted}
 
 abbrev pub one_if : Bool → ℕ
 one_if b = if b then 1 else 0
 
--- how many sections of the thread have ended in the kept schedule
+-- how many sections of the thread have ended in the kept schedule, since the execution began
 abbrev pub sections_kept : (y : System) → AbstractRun y → (thread : ℕ) → ℕ
-sections_kept y b thread = ended_from (start (flat_of y)) b.schedule thread
+sections_kept y b thread = ended_from b.origin.source b.schedule thread
 
 -- as many as the hart has left by a release, and one more where that release is still to come, or never comes since a crash came before it
 pub data IsReleasedOf (y : System) (w : World) (b : AbstractRun y) (thread : ℕ) (c : ThreadGhost) (released : ℕ) : Type 0 where
@@ -32,8 +32,8 @@ pub record AreReleased (y : System) (s : IsSystem y) (w : World) (t : SimulatesB
   pub beyond : (n : ℕ) → thread_count y ≤ n → sections_kept y t.abstract n ≡ released n
 
 -- the machine simulates an abstract run, its steps are counted, and so many releases ended a section of each thread
-pub record IsCarried (y : System) (s : IsSystem y) (w : World) (steps : Steps) (count : ℕ → ℕ) : Type 0 where
-  pub resumed : SimulatesCounted y s w steps
+pub record IsCarried (y : System) (s : IsSystem y) (g : Beginning) (w : World) (steps : Steps) (count : ℕ → ℕ) : Type 0 where
+  pub resumed : SimulatesCounted y s g w steps
   pub released : AreReleased y s w resumed.stands.before_commit count
 
 -- the sections that have ended for the source, and for the machine

@@ -5,7 +5,6 @@ use Rattle.ido_base.specs.Growth.{PersistsThrough}
 use Rattle.ido_ints.specs.Kinds.{bytes_of}
 use Rattle.c_tree.specs.Programs.{Variable}
 use Rattle.c_tree.specs.WellFormed.{elements_in}
-use Rattle.c_tree.specs.Source.{start}
 use Rattle.source_machine.specs.Discipline.{Guards}
 use Rattle.rv64_isa.specs.declared.phase.Phase.{Phase}
 use Rattle.rv64_isa.specs.declared.phase.Phase.TheVariants.{Take, Wait, Resume, Run, Done, Ended}
@@ -181,7 +180,7 @@ module _ (y : System) (w : World) (b : AbstractRun y) (code : Code y.plan) (c : 
     pub describes : Describes y.plan code (kept_of y b) (record_kept c)
     pub will_describe : c.committed ≡ false → Describes y.plan code (now_of y b) c.new
     -- a mutex that it has still to give back, where its steps are kept, is unlocked by its last one of these
-    pub unlocked : (mutex : ℕ) → c.giving ≡ Some mutex → c.committed ≡ true → LastUnlocks (start (flat_of y)) b.schedule code.thread.number mutex
+    pub unlocked : (mutex : ℕ) → c.giving ≡ Some mutex → c.committed ≡ true → LastUnlocks b.origin.source b.schedule code.thread.number mutex
     pub cleans : (effect : Effect) → Contains c.cleans effect → is_clean effect ≡ true
     pub graph_thread : GraphThread
     pub walks : slice_get (now_of y b).graph_threads code.thread.number ≡ Some graph_thread

@@ -2,6 +2,7 @@
 ghost use Rattle.crash_simulation.specs.AccountRelation.{MachinesResume};
 ghost use Rattle.crash_simulation.specs.Laws.{CommitStutters, CrashSimulates, EventsStand, EvictionsSimulate, NoneIsStuck, ResumesStand};
 ghost use Rattle.crash_simulation.specs.Laws.{RunsSimulate, SettledIsKept, StartSimulates, StoppedStand, TakesMove, TakesStand, WaitsStand};
+ghost use Rattle.crash_simulation.specs.RecoveredWords.{RecoveredAreCounted, RecoveredWordsSimulate};
 ghost use Rattle.crash_simulation.specs.ReleasedSections.{SectionsAreKept};
 ghost use Rattle.crash_simulation.specs.InstructionSteps.{CallsStep, CoresStep, OwnStepsSimulate, RunsReady, FragmentsStep};
 
@@ -15,6 +16,12 @@ pub fn starts_simulate()
 /// After a crash, at whatever moment, the machine simulates an abstract run at what is kept.
 pub fn crashes_simulate()
     ensures { CrashSimulates }
+{}
+
+/// Where recovery begins with words whose records describe an origin, reached by a run or not, the machine simulates an abstract run that begins
+/// there: whoever left these words.
+pub fn recovered_words_simulate()
+    ensures { RecoveredWordsSimulate }
 {}
 
 /// The machine simulates an abstract run while harts gather the locks of their records, where one is resumed, and after a step of one that has stopped.
@@ -91,6 +98,16 @@ pub fn events_stand()
 /// or bound to the store of its point.
 pub fn machines_resume()
     ensures { MachinesResume }
+{
+    fragments_go_on();
+    fragments_step();
+    cores_step();
+}
+
+/// After every list of events in a run from words whose records describe an origin, too: kept steps are those that were kept before, and after them
+/// those of the run's schedule from there.
+pub fn recovered_are_counted()
+    ensures { RecoveredAreCounted }
 {
     fragments_go_on();
     fragments_step();

@@ -5,6 +5,8 @@ use Rattle.c_tree.specs.WellFormed.{shape_of}
 use Rattle.ido_ints.specs.declared.kinds.Kind.{Kind}
 use Rattle.c_tree.specs.Exprs as e
 use Rattle.c_tree.specs.Source.{Pending}
+use Rattle.rv64_isa.specs.Rows.{read}
+use Rattle.memory_layout.specs.Roles.{pending_value}
 use Rattle.flow_graph.specs.Nodes.{Action, Eval, Store, Test, Lock, Unlock, End, Node}
 use Rattle.flow_graph.specs.Actions as a
 use Rattle.flow_graph.specs.Actions.{Effect, Seen, effect_of}
@@ -48,7 +50,7 @@ module _ (p : Plan) (t : Thread) (program : Program) (code : IsThreadCode p t pr
   -- ---- What a node does
 
   storing : (m : Entrance) (k : Kind) (store : Pending) → Storing p t old m k store → Storing p t new m k store
-  storing m k store s = record { instr = s.instr; stands = s.stands; does = s.does }
+  storing m k store s = record { instr = s.instr; stands = s.stands; does = s.does; value = s.value }
 
   asking : (number mutex next : ℕ) (seen : Seen) (bank : ℕ) (registers : List ℕ) → Asking p t old number mutex next seen bank registers →
       Asking p t new number mutex next seen bank registers
@@ -77,7 +79,7 @@ module _ (p : Plan) (t : Thread) (program : Program) (code : IsThreadCode p t pr
       let both = h k kind in
       let same = makes_store m.node is m.seen is.action store next at refl does in (
         storing m k store both.0,
-        subst (λ (b : Bool). Passing p t old m (old.core m.node) (old.entry next) (pending_observations p t old k store b)
+        subst (λ (b : Bool). Passing p t old m (old.core m.node) (old.entry next) (pending_observations p t old k store (read m.registers pending_value) b)
             (Enters p t next (seen_after (a.Makes store next) m.seen) m.bank)) same both.1,
       )
   performs is m (a.Goes next) at does h = h

@@ -27,13 +27,13 @@ use Rattle.memory_layout.specs.Points.{point_of}
 use Rattle.memory_layout.specs.Roles.{pending_address}
 use Rattle.rv64_isa.specs.Rows.{read}
 use Rattle.rv64_isa.specs.Machine.{World, after_event, bank_of, durable_at, resume_of}
-use Rattle.flow_graph.specs.Actions.{FlowState, graph_start, seen_by}
+use Rattle.flow_graph.specs.Actions.{FlowState, seen_by}
 use Rattle.flow_graph.specs.IdempotentCuts.{stores}
 use Rattle.flow_graph.specs.Liveness.{NodeAt}
 use Rattle.flow_graph.specs.Lowering.{lowered, threads_nodes}
 use Rattle.flow_graph.specs.Nodes.{Action, Eval, Store, Test, Lock, Unlock, End, Graph, Node}
 use Rattle.flow_graph.specs.Paths.{LiesInWritten, stored_element}
-use Rattle.flow_graph.proofs.Public.{Good, ShapedAs, found_in, good_after, good_start, node_shaped, nodes_at}
+use Rattle.flow_graph.proofs.Public.{ShapedAs, found_in, node_shaped, nodes_at}
 use Rattle.log_states.specs.LogInvariant.{LogInv}
 use Rattle.log_states.specs.Logs.{Record, IsRecorded, nothing_recorded, slots_of, value_of}
 use Rattle.log_states.specs.Machines.{config_of}
@@ -46,7 +46,7 @@ use Rattle.recovered_threads.proofs.Public.{records_are_apart}
 use Rattle.crash_simulation.specs.AbstractRuns.{kept_of}
 use Rattle.crash_simulation.specs.SimulationRelation.{Simulates}
 use Rattle.crash_simulation.specs.Systems.{System, IsSystem, flat_of, thread_count}
-use Rattle.crash_simulation.proofs.Public.{left, left_describes, left_point, log_of, orderly, owes_here}
+use Rattle.crash_simulation.proofs.Public.{kept_good, left, left_describes, left_point, log_of, orderly, owes_here}
 use Rattle.flat_compile.specs.declared.resumes.LiveLocal.{LiveLocal}
 use Rattle.flat_compile.specs.declared.resumes.Resume.{Resume}
 use Rattle.flat_compile.specs.ResumePlaces.{Spot, Before, After, IsSpot, address_in, goes_on_at, IsLiveLocal, AreResumes, IsResumeTable, resumes_at}
@@ -104,12 +104,6 @@ module _ (y : System) (s : IsSystem y) (w : World) (stands : Simulates y s w) wh
 
   abbrev kept : FlowState
   kept = kept_of y stands.before_commit.abstract
-
-  -- what is pending in the kept state lies where it should
-  kept_good : Good (flat_of y) kept
-  kept_good =
-      good_after (flat_of y) stands.before_commit.abstract.schedule s.plan.formed (graph_start (lowered (flat_of y)) (flat_of y))
-      (good_start (flat_of y) s.plan.formed)
 
   module _ (n : ℕ) (below : n < thread_count y) where
     abbrev code : Code y.plan
@@ -208,7 +202,7 @@ module _ (y : System) (s : IsSystem y) (w : World) (stands : Simulates y s w) wh
 
         stored : (variable next : ℕ) (kind : Kind) → is.action ≡ Store variable kind next → Has
         stored variable next kind does =
-            let good = kept_good in
+            let good = kept_good y s stands.before_commit.abstract in
             let owed = owes_here (flat_of y) s.plan.formed kept good.source t.number good.matches i.graph_thread i.there is flat_there
             (record { variable = variable; kind = kind; next = next; is = does }) in
             let store : Pending = owed.0 in

@@ -2,3 +2,10 @@ mod SpreadWords
 mod ResumedLocals
 mod AcceptedShapes
 mod LeftShapes
+mod LeftStatements
+mod StoredElements
+mod HeldAtNodes
+mod RecordedWords
+mod ResumedThreads
+mod RecordedStates
+mod ShapedRuns

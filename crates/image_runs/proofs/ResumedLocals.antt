@@ -29,7 +29,7 @@ use Rattle.thread_code.proofs.Public.{held_read_back}
 
 -- ---- Registers that have a slot
 
-keepable : (register : ℕ) → is_kept register ≡ true → IsKeepable register
+pub keepable : (register : ℕ) → is_kept register ≡ true → IsKeepable register
 keepable register h = record {
   is_register = grind (arith, nat_tests);
   exists = grind (arith, nat_tests);
@@ -49,7 +49,7 @@ locals_of (u ∷ us) first zero p t g i =
 locals_of (u ∷ us) first (suc k) p t g i = locals_of us (first + thread_count u) k p t g i
 
 module _ (p : Plan) (plan : IsPlan p) (t : Thread) (is : IsThread p t) where
-  part_is : slice_get (parts p.flat.threads 0) t.number ≡ Some t.part
+  pub part_is : slice_get (parts p.flat.threads 0) t.number ≡ Some t.part
   part_is = ap (λ (ps : List Part). slice_get ps t.number) (sym (ap (λ (g : Graph). g.threads) plan.lowered ∙ lowered_threads p.flat)) ∙ is.nodes
 
   local_kept : (local : ℕ) → local < length t.kinds → is_kept (slice_index t.registers local) ≡ true
@@ -68,7 +68,7 @@ module _ (p : Plan) (plan : IsPlan p) (t : Thread) (is : IsThread p t) where
 
   -- ---- Locks before a node
 
-  few_set : (node : ℕ) → length (set_before p t node) ≤ 64
+  pub few_set : (node : ℕ) → length (set_before p t node) ≤ 64
   few_set node =
       let table = found_in p.held t.number (let l = slice_get_within p.flat.threads t.number is.text is.of_text in omega (arith, l, plan.held.each_thread)) in
       let of = plan.held.sets t.number is.text table.0 is.of_text table.1 in

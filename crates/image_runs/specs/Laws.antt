@@ -1,20 +1,26 @@
--- Which words have the shape.
-use Rattle.std.specs.Prelude.{List, length, Vec}
+-- Which words have the shape, what they are, and what a machine does that begins with them.
+use Rattle.std.specs.Prelude.{ℕ, List, length, Vec}
 use Rattle.std.specs.Global.{Global}
 use Rattle.ido_base.specs.declared.event.Event.{Event}
 use Rattle.c_tree.specs.Flats.{Flat}
 use Rattle.rv64_isa.specs.declared.object.Object.{Object}
 use Rattle.rv64_isa.specs.declared.object.Marks.{Marks}
 use Rattle.flow_graph.specs.declared.cuts.Cuts.{Cuts}
-use Rattle.crash_simulation.specs.Systems.{System, IsSystem}
+use Rattle.region_attempts.specs.Origins.{Origin}
+use Rattle.crash_simulation.specs.RecoveredWords.{IsRecoveredFrom}
+use Rattle.crash_simulation.specs.Systems.{System, IsSystem, flat_of}
 use Rattle.flat_compile.specs.declared.resumes.Resume.{Resume}
 use Rattle.flat_compile.specs.TranslatedForms.{IsResumable}
-use Rattle.compiler_correctness.specs.Images.{image_of}
+use Rattle.compiler_correctness.specs.Images.{Image, image_of}
 use Rattle.compiler_correctness.specs.Laws.{translation_of}
+use Rattle.compiler_correctness.specs.Translations.{translation_to}
+use Rattle.compiler_correctness.specs.WordRuns.{RunsOn}
 use Rattle.crash_images.specs.Contents.{State, IsState}
 use Rattle.image_checks.specs.Checks.{IsWellFormedState}
 use Rattle.image_runs.specs.Shapes.{HasShape}
 use Rattle.image_runs.specs.StateImages.{image_of_state}
+
+-- ---- Which words have it
 
 -- what stands after an image's source, where it has no fault
 abbrev pub AcceptedHaveShape : Type 0
@@ -25,3 +31,20 @@ AcceptedHaveShape = (flat : Flat) (object : Object) (marks : Marks) (cuts : Cuts
 -- what a crash leaves of a run
 abbrev pub CrashesLeaveShape : Type 0
 CrashesLeaveShape = (y : System) (s : IsSystem y) (events : List Event) → HasShape y.plan s.codes (image_of (translation_of y) events).words
+
+-- ---- What they are
+
+-- the words are what the records of some state of the source leave, whether a run reaches it or not: an execution may begin there, and harts recover to it
+abbrev pub ShapesAreStates : Type 0
+ShapesAreStates = (y : System) (s : IsSystem y) (words : List ℕ) → HasShape y.plan s.codes words → (o : Origin (flat_of y)) × IsRecoveredFrom y s o words
+
+-- ---- What a machine does that begins with them
+
+abbrev pub ShapesRunOn : Type 0
+ShapesRunOn = (y : System) (s : IsSystem y) (image : Image) → HasShape y.plan s.codes image.words → RunsOn (translation_of y) image
+
+-- an image without a fault is run on by the program that it is checked against
+abbrev pub AcceptedRunOn : Type 0
+AcceptedRunOn = (flat : Flat) (object : Object) (marks : Marks) (cuts : Cuts) (table : List (Vec Resume Global)) (state : State) →
+    IsResumable flat object marks cuts table → IsState (length object.initial.items) (length object.code.items) state →
+    IsWellFormedState flat table state → RunsOn (translation_to flat object marks cuts) (image_of_state state)

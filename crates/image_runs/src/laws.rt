@@ -1,7 +1,9 @@
 //! Laws of durable words, whoever left them.
-ghost use Rattle.image_runs.specs.Laws.{AcceptedHaveShape, CrashesLeaveShape};
+ghost use Rattle.image_runs.specs.Laws.{AcceptedHaveShape, AcceptedRunOn, CrashesLeaveShape, ShapesAreStates, ShapesRunOn};
 
+use compiler_correctness::laws::recovered_words_run_on;
 use crash_simulation::laws::machines_resume;
+use region_cutter::laws::chosen_boundaries_are_locked;
 
 /// What an image has after its source, where it has no fault, has the shape, and so has what a crash leaves of a run.
 pub fn images_have_shape()
@@ -9,4 +11,24 @@ pub fn images_have_shape()
     ensures left { CrashesLeaveShape }
 {
     machines_resume();
+}
+
+/// Words that have the shape are what the records of some state of the source leave, whether a run reaches that or not: each thread that has a point
+/// stands at its node, with the locks and the numbers that its bank has, and each other one before its first step, with nothing held.
+pub fn shapes_are_states()
+    ensures { ShapesAreStates }
+{
+    chosen_boundaries_are_locked();
+}
+
+/// A machine that begins with words that have the shape runs on, whatever happens: no hart is ever stuck, none that takes its locks in recovery waits for
+/// one, and one that waits for no lock begins its next step, or has stopped, within twice its code's words and 18 of its steps while power stays on.
+/// What is in the variables is any numbers.
+pub fn shapes_run_on()
+    ensures shape { ShapesRunOn }
+    ensures accepted { AcceptedRunOn }
+{
+    shapes_are_states();
+    images_have_shape();
+    recovered_words_run_on();
 }

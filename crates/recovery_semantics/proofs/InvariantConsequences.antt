@@ -12,7 +12,7 @@ use Rattle.recovery_semantics.specs.ElementHistories.{IsSince, IsStable, History
 use Rattle.recovery_semantics.specs.Attempts.{IsOverrun}
 use Rattle.recovery_semantics.specs.Configs.{IsNotOverrun, now, attempt_of}
 use Rattle.recovery_semantics.specs.Events.{steps_begun}
-use Rattle.recovery_semantics.specs.Laws.{StoredIsSince, SinceStays, SinceIsPersisted, SinceSettles, WritersGuard, WritersApart, BetweenIsKept}
+use Rattle.recovery_semantics.specs.Laws.{StoredIsSince, SinceStays, SinceIsPersisted, SinceSettles, WritersGuard, WritersApart, BetweenIsKept, BetweenIsStable}
 use Rattle.recovery_semantics.specs.Laws.{GoesAlone, SettlesAsItIs, PathsStay, ReadsAreRight, DurableIsKept, ScheduleGrows, SectionsStay, NowStays}
 use Rattle.recovery_semantics.proofs.StableHistories.{since_own, since_again, since_persisted, stable_since, durable_stable}
 use Rattle.recovery_semantics.proofs.Paths.{writes_more, held_same, writer_guards}
@@ -64,9 +64,9 @@ durable_is_kept x old i none = variables_same old.memory old.kept.variables i.si
 -- ---- The schedule
 
 pub schedule_grows : ScheduleGrows
-schedule_grows x old t attempts schedule i settled kept =
+schedule_grows x from old t attempts schedule i settled kept =
     let first = replicate (steps_begun old t) t in
-    let on = goes_on (m.start x) schedule first kept.runs in
+    let on = goes_on from schedule first kept.runs in
     record {
       runs = on.runs ∙ (ap (λ (z : m.State). m.runs_from z first) kept.is ∙ first_runs x old t i);
       is = on.after ∙ ap (λ (z : m.State). m.after_from z first) kept.is;
@@ -107,6 +107,12 @@ none_from (o ∷ hs) at t (suc k) none h = by (is_held_by t o) none (λ g. none_
 pub between_is_kept : BetweenIsKept
 between_is_kept x old i between = durable_is_kept x old i (λ u v e w.
     none_from old.kept.holders 0 u (guard_of x.variables v) (between u) (writers_guard x old u v e i w))
+
+pub between_is_stable : BetweenIsStable
+between_is_stable x old i between = record {
+  size = i.size;
+  each = λ v e. i.durable v e (λ u w. none_from old.kept.holders 0 u (guard_of x.variables v) (between u) (writers_guard x old u v e i w));
+}
 
 -- ---- Paths
 

@@ -7,8 +7,8 @@ use Rattle.source_machine.specs.Mutexes.{unlocks}
 use Rattle.source_machine.specs.StepExchanges.{steps_of, TransfersLock}
 use Rattle.source_machine.proofs.Public.{goes_on, unlocks_same, solo as solo_law}
 use Rattle.recovery_semantics.specs.Attempts.{solo}
-use Rattle.recovery_semantics.specs.Configs.{Config, attempt_of, Invariant}
-use Rattle.recovery_semantics.specs.Laws.{HasUnlocked, LastUnlocks, UnlockedIsLast}
+use Rattle.recovery_semantics.specs.Configs.{attempt_of}
+use Rattle.recovery_semantics.specs.Laws.{LastUnlocks, UnlockedIsLast}
 use Rattle.recovery_semantics.proofs.Schedules.{equal_is}
 use Rattle.recovery_semantics.proofs.ShortenedSchedules.{last_first, more_empty}
 use Rattle.recovery_semantics.proofs.CommitsKeepInvariant.{prefix_runs}

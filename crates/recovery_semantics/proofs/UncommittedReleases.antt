@@ -3,15 +3,13 @@ use Rattle.std.proofs.Common.{◌⊎◌, inl, inr, replicate, ◌≡◌, ◌≢�
 use Rattle.std.proofs.Common.{◌++◌, sym, ◌∙◌, ap, subst, arith, Bool, true, false, Option, Some, None, ⊎_elim}
 use Rattle.std.specs.Prelude.{slice_get, if◌then◌else◌}
 use Rattle.std.proofs.lemmas.Bool.{cases_eq}
-use Rattle.c_tree.specs.Programs.{Variable}
 use Rattle.c_tree.specs.Flats as f
 use Rattle.c_tree.specs.Source as m
 use Rattle.c_tree.specs.Source.{source_step}
-use Rattle.c_tree.specs.LockDiscipline.{Held, holds}
-use Rattle.source_machine.specs.Mutexes.{locks, unlocks, unlock_ahead, first_unlock, held_by}
-use Rattle.source_machine.specs.Discipline.{KeepList, StateKeeps}
+use Rattle.source_machine.specs.Mutexes.{locks, unlocks}
+use Rattle.source_machine.specs.Discipline.{StateKeeps}
 use Rattle.source_machine.specs.StepExchanges.{IsSolo, steps_of, TransfersLock}
-use Rattle.source_machine.proofs.Public.{held_found, keeps_unlock, some_is, locks_found, unlocks_found, Passed, takes, gives, Stepped, stepped, run_keeps}
+use Rattle.source_machine.proofs.Public.{some_is, locks_found, unlocks_found, Passed, takes, gives, Stepped, stepped, run_keeps}
 use Rattle.source_machine.proofs.Public.{mutex_stays, mutex_passed, unlocks_held, solo as solo_law}
 use Rattle.recovery_semantics.specs.Attempts.{solo}
 use Rattle.recovery_semantics.specs.Configs.{Config, now, attempt_of, Invariant}

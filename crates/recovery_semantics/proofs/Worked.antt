@@ -10,14 +10,16 @@ use Rattle.ido_ints.specs.Reduction as reduction
 use Rattle.c_tree.specs.Exprs as e
 use Rattle.c_tree.specs.Flats as f
 use Rattle.c_tree.specs.LockDiscipline as l
-use Rattle.c_tree.specs.Source.{source_step}
-use Rattle.recovery_semantics.specs.ElementHistories.{Memory, IsStable, IsOther, IsPersisted, durable_number, live_number, history_at, number_at}
+use Rattle.c_tree.specs.Source.{source_step, start}
+use Rattle.source_machine.proofs.Public.{start_keeps}
+use Rattle.recovery_semantics.specs.ElementHistories.{Memory, IsStable, IsOther, IsPersisted, durable_number, live_number, history_at, number_at, memory_of}
 use Rattle.recovery_semantics.specs.Attempts.{Attempt, no_attempt, Writes, WritesAt}
 use Rattle.recovery_semantics.specs.Configs.{Config, now, Invariant}
 use Rattle.recovery_semantics.specs.Events.{ConfigStep, begun, settled_by, steps_locally, stores, synchronises, persists, commits, crashes}
 use Rattle.recovery_semantics.specs.Executions.{first_config, Execution, begins, then}
 use Rattle.recovery_semantics.proofs.StableHistories.{stable_of}
 use Rattle.recovery_semantics.proofs.Paths.{none_some}
+use Rattle.recovery_semantics.proofs.CrashesKeepInvariant.{fresh_are_stable}
 use Rattle.recovery_semantics.proofs.WholeExecutions.{executions_resume, executions_settle}
 
 abbrev at : ℕ → Place
@@ -51,7 +53,7 @@ tried done longest = record { done = done; longest = longest } ∷ []
 -- ---- The configs
 
 abbrev started : Config
-started = first_config x
+started = first_config x (start x) (memory_of (start x))
 
 abbrev locked : Config
 locked = begun started 0 started.memory started.attempts
@@ -218,10 +220,11 @@ keep_unlock = commits 0 (tried 0 0) (record {
 -- ---- What comes of it
 
 -- four steps are kept, and none is twice
-executions : Execution x ended (0 ∷ 0 ∷ 0 ∷ 0 ∷ [])
+executions : Execution x (start x) ended (0 ∷ 0 ∷ 0 ∷ 0 ∷ [])
 unfolding source_step reduction.from_least_on reduction.residue lock keep_lock evaluate keep_value store evict fail store_again unlock keep_unlock
-executions = then (then (then (then (then (then (then (then (then (then begins lock) keep_lock) evaluate) keep_value) store) evict) fail) store_again) unlock)
-    keep_unlock
+executions =
+    let first : Execution x (start x) started [] = begins (memory_of (start x)) (fresh_are_stable (start x)) in
+    then (then (then (then (then (then (then (then (then (then first lock) keep_lock) evaluate) keep_value) store) evict) fail) store_again) unlock) keep_unlock
 
 -- memory is ahead of the source after the crash
 ahead : (live_number (history_at failed.memory 0 0) ≡ pos 1) × (number_at (now failed) 0 0 ≡ pos 0)
@@ -235,8 +238,8 @@ disciplined zero d h =
 disciplined (suc k) d h = absurd (omega (arith, h))
 
 invariant : Invariant x ended
-invariant = (executions_resume x ended (0 ∷ 0 ∷ 0 ∷ 0 ∷ []) disciplined executions).invariant
+invariant = (executions_resume x (start x) ended (0 ∷ 0 ∷ 0 ∷ 0 ∷ []) (start_keeps x disciplined) executions).invariant
 
 settled : map (map durable_number) ended.memory ≡ (pos 1 ∷ []) ∷ []
 unfolding source_step reduction.from_least_on reduction.residue
-settled = executions_settle x ended (0 ∷ 0 ∷ 0 ∷ 0 ∷ []) disciplined executions (λ u. refl)
+settled = executions_settle x (start x) ended (0 ∷ 0 ∷ 0 ∷ 0 ∷ []) (start_keeps x disciplined) executions (λ u. refl)

@@ -63,9 +63,14 @@ number_at s variable element = slice_index_or (slice_index_or s.variables variab
 abbrev pub sizes : Memory → List ℕ
 sizes memory = map length memory
 
--- the initial numbers, durably
+-- the state's numbers, durably, with no other past
 abbrev pub memory_of : State → Memory
 memory_of s = map (map history_of) s.variables
+
+-- memory has each number of the state, and each is stable
+pub record AreStable (s : State) (memory : Memory) : Type 0 where
+  pub size : sizes memory ≡ map length s.variables
+  pub each : (v e : ℕ) → IsStable (history_at memory v e) (number_at s v e)
 
 -- element e of variable v is another one than the given element
 abbrev pub IsOther : (variable element v e : ℕ) → Type 0

@@ -1,12 +1,11 @@
 -- What holds of every config, whatever happens.
-use Rattle.std.specs.Prelude.{◌⊎◌, suc, slice_get, Some, ℤ, length, ◌≡◌, ◌≢◌, ℕ, ◌+◌, ◌<◌, ◌≤◌, List, ◌∷◌, ◌++◌, All, map, replicate, true}
+use Rattle.std.specs.Prelude.{◌⊎◌, suc, slice_get, Some, ℤ, length, ◌≡◌, ◌≢◌, ℕ, ◌+◌, ◌<◌, ◌≤◌, List, ◌∷◌, ◌++◌, map, replicate, true}
 use Rattle.c_tree.specs.Flats as f
-use Rattle.c_tree.specs.Source.{State, start, is_between, after_from, runs_from, ended_from}
-use Rattle.c_tree.specs.LockDiscipline.{IsDisciplined}
-use Rattle.source_machine.specs.Discipline.{Guards}
+use Rattle.c_tree.specs.Source.{State, is_between, after_from, runs_from, ended_from}
+use Rattle.source_machine.specs.Discipline.{Guards, StateKeeps}
 use Rattle.source_machine.specs.StepExchanges.{steps_of, IsSameTo, AcquiresReleased}
 use Rattle.source_machine.specs.Mutexes.{locks, unlocks}
-use Rattle.recovery_semantics.specs.ElementHistories.{Memory, IsStable, IsSince, IsStored, IsOther, ArePersisted}
+use Rattle.recovery_semantics.specs.ElementHistories.{Memory, IsStable, AreStable, IsSince, IsStored, IsOther, ArePersisted, memory_of, crashed}
 use Rattle.recovery_semantics.specs.ElementHistories.{durable_number, history_at, live_number, number_at}
 use Rattle.recovery_semantics.specs.Attempts.{solo, Attempt, Writes, WritesAt}
 use Rattle.recovery_semantics.specs.Configs.{Config, Invariant, attempt_of, now}
@@ -15,9 +14,17 @@ use Rattle.recovery_semantics.specs.Events.{IsGoing, ConfigStep, settled_by, IsS
 
 -- ---- The invariant
 
--- the start meets the invariant
+-- where an execution begins the invariant holds
 abbrev pub StartMeets : Type 0
-StartMeets = (x : f.Flat) → All (IsDisciplined x) x.threads → Invariant x (first_config x)
+StartMeets = (x : f.Flat) (from : State) (memory : Memory) → StateKeeps x from → AreStable from memory → Invariant x (first_config x from memory)
+
+-- in memory that has a state's numbers and no past they are stable
+abbrev pub FreshAreStable : Type 0
+FreshAreStable = (s : State) → AreStable s (memory_of s)
+
+-- and in memory that a crash has left the durable numbers are
+abbrev pub CrashedAreStable : Type 0
+CrashedAreStable = (s : State) (memory : Memory) → s.variables ≡ map (map durable_number) memory → AreStable s (crashed memory)
 
 -- every event keeps it
 abbrev pub EventsKeep : Type 0
@@ -55,6 +62,10 @@ WritersApart = (x : f.Flat) (m : Config) (one other variable e d : ℕ) → Inva
 abbrev pub BetweenIsKept : Type 0
 BetweenIsKept = (x : f.Flat) (m : Config) → Invariant x m → ((thread : ℕ) → is_between m.kept thread ≡ true) →
     map (map durable_number) m.memory ≡ m.kept.variables
+
+-- and they are stable, so that another execution may begin with them
+abbrev pub BetweenIsStable : Type 0
+BetweenIsStable = (x : f.Flat) (m : Config) → Invariant x m → ((thread : ℕ) → is_between m.kept thread ≡ true) → AreStable m.kept m.memory
 
 -- ---- Mutexes
 
@@ -138,15 +149,16 @@ PathsStay = (x : f.Flat) (m : Config) (thread : ℕ) (attempts : List Attempt) (
 
 -- ---- The schedule
 
--- the schedule leads from the start to what is kept
-pub record IsKeptBy (x : f.Flat) (s : State) (schedule : List ℕ) : Type 0 where
-  pub runs : runs_from (start x) schedule ≡ true
-  pub is : after_from (start x) schedule ≡ s
+-- the schedule leads from the one state to the other, which is kept
+pub record IsKeptBy (from s : State) (schedule : List ℕ) : Type 0 where
+  pub runs : runs_from from schedule ≡ true
+  pub is : after_from from schedule ≡ s
 
 -- where a thread's steps are kept, the schedule with these after it leads to what is kept then
 abbrev pub ScheduleGrows : Type 0
-ScheduleGrows = (x : f.Flat) (m : Config) (thread : ℕ) (attempts : List Attempt) (schedule : List ℕ) → Invariant x m → IsSettled m thread attempts →
-    IsKeptBy x m.kept schedule → IsKeptBy x (settled_by m thread attempts).kept (schedule ++ replicate (steps_begun m thread) thread)
+ScheduleGrows = (x : f.Flat) (from : State) (m : Config) (thread : ℕ) (attempts : List Attempt) (schedule : List ℕ) → Invariant x m →
+    IsSettled m thread attempts → IsKeptBy from m.kept schedule →
+    IsKeptBy from (settled_by m thread attempts).kept (schedule ++ replicate (steps_begun m thread) thread)
 
 -- no section that has ended in it is lost
 abbrev pub SectionsStay : Type 0
@@ -164,16 +176,17 @@ NowStays = (x : f.Flat) (m : Config) (thread : ℕ) (attempts : List Attempt) �
 
 -- ---- Whole executions
 
--- whatever happens from the start on, the invariant holds, and the kept schedule leads to what is kept
-pub record ExecutionInv (x : f.Flat) (m : Config) (schedule : List ℕ) : Type 0 where
+-- whatever happens from a state on that keeps the lock discipline, the invariant holds, and the kept schedule leads from it to what is kept
+pub record ExecutionInv (x : f.Flat) (from : State) (m : Config) (schedule : List ℕ) : Type 0 where
   pub invariant : Invariant x m
-  pub kept : IsKeptBy x m.kept schedule
+  pub kept : IsKeptBy from m.kept schedule
 
 abbrev pub ExecutionsResume : Type 0
-ExecutionsResume = (x : f.Flat) (m : Config) (schedule : List ℕ) → All (IsDisciplined x) x.threads → Execution x m schedule → ExecutionInv x m schedule
+ExecutionsResume = (x : f.Flat) (from : State) (m : Config) (schedule : List ℕ) → StateKeeps x from → Execution x from m schedule →
+    ExecutionInv x from m schedule
 
 -- whenever the kept schedule leaves all threads between sections, durable memory has exactly the variables that it leaves
 abbrev pub ExecutionsSettle : Type 0
-ExecutionsSettle = (x : f.Flat) (m : Config) (schedule : List ℕ) → All (IsDisciplined x) x.threads → Execution x m schedule →
-    ((thread : ℕ) → is_between (after_from (start x) schedule) thread ≡ true) →
-    map (map durable_number) m.memory ≡ (after_from (start x) schedule).variables
+ExecutionsSettle = (x : f.Flat) (from : State) (m : Config) (schedule : List ℕ) → StateKeeps x from → Execution x from m schedule →
+    ((thread : ℕ) → is_between (after_from from schedule) thread ≡ true) →
+    map (map durable_number) m.memory ≡ (after_from from schedule).variables

@@ -1,12 +1,12 @@
 //! Laws of configs: nothing is computed here.
 ghost use Rattle.recovery_semantics.specs.Elements.{BesideIn, CrashedIn, DurableIn, LiveIn, PersistedIn, StoredIn};
-ghost use Rattle.recovery_semantics.specs.Laws.{BetweenIsKept, DurableIsKept, EventsKeep, GoesAlone, HeldBefore, HeldNow, LeftIsFree, ExecutionsResume};
-ghost use Rattle.recovery_semantics.specs.Laws.{ExecutionsSettle, NowStays, PathsStay, ReadsAreRight, ScheduleGrows, SectionsStay, SettlesAsItIs};
-ghost use Rattle.recovery_semantics.specs.Laws.{SinceIsPersisted, SinceSettles, SinceStays, StartMeets, StoredIsSince, UnlockedIsLast, WritersApart};
-ghost use Rattle.recovery_semantics.specs.Laws.{WritersGuard};
+ghost use Rattle.recovery_semantics.specs.Laws.{BetweenIsKept, BetweenIsStable, CrashedAreStable, DurableIsKept, EventsKeep, ExecutionsResume, FreshAreStable};
+ghost use Rattle.recovery_semantics.specs.Laws.{ExecutionsSettle, GoesAlone, HeldBefore, HeldNow, LeftIsFree, NowStays, PathsStay, ReadsAreRight};
+ghost use Rattle.recovery_semantics.specs.Laws.{ScheduleGrows, SectionsStay, SettlesAsItIs, SinceIsPersisted, SinceSettles, SinceStays, StartMeets};
+ghost use Rattle.recovery_semantics.specs.Laws.{StoredIsSince, UnlockedIsLast, WritersApart, WritersGuard};
 ghost use Rattle.recovery_semantics.specs.VariableSpots.{MemoryCrashed, MemoryLoaded, MemoryPersisted, MemoryStays, MemoryStored};
 
-/// What is true of each config: the start meets it, and every event keeps it.
+/// What is true of each config: an execution begins with it, and every event keeps it.
 ///
 /// The invariant in words: what is kept keeps the discipline; the uncommitted schedule can be stepped from it, and no mutex is
 /// transferred in it; of each thread the steps of its longest attempt are inner steps from what is kept, its present attempt is a
@@ -15,6 +15,8 @@ ghost use Rattle.recovery_semantics.specs.VariableSpots.{MemoryCrashed, MemoryLo
 /// further on and the present one hasn't yet.
 pub fn invariant_is_kept()
     ensures start { StartMeets }
+    ensures fresh { FreshAreStable }
+    ensures crashed { CrashedAreStable }
     ensures event { EventsKeep }
 {}
 
@@ -31,10 +33,11 @@ pub fn writers_guard()
 {}
 
 /// Where no attempt has written anything, so where all threads are kept between sections, durable memory has exactly the variables
-/// that are kept.
+/// that are kept, whatever becomes durable later: another execution may begin with them.
 pub fn durable_is_kept()
     ensures unwritten { DurableIsKept }
     ensures between { BetweenIsKept }
+    ensures stable { BetweenIsStable }
 {}
 
 /// A thread acquires no released mutex by a step that isn't kept where no other thread has the mutex in what is kept.
@@ -71,8 +74,8 @@ pub fn schedule_grows()
     ensures now { NowStays }
 {}
 
-/// Whatever happens from the start on: the kept schedule can be stepped whole, and whenever it leaves all threads between
-/// sections, durable memory has exactly the variables that it leaves.
+/// Whatever happens from a state on that keeps the lock discipline: the kept schedule can be stepped whole from it, and whenever it
+/// leaves all threads between sections, durable memory has exactly the variables that it leaves.
 pub fn executions_resume()
     ensures kept { ExecutionsResume }
     ensures settled { ExecutionsSettle }

@@ -16,11 +16,11 @@ use Rattle.source_machine.proofs.Public.{held_found, index_same, run_keeps}
 use Rattle.flow_graph.specs.Nodes.{Node}
 use Rattle.flow_graph.specs.Lowering.{lowered, threads_nodes}
 use Rattle.flow_graph.specs.Liveness.{NodeAt}
-use Rattle.flow_graph.specs.Actions.{GraphThread, FlowState, graph_start, seen_by}
+use Rattle.flow_graph.specs.Actions.{GraphThread, FlowState, seen_by}
 use Rattle.flow_graph.specs.Lockstep.{threads_standings, Matches}
 use Rattle.flow_graph.specs.IdempotentCuts.{Boundaries, ReadsAt, WritesAt, AreCuts}
 use Rattle.flow_graph.specs.Paths.{Element, stored_element, Lies, LiesInOne, LiesInWritten}
-use Rattle.flow_graph.proofs.Public.{node_shaped, runs_lockstep, Good, good_after, good_start, nodes_at, reads_lie_here, writes_lie_here}
+use Rattle.flow_graph.proofs.Public.{node_shaped, Good, good_after, nodes_at, reads_lie_here, writes_lie_here}
 use Rattle.recovery_semantics.specs.ElementHistories.{number_at}
 use Rattle.recovery_semantics.specs.Attempts as attempts
 use Rattle.recovery_semantics.specs.Attempts.{solo, Writes, store_ahead}
@@ -28,11 +28,13 @@ use Rattle.recovery_semantics.specs.Configs.{Config, Invariant, now, attempt_of}
 use Rattle.recovery_semantics.specs.Laws.{IsKeptBy}
 use Rattle.recovery_semantics.proofs.Public.{held_same, solo_holders, storing, number_unstored, last_step, alone as schedules_alone}
 use Rattle.recovery_semantics.proofs.Public.{reads_are_right as resumed_reads_are_right}
+use Rattle.region_attempts.specs.Origins.{Origin}
 use Rattle.region_attempts.specs.GraphStates.{flow_kept, flow_now, flow_solo, node_of}
 use Rattle.region_attempts.specs.AttemptsInRegion.{Resumes, StaysInside}
 use Rattle.region_attempts.specs.Laws.{LiveIsRight, ReadsHere, ReadAfter, ReadsAreRight, ReadsStayRight, ReadsAreAsMade, ReadersGuard, ReadersGuardStill}
 use Rattle.region_attempts.specs.Laws.{RerunReadsNothingOverwritten}
 use Rattle.region_attempts.proofs.StepBisimulation.{IsThere, is_there, guarded_at}
+use Rattle.region_attempts.proofs.Origins.{begins_good}
 use Rattle.region_attempts.proofs.GraphRuns.{inner_runs, matched_run, alone}
 use Rattle.region_attempts.proofs.Nodes.{read_held, StoresHere, owing_at, owes_at, writing_stores, written_of, reads_nothing}
 use Rattle.region_attempts.proofs.Region.{listed, listed_at, number, made_there, number_is, there_at, is_number, one_node, written_before, inside_region}
@@ -73,11 +75,12 @@ lies_in ls l one h is = let of = h.of in let same_location : h.location ≡ l = 
 
 -- ---- What is kept
 
-pub kept_matches : (x : f.Flat) (w : IsWellFormed x) (s : m.State) (schedule : List ℕ) → IsKeptBy x s schedule → Matches x (flow_kept x schedule) s
-kept_matches x w s schedule h = subst (Matches x (flow_kept x schedule)) h.is (runs_lockstep x schedule w).states
+pub kept_matches : (x : f.Flat) (w : IsWellFormed x) (o : Origin x) (s : m.State) (schedule : List ℕ) → IsKeptBy o.source s schedule →
+    Matches x (flow_kept x o schedule) s
+kept_matches x w o s schedule h = subst (Matches x (flow_kept x o schedule)) h.is (matched_run x w schedule o.flow o.source o.matches)
 
-pub kept_good : (x : f.Flat) (w : IsWellFormed x) (schedule : List ℕ) → Good x (flow_kept x schedule)
-kept_good x w schedule = good_after x schedule w (graph_start (lowered x) x) (good_start x w)
+pub kept_good : (x : f.Flat) (w : IsWellFormed x) (o : Origin x) (schedule : List ℕ) → Good x (flow_kept x o schedule)
+kept_good x w o schedule = good_after x schedule w o.flow (begins_good x o)
 
 -- ---- Where an attempt reads
 
@@ -334,10 +337,10 @@ module _ (x : f.Flat) (b : Boundaries) (w : IsWellFormed x) (cuts : AreCuts (low
       (λ k low l wr. rewritten (omega (arith, low, l, within)) k l low wr)
 
 reads_are_right : ReadsAreRight
-reads_are_right x b old schedule t one w cuts i by stays r =
-    let kept = flow_kept x schedule in
-    let match = kept_matches x w old.kept schedule by in
-    let good = kept_good x w schedule in
+reads_are_right x b o old schedule t one w cuts i by stays r =
+    let kept = flow_kept x o schedule in
+    let match = kept_matches x w o old.kept schedule by in
+    let good = kept_good x w o schedule in
     right x b w cuts old t i kept match good stays one (attempt_of old t).done (record {
       within = omega arith;
       graph_thread = r.graph_thread;
@@ -352,10 +355,10 @@ reads_are_right x b old schedule t one w cuts i by stays r =
     })
 
 reads_stay_right : ReadsStayRight
-reads_stay_right x b old schedule t steps one w cuts i by stays r =
-    let kept = flow_kept x schedule in
-    let match = kept_matches x w old.kept schedule by in
-    let good = kept_good x w schedule in
+reads_stay_right x b o old schedule t steps one w cuts i by stays r =
+    let kept = flow_kept x o schedule in
+    let match = kept_matches x w o old.kept schedule by in
+    let good = kept_good x w o schedule in
     right x b w cuts old t i kept match good stays one steps (record {
       within = r.within;
       graph_thread = r.graph_thread;
@@ -370,16 +373,16 @@ reads_stay_right x b old schedule t steps one w cuts i by stays r =
     })
 
 pub readers_guard : ReadersGuard
-readers_guard x old schedule t one w i by r = reader_guards x w old t i (flow_kept x schedule) (kept_matches x w old.kept schedule by) one r
+readers_guard x o old schedule t one w i by r = reader_guards x w old t i (flow_kept x o schedule) (kept_matches x w o old.kept schedule by) one r
 
 pub readers_guard_still : ReadersGuardStill
-readers_guard_still x old schedule t steps one w i by r =
-    guards_now x w old t steps i (flow_kept x schedule) (kept_matches x w old.kept schedule by) one r
+readers_guard_still x o old schedule t steps one w i by r =
+    guards_now x w old t steps i (flow_kept x o schedule) (kept_matches x w o old.kept schedule by) one r
 
 reads_are_as_made : ReadsAreAsMade
-reads_are_as_made x b old schedule t steps one w cuts i by stays r few =
-    reads_stay_right x b old schedule t steps one w cuts i by stays r
-    ∙ as_made x w old t steps i (flow_kept x schedule) (kept_matches x w old.kept schedule by) one r few
+reads_are_as_made x b o old schedule t steps one w cuts i by stays r few =
+    reads_stay_right x b o old schedule t steps one w cuts i by stays r
+    ∙ as_made x w old t steps i (flow_kept x o schedule) (kept_matches x w o old.kept schedule by) one r few
 
 pub rerun_reads_nothing_overwritten : RerunReadsNothingOverwritten
 rerun_reads_nothing_overwritten = record { here = reads_are_right; after = reads_stay_right; made = reads_are_as_made }

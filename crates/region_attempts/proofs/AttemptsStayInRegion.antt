@@ -1,6 +1,6 @@
 -- Attempts stay within their regions, whatever happens.
 use Rattle.std.proofs.Common.{◌≡◌, ◌≢◌, inl, inr, refl, ℕ, zero, suc, ◌<◌, ◌≤◌, List, [], ◌++◌, max}
-use Rattle.std.proofs.Common.{replicate, sym, ◌∙◌, ap, subst, arith, Option, Some, None, true, ⊎_elim}
+use Rattle.std.proofs.Common.{replicate, sym, ◌∙◌, ap, subst, arith, Option, Some, true, ⊎_elim}
 use Rattle.std.specs.Prelude.{slice_get, Contains}
 use Rattle.std.specs.Option.{option_map}
 use Rattle.std.proofs.lemmas.Bool.{cases_eq}
@@ -12,11 +12,11 @@ use Rattle.source_machine.specs.Discipline.{StateKeeps}
 use Rattle.source_machine.proofs.Public.{run_keeps}
 use Rattle.flow_graph.specs.Nodes.{successors}
 use Rattle.flow_graph.specs.Lowering.{lowered}
-use Rattle.flow_graph.specs.Actions.{GraphThread, FlowState, Ends, seen_by, graph_start}
+use Rattle.flow_graph.specs.Actions.{GraphThread, FlowState, Ends, seen_by}
 use Rattle.flow_graph.specs.Lockstep.{Matches}
 use Rattle.flow_graph.specs.IdempotentCuts as cutting
 use Rattle.flow_graph.specs.IdempotentCuts.{Boundaries, IsEdge, IsUnlock, HasBefore, BeginsRegion, past_lock, at_boundary, AreCuts}
-use Rattle.flow_graph.proofs.Public.{begins_lockstep, Stepped, stepped, moved, goes_by}
+use Rattle.flow_graph.proofs.Public.{Stepped, stepped, moved, goes_by}
 use Rattle.recovery_semantics.specs.ElementHistories.{crashed}
 use Rattle.recovery_semantics.specs.Attempts.{Attempt, attempt_at, solo, IsInner, IsAttempted}
 use Rattle.recovery_semantics.specs.Configs.{Config, Invariant, attempt_of}
@@ -25,6 +25,7 @@ use Rattle.recovery_semantics.specs.Events.{crashes, IsSettled, stepped as one_m
 use Rattle.recovery_semantics.specs.Executions.{first_config, kept_steps}
 use Rattle.recovery_semantics.specs.Laws.{IsKeptBy, HasLocked, HasUnlocked}
 use Rattle.recovery_semantics.proofs.Public.{held_same, inner_along, below_max, none_yet, more_empty, LastStep, last_step, first_runs, same_other, path}
+use Rattle.region_attempts.specs.Origins.{Origin}
 use Rattle.region_attempts.specs.GraphStates.{flow_kept, flow_solo, node_of, node_after}
 use Rattle.region_attempts.specs.AttemptsInRegion.{Resumes, begins, past_unlock, StaysInside, HasCome, SettlesThere, RespectsBoundaries}
 use Rattle.region_attempts.specs.Laws.{StartStays, EventsStay, NextResumes, NothingIsWritten}
@@ -36,18 +37,14 @@ use Rattle.region_attempts.proofs.AttemptReads.{kept_matches}
 number_there : {k n : ℕ} → Some k ≡ Some n → k ≡ n
 number_there h = cc
 
--- ---- The start
-
-all_free : (n k t : ℕ) → slice_get (replicate n None) k ≡ Some (Some t) → ⊥
-all_free zero k t h = cc
-all_free (suc n) zero t h = cc
-all_free (suc n) (suc k) t h = all_free n k t h
+-- ---- Where an execution begins
 
 pub start_stays : StartStays
-start_stays x b t = record {
-  resumes = λ mutex node held at. absurd (all_free _ mutex t held);
+start_stays x b o memory t resumes = record {
+  resumes = λ mutex node held at. resumes t mutex node held at;
   inside = λ k node low l at before.
-      let none : (attempt_of (first_config x) t).longest ≡ 0 = ap (λ (a : Attempt). a.longest) (none_yet x.threads t) in absurd (omega (arith, l, none));
+      let none : (attempt_of (first_config x o.source memory) t).longest ≡ 0 = ap (λ (a : Attempt). a.longest) (none_yet x.threads t) in
+      absurd (omega (arith, l, none));
 }
 
 -- ---- Steps that are begun
@@ -244,13 +241,13 @@ module _ (x : f.Flat) (b : Boundaries) (w : IsWellFormed x) (cuts : AreCuts (low
 
 -- ---- Whatever happens
 
-module _ (x : f.Flat) (b : Boundaries) (w : IsWellFormed x) (cuts : AreCuts (lowered x) b) (old : Config) (i : Invariant x old) (schedule : List ℕ)
-    (by : IsKeptBy x old.kept schedule) (stays : (u : ℕ) → StaysInside x b (flow_kept x schedule) old u) where
+module _ (x : f.Flat) (b : Boundaries) (w : IsWellFormed x) (cuts : AreCuts (lowered x) b) (o : Origin x) (old : Config) (i : Invariant x old)
+    (schedule : List ℕ) (by : IsKeptBy o.source old.kept schedule) (stays : (u : ℕ) → StaysInside x b (flow_kept x o schedule) old u) where
   abbrev kept : FlowState
-  kept = flow_kept x schedule
+  kept = flow_kept x o schedule
 
-  kept_same : (next : Config) (u : ℕ) → StaysInside x b kept next u → StaysInside x b (flow_kept x (schedule ++ [])) next u
-  kept_same next u h = subst (λ (us : List ℕ). StaysInside x b (flow_kept x us) next u) (sym (more_empty schedule)) h
+  kept_same : (next : Config) (u : ℕ) → StaysInside x b kept next u → StaysInside x b (flow_kept x o (schedule ++ [])) next u
+  kept_same next u h = subst (λ (us : List ℕ). StaysInside x b (flow_kept x o us) next u) (sym (more_empty schedule)) h
 
   begun_stays : (next : Config) (t u : ℕ) → next.kept ≡ old.kept → IsAttempted old.attempts next.attempts t (one_more (attempt_of old t)) →
       ¬ (HasCome x b kept old t) → StaysInside x b kept next u
@@ -259,11 +256,11 @@ module _ (x : f.Flat) (b : Boundaries) (w : IsWellFormed x) (cuts : AreCuts (low
       (λ n. as_before x b kept old u (stays u) next is (ap (λ (z : Attempt). z.longest) (attempt.others u n)))
       (cases_eq u t)
 
-  kept_more : (t n : ℕ) → flow_kept x (schedule ++ replicate n t) ≡ flow_solo x kept t n
-  kept_more t n = appended x w schedule (replicate n t) (graph_start (lowered x) x) (m.start x) (begins_lockstep x w) by.runs
+  kept_more : (t n : ℕ) → flow_kept x o (schedule ++ replicate n t) ≡ flow_solo x kept t n
+  kept_more t n = appended x w schedule (replicate n t) o.flow o.source o.matches by.runs
 
   pub event_stays : (next : Config) (h : ConfigStep old next) → RespectsBoundaries x b kept h → (u : ℕ) →
-      StaysInside x b (flow_kept x (schedule ++ kept_steps h)) next u
+      StaysInside x b (flow_kept x o (schedule ++ kept_steps h)) next u
   event_stays _ (steps_locally t attempts h) free u = kept_same _ u (begun_stays (begun old t old.memory attempts) t u refl h.attempt free)
   event_stays _ (stores t memory attempts h) free u = kept_same _ u (begun_stays (begun old t memory attempts) t u refl h.attempt free)
   event_stays _ (synchronises t h) free u = kept_same _ u (as_before x b kept old u (stays u) (begun old t old.memory old.attempts) refl refl)
@@ -271,22 +268,22 @@ module _ (x : f.Flat) (b : Boundaries) (w : IsWellFormed x) (cuts : AreCuts (low
       (record { kept = old.kept; uncommitted = old.uncommitted; memory = memory; attempts = old.attempts }) refl refl)
   event_stays _ (commits t attempts h) there u =
       subst (λ (s : FlowState). StaysInside x b s (settled_by old t attempts) u) (sym (kept_more t (steps_begun old t)))
-      (settles_stays x b w cuts old t i kept (kept_matches x w old.kept schedule by) attempts h there stays u)
+      (settles_stays x b w cuts old t i kept (kept_matches x w o old.kept schedule by) attempts h there stays u)
   event_stays _ (crashes attempts h) free u = kept_same _ u (as_before x b kept old u (stays u)
       (record { kept = old.kept; uncommitted = []; memory = crashed old.memory; attempts = attempts }) refl (h.longest u))
 
 pub events_stay : EventsStay
-events_stay x b old next schedule w cuts i by h respects stays u = event_stays x b w cuts old i schedule by stays next h respects u
+events_stay x b o old next schedule w cuts i by h respects stays u = event_stays x b w cuts o old i schedule by stays next h respects u
 
 -- ---- Where steps are kept
 
 pub next_resumes : NextResumes
-next_resumes x b old schedule t node w cuts i by at =
+next_resumes x b o old schedule t node w cuts i by at =
     let c = steps_begun old t in
-    let there : node_of (flow_solo x (flow_kept x schedule) t c) t ≡ Some node =
+    let there : node_of (flow_solo x (flow_kept x o schedule) t c) t ≡ Some node =
     ap (λ (s : FlowState). node_of s t)
-    (sym (appended x w schedule (replicate c t) (graph_start (lowered x) x) (m.start x) (begins_lockstep x w) by.runs)) ∙ at in
-    let r = resumes_there x b w cuts old t i (flow_kept x schedule) (kept_matches x w old.kept schedule by) node there in
+    (sym (appended x w schedule (replicate c t) o.flow o.source o.matches by.runs)) ∙ at in
+    let r = resumes_there x b w cuts old t i (flow_kept x o schedule) (kept_matches x w o old.kept schedule by) node there in
     record { come = r.0; locked = r.1; unlocked = r.2 }
 
 pub nothing_is_written : NothingIsWritten

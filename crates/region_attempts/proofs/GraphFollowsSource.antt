@@ -8,15 +8,15 @@ use Rattle.c_tree.specs.WellFormed.{IsWellFormed}
 use Rattle.source_machine.specs.StepExchanges.{steps_of, without}
 use Rattle.source_machine.proofs.Public.{exchange}
 use Rattle.flow_graph.specs.Lowering.{lowered}
-use Rattle.flow_graph.specs.Actions.{FlowState, graph_start, graph_step, graph_after}
+use Rattle.flow_graph.specs.Actions.{FlowState, graph_step, graph_after}
 use Rattle.flow_graph.specs.Lockstep.{Matches}
-use Rattle.flow_graph.proofs.Public.{begins_lockstep}
 use Rattle.recovery_semantics.specs.Attempts.{store_ahead}
 use Rattle.recovery_semantics.specs.Configs.{Config, Invariant, now}
 use Rattle.recovery_semantics.specs.Events.{ConfigStep, steps_locally, stores, synchronises, persists, commits, crashes, steps_begun}
 use Rattle.recovery_semantics.specs.Executions.{kept_steps}
 use Rattle.recovery_semantics.specs.Laws.{IsKeptBy}
 use Rattle.recovery_semantics.proofs.Public.{store_inner, equal_self, unequal_of, none_left, others_left, more_empty, first_runs}
+use Rattle.region_attempts.specs.Origins.{Origin}
 use Rattle.region_attempts.specs.GraphStates.{flow_kept, flow_now, flow_solo, FollowsEvent}
 use Rattle.region_attempts.specs.Laws.{GraphMatches, GraphFollows, GraphSettles}
 use Rattle.region_attempts.proofs.GraphRuns.{matched_run, appended, one_more, alone, left_by}
@@ -25,13 +25,13 @@ use Rattle.region_attempts.proofs.AttemptReads.{kept_matches}
 -- ---- Standing
 
 pub graph_stands : GraphMatches
-graph_stands x old schedule w i by =
-    let match = kept_matches x w old.kept schedule by in
+graph_stands x o old schedule w i by =
+    let match = kept_matches x w o old.kept schedule by in
     record {
       kept_matches = match;
-      now_matches = matched_run x w old.uncommitted (flow_kept x schedule) old.kept match;
-      solo_matches = λ u n. matched_run x w (replicate n u) (flow_kept x schedule) old.kept match;
-      alone = λ u. alone x w (flow_kept x schedule) old.kept match i.keeps u old.uncommitted i.runs i.hands;
+      now_matches = matched_run x w old.uncommitted (flow_kept x o schedule) old.kept match;
+      solo_matches = λ u n. matched_run x w (replicate n u) (flow_kept x o schedule) old.kept match;
+      alone = λ u. alone x w (flow_kept x o schedule) old.kept match i.keeps u old.uncommitted i.runs i.hands;
     }
 
 -- ---- Counts
@@ -85,15 +85,16 @@ same_state x a b s h k each =
 
 -- ---- Following
 
-module _ (x : f.Flat) (w : IsWellFormed x) (old : Config) (i : Invariant x old) (schedule : List ℕ) (by : IsKeptBy x old.kept schedule) where
+module _ (x : f.Flat) (w : IsWellFormed x) (o : Origin x) (old : Config) (i : Invariant x old) (schedule : List ℕ)
+    (by : IsKeptBy o.source old.kept schedule) where
   abbrev kept : FlowState
-  kept = flow_kept x schedule
+  kept = flow_kept x o schedule
 
   match : Matches x kept old.kept
-  match = kept_matches x w old.kept schedule by
+  match = kept_matches x w o old.kept schedule by
 
   abbrev Begun : (thread : ℕ) → (ks : List ℕ) → Type 0
-  Begun t ks = graph_step (lowered x) (flow_now x kept old) t ≡ Some (graph_after (lowered x) (flow_kept x ks) (old.uncommitted ++ t ∷ []))
+  Begun t ks = graph_step (lowered x) (flow_now x kept old) t ≡ Some (graph_after (lowered x) (flow_kept x o ks) (old.uncommitted ++ t ∷ []))
 
   begun_follows : (t : ℕ) (next : m.State) → m.source_step (now old) t ≡ Some next → Begun t (schedule ++ [])
   begun_follows t next h =
@@ -109,12 +110,12 @@ module _ (x : f.Flat) (w : IsWellFormed x) (old : Config) (i : Invariant x old) 
     rest = without c t old.uncommitted
 
     -- the graph makes the thread's steps first, too
-    moved_after : graph_after (lowered x) kept (replicate c t ++ rest) ≡ graph_after (lowered x) (flow_kept x (schedule ++ replicate c t)) rest
+    moved_after : graph_after (lowered x) kept (replicate c t ++ rest) ≡ graph_after (lowered x) (flow_kept x o (schedule ++ replicate c t)) rest
     moved_after = appended x w (replicate c t) rest kept old.kept match (first_runs x old t i)
         ∙ ap (λ (s : FlowState). graph_after (lowered x) s rest)
-        (sym (appended x w schedule (replicate c t) (graph_start (lowered x) x) (m.start x) (begins_lockstep x w) by.runs))
+        (sym (appended x w schedule (replicate c t) o.flow o.source o.matches by.runs))
 
-    settled_follows : graph_after (lowered x) (flow_kept x (schedule ++ replicate c t)) rest ≡ flow_now x kept old
+    settled_follows : graph_after (lowered x) (flow_kept x o (schedule ++ replicate c t)) rest ≡ flow_now x kept old
     settled_follows =
         let e = exchange x old.kept old.uncommitted t c i.keeps i.runs i.hands (omega arith) in
         let now_matches = matched_run x w old.uncommitted kept old.kept match in
@@ -126,14 +127,14 @@ module _ (x : f.Flat) (w : IsWellFormed x) (old : Config) (i : Invariant x old) 
         ∙ sym (alone x w kept old.kept match i.keeps u old.uncommitted i.runs i.hands)))
 
   -- a state that is kept with no more steps
-  still : (us : List ℕ) → graph_after (lowered x) (flow_kept x (schedule ++ [])) us ≡ graph_after (lowered x) kept us
-  still us = ap (λ (ks : List ℕ). graph_after (lowered x) (flow_kept x ks) us) (more_empty schedule)
+  still : (us : List ℕ) → graph_after (lowered x) (flow_kept x o (schedule ++ [])) us ≡ graph_after (lowered x) kept us
+  still us = ap (λ (ks : List ℕ). graph_after (lowered x) (flow_kept x o ks) us) (more_empty schedule)
 
   stores_next : (t : ℕ) (store : m.Pending) → store_ahead (now old) t ≡ Some store → (next : m.State) × (m.source_step (now old) t ≡ Some next)
   stores_next t store h = let inner = store_inner (now old) t store h in (inner.next, inner.is)
 
   follows : (next : Config) (h : ConfigStep old next) →
-      FollowsEvent x kept (flow_now x kept old) (flow_now x (flow_kept x (schedule ++ kept_steps h)) next) h
+      FollowsEvent x kept (flow_now x kept old) (flow_now x (flow_kept x o (schedule ++ kept_steps h)) next) h
   follows _ (steps_locally t attempts h) = begun_follows t h.step.next h.step.is
   follows _ (stores t memory attempts h) = let next = stores_next t h.store h.ahead in begun_follows t next.0 next.1
   follows _ (synchronises t h) = begun_follows t h.next h.is
@@ -142,15 +143,15 @@ module _ (x : f.Flat) (w : IsWellFormed x) (old : Config) (i : Invariant x old) 
   follows _ (crashes attempts h) = still []
 
 pub graph_follows : GraphFollows
-graph_follows x old next schedule w i by h = follows x w old i schedule by next h
+graph_follows x o old next schedule w i by h = follows x w o old i schedule by next h
 
 pub graph_settles : GraphSettles
-graph_settles x old schedule t w i by =
-    let kept = flow_kept x schedule in
-    let match = kept_matches x w old.kept schedule by in
+graph_settles x o old schedule t w i by =
+    let kept = flow_kept x o schedule in
+    let match = kept_matches x w o old.kept schedule by in
     let c = steps_begun old t in
-    let after : flow_kept x (schedule ++ replicate c t) ≡ flow_solo x kept t c =
-    appended x w schedule (replicate c t) (graph_start (lowered x) x) (m.start x) (begins_lockstep x w) by.runs in
+    let after : flow_kept x o (schedule ++ replicate c t) ≡ flow_solo x kept t c =
+    appended x w schedule (replicate c t) o.flow o.source o.matches by.runs in
     record {
       own = ap (λ (s : FlowState). slice_get s.graph_threads t) after ∙ sym (alone x w kept old.kept match i.keeps t old.uncommitted i.runs i.hands);
       others = λ u d. ap (λ (s : FlowState). slice_get s.graph_threads u) after ∙ left_by x w kept old.kept match i.keeps u t c d (first_runs x old t i);

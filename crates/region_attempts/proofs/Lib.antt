@@ -1,4 +1,5 @@
 pub mod Public
+mod Origins
 mod WholeAttempts
 mod StepBisimulation
 mod GraphRuns

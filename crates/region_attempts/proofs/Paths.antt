@@ -59,9 +59,9 @@ same_number : {k n : ℕ} {o : Option ℕ} → o ≡ Some k → o ≡ Some n →
 same_number h i = cc
 
 pub inside_is_region : InsideIsRegion
-inside_is_region x b old schedule t w i by stays begins =
-    let kept = flow_kept x schedule in
-    let match = kept_matches x w old.kept schedule by in
+inside_is_region x b o old schedule t w i by stays begins =
+    let kept = flow_kept x o schedule in
+    let match = kept_matches x w o old.kept schedule by in
     let n = (attempt_of old t).longest in
     record {
       begins = λ first h. begins first.graph_thread.at (stands_there x kept t n 0 first h);
@@ -75,12 +75,12 @@ inside_is_region x b old schedule t w i by stays begins =
     }
 
 pub writers_store : WritersStore
-writers_store x old schedule t k v number_of w i by l wr =
-    let kept = flow_kept x schedule in
-    let match = kept_matches x w old.kept schedule by in
+writers_store x o old schedule t k v number_of w i by l wr =
+    let kept = flow_kept x o schedule in
+    let match = kept_matches x w o old.kept schedule by in
     let one : Element = record { variable = v; element = number_of } in
-    let s = stores_there x w old t i kept match (kept_good x w schedule) k l one wr in
-    let node = node_there x w old t i kept match (kept_good x w schedule) k l in
+    let s = stores_there x w old t i kept match (kept_good x w o schedule) k l one wr in
+    let node = node_there x w old t i kept match (kept_good x w o schedule) k l in
     let at : NodeAt (lowered x) (number x w old t i kept match k) node =
     ap (slice_get (lowered x).nodes) (number_is x w old t i kept match k l) ∙ (made_there x w old t i kept match k l).at in
     record {

@@ -288,12 +288,12 @@ module _ (x : f.Flat) (b : Boundaries) (w : IsWellFormed x) (cuts : AreCuts (low
       since q e left_out left (ends_there q e k l one wr whole stands) n k l one (omega arith) wr
 
 pub stores_are_cleaned : StoresAreCleaned
-stores_are_cleaned x b shapes left_out old schedule t k v e w cuts left i by stays stands below wr =
-    let kept = flow_kept x schedule in
+stores_are_cleaned x b shapes left_out o old schedule t k v e w cuts left i by stays stands below wr =
+    let kept = flow_kept x o schedule in
     let whole = attempts_are_whole x b kept old t i stays stands in
     let one : Element = record { variable = v; element = e } in
     let l : k < (attempt_of old t).longest = omega (arith, below, whole) in
     let a : Attempts = record { flat = x; kept = kept; config = old; shapes = shapes; left_out = left_out } in
     subst (λ (n : ℕ). CleansSince a t k n (line_of shapes v e)) (sym whole)
-    (cleaned_by x b w cuts old t i kept (kept_matches x w old.kept schedule by) (kept_good x w schedule) stays shapes left_out left whole stands
+    (cleaned_by x b w cuts old t i kept (kept_matches x w o old.kept schedule by) (kept_good x w o schedule) stays shapes left_out left whole stands
     (attempt_of old t).longest refl k l one wr)

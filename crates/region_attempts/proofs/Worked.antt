@@ -10,12 +10,12 @@ use Rattle.c_tree.specs.Exprs as e
 use Rattle.c_tree.specs.Flats as f
 use Rattle.c_tree.specs.Source.{start, after_from}
 use Rattle.flow_graph.specs.Lowering.{lowered}
-use Rattle.flow_graph.specs.Actions.{FlowState, graph_step}
+use Rattle.flow_graph.specs.Actions.{FlowState, graph_start, graph_step, graph_after}
 use Rattle.flow_graph.specs.IdempotentCuts.{Boundaries, locks, unlocks, past_lock}
 use Rattle.flow_graph.specs.Paths.{element}
 use Rattle.recovery_semantics.specs.ElementHistories.{memory_of}
 use Rattle.recovery_semantics.specs.Configs.{Config}
-use Rattle.region_attempts.specs.GraphStates.{flow_kept, node_of, node_after}
+use Rattle.region_attempts.specs.GraphStates.{node_of, node_after}
 use Rattle.region_attempts.specs.AttemptsInRegion.{Resumes, begins, past_unlock, StaysInside, HasCome}
 use Rattle.region_attempts.specs.Laws.{ReadsHere, ReadAfter}
 
@@ -55,7 +55,7 @@ tried pending done longest = record {
 }
 
 abbrev kept : FlowState
-kept = flow_kept x (0 ∷ [])
+kept = graph_after (lowered x) (graph_start (lowered x) x) (0 ∷ [])
 
 -- ---- Where it stands
 

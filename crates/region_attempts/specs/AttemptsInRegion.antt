@@ -10,6 +10,7 @@ use Rattle.recovery_semantics.specs.Configs.{Config, attempt_of}
 use Rattle.recovery_semantics.specs.Events.{IsGoing, ConfigStep, steps_locally, stores, synchronises, persists, commits, crashes}
 use Rattle.recovery_semantics.specs.Executions as lives
 use Rattle.recovery_semantics.specs.Executions.{Execution, then}
+use Rattle.region_attempts.specs.Origins.{Origin}
 use Rattle.region_attempts.specs.GraphStates.{flow_kept, node_of, node_after}
 
 -- where a thread goes on once its steps are kept: where a region begins, or after an unlock, which has its boundary before it
@@ -49,7 +50,12 @@ RespectsBoundaries x b kept {m} (persists memory h) = Unit {0}
 RespectsBoundaries x b kept {m} (commits thread attempts h) = SettlesThere x b kept m thread
 RespectsBoundaries x b kept {m} (crashes attempts h) = Unit {0}
 
--- all that has happened since the start takes no attempt past a boundary, and keeps steps only at one
-abbrev pub RespectsAll : (x : f.Flat) (b : Boundaries) {m : Config} {schedule : List ℕ} → Execution x m schedule → Type 0
-RespectsAll x b lives.begins = Unit {0}
-RespectsAll x b (then {schedule = schedule} before h) = RespectsAll x b before × RespectsBoundaries x b (flow_kept x schedule) h
+-- a thread that has a mutex where the execution begins can be resumed there
+abbrev pub BeginsAtBoundaries : (x : f.Flat) (b : Boundaries) → Origin x → Type 0
+BeginsAtBoundaries x b o = (thread mutex node : ℕ) → slice_get o.source.holders mutex ≡ Some (Some thread) → node_of o.flow thread ≡ Some node →
+    Resumes (lowered x) b node
+
+-- the execution begins at boundaries, and all that has happened takes no attempt past one, and keeps steps only at one
+abbrev pub RespectsAll : (x : f.Flat) (b : Boundaries) (o : Origin x) {m : Config} {schedule : List ℕ} → Execution x o.source m schedule → Type 0
+RespectsAll x b o (lives.begins memory stable) = BeginsAtBoundaries x b o
+RespectsAll x b o (then {schedule = schedule} before h) = RespectsAll x b o before × RespectsBoundaries x b (flow_kept x o schedule) h

@@ -3,13 +3,14 @@ use Rattle.std.specs.Prelude.{◌≡◌, ℕ, List, replicate, slice_get, Option
 use Rattle.std.specs.Option.{option_map}
 use Rattle.c_tree.specs.Flats as f
 use Rattle.flow_graph.specs.Lowering.{lowered}
-use Rattle.flow_graph.specs.Actions.{GraphThread, FlowState, graph_start, graph_step, graph_after}
+use Rattle.flow_graph.specs.Actions.{GraphThread, FlowState, graph_step, graph_after}
 use Rattle.recovery_semantics.specs.Configs.{Config}
 use Rattle.recovery_semantics.specs.Events.{ConfigStep, steps_locally, stores, synchronises, persists, commits, crashes}
+use Rattle.region_attempts.specs.Origins.{Origin}
 
--- the graph's state after the kept schedule
-abbrev pub flow_kept : f.Flat → (schedule : List ℕ) → FlowState
-flow_kept x schedule = graph_after (lowered x) (graph_start (lowered x) x) schedule
+-- the graph's state after the kept schedule, from where the execution begins
+abbrev pub flow_kept : (x : f.Flat) → Origin x → (schedule : List ℕ) → FlowState
+flow_kept x o schedule = graph_after (lowered x) o.flow schedule
 
 -- the graph's state after all begun steps
 abbrev pub flow_now : f.Flat → (kept : FlowState) → Config → FlowState

@@ -1,3 +1,4 @@
+pub mod Origins
 pub mod GraphStates
 pub mod AttemptsInRegion
 pub mod PendingCleans

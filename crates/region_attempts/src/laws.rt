@@ -1,7 +1,7 @@
 //! Laws of attempts at regions: nothing is computed here.
 ghost use Rattle.region_attempts.specs.Laws.{AttemptsAreWhole, EventsStay, GraphFollows, GraphSettles, GraphMatches, InsideIsRegion};
-ghost use Rattle.region_attempts.specs.Laws.{ExecutionsStay, NextResumes, NothingIsWritten, ReadersGuard, ReadersGuardStill};
-ghost use Rattle.region_attempts.specs.Laws.{RerunReadsNothingOverwritten, StartStays, StoresAreCleaned, WritersStore};
+ghost use Rattle.region_attempts.specs.Laws.{ExecutionsStay, FreeAtBoundaries, LivesAreOrigins, NextResumes, NothingIsWritten, ReadersGuard, ReadersGuardStill};
+ghost use Rattle.region_attempts.specs.Laws.{RerunReadsNothingOverwritten, SettledMayBegin, StartStays, StartsAreOrigins, StoresAreCleaned, WritersStore};
 
 /// The graph's states match the source's, as of what is kept and now; a thread's graph thread is what its own steps alone leave; and the graph
 /// follows each event: where a thread's steps are kept, its graph thread is kept as it is now.
@@ -11,8 +11,8 @@ pub fn graph_stands()
     ensures settles { GraphSettles }
 {}
 
-/// At the start each attempt stays within its region, and every event keeps that, where no attempt goes on past a boundary and steps
-/// are kept only at one.
+/// Where an execution begins at boundaries each attempt stays within its region, and every event keeps that, where no attempt goes on
+/// past a boundary and steps are kept only at one.
 pub fn attempts_stay_inside()
     ensures start { StartStays }
     ensures event { EventsStay }
@@ -57,8 +57,17 @@ pub fn stores_are_cleaned()
     ensures { StoresAreCleaned }
 {}
 
-/// Whatever happens from the start on, where boundaries are respected: the kept schedule leads to what is kept, and each attempt stays
-/// within its region.
+/// Whatever happens from where an execution begins, where boundaries are respected: the kept schedule leads from there to what is
+/// kept, and each attempt stays within its region.
 pub fn executions_stay()
     ensures { ExecutionsStay }
+{}
+
+/// Executions may begin at the source's start, and with the variables that another one has left, its threads anew; where that one has left them all
+/// between sections, its memory serves as it is. Where no mutex is held, each begins at boundaries.
+pub fn executions_begin()
+    ensures start { StartsAreOrigins }
+    ensures again { LivesAreOrigins }
+    ensures memory { SettledMayBegin }
+    ensures boundaries { FreeAtBoundaries }
 {}

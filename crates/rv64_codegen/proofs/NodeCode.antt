@@ -15,6 +15,7 @@ use Rattle.rv64_isa.specs.declared.instr.Instr.TheVariants.{Ecall}
 use Rattle.rv64_isa.specs.declared.object.CodeItem.{CodeItem}
 use Rattle.rv64_link.specs.LabelledCode.{most_words_of, fences_in}
 use Rattle.rv64_link.specs.LinkedCode.{IsInstructionAt, AreInstructions}
+use Rattle.memory_layout.specs.Roles.{pending_value}
 use Rattle.boundary_code.specs.Boundaries.{Boundary}
 use Rattle.code_runs.specs.CodeTraces.{Program, MarkedEnvironment, Meets, Observation, GoesThrough, marked}
 use Rattle.flow_graph.specs.Nodes.{Action, Eval, Store, Test, Lock, Unlock, End, Node}
@@ -38,6 +39,7 @@ use Rattle.rv64_codegen.proofs.Nodes.{Known}
 use Rattle.rv64_codegen.proofs.PieceSites.{IsLinkedIn, Spot, spot_site, IsSited, site_in, Spots, AgreesAt, bare, bare_meets}
 use Rattle.rv64_codegen.proofs.FenceCounts.{piece_fences}
 use Rattle.rv64_codegen.proofs.LegalEvaluations.{variable_below, element_below, reads_held}
+use Rattle.rv64_codegen.proofs.RegistersAfterNodes.{low_bytes}
 use Rattle.rv64_codegen.proofs.PieceParts as parts
 use Rattle.rv64_codegen.proofs.NodeCorrectness as performs
 use Rattle.rv64_codegen.proofs.NodeCorrectness.{known_of, enters_kept}
@@ -209,7 +211,7 @@ module _ (p : Plan) (t : Thread) (c : Choices) (plan : IsPlan p) (of : IsThread 
           variable_is = refl;
           address = got.has.0;
           below = variable_below p t plan of variable kind false known.target_is.0;
-          value = got.has.1;
+          value = low_bytes y pending_value kind (reduced kind (number_in seen val.expr)) got.has.1;
         }))
     does_it (Eval (e.ToElement place variable kind index) val next) same known d call answered effect eq =
         let store : Pending = record { variable = variable; element = element_in seen index.expr; number = reduced kind (number_in seen val.expr) } in
@@ -227,7 +229,7 @@ module _ (p : Plan) (t : Thread) (c : Choices) (plan : IsPlan p) (of : IsThread 
           below = element_below p t plan of seen variable kind index.place index.expr known.target_is.0.0 known.target_is.1.0
               (reads_held p t plan of seen s.around x index (known.target_is.0.1, known.target_is.1.1)
               (left_held (homes p t) (source_of p t seen) x (expr_locals index.expr) (expr_locals val.expr) held) answered.0);
-          value = got.has.1;
+          value = low_bytes y pending_value kind (reduced kind (number_in seen val.expr)) got.has.1;
         }))
     does_it (Store variable kind next) same known d call answered effect eq = does_store variable kind next same known d effect eq
     does_it (Test condition holds fails) same known d call answered effect eq =

@@ -10,7 +10,6 @@ use Rattle.ido_ints.specs.declared.kinds.Kind.{Kind}
 use Rattle.ido_ints.specs.Kinds.{bytes_of}
 use Rattle.ido_ints.specs.Operators.{is_zero}
 use Rattle.ido_ints.specs.Reduction.{reduced}
-use Rattle.ido_ints.specs.TypedNumbers.{typed, register_form_of}
 use Rattle.c_tree.specs.Exprs as e
 use Rattle.c_tree.specs.Programs as v
 use Rattle.c_tree.specs.Source.{Pending}
@@ -37,7 +36,7 @@ use Rattle.node_code.specs.Pieces.{Asks, Makes, Locks, Unlocks, IsEndPiece, take
 use Rattle.node_code.specs.Sites.{Site, label_of}
 use Rattle.node_code.proofs.Public.{fragment, weaker, moved}
 use Rattle.thread_code.specs.Plans.{Plan, Thread, IsThread, IsPlan, IsNodeOf, IsKept, of_local, of_address, of_value, homes, locks_before}
-use Rattle.thread_code.specs.RegistersAtNodes.{HasPending, IsPendingIn, Enters, source_of, IsAnswered}
+use Rattle.thread_code.specs.RegistersAtNodes.{HasLowBytes, HasPending, IsPendingIn, Enters, source_of, IsAnswered}
 use Rattle.thread_code.specs.NodeCodeEffects.{Places, Entrance, kind_at, keeping, Asking, Storing, Performs}
 use Rattle.thread_code.proofs.Public.{enters_again}
 use Rattle.rv64_codegen.specs.Evaluations.{IsEvaluation, IsAssigned, may_write, IsTest, IsTested, is_taken}
@@ -245,19 +244,17 @@ module _ (p : Plan) (t : Thread) (c : Choices) (plan : IsPlan p) (of : IsThread 
               same_Some known.declared.it.kind k (sym declared ∙ ap (λ (z : ℕ). kind_at p.flat.variables z) (sym owed.variable_is) ∙ there)
 
           stores_same : Stores (read x roles.pending_address) (bytes_of kind) (read x roles.pending_value) ≡
-              Stores address (bytes_of k) (register_form_of (typed k store.number))
+              Stores address (bytes_of k) (read x roles.pending_value)
           stores_same =
               ap (λ (z : ℕ). Stores z (bytes_of kind) (read x roles.pending_value)) owed.address ∙
-              ap (λ (z : ℕ). Stores address (bytes_of kind) z) owed.value.form ∙
-              ap (λ (j : Kind). Stores address (bytes_of j) (register_form_of (typed j store.number))) kinds
+              ap (λ (j : Kind). Stores address (bytes_of j) (read x roles.pending_value)) kinds
 
           observations_same : store_observations (read x roles.pending_address) (bytes_of kind) (read x roles.pending_value) (c.cleans node) ≡
-              store_observations address (bytes_of k) (register_form_of (typed k store.number)) (places.cleans node)
+              store_observations address (bytes_of k) (read x roles.pending_value) (places.cleans node)
           observations_same =
               ap (λ (z : ℕ). store_observations z (bytes_of kind) (read x roles.pending_value) (c.cleans node)) owed.address ∙
-              ap (λ (z : ℕ). store_observations address (bytes_of kind) z (c.cleans node)) owed.value.form ∙
-              ap (λ (j : Kind). store_observations address (bytes_of j) (register_form_of (typed j store.number)) (c.cleans node)) kinds ∙
-              ap (λ (b : Bool). store_observations address (bytes_of k) (register_form_of (typed k store.number)) b) (sym cleans)
+              ap (λ (j : Kind). store_observations address (bytes_of j) (read x roles.pending_value) (c.cleans node)) kinds ∙
+              ap (λ (b : Bool). store_observations address (bytes_of k) (read x roles.pending_value) b) (sym cleans)
 
           storing : Storing p t places m k store
           storing = record {
@@ -266,13 +263,14 @@ module _ (p : Plan) (t : Thread) (c : Choices) (plan : IsPlan p) (of : IsThread 
                 subst (λ (z : ℕ). IsInstructionAt places.program.start places.program.code z makes.instr) (sym core)
                 (subst (λ (q : Program). IsInstructionAt q.start q.code (to does_at) makes.instr) (sym of_program) makes.stands);
             does = ap (λ (z : ℕ). row makes.instr x z) core ∙ makes.first x small ∙ stores_same;
+            value = subst (λ (j : Kind). HasLowBytes x roles.pending_value j store.number) kinds owed.value;
           }
 
           made : GoesThrough s (fragment x (places.core node) (places.entry next) words)
-              (store_observations address (bytes_of k) (register_form_of (typed k store.number)) (places.cleans node))
+              (store_observations address (bytes_of k) (read x roles.pending_value) (places.cleans node))
               (Enters p t next (record seen { pending = None }) bank)
           made = then_next next (record { from_first = known.inside.0; below_end = known.inside.1 }) goes_to x
-              (store_observations address (bytes_of k) (register_form_of (typed k store.number)) (places.cleans node))
+              (store_observations address (bytes_of k) (read x roles.pending_value) (places.cleans node))
               (Enters p t next (record seen { pending = None }) bank)
               (subst (λ (ss : List Observation). GoesThrough s (fragment x (to does_at) (to goes_at) does_words) ss
               (Enters p t next (record seen { pending = None }) bank)) observations_same

@@ -1,11 +1,13 @@
 -- What registers hold after a node represents what the thread sees at the next one.
 use Rattle.std.proofs.Common.{◌≡◌, ◌≢◌, ◌⊎◌, inl, inr, ℕ, ◌<◌, List, length, ap, arith, sym, ◌∙◌, subst, true, false, Some, None}
-use Rattle.std.specs.Prelude.{slice_get, slice_set, slice_index, slice_index_or, Contains, ℤ, pos}
+use Rattle.std.specs.Prelude.{slice_get, slice_set, slice_index, slice_index_or, Contains, ℤ, pos, ◌*◌, ◌%◌, ◌^◌}
 use Rattle.std.proofs.lemmas.Bool.{true≢false}
 use Rattle.std.proofs.lemmas.List.{length-set, get_or-set_same, get_or-set_other}
 use Rattle.std.proofs.lemmas.Option.{none-some, same_Some, slice_get_within}
 use Rattle.ido_ints.specs.declared.kinds.Kind.{Kind}
+use Rattle.ido_ints.specs.Kinds.{bytes_of}
 use Rattle.ido_ints.specs.TypedNumbers.{Typed, typed}
+use Rattle.ido_ints.proofs.Public.{register_below}
 use Rattle.c_tree.specs.Source.{Pending}
 use Rattle.rv64_isa.specs.Rows.{read}
 use Rattle.memory_layout.specs.Roles.{is_local}
@@ -16,13 +18,21 @@ use Rattle.flow_graph.specs.Actions.{Seen}
 use Rattle.flow_graph.specs.Lowering.{lowered}
 use Rattle.flow_graph.specs.Liveness.{NodeAt, IsLive, is_read_later, Spans}
 use Rattle.thread_code.specs.Plans.{Plan, Thread, IsThread, IsPlan, IsNodeOf}
-use Rattle.thread_code.specs.RegistersAtNodes.{HasPending, IsPendingIn, Enters}
+use Rattle.thread_code.specs.RegistersAtNodes.{HasLowBytes, HasPending, IsPendingIn, Enters}
 use Rattle.rv64_codegen.proofs.Nodes.{StoresThere}
 use Rattle.rv64_codegen.proofs.StoresAfterEvaluations.{owes, is_store, no_store_after}
 use Rattle.rv64_codegen.proofs.LocalRegisters.{register_local, registers_differ}
 
 carries_on : (x y : List ℕ) (r : ℕ) (v : Typed) → read y r ≡ read x r → Carries x r v → Carries y r v
 carries_on x y r v same c = record { held = c.held; form = same ∙ c.form }
+
+-- a value has its bytes in a register where it has its form there
+pub low_bytes : (x : List ℕ) (r : ℕ) (k : Kind) (number : ℤ) → Carries x r (typed k number) → HasLowBytes x r k number
+low_bytes x r k number c = record {
+  held = c.held;
+  below = subst (λ (v : ℕ). v < 2 ^ 64) (sym c.form) (register_below k number);
+  low = ap (λ (v : ℕ). v % 2 ^ (8 * bytes_of k)) c.form;
+}
 
 none_pending : (p : Plan) (a : Action) (seen : Seen) (x : List ℕ) → is_store a ≡ false → IsPendingIn p a seen x
 none_pending p (Eval target value next) seen x other = tt

@@ -1,6 +1,8 @@
 -- Registers at a node, and others that hold what a boundary keeps.
-use Rattle.std.proofs.Common.{◌≡◌, refl, ◌∙◌, ℕ, List}
-use Rattle.std.specs.Prelude.{slice_index, Contains}
+use Rattle.std.proofs.Common.{◌≡◌, refl, ap, sym, subst, ◌∙◌, ℕ, ◌%◌, ◌<◌, List}
+use Rattle.std.specs.Prelude.{slice_index, Contains, ℤ, ◌*◌, ◌^◌}
+use Rattle.ido_ints.specs.declared.kinds.Kind.{Kind}
+use Rattle.ido_ints.specs.Kinds.{bytes_of}
 use Rattle.ido_ints.specs.TypedNumbers.{Typed}
 use Rattle.rv64_isa.specs.Rows.{read}
 use Rattle.memory_layout.specs.Roles.{pending_address, pending_value}
@@ -10,11 +12,18 @@ use Rattle.flow_graph.specs.Actions.{Seen}
 use Rattle.flow_graph.specs.IdempotentCuts.{IsStoreNode, stores}
 use Rattle.flow_graph.specs.Liveness.{NodeAt}
 use Rattle.thread_code.specs.Plans.{Plan, Thread, IsKept, of_local, of_address, of_value, AreKept}
-use Rattle.thread_code.specs.RegistersAtNodes.{HasPending, IsPendingIn}
+use Rattle.thread_code.specs.RegistersAtNodes.{HasLowBytes, HasPending, IsPendingIn}
 use Rattle.thread_code.specs.Laws.{EntersAgain}
 
 carries_on : (x y : List ℕ) (r : ℕ) (v : Typed) → read y r ≡ read x r → Carries x r v → Carries y r v
 carries_on x y r v same c = record { held = c.held; form = same ∙ c.form }
+
+low_bytes_on : (x y : List ℕ) (r : ℕ) (k : Kind) (number : ℤ) → read y r ≡ read x r → HasLowBytes x r k number → HasLowBytes y r k number
+low_bytes_on x y r k number same h = record {
+  held = h.held;
+  below = subst (λ (v : ℕ). v < 2 ^ 64) (sym same) h.below;
+  low = ap (λ (v : ℕ). v % 2 ^ (8 * bytes_of k)) same ∙ h.low;
+}
 
 module _ (p : Plan) (t : Thread) (node : ℕ) (seen : Seen) (x y : List ℕ) (live : List ℕ) (kept : AreKept p t node live)
     (same : (register : ℕ) → Contains live register → read y register ≡ read x register) where
@@ -30,7 +39,7 @@ module _ (p : Plan) (t : Thread) (node : ℕ) (seen : Seen) (x y : List ℕ) (li
         variable_is = old.variable_is;
         address = same_kept pending_address (of_address here) ∙ old.address;
         below = old.below;
-        value = carries_on x y pending_value _ (same_kept pending_value (of_value here)) old.value;
+        value = low_bytes_on x y pending_value kind store.number (same_kept pending_value (of_value here)) old.value;
       }
   pending_again is at (Test condition holds fails) e h = tt
   pending_again is at (Lock mutex next) e h = tt

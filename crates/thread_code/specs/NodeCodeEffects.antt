@@ -3,7 +3,6 @@ use Rattle.std.specs.Prelude.{◌≡◌, ℕ, pos, List, [], ◌∷◌, map, sli
 use Rattle.ido_base.specs.Layout.{variable_at}
 use Rattle.ido_ints.specs.declared.kinds.Kind.{Kind}
 use Rattle.ido_ints.specs.Kinds.{bytes_of}
-use Rattle.ido_ints.specs.TypedNumbers.{typed, register_form_of}
 use Rattle.c_tree.specs.Programs as v
 use Rattle.c_tree.specs.Source.{Pending}
 use Rattle.c_tree.specs.WellFormed.{shape_of}
@@ -16,7 +15,7 @@ use Rattle.node_code.specs.Pieces.{store_observations, boundary_observations, ba
 use Rattle.flow_graph.specs.Actions as a
 use Rattle.code_runs.specs.CodeTraces.{Program, MarkedEnvironment, Meets, Observation, Mark, GoesThrough}
 use Rattle.thread_code.specs.Plans.{Plan, Thread, locks_before}
-use Rattle.thread_code.specs.RegistersAtNodes.{Enters}
+use Rattle.thread_code.specs.RegistersAtNodes.{Enters, HasLowBytes}
 
 -- where the code of a thread's nodes is, by their numbers
 pub record Places : Type 0 where
@@ -59,11 +58,10 @@ pub record Entrance : Type 0 where
   pub registers : List ℕ
 
 module _ (p : Plan) (t : Thread) (c : Places) where
-  -- the store as memory sees it, and its clean, if that stands there
-  abbrev pub pending_observations : Kind → Pending → (cleans : Bool) → List Observation
-  pending_observations k store cleans =
-      store_observations (variable_at (map shape_of p.flat.variables) store.variable store.element) (bytes_of k)
-      (register_form_of (typed k store.number)) cleans
+  -- the store of a register's value as memory sees it, and its clean, if that stands there
+  abbrev pub pending_observations : Kind → Pending → (value : ℕ) → (cleans : Bool) → List Observation
+  pending_observations k store value cleans =
+      store_observations (variable_at (map shape_of p.flat.variables) store.variable store.element) (bytes_of k) value cleans
 
   -- registers represent what the thread sees at the node
   abbrev pub EntersAt : Entrance → (node : ℕ) → Type 0
@@ -89,12 +87,13 @@ module _ (p : Plan) (t : Thread) (c : Places) where
     pub lock : read registers roles.lock ≡ mutex
     pub enters : Enters p t next seen bank registers
 
-  -- the first instruction of the node makes the store
+  -- the first instruction of the node makes the store, of the register that has the number's bytes
   pub record Storing (m : Entrance) (k : Kind) (store : Pending) : Type 0 where
     pub instr : Instr
     pub stands : IsInstructionAt c.program.start c.program.code (c.core m.node) instr
     pub does : row instr m.registers (c.core m.node) ≡
-        Stores (variable_at (map shape_of p.flat.variables) store.variable store.element) (bytes_of k) (register_form_of (typed k store.number))
+        Stores (variable_at (map shape_of p.flat.variables) store.variable store.element) (bytes_of k) (read m.registers roles.pending_value)
+    pub value : HasLowBytes m.registers roles.pending_value k store.number
 
   -- what the code of a node does, where the node has this effect: it leads to the next node, or to its ECALL
   abbrev pub Performs : Entrance → a.Effect → Type 0
@@ -102,7 +101,7 @@ module _ (p : Plan) (t : Thread) (c : Places) where
       Passing m (c.core m.node) (c.entry next) (Mark ∷ []) (Enters p t next (seen_after (a.Sets local number next) m.seen) m.bank)
   Performs m (a.Owes store next) = Passing m (c.core m.node) (c.entry next) (Mark ∷ []) (Enters p t next (seen_after (a.Owes store next) m.seen) m.bank)
   Performs m (a.Makes store next) = (k : Kind) → kind_at p.flat.variables store.variable ≡ Some k → Storing m k store ×
-      Passing m (c.core m.node) (c.entry next) (pending_observations k store (c.cleans m.node))
+      Passing m (c.core m.node) (c.entry next) (pending_observations k store (read m.registers roles.pending_value) (c.cleans m.node))
       (Enters p t next (seen_after (a.Makes store next) m.seen) m.bank)
   Performs m (a.Goes next) = Passing m (c.core m.node) (c.entry next) (Mark ∷ []) (Enters p t next m.seen m.bank)
   Performs m (a.Takes mutex next) = Passing m (c.core m.node) (c.call m.node) [] (Asking takes mutex next m.seen m.bank)

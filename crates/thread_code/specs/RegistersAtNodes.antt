@@ -1,8 +1,9 @@
 -- What a thread's registers hold where the code of a node begins.
-use Rattle.std.specs.Prelude.{◌≡◌, ℕ, pos, ◌^◌, ◌<◌, List, map, length, slice_get, slice_index, slice_index_or, Option, Some}
+use Rattle.std.specs.Prelude.{◌≡◌, ℕ, ℤ, pos, ◌*◌, ◌%◌, ◌^◌, ◌<◌, List, map, length, slice_get, slice_index, slice_index_or, Option, Some}
 use Rattle.ido_base.specs.Layout.{variable_at}
 use Rattle.ido_ints.specs.declared.kinds.Kind.{Kind}
-use Rattle.ido_ints.specs.TypedNumbers.{typed}
+use Rattle.ido_ints.specs.Kinds.{Holds, bytes_of}
+use Rattle.ido_ints.specs.TypedNumbers.{typed, register_form_of}
 use Rattle.c_tree.specs.Exprs as e
 use Rattle.c_tree.specs.Source.{Pending}
 use Rattle.c_tree.specs.WellFormed.{shape_of}
@@ -16,12 +17,18 @@ use Rattle.flow_graph.specs.Actions.{Seen}
 use Rattle.flow_graph.specs.Liveness.{NodeAt, IsLive}
 use Rattle.thread_code.specs.Plans.{Plan, Thread}
 
--- registers have the address and the number of a store of the variable
+-- of the 64 bits in a register as many low bytes as the kind has are those of a number of the kind; its other bytes may be anything
+pub record HasLowBytes (registers : List ℕ) (register : ℕ) (k : Kind) (number : ℤ) : Type 0 where
+  pub held : Holds k number
+  pub below : read registers register < 2 ^ 64
+  pub low : read registers register % 2 ^ (8 * bytes_of k) ≡ register_form_of (typed k number) % 2 ^ (8 * bytes_of k)
+
+-- registers have the address of a store of the variable, and the bytes of its number that the store writes
 pub record HasPending (p : Plan) (store : Pending) (variable : ℕ) (k : Kind) (registers : List ℕ) : Type 0 where
   pub variable_is : store.variable ≡ variable
   pub address : read registers pending_address ≡ variable_at (map shape_of p.flat.variables) store.variable store.element
   pub below : variable_at (map shape_of p.flat.variables) store.variable store.element < 2 ^ 64
-  pub value : Carries registers pending_value (typed k store.number)
+  pub value : HasLowBytes registers pending_value k store.number
 
 -- before a store the registers have the address and the value of the pending one
 abbrev pub IsPendingIn : Plan → Action → Seen → (registers : List ℕ) → Type 0

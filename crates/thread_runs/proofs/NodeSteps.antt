@@ -9,9 +9,10 @@ use Rattle.ido_ints.specs.Kinds.{bytes_of}
 use Rattle.c_tree.specs.Source.{Pending}
 use Rattle.c_tree.specs.WellFormed.{shape_of}
 use Rattle.rv64_isa.specs.declared.object.Slot.{Slot}
-use Rattle.rv64_isa.specs.Rows.{Effect, Cleans, row}
+use Rattle.rv64_isa.specs.Rows.{Effect, Cleans, row, read}
 use Rattle.rv64_isa.specs.Machine.{World}
 use Rattle.rv64_isa.specs.Schedule.{effect_at}
+use Rattle.memory_layout.specs.Roles.{pending_value}
 use Rattle.boundary_code.specs.Boundaries.{boundary_effects}
 use Rattle.flow_graph.specs.Nodes.{Node}
 use Rattle.flow_graph.specs.Actions as a
@@ -138,10 +139,13 @@ module _ (p : Plan) (t : Thread) (program : List (List Slot)) (own : Program) (c
       IsAtSomeMark p t c (on_machine program w h s) node seen bank registers (a.Makes store next)
   makes store next eq k kind may =
       let address : ℕ = variable_at (map shape_of p.flat.variables) store.variable store.element in
+      let value : ℕ = read registers pending_value in
       let clean : Effect = Cleans address in
-      let lockstep : pending_observations p t c k store (c.cleans node) ≡ Mark ∷ seen_effects (store_of p t c k store ∷ cleans_of p t c node store) =
-      ap (λ (x : List Observation). Mark ∷ Does (store_of p t c k store) ∷ x) (cleans_lockstep (c.cleans node) clean) in
-      at_mark (a.Makes store next) (stage_after p t c node seen bank (a.Makes store next)) (store_of p t c k store ∷ cleans_of p t c node store) refl eq refl
+      let lockstep : pending_observations p t c k store value (c.cleans node) ≡
+      Mark ∷ seen_effects (store_of p t c k store value ∷ cleans_of p t c node store) =
+      ap (λ (x : List Observation). Mark ∷ Does (store_of p t c k store value) ∷ x) (cleans_lockstep (c.cleans node) clean) in
+      at_mark (a.Makes store next) (stage_after p t c node seen bank (a.Makes store next)) (store_of p t c k store value ∷ cleans_of p t c node store)
+      refl eq refl
       (subst (λ (x : List Observation). GoesThrough s (record { registers = registers; from = c.core node; to = c.entry next; most = c.words node }) x
       (λ (y : List ℕ). Has p t c (stage_after p t c node seen bank (a.Makes store next)).exit next
       (stage_after p t c node seen bank (a.Makes store next)).seen bank y)) lockstep (performs (a.Makes store next) eq k kind).1)
@@ -152,7 +156,7 @@ module _ (p : Plan) (t : Thread) (program : List (List Slot)) (own : Program) (c
             (λ _. (line_of_access (length w.harts) address (bytes_of k) may.access, tt)) (λ _. tt),
       )
       made
-      (λ other there. ap (λ (x : Kind). store_of p t c x store ∷ cleans_of p t c node store)
+      (λ other there. ap (λ (x : Kind). store_of p t c x store value ∷ cleans_of p t c node store)
       (same_there (kind_at p.flat.variables store.variable) k other kind there))
     where
       made : (effect : Effect) → effect_at program h at.at.hart ≡ Some effect → IsMadeBy p t c (a.Makes store next) effect
@@ -163,8 +167,13 @@ module _ (p : Plan) (t : Thread) (program : List (List Slot)) (own : Program) (c
           subst (λ (x : ℕ). s.around.fetch x ≡ Some st.instr) (sym pc) (meets.fetches (c.core node) st.instr st.stands) in
           let here : effect_at program h at.at.hart ≡ Some (row st.instr at.at.hart.registers at.at.hart.pc) =
           effect_is program w h at.at.hart at.at.here at.at.runs st.instr (agrees.fetches at.at.hart.pc st.instr stands) in
-          same_there (effect_at program h at.at.hart) effect (row st.instr at.at.hart.registers at.at.hart.pc) is_next here
-          ∙ (ap (λ (x : LocalConfig). row st.instr x.registers x.pc) at.at.is ∙ st.does)
+          record {
+            value = read registers pending_value;
+            low = st.value.low;
+            is =
+                same_there (effect_at program h at.at.hart) effect (row st.instr at.at.hart.registers at.at.hart.pc) is_next here
+                ∙ (ap (λ (x : LocalConfig). row st.instr x.registers x.pc) at.at.is ∙ st.does);
+          }
 
   begins : (e : a.Effect) → effect_of is.action seen ≡ Some e → MayDo p t c (length w.harts) s e →
       Performing p t c (on_machine program w h s) node seen bank registers e

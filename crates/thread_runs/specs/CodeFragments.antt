@@ -1,5 +1,5 @@
 -- A thread in a fragment: on its way from the mark of one node to that of the next.
-use Rattle.std.specs.Prelude.{◌≡◌, ℕ, suc, ◌+◌, ◌-◌, ◌*◌, ◌^◌, ◌<◌, ◌≤◌, List, [], ◌∷◌, length, map, Contains, Some, true, if◌then◌else◌}
+use Rattle.std.specs.Prelude.{◌≡◌, ℕ, suc, ◌+◌, ◌-◌, ◌*◌, ◌%◌, ◌^◌, ◌<◌, ◌≤◌, List, [], ◌∷◌, length, map, Contains, Some, true, if◌then◌else◌}
 use Rattle.ido_base.specs.Layout.{logs_base, variable_at}
 use Rattle.ido_ints.specs.declared.kinds.Kind.{Kind}
 use Rattle.ido_ints.specs.Kinds.{bytes_of}
@@ -19,7 +19,7 @@ use Rattle.flow_graph.specs.Liveness.{NodeAt}
 use Rattle.code_runs.specs.ComputingRuns.{config}
 use Rattle.code_runs.specs.CodeTraces.{MarkedEnvironment, Meets, Mark, seen_effects, marked}
 use Rattle.hart_runs.specs.HartsOnRuns.{is_access, Agrees, IsRunningAt, IsOnTrace}
-use Rattle.hart_runs.specs.Laws.{StoresApart}
+use Rattle.hart_runs.specs.Laws.{IsApart, StoresApart}
 use Rattle.thread_code.specs.Plans.{Plan, Thread, IsNodeOf}
 use Rattle.thread_code.specs.RegistersAtNodes.{Enters}
 use Rattle.thread_code.specs.NodeCodeEffects.{Places, kind_at, seen_after, keeping, Asking}
@@ -153,9 +153,15 @@ module _ (p : Plan) (t : Thread) (c : Places) where
       record { exit = Gives node mutex; node = next; seen = seen; bank = bank_after (keeping p t c next) bank }
   stage_after node seen bank a.Ends = record { exit = Ends; node = node; seen = seen; bank = bank }
 
-  -- the store of a pending one of that kind, as memory sees it
-  abbrev pub store_of : Kind → Pending → Effect
-  store_of k store = Stores (variable_at (map shape_of p.flat.variables) store.variable store.element) (bytes_of k) (register_form_of (typed k store.number))
+  -- the store of a register's value at the place of a pending one of that kind, as memory sees it
+  abbrev pub store_of : Kind → Pending → (value : ℕ) → Effect
+  store_of k store value = Stores (variable_at (map shape_of p.flat.variables) store.variable store.element) (bytes_of k) value
+
+  -- the effect is a pending store of that kind: the bytes that it writes are those of the number
+  pub record IsStoreOf (k : Kind) (store : Pending) (effect : Effect) : Type 0 where
+    pub value : ℕ
+    pub low : value % 2 ^ (8 * bytes_of k) ≡ register_form_of (typed k store.number) % 2 ^ (8 * bytes_of k)
+    pub is : effect ≡ store_of k store value
 
   abbrev pub cleans_of : (node : ℕ) → Pending → List Effect
   cleans_of node store =
@@ -166,7 +172,7 @@ module _ (p : Plan) (t : Thread) (c : Places) where
   AreSeen node bank registers (a.Sets local number next) effects = effects ≡ []
   AreSeen node bank registers (a.Owes store next) effects = effects ≡ []
   AreSeen node bank registers (a.Makes store next) effects = (k : Kind) → kind_at p.flat.variables store.variable ≡ Some k →
-      effects ≡ store_of k store ∷ cleans_of node store
+      effects ≡ store_of k store (read registers roles.pending_value) ∷ cleans_of node store
   AreSeen node bank registers (a.Goes next) effects = effects ≡ []
   AreSeen node bank registers (a.Takes mutex next) effects = effects ≡ []
   AreSeen node bank registers (a.Gives mutex next) effects = effects ≡ boundary_effects (keeping p t c next) (1 - bank) (c.after node) registers
@@ -176,7 +182,7 @@ module _ (p : Plan) (t : Thread) (c : Places) where
   abbrev pub IsMadeBy : a.Effect → Effect → Type 0
   IsMadeBy (a.Sets local number next) effect = Unit {0}
   IsMadeBy (a.Owes store next) effect = Unit {0}
-  IsMadeBy (a.Makes store next) effect = (k : Kind) → kind_at p.flat.variables store.variable ≡ Some k → effect ≡ store_of k store
+  IsMadeBy (a.Makes store next) effect = (k : Kind) → kind_at p.flat.variables store.variable ≡ Some k → IsStoreOf k store effect
   IsMadeBy (a.Goes next) effect = Unit {0}
   IsMadeBy (a.Takes mutex next) effect = Unit {0}
   IsMadeBy (a.Gives mutex next) effect = Unit {0}
@@ -209,7 +215,7 @@ module _ (p : Plan) (t : Thread) (c : Places) where
   -- the store may be made, and the environment answers none of its bytes
   pub record MayBeMade (threads : ℕ) (s : MarkedEnvironment) (k : Kind) (store : Pending) : Type 0 where
     pub access : is_access threads (variable_at (map shape_of p.flat.variables) store.variable store.element) (bytes_of k) ≡ true
-    pub apart : StoresApart s (store_of k store)
+    pub apart : IsApart s (variable_at (map shape_of p.flat.variables) store.variable store.element) (bytes_of k)
 
   abbrev pub MayDo : (threads : ℕ) → MarkedEnvironment → a.Effect → Type 0
   MayDo threads s (a.Sets local number next) = Unit {0}

@@ -1,0 +1,5 @@
+use Rattle.crash_simulation.proofs.SimulationFromWords.{recovered_words_simulate}
+use Rattle.crash_simulation.proofs.laws.recovered_words_simulate.Goals as goal
+
+pub returns : goal.returns
+returns c = recovered_words_simulate

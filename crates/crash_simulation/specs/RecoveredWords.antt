@@ -1,0 +1,35 @@
+-- Words with which recovery begins an execution anywhere: their records describe an origin.
+use Rattle.std.specs.Prelude.{◌≡◌, ℕ, List, length, map}
+use Rattle.ido_base.specs.declared.event.Event.{Event}
+use Rattle.ido_base.specs.Layout.{word_count}
+use Rattle.ido_base.specs.Words.{word_of}
+use Rattle.rv64_isa.specs.Machine.{World, after_crash_of, after_events}
+use Rattle.rv64_isa.specs.Schedule.{first_steps, steps_along}
+use Rattle.variable_words.specs.Variables.{durable_variables}
+use Rattle.region_attempts.specs.Origins.{Origin}
+use Rattle.recovered_threads.specs.Machines.{RecoversTo}
+use Rattle.crash_simulation.specs.Systems.{System, IsSystem, flat_of, thread_count}
+use Rattle.crash_simulation.specs.SimulationRelation.{Simulates}
+use Rattle.crash_simulation.specs.AccountRelation.{SimulatesCounted}
+
+-- as many words as the machine has, by whose records harts recover to the origin; and variables have its numbers
+pub record IsRecoveredFrom (y : System) (s : IsSystem y) (o : Origin (flat_of y)) (words : List ℕ) : Type 0 where
+  pub size : length words ≡ word_count (thread_count y)
+  pub recovers : RecoversTo y.plan s.codes o.flow (after_crash_of y.runs.program y.runs.mutexes words)
+  pub variables : durable_variables (map word_of words) (flat_of y).variables ≡ o.source.variables
+
+-- the machine simulates an abstract run that began there
+pub record SimulatesFrom (y : System) (s : IsSystem y) (o : Origin (flat_of y)) (w : World) : Type 0 where
+  pub stands : Simulates y s w
+  pub begins : stands.before_commit.abstract.origin ≡ o
+
+abbrev pub RecoveredWordsSimulate : Type 0
+RecoveredWordsSimulate = (y : System) (s : IsSystem y) (o : Origin (flat_of y)) (words : List ℕ) → IsRecoveredFrom y s o words →
+    SimulatesFrom y s o (after_crash_of y.runs.program y.runs.mutexes words)
+
+-- the account of its steps goes on from there, after steps that were kept before
+abbrev pub RecoveredAreCounted : Type 0
+RecoveredAreCounted = (y : System) (s : IsSystem y) (o : Origin (flat_of y)) (words kept : List ℕ) → IsRecoveredFrom y s o words → (events : List Event) →
+    SimulatesCounted y s (record { from = o.source; kept = kept })
+    (after_events y.runs.program (after_crash_of y.runs.program y.runs.mutexes words) events)
+    (steps_along y.runs.marks y.runs.program (after_crash_of y.runs.program y.runs.mutexes words) events (first_steps (length y.runs.program) kept))

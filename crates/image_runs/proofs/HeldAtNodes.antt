@@ -1,0 +1,227 @@
+-- What a thread of a plan holds at its nodes, and that something is held where it may be resumed.
+use Rattle.std.proofs.Common.{◌≡◌, ◌≢◌, refl, ℕ, zero, suc, ◌-◌, ◌<◌, List, [], ◌∷◌, length, map, ap, sym, ◌∙◌, subst, arith, Option, Some, None}
+use Rattle.std.proofs.Common.{Bool, true, false}
+use Rattle.std.specs.Prelude.{slice_get, slice_set, slice_index_or, if◌then◌else◌}
+use Rattle.std.specs.List.{AllByRecursion, AllZip}
+use Rattle.std.proofs.lemmas.Bool.{true≢false}
+use Rattle.std.proofs.lemmas.List.{get_or-set_same}
+use Rattle.std.proofs.lemmas.Option.{none-some, same_Some, slice_get_within, get_or_from_slice_get}
+use Rattle.ido_base.specs.declared.place.Place.{Place}
+use Rattle.ido_base.specs.Locks.{has_lock}
+use Rattle.ido_ints.specs.declared.kinds.Kind.{Kind}
+use Rattle.c_tree.specs.Flats as f
+use Rattle.c_tree.specs.Source as m
+use Rattle.c_tree.specs.Programs.{Variable}
+use Rattle.c_tree.specs.LockDiscipline as l
+use Rattle.c_tree.specs.LockDiscipline.{Held, holds, none_held, guard_of, Keeps}
+use Rattle.c_tree.specs.WellFormed.{AreFlatStatements}
+use Rattle.c_ranges.specs.RunInvariants.{IsStatementLeft}
+use Rattle.source_machine.specs.Mutexes.{held_by}
+use Rattle.source_machine.specs.Discipline.{KeepList, KeepsLeft, ThreadKeeps, StateKeeps}
+use Rattle.source_machine.proofs.Public.{held_is_given}
+use Rattle.lock_discipline.specs.HeldSetsByStep.{AreSetsOf, HeldBefore}
+use Rattle.lock_discipline.specs.links.Flow.{thread_sets}
+use Rattle.lock_discipline.proofs.Public.{held_length, set_left, thread_sets_are}
+use Rattle.flow_graph.specs.IdempotentCuts.{IsChosen, AreAtWrites}
+use Rattle.flow_graph.specs.Liveness.{NodeAt}
+use Rattle.flow_graph.specs.Lockstep.{Standing, free, thread_standings, threads_standings}
+use Rattle.flow_graph.specs.Lowering.{lowered, threads_nodes}
+use Rattle.flow_graph.specs.Nodes.{Action, Store, Lock, Unlock, Graph, Node}
+use Rattle.flow_graph.proofs.Public.{ActionLeads, At, Locks, Unlocks, agrees, all_at, found_in, nodes_at}
+use Rattle.region_cutter.specs.LocksAtBoundaries.{ChosenAreLocked, StoresLocked}
+use Rattle.thread_code.specs.Plans.{Plan, Thread, IsThread, IsPlan, IsNodeOf, locks_held, set_before, locks_before}
+use Rattle.thread_code.proofs.Public.{has_held}
+use Rattle.recovered_threads.specs.RecordDescriptions.{Code, ResumesAt, at_chosen, past_lock, past_unlock}
+use Rattle.recovered_threads.proofs.Public.{left_at, standing_at}
+use Rattle.flat_compile.proofs.Public.{node_there}
+use Rattle.image_runs.proofs.LeftStatements.{are_left}
+use Rattle.image_runs.proofs.ResumedLocals.{part_is}
+
+-- ---- What is left tells the set before it
+
+module _ (x : f.Flat) where
+  holders_of : Held → List (Option ℕ)
+  holders_of h = map (λ (b : Bool). if b then Some 0 else None) h
+
+  held_again : (h : Held) → held_by 0 (holders_of h) ≡ h
+  unfolding holders_of
+  held_again [] = refl
+  held_again (true ∷ h) = ap (λ (k : Held). true ∷ k) (held_again h)
+  held_again (false ∷ h) = ap (λ (k : Held). false ∷ k) (held_again h)
+
+  -- a thread with that left, alone
+  abbrev alone : Held → List f.Statement → m.State
+  alone h left = record {
+    variables = [];
+    holders = holders_of h;
+    threads = record { left = left; locals = []; pending = None; ended = false } ∷ [];
+  }
+
+  alone_keeps : (h : Held) (left : List f.Statement) → KeepsLeft x h left → StateKeeps x (alone h left)
+  alone_keeps h left k = record { each = by }
+    where
+      by : (number : ℕ) (thread : m.Thread) → slice_get (alone h left).threads number ≡ Some thread → ThreadKeeps x (held_by number (holders_of h)) thread
+      by zero thread there =
+          subst (λ (z : m.Thread). ThreadKeeps x (held_by 0 (holders_of h)) z) (same_Some _ thread there) (record {
+            left = subst (λ (g : Held). KeepsLeft x g left) (sym (held_again h)) k;
+            pending = λ q some. absurd (none-some q some);
+          })
+      by (suc number) thread there = absurd (none-some thread there)
+
+  one_set : (h k : Held) (left : List f.Statement) → KeepsLeft x h left → KeepsLeft x k left → k ≡ h
+  one_set h k left a b = (held_is_given x (alone h left) 0 _ k (alone_keeps h left a) refl).0 b ∙ held_again h
+
+lock_takes : (vs : List Variable) {h after : Held} {place : Place} {mutex : ℕ} → Keeps vs h (f.Lock place mutex) after → after ≡ slice_set h mutex true
+lock_takes vs (l.lock place mutex free) = refl
+
+-- ---- Two lists, one against the other
+
+zip_there : {A B : Type 0} (R : A → B → Type 0) (xs : List A) (ys : List B) (k : ℕ) (x : A) → AllZip R xs ys → slice_get xs k ≡ Some x →
+    (y : B) × (slice_get ys k ≡ Some y) × R x y
+zip_there R [] ys k x z e = absurd (none-some x e)
+zip_there R (a ∷ xs) [] k x z e = absurd z
+zip_there {A} R (a ∷ xs) (b ∷ ys) zero x z e = (b, refl, subst (λ (w : A). R w b) (same_Some a x e) z.0)
+zip_there R (a ∷ xs) (b ∷ ys) (suc k) x z e = zip_there R xs ys k x z.1 e
+
+-- ---- At a node
+
+module _ (p : Plan) (plan : IsPlan p) (t : Thread) (of : IsThread p t) where
+  abbrev pub all : List Standing
+  all = threads_standings p.flat.threads
+
+  pub table : (table : List Held) × (slice_get p.held t.number ≡ Some table)
+  table = found_in p.held t.number (let l = slice_get_within p.flat.threads t.number of.text of.of_text in omega (arith, l, plan.held.each_thread))
+
+  pub sets : AreSetsOf p.flat of.text table.0
+  sets = plan.held.sets t.number of.text table.0 of.of_text table.1
+
+  module _ (node : ℕ) (own : IsNodeOf t node) where
+    abbrev step : ℕ
+    step = node - t.part.first
+
+    pub node_is : (is : Node) × NodeAt p.graph node is
+    node_is = node_there p plan t of node own
+
+    pub lowered_is : NodeAt (lowered p.flat) node node_is.0
+    lowered_is = subst (λ (g : Graph). NodeAt g node node_is.0) plan.lowered node_is.1
+
+    -- what is left there
+    pub stands : (s : Standing) × (At all node s) × ActionLeads all node_is.0.action s
+    stands = zip_there (λ (n : Node) (s : Standing). ActionLeads all n.action s) (threads_nodes p.flat.threads 0) all node node_is.0
+        (agrees p.flat plan.formed.threads) (nodes_at p.flat node node_is.0 lowered_is)
+
+    own_standing : slice_get (thread_standings of.text) step ≡ Some stands.0
+    own_standing =
+        sym (standing_at p.flat t.number t.part of.text node (part_is p plan t of) of.of_text own.from_first own.below_end) ∙ stands.1
+
+    kept : (h : Held) × (slice_get (thread_sets (length p.flat.mutexes) of.text) step ≡ Some h) ×
+        KeepList p.flat.variables h stands.0.left (none_held (length p.flat.mutexes))
+    kept = set_left p.flat of.text step stands.0.left sets.disciplined (left_at of.text step stands.0 own_standing)
+
+    before : HeldBefore p.flat of.text step kept.0
+    before = ((thread_sets_are p.flat of.text sets.disciplined).exactly step kept.0).0 kept.1
+
+    in_table : slice_get table.0 step ≡ Some kept.0
+    in_table = (sets.exactly step kept.0).1 before
+
+    set_is : set_before p t node ≡ kept.0
+    set_is =
+        ap (λ (hs : List Held). slice_index_or hs step []) (get_or_from_slice_get p.held t.number table.0 [] table.1)
+        ∙ get_or_from_slice_get table.0 step kept.0 [] in_table
+
+    -- from the set before the node what is left keeps the discipline
+    pub keeps : KeepsLeft p.flat (set_before p t node) stands.0.left
+    keeps = subst (λ (h : Held). KeepsLeft p.flat h stands.0.left) (sym set_is) kept.2
+
+    pub long : length (set_before p t node) ≡ length p.flat.mutexes
+    long = ap (λ (h : Held). length h) set_is ∙ held_length p.flat of.text step kept.0 before
+
+    pub left_is : AllByRecursion (IsStatementLeft p.flat of.text.locals) stands.0.left
+    left_is =
+        are_left p.flat of.text step stands.0
+        (all_at (λ (u : f.Thread). AreFlatStatements p.flat u.locals u.body) p.flat.threads t.number of.text plan.formed.threads of.of_text) own_standing
+
+    -- before a store at which a boundary is chosen its variable's mutex is held
+    pub locked_here : ChosenAreLocked → IsChosen p.graph p.boundaries node → StoresLocked p.flat node (set_before p t node)
+    locked_here locked chosen =
+        locked p.flat p.held p.boundaries t.number step node (set_before p t node) plan.held
+        (subst (λ (g : Graph). AreAtWrites g p.boundaries) plan.lowered plan.at_writes)
+        (subst (λ (g : Graph). IsChosen g p.boundaries node) plan.lowered chosen)
+        (record {
+          part = t.part;
+          own = subst (λ (g : Graph). slice_get g.threads t.number ≡ Some t.part) plan.lowered of.nodes;
+          is = (let from = own.from_first in omega (arith, from));
+          sets = table.0;
+          row = table.1;
+          before = in_table ∙ ap (λ (h : Held). Some h) (sym set_is);
+        })
+
+  -- ---- After a lock
+
+  module _ (from mutex node : ℕ) (is : Node) (own_from : IsNodeOf t from) (own : IsNodeOf t node) (at : NodeAt p.graph from is)
+      (locks : is.action ≡ Lock mutex node) where
+    pub leads : Locks all mutex node (stands from own_from).0
+    leads =
+        let same : (node_is from own_from).0 ≡ is = same_Some _ is (sym (node_is from own_from).1 ∙ at) in
+        subst (λ (a : Action). ActionLeads all a (stands from own_from).0) (ap (λ (n : Node). n.action) same ∙ locks) (stands from own_from).2
+
+    -- no store is pending after it
+    pub free_after_lock : (stands node own).0 ≡ free leads.rest
+    free_after_lock = same_Some _ _ (sym (stands node own).1 ∙ leads.follows)
+
+    keeps_lock : KeepsLeft p.flat (set_before p t from) (f.Lock leads.place mutex ∷ leads.rest)
+    keeps_lock = subst (λ (s : Standing). KeepsLeft p.flat (set_before p t from) s.left) leads.is (keeps from own_from)
+
+    below : mutex < length p.flat.mutexes
+    below = (subst (λ (s : Standing). AllByRecursion (IsStatementLeft p.flat of.text.locals) s.left) leads.is (left_is from own_from)).0.1
+
+    pub held_after_lock : holds (set_before p t node) mutex ≡ true
+    held_after_lock =
+        let here : KeepsLeft p.flat (set_before p t node) leads.rest =
+        subst (λ (s : Standing). KeepsLeft p.flat (set_before p t node) s.left) free_after_lock (keeps node own) in
+        let between : keeps_lock.0 ≡ set_before p t node = one_set p.flat (set_before p t node) keeps_lock.0 leads.rest here keeps_lock.2 in
+        let taken : keeps_lock.0 ≡ slice_set (set_before p t from) mutex true = lock_takes p.flat.variables keeps_lock.1 in
+        let inside : mutex < length (set_before p t from) = (let l = long from own_from in let b = below in omega (arith, l, b)) in
+        ap (λ (h : Held). holds h mutex) (sym between ∙ taken) ∙ get_or-set_same (set_before p t from) mutex true false inside
+
+  -- no store is pending after an unlock either
+  pub free_after_unlock : (from mutex node : ℕ) (is : Node) (own_from : IsNodeOf t from) (own : IsNodeOf t node) → NodeAt p.graph from is →
+      is.action ≡ Unlock mutex node → (stands node own).0.owes ≡ false
+  free_after_unlock from mutex node is own_from own at unlocks =
+      let same : (node_is from own_from).0 ≡ is = same_Some _ is (sym (node_is from own_from).1 ∙ at) in
+      let leads : Unlocks all mutex node (stands from own_from).0 =
+      subst (λ (a : Action). ActionLeads all a (stands from own_from).0) (ap (λ (n : Node). n.action) same ∙ unlocks) (stands from own_from).2 in
+      ap (λ (s : Standing). s.owes) (same_Some _ _ (sym (stands node own).1 ∙ leads.follows))
+
+-- ---- Where a thread may be resumed
+
+some_locks : (held : Held) (lock : ℕ) → holds held lock ≡ true → locks_held held ≢ []
+some_locks held lock h none = true≢false (sym h ∙ (sym (has_held held lock) ∙ ap (λ (ls : List ℕ). has_lock ls lock) none))
+
+module _ (locked : ChosenAreLocked) (p : Plan) (plan : IsPlan p) (code : Code p) where
+  abbrev t : Thread
+  t = code.thread
+
+  -- something is held
+  pub resumed_hold : (node address : ℕ) → IsNodeOf code.thread node → ResumesAt p code node address → locks_before p code.thread node ≢ []
+  resumed_hold node address own (at_chosen chosen) =
+      let s = locked_here p plan t code.of node own locked chosen in
+      some_locks (set_before p t node) (guard_of p.flat.variables s.variable) s.locked
+  resumed_hold node address own (past_lock from mutex is own_from at locks) =
+      some_locks (set_before p t node) mutex (held_after_lock p plan t code.of from mutex node is own_from own at locks)
+  resumed_hold node address own (past_unlock from mutex is own_from at unlocks some) = some
+
+  -- where a store is pending its variable's mutex is held: no boundary but the chosen one before it leads there
+  pub resumed_store_locked : (node address : ℕ) (own : IsNodeOf code.thread node) → ResumesAt p code node address →
+      (variable : ℕ) (kind : Kind) (next : ℕ) → (node_is p plan t code.of node own).0.action ≡ Store variable kind next →
+      (stands p plan t code.of node own).0.owes ≡ true → holds (set_before p t node) (guard_of p.flat.variables variable) ≡ true
+  resumed_store_locked node address own (at_chosen chosen) variable kind next stores owes =
+      let s = locked_here p plan t code.of node own locked chosen in
+      let same : s.is ≡ (node_is p plan t code.of node own).0 = same_Some _ _ (sym s.at ∙ lowered_is p plan t code.of node own) in
+      let one : Store s.variable s.kind s.next ≡ Store variable kind next = sym s.stores ∙ (ap (λ (n : Node). n.action) same ∙ stores) in
+      let variable_is : s.variable ≡ variable = cc one in
+      subst (λ (v : ℕ). holds (set_before p t node) (guard_of p.flat.variables v) ≡ true) variable_is s.locked
+  resumed_store_locked node address own (past_lock from mutex is own_from at locks) variable kind next stores owes =
+      absurd (true≢false (sym owes ∙ ap (λ (s : Standing). s.owes) (free_after_lock p plan t code.of from mutex node is own_from own at locks)))
+  resumed_store_locked node address own (past_unlock from mutex is own_from at unlocks some) variable kind next stores owes =
+      absurd (true≢false (sym owes ∙ free_after_unlock p plan t code.of from mutex node is own_from own at unlocks))

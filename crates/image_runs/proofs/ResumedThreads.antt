@@ -1,0 +1,452 @@
+-- The thread of the source that words with the shape describe: it stands at its node, or has not begun.
+use Rattle.std.proofs.Common.{◌≡◌, ◌≢◌, refl, inl, inr, ℕ, zero, suc, ◌+◌, ◌*◌, ◌%◌, ◌<◌, List, [], ◌∷◌, length, map, replicate, ap, sym, ◌∙◌}
+use Rattle.std.proofs.Common.{subst, arith, Option, Some, None, Bool, true, false}
+use Rattle.std.specs.Prelude.{slice_get, slice_index, slice_index_or, Contains, is_some, ◌^◌, ◌==◌, ℤ, pos}
+use Rattle.std.specs.List.{AllZip}
+use Rattle.std.specs.Option.{option_map}
+use Rattle.std.proofs.lemmas.Bool.{cond-true, cond-false, ne_eqb, eq-eqb}
+use Rattle.std.proofs.lemmas.Bool.Decides.{nat_tests}
+use Rattle.std.proofs.lemmas.List.{length-replicate}
+use Rattle.std.proofs.lemmas.Option.{none-some, same_Some, slice_get-map}
+use Rattle.ido_base.specs.Layout.{in_range, point_at, variable_at, word_number}
+use Rattle.ido_base.specs.Locks.{holds_none, locks_in, mask_with}
+use Rattle.ido_base.specs.Words.{Word, word_of}
+use Rattle.ido_base.proofs.Public.{mask_of_locks}
+use Rattle.ido_ints.specs.declared.kinds.Kind.{Kind}
+use Rattle.ido_ints.specs.declared.kinds.Kind.TheVariants.{Char, UnsignedChar, SignedChar, Short, UnsignedShort, Int, UnsignedInt, Long, UnsignedLong}
+use Rattle.ido_ints.specs.Kinds.{Holds, bytes_of, modulus_of}
+use Rattle.ido_ints.specs.Reduction.{reduced, register_of}
+use Rattle.ido_ints.specs.TypedNumbers.{typed}
+use Rattle.ido_ints.proofs.Public.{Holds-reduced, Holds-zero, Same, Same_refl, Same_trans, Same-reduced, reduced-register, register-Same, rem_euclid-mod}
+use Rattle.c_tree.specs.Flats as f
+use Rattle.c_tree.specs.Source as m
+use Rattle.c_tree.specs.Source.{Pending}
+use Rattle.c_tree.specs.Exprs.{Placed}
+use Rattle.c_tree.specs.LockDiscipline.{Held, holds, none_held, guard_of}
+use Rattle.c_tree.specs.WellFormed.{AreFlatStatements, elements_in, shape_of}
+use Rattle.c_ranges.specs.RunInvariants.{IsStoreInRange, IsThreadOf}
+use Rattle.source_machine.specs.Discipline.{KeepsLeft}
+use Rattle.source_machine.proofs.Public.{keep_opened_all}
+use Rattle.memory_layout.specs.Roles.{pending_address, pending_value}
+use Rattle.rv64_isa.specs.Rows.{read}
+use Rattle.rv64_isa.specs.Machine.{bank_of, durable_point, recorded, record_of}
+use Rattle.boundary_code.specs.Boundaries.{is_empty}
+use Rattle.operator_code.specs.ComputingCode.{Carries}
+use Rattle.variable_words.proofs.Public.{addresses_reach, well_formed_placed}
+use Rattle.flow_graph.specs.Actions.{FlowState, GraphThread, Seen, graph_thread_start, seen_by}
+use Rattle.flow_graph.specs.Liveness.{NodeAt, IsLive}
+use Rattle.flow_graph.specs.Lockstep.{GraphThreadMatches, Standing}
+use Rattle.flow_graph.specs.Lowering.{lowered}
+use Rattle.flow_graph.specs.Nodes.{Action, Eval, Store, Test, Lock, Unlock, End, Graph, Node}
+use Rattle.flow_graph.proofs.Public.{ActionLeads, Tests, all_at, begins_lockstep, chooses, nodes_at, repeats}
+use Rattle.region_attempts.specs.Origins.{IsPendingAt}
+use Rattle.region_cutter.specs.LocksAtBoundaries.{ChosenAreLocked}
+use Rattle.log_states.specs.Logs.{Record, IsKeepable, IsRecord, IsDurable, IsRecorded, HasLog, nothing_recorded, slot_in, value_of, bank_word}
+use Rattle.log_states.specs.Laws.{ResumesRecord, resumed_registers}
+use Rattle.log_states.proofs.Public.{contains_cases, log_facts}
+use Rattle.thread_code.specs.Plans.{Plan, Thread, IsPlan, IsKept, of_local, of_address, of_value, locks_held, locks_held_from, set_before, locks_before}
+use Rattle.thread_code.specs.RegistersAtNodes.{HasPending, IsPendingIn, Enters}
+use Rattle.thread_code.proofs.Public.{held_fits}
+use Rattle.recovered_threads.specs.RecordDescriptions.{Code, Describes, between, inside}
+use Rattle.image_checks.specs.Checks.{IsElementOf}
+use Rattle.image_runs.specs.Shapes.{GoesOnAt, HasThreadShape, idle, resumes}
+use Rattle.image_runs.proofs.HeldAtNodes.{all, node_is, lowered_is, stands, keeps, long, left_is, sets, resumed_hold, resumed_store_locked}
+use Rattle.image_runs.proofs.LeftStatements.{opened_all_left}
+use Rattle.image_runs.proofs.RecordedWords.{durable_word, nothing_is_record, nothing_is_recorded, point_small, recorded_small}
+use Rattle.image_runs.proofs.ResumedLocals.{few_set, keepable, local_keepable, read_back, resumed_there}
+use Rattle.image_runs.proofs.StoredElements.{StoresAs, StoresElements, stores_elements}
+
+-- ---- Numbers in words
+
+positive : (k : Kind) → 0 < modulus_of k
+positive Char = omega arith
+positive UnsignedChar = omega arith
+positive SignedChar = omega arith
+positive Short = omega arith
+positive UnsignedShort = omega arith
+positive Int = omega arith
+positive UnsignedInt = omega arith
+positive Long = omega arith
+positive UnsignedLong = omega arith
+
+same_low : (n : ℕ) → 0 < n → (a b : ℕ) → Same n (pos a) (pos b) → a % n ≡ b % n
+same_low n some a b same = sym (rem_euclid-mod (pos b) a n some same) ∙ rem_euclid-mod (pos b) b n some (Same_refl n (pos b))
+
+-- the low bytes of a word are those of the number to which it is reduced
+low_bytes : (k : Kind) (w : ℕ) → w % 2 ^ (8 * bytes_of k) ≡ register_of k (reduced k (pos w)) % 2 ^ (8 * bytes_of k)
+low_bytes k w =
+    let z : ℤ = reduced k (pos w) in
+    sym (same_low (modulus_of k) (positive k) (register_of k z) w
+    (Same_trans (modulus_of k) (pos (register_of k z)) z (pos w) (register-Same k z) (Same-reduced k (pos w))))
+
+address_small : (address bytes : ℕ) → in_range 0 address bytes ≡ true → address < 2 ^ 64
+address_small address bytes is_in = grind (arith, nat_tests)
+
+tests_free : (ss : List Standing) (condition : Placed) (to other : ℕ) (s : Standing) → Tests ss condition to other s → s.owes ≡ false
+tests_free ss condition to other s (chooses place body arms otherwise rest is a b) = ap (λ (z : Standing). z.owes) is
+tests_free ss condition to other s (repeats place body rest is a b) = ap (λ (z : Standing). z.owes) is
+
+zeros_hold : (ks : List Kind) → AllZip Holds ks (replicate (length ks) (pos 0))
+zeros_hold [] = tt
+zeros_hold (k ∷ ks) = (Holds-zero k, zeros_hold ks)
+
+no_locks_from : (at count : ℕ) → locks_held_from at (none_held count) ≡ []
+no_locks_from at zero = refl
+no_locks_from at (suc count) = no_locks_from (at + 1) count
+
+-- ---- What a thread's log says of it
+
+-- a thread of the source and of the graph, and the record in the words that describes them
+pub record IsSaid (p : Plan) (code : Code p) (words : List ℕ) : Type 0 where
+  pub graph_thread : GraphThread
+  pub thread : m.Thread
+  pub matches : GraphThreadMatches p.flat graph_thread thread
+  pub formed : IsThreadOf p.flat code.of.text.locals thread
+  -- the mutexes that it holds
+  pub set : Held
+  pub long : length set ≡ length p.flat.mutexes
+  pub left : KeepsLeft p.flat set thread.left
+  pub pending : (q : Pending) → thread.pending ≡ Some q → holds set (guard_of p.flat.variables q.variable) ≡ true
+  -- its node writes where its pending store goes
+  pub stored : (q : Pending) → graph_thread.pending ≡ Some q → IsPendingAt p.flat graph_thread.at q
+  pub locks : record_of (map word_of words) code.thread.number ≡ locks_held set
+  pub entry : Record
+  pub is_record : IsRecord entry
+  pub is_recorded : IsRecorded code.thread.number entry (map word_of words)
+  pub describes : (kept : FlowState) → slice_get kept.graph_threads code.thread.number ≡ Some graph_thread →
+      holds_none kept.holders code.thread.number ≡ is_empty (locks_held set) → Describes p code kept entry
+
+module _ (locked : ChosenAreLocked) (p : Plan) (plan : IsPlan p) (code : Code p) (words : List ℕ) (log : HasLog code.thread.number (map word_of words)) where
+  abbrev ws : List Word
+  ws = map word_of words
+
+  abbrev t : Thread
+  t = code.thread
+
+  abbrev n : ℕ
+  n = code.thread.number
+
+  abbrev x : f.Flat
+  x = p.flat
+
+  -- ---- Between two sections
+
+  module _ (none : durable_point ws n ≡ 0) where
+    begun : GraphThreadMatches x (graph_thread_start t.part) (m.thread_start code.of.text)
+    begun =
+        (begins_lockstep x plan.formed).each n (graph_thread_start t.part) (m.thread_start code.of.text)
+        (slice_get-map graph_thread_start (lowered x).threads n ∙ ap (option_map graph_thread_start)
+        (subst (λ (g : Graph). slice_get g.threads n ≡ Some t.part) plan.lowered code.of.nodes))
+        (slice_get-map m.thread_start x.threads n ∙ ap (option_map m.thread_start) code.of.of_text)
+
+    abbrev free_set : Held
+    free_set = none_held (length x.mutexes)
+
+    said_between : IsSaid p code words
+    said_between = record {
+      graph_thread = graph_thread_start t.part;
+      thread = m.thread_start code.of.text;
+      matches = begun;
+      formed = record {
+        left = opened_all_left x code.of.text.locals code.of.text.body
+            (all_at (λ (u : f.Thread). AreFlatStatements x u.locals u.body) x.threads n code.of.text plan.formed.threads code.of.of_text);
+        locals = zeros_hold code.of.text.locals;
+        pending = λ q some. absurd (none-some q some);
+      };
+      set = free_set;
+      long = length-replicate (length x.mutexes) false;
+      left = keep_opened_all x.variables (sets p plan t code.of).disciplined;
+      pending = λ q some. absurd (none-some q some);
+      stored = λ q some. absurd (none-some q some);
+      locks =
+          cond-true (durable_point ws n == 0) [] (locks_in (recorded ws n 0)) (eq-eqb (durable_point ws n) 0 none)
+          ∙ sym (no_locks_from 0 (length x.mutexes));
+      entry = nothing_recorded;
+      is_record = nothing_is_record;
+      is_recorded = nothing_is_recorded n words none;
+      describes = λ kept there holds.
+          between (holds ∙ ap is_empty (no_locks_from 0 (length x.mutexes))) refl;
+    }
+
+  -- ---- At a node
+
+  module _ (node : ℕ) (some : durable_point ws n ≢ 0) (g : GoesOnAt p code ws node) where
+    abbrev registers : List ℕ
+    registers = resumed_registers ws n
+
+    abbrev is : Node
+    is = (node_is p plan t code.of node g.own).0
+
+    abbrev here : NodeAt p.graph node is
+    here = (node_is p plan t code.of node g.own).1
+
+    abbrev st : Standing
+    st = (stands p plan t code.of node g.own).0
+
+    abbrev set : Held
+    set = set_before p t node
+
+    -- ---- Locals: the number to which the word of a local's register is reduced
+
+    abbrev number_of : Kind → (register : ℕ) → ℤ
+    number_of k register = reduced k (pos (read registers register))
+
+    decoded : List Kind → (at : ℕ) → List ℤ
+    decoded [] at = []
+    decoded (k ∷ ks) at = number_of k (slice_index t.registers at) ∷ decoded ks (at + 1)
+
+    decoded_long : (ks : List Kind) (at : ℕ) → length (decoded ks at) ≡ length ks
+    unfolding decoded
+    decoded_long [] at = refl
+    decoded_long (k ∷ ks) at = ap suc (decoded_long ks (at + 1))
+
+    decoded_hold : (ks : List Kind) (at : ℕ) → AllZip Holds ks (decoded ks at)
+    unfolding decoded
+    decoded_hold [] at = tt
+    decoded_hold (k ∷ ks) at = (Holds-reduced k _, decoded_hold ks (at + 1))
+
+    decoded_at : (ks : List Kind) (at i : ℕ) (k : Kind) → slice_get ks i ≡ Some k →
+        slice_index_or (decoded ks at) i (pos 0) ≡ number_of k (slice_index t.registers (at + i))
+    unfolding decoded
+    decoded_at [] at i k e = absurd (none-some k e)
+    decoded_at (j ∷ ks) at zero k e =
+        let same : at ≡ at + 0 = omega arith in
+        ap (λ (z : Kind). number_of z (slice_index t.registers at)) (same_Some j k e) ∙ ap (λ (r : ℕ). number_of k (slice_index t.registers r)) same
+    decoded_at (j ∷ ks) at (suc i) k e =
+        let same : at + 1 + i ≡ at + suc i = omega arith in
+        decoded_at ks (at + 1) i k e ∙ ap (λ (r : ℕ). number_of k (slice_index t.registers r)) same
+
+    abbrev locals : List ℤ
+    locals = decoded t.kinds 0
+
+    carried : (local : ℕ) (k : Kind) → slice_get t.kinds local ≡ Some k → IsLive p.graph local node →
+        Carries registers (slice_index t.registers local) (typed k (slice_index_or locals local (pos 0)))
+    carried local k there live =
+        let form = g.locals local k there live in
+        let r : ℕ = slice_index t.registers local in
+        let back : number_of k r ≡ form.number =
+        ap (λ (w : ℕ). reduced k (pos w)) form.is ∙ reduced-register k form.number form.held in
+        let same : 0 + local ≡ local = omega arith in
+        subst (λ (z : ℤ). Carries registers r (typed k z))
+        (sym (decoded_at t.kinds 0 local k there ∙ ap (λ (i : ℕ). number_of k (slice_index t.registers i)) same))
+        (record { held = Holds-reduced k (pos (read registers r)); form = form.is ∙ ap (register_of k) (sym back) })
+
+    -- ---- The pending store
+
+    record Owed : Type 0 where
+      pending : Option Pending
+      owes : is_some pending ≡ st.owes
+      ranged : (q : Pending) → pending ≡ Some q → IsStoreInRange x.variables q
+      guarded : (q : Pending) → pending ≡ Some q → holds set (guard_of x.variables q.variable) ≡ true
+      stored : (q : Pending) → pending ≡ Some q → IsPendingAt x node q
+      enters : (seen : Seen) → seen.pending ≡ pending → IsPendingIn p is.action seen registers
+
+    nothing_owed : st.owes ≡ false → ((seen : Seen) → IsPendingIn p is.action seen registers) → Owed
+    nothing_owed free enters = record {
+      pending = None;
+      owes = sym free;
+      ranged = λ q e. absurd (none-some q e);
+      guarded = λ q e. absurd (none-some q e);
+      stored = λ q e. absurd (none-some q e);
+      enters = λ seen e. enters seen;
+    }
+
+    module _ (variable : ℕ) (kind : Kind) (next : ℕ) (does : is.action ≡ Store variable kind next) (owing : st.owes ≡ true)
+        (stores : StoresElements x plan.formed.shared.variables is variable kind) where
+      at_element : IsElementOf x.variables stores.location (read registers pending_address)
+      at_element = g.pending is stores.location here stores.writes
+
+      abbrev store : Pending
+      store = record { variable = variable; element = at_element.element; number = number_of kind pending_value }
+
+      exists : store.element < elements_in stores.it.length
+      exists = let to = at_element.to in let w = stores.within in omega (arith, to, w)
+
+      ranged : IsStoreInRange x.variables store
+      ranged = record {
+        it = stores.it;
+        found = stores.found;
+        element = exists;
+        held = subst (λ (k : Kind). Holds k store.number) (sym stores.kind_is) (Holds-reduced kind (pos (read registers pending_value)));
+      }
+
+      has : HasPending p store variable kind registers
+      has = record {
+        variable_is = refl;
+        address = at_element.is ∙ ap (λ (v : ℕ). variable_at (map shape_of x.variables) v store.element) stores.variable_is;
+        below =
+            let reach = addresses_reach x.variables 0 variable store.element stores.it (well_formed_placed x plan.formed).room stores.found exists in
+            address_small (variable_at (map shape_of x.variables) variable store.element) (bytes_of stores.it.kind) reach.inside;
+        value = record {
+          held = Holds-reduced kind (pos (read registers pending_value));
+          below =
+              subst (λ (v : ℕ). v < 2 ^ 64) (sym (resumed_there ws n pending_value (keepable pending_value refl)))
+              (recorded_small n ws log pending_value (omega arith));
+          low = low_bytes kind (read registers pending_value);
+        };
+      }
+
+      store_owed : Owed
+      store_owed = record {
+        pending = Some store;
+        owes = sym owing;
+        ranged = λ q e. subst (λ (z : Pending). IsStoreInRange x.variables z) (same_Some store q e) ranged;
+        guarded = λ q e. subst (λ (z : Pending). holds set (guard_of x.variables z.variable) ≡ true) (same_Some store q e)
+            (resumed_store_locked locked p plan code node _ g.own g.resumes variable kind next does owing);
+        stored = λ q e. subst (λ (z : Pending). IsPendingAt x node z) (same_Some store q e) (record {
+          node = is;
+          is = lowered_is p plan t code.of node g.own;
+          lies = record {
+            location = stores.location;
+            of = stores.writes;
+            lies = record { variable = stores.variable_is; from_lo = at_element.from; to_hi = at_element.to };
+          };
+        });
+        enters = λ seen e. subst (λ (a : Action). IsPendingIn p a seen registers) (sym does)
+            (λ q there. subst (λ (z : Pending). HasPending p z variable kind registers) (same_Some store q (sym e ∙ there)) has);
+      }
+
+    owed_by : (a : Action) → is.action ≡ a → ActionLeads (all p plan t code.of) a st → StoresAs x plan.formed.shared.variables is a → Owed
+    owed_by (Eval target value next) does leads stores =
+        nothing_owed (ap (λ (z : Standing). z.owes) leads.is) (λ seen. subst (λ (a : Action). IsPendingIn p a seen registers) (sym does) tt)
+    owed_by (Store variable kind next) does leads stores = store_owed variable kind next does (ap (λ (z : Standing). z.owes) leads.is) stores
+    owed_by (Test condition to other) does leads stores =
+        nothing_owed (tests_free _ condition to other st leads) (λ seen. subst (λ (a : Action). IsPendingIn p a seen registers) (sym does) tt)
+    owed_by (Lock mutex next) does leads stores =
+        nothing_owed (ap (λ (z : Standing). z.owes) leads.is) (λ seen. subst (λ (a : Action). IsPendingIn p a seen registers) (sym does) tt)
+    owed_by (Unlock mutex next) does leads stores =
+        nothing_owed (ap (λ (z : Standing). z.owes) leads.is) (λ seen. subst (λ (a : Action). IsPendingIn p a seen registers) (sym does) tt)
+    owed_by End does leads stores =
+        nothing_owed (ap (λ (z : Standing). z.owes) leads) (λ seen. subst (λ (a : Action). IsPendingIn p a seen registers) (sym does) tt)
+
+    owed : Owed
+    owed = owed_by is.action refl (stands p plan t code.of node g.own).2
+        (stores_elements x plan.formed.shared.variables node is plan.formed.threads
+        (nodes_at x node is (lowered_is p plan t code.of node g.own)))
+
+    -- ---- The threads
+
+    abbrev graph_thread : GraphThread
+    graph_thread = record { at = node; locals = locals; pending = owed.pending; ended = false }
+
+    abbrev thread : m.Thread
+    thread = record { left = st.left; locals = locals; pending = owed.pending; ended = false }
+
+    matches : GraphThreadMatches x graph_thread thread
+    matches = record {
+      locals = refl;
+      pending = refl;
+      ended = refl;
+      stands =
+          (stands p plan t code.of node g.own).1
+          ∙ ap (λ (b : Bool). Some (record { left = st.left; owes = b })) (sym owed.owes);
+    }
+
+    formed : IsThreadOf x code.of.text.locals thread
+    formed = record {
+      left = left_is p plan t code.of node g.own;
+      locals = subst (λ (ks : List Kind). AllZip Holds ks locals) code.of.kinds (decoded_hold t.kinds 0);
+      pending = owed.ranged;
+    }
+
+    -- ---- The record
+
+    abbrev entry : Record
+    entry = record { point = durable_point ws n; locks = locks_before p t node; live = code.is.places.live node; registers = registers }
+
+    kept_keepable : (slot : ℕ) → IsKept p t node slot → IsKeepable slot
+    kept_keepable slot (of_local local k there live) = local_keepable p plan t code.of local k there
+    kept_keepable slot (of_address stores) = keepable pending_address refl
+    kept_keepable slot (of_value stores) = keepable pending_value refl
+
+    live_keepable : (slot : ℕ) → Contains entry.live slot → IsKeepable slot
+    live_keepable slot c = kept_keepable slot ((code.is.kept node g.own slot).0 c)
+
+    is_record : IsRecord entry
+    is_record = record {
+      point = point_small n ws log;
+      locks = record {
+        fits = held_fits set (few_set p plan t code.of node);
+        read_back = read_back p plan t code.of node;
+      };
+      live = live_keepable;
+      registers = λ slot c.
+          let k = live_keepable slot c in
+          let e = k.exists in
+          subst (λ (v : ℕ). v < 2 ^ 64) (sym (resumed_there ws n slot k)) (recorded_small n ws log slot e);
+    }
+
+    mask_locks : locks_in (recorded ws n 0) ≡ locks_before p t node
+    mask_locks = sym (cond-false (durable_point ws n == 0) [] (locks_in (recorded ws n 0)) (ne_eqb (durable_point ws n) 0 some)) ∙ g.locks
+
+    slot_is : (slot : ℕ) → Contains (0 ∷ entry.live) slot → recorded ws n slot ≡ value_of entry slot
+    slot_is slot c = elim (contains_cases 0 entry.live slot c) [
+      | inl zeroth ↦
+          subst (λ (k : ℕ). recorded ws n k ≡ value_of entry k) (sym zeroth)
+          (sym (mask_of_locks (recorded ws n 0) (recorded_small n ws log 0 (omega arith))) ∙ ap mask_with mask_locks)
+      | inr more ↦ (
+          let k = live_keepable slot more in
+          let above = k.is_register in
+          sym (resumed_there ws n slot k)
+          ∙ sym (cond-false (slot == 0) (mask_with entry.locks) (read registers slot) (ne_eqb slot 0 (λ e. omega (arith, e, above)))))
+    ]
+
+    is_recorded : IsRecorded n entry ws
+    is_recorded = record {
+      point = durable_word words (word_number (point_at n));
+      bank = λ slot c.
+          let own : Contains (0 ∷ entry.live) slot =
+          subst (λ (slots : List ℕ). Contains slots slot) (cond-false (entry.point == 0) [] (0 ∷ entry.live) (ne_eqb entry.point 0 some)) c in
+          subst (λ (v : ℕ). IsDurable (slot_in ws n entry slot) v) (slot_is slot own) (durable_word words (bank_word n (bank_of entry.point) slot));
+    }
+
+    resumed_record : ResumesRecord n entry ws
+    resumed_record = log_facts.registers_resumed.between n entry ws is_record is_recorded
+
+    enters : (kept : FlowState) → Enters p t node (seen_by kept graph_thread) (bank_of entry.point) registers
+    enters kept = record {
+      at_bank = resumed_record.bank.registers;
+      count = decoded_long t.kinds 0;
+      locals = carried;
+      pending = λ other there.
+          let same : is ≡ other = same_Some is other (sym here ∙ there) in
+          subst (λ (z : Node). IsPendingIn p z.action (seen_by kept graph_thread) registers) same (owed.enters (seen_by kept graph_thread) refl);
+    }
+
+    not_empty : (ls : List ℕ) → ls ≢ [] → is_empty ls ≡ false
+    not_empty [] other = absurd (other refl)
+    not_empty (l ∷ ls) other = refl
+
+    said_inside : IsSaid p code words
+    said_inside = record {
+      graph_thread = graph_thread;
+      thread = thread;
+      matches = matches;
+      formed = formed;
+      set = set;
+      long = long p plan t code.of node g.own;
+      left = keeps p plan t code.of node g.own;
+      pending = owed.guarded;
+      stored = owed.stored;
+      locks = g.locks;
+      entry = entry;
+      is_record = is_record;
+      is_recorded = is_recorded;
+      describes = λ kept there holds.
+          inside (holds ∙ not_empty (locks_before p t node) (resumed_hold locked p plan code node _ g.own g.resumes)) (record {
+            graph_thread = graph_thread;
+            there = there;
+            goes_on = refl;
+            own = g.own;
+            point = some;
+            resumes = g.resumes;
+            locks = refl;
+            live = refl;
+            bank = bank_of entry.point;
+            enters = enters kept;
+          });
+    }
+
+  pub said : HasThreadShape p code ws → IsSaid p code words
+  said (idle none) = said_between none
+  said (resumes node some g) = said_inside node some g

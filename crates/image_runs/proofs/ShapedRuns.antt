@@ -1,0 +1,32 @@
+-- A machine that begins with words that have the shape runs on.
+use Rattle.std.proofs.Common.{◌≡◌, ◌∙◌, ap, ap₂, subst}
+use Rattle.c_tree.specs.Flats.{Flat}
+use Rattle.rv64_isa.specs.Executables.{Executable}
+use Rattle.rv64_isa.specs.declared.object.Object.{Object}
+use Rattle.rv64_isa.specs.declared.object.Marks.{Marks}
+use Rattle.flow_graph.specs.declared.cuts.Cuts.{Cuts}
+use Rattle.flow_graph.specs.IdempotentCuts.{Boundaries}
+use Rattle.flat_compile.specs.TranslatedForms.{IsTranslated}
+use Rattle.compiler_correctness.specs.Laws.{RecoveredWordsRunOn, translation_of}
+use Rattle.compiler_correctness.specs.Translations.{Translation, translation_to}
+use Rattle.compiler_correctness.specs.WordRuns.{RunsOn}
+use Rattle.image_runs.specs.Laws.{AcceptedHaveShape, AcceptedRunOn, ShapesAreStates, ShapesRunOn}
+use Rattle.image_runs.specs.StateImages.{image_of_state}
+
+pub shapes_run_on : ShapesAreStates → RecoveredWordsRunOn → ShapesRunOn
+shapes_run_on states run y s image shape = let from = states y s image.words shape in run y s from.0 image from.1
+
+-- what readers see of the system
+abbrev seen_as : Flat → Executable → Boundaries → Translation
+seen_as flat runs boundaries = record { flat = flat; runs = runs; boundaries = boundaries }
+
+same_translation : (flat : Flat) (object : Object) (marks : Marks) (cuts : Cuts) (t : IsTranslated flat object marks cuts) →
+    translation_of t.system ≡ translation_to flat object marks cuts
+same_translation flat object marks cuts t =
+    ap (λ (x : Flat). seen_as x t.system.runs t.system.plan.boundaries) t.of_flat ∙ ap₂ (seen_as flat) t.runs t.at_cuts
+
+pub accepted_run_on : AcceptedHaveShape → ShapesRunOn → AcceptedRunOn
+accepted_run_on have run flat object marks cuts table state r is formed =
+    let t = r.translated in
+    subst (λ (c : Translation). RunsOn c (image_of_state state)) (same_translation flat object marks cuts t)
+    (run t.system t.is (image_of_state state) (have flat object marks cuts table state r is formed))

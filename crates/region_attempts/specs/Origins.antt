@@ -1,0 +1,30 @@
+-- Where executions of a flat form begin.
+use Rattle.std.specs.Prelude.{◌≡◌, ℕ, ◌<◌, length, slice_get, Some}
+use Rattle.c_tree.specs.Flats as f
+use Rattle.c_tree.specs.Source.{Pending, State}
+use Rattle.c_ranges.specs.RunInvariants.{IsStateOf}
+use Rattle.source_machine.specs.Discipline.{StateKeeps}
+use Rattle.flow_graph.specs.Nodes.{Node}
+use Rattle.flow_graph.specs.Lowering.{lowered}
+use Rattle.flow_graph.specs.Liveness.{NodeAt}
+use Rattle.flow_graph.specs.Actions.{GraphThread, FlowState}
+use Rattle.flow_graph.specs.Lockstep.{Matches}
+use Rattle.flow_graph.specs.Paths.{LiesInWritten, stored_element}
+
+-- the store is to an element of the location that the node writes
+pub record IsPendingAt (x : f.Flat) (at : ℕ) (store : Pending) : Type 0 where
+  pub node : Node
+  pub is : NodeAt (lowered x) at node
+  pub lies : LiesInWritten node.writes (stored_element store)
+
+-- a state of the graph and the source's that it matches, whether a run reaches them or not: in it each thread keeps the lock discipline, mutexes are held by
+-- threads, every number is of its kind, and a thread whose store is pending stands at a node that makes such a store
+pub record Origin (x : f.Flat) : Type 0 where
+  pub flow : FlowState
+  pub source : State
+  pub matches : Matches x flow source
+  pub keeps : StateKeeps x source
+  pub formed : IsStateOf x source
+  pub holders : (mutex thread : ℕ) → slice_get source.holders mutex ≡ Some (Some thread) → thread < length source.threads
+  pub pending : (thread : ℕ) (graph_thread : GraphThread) (store : Pending) → slice_get flow.graph_threads thread ≡ Some graph_thread →
+      graph_thread.pending ≡ Some store → IsPendingAt x graph_thread.at store
