@@ -1,5 +1,5 @@
 -- Seats before and after.
-use Rattle.std.proofs.Common.{◌≡◌, ℕ, zero, suc, ◌+◌, ◌<◌, List, [], ◌∷◌, ◌++◌, length, get_or, take, drop, refl, sym, ap, ◌∙◌, arith, Option}
+use Rattle.std.proofs.Common.{◌≡◌, ℕ, zero, suc, ◌+◌, ◌<◌, List, [], ◌∷◌, ◌++◌, length, get_or, map, subst, take, drop, refl, ap, ◌∙◌, arith, Option}
 use Rattle.std.specs.Prelude.{All}
 use Rattle.std.proofs.lemmas.List.{append-nil}
 use Rattle.std.proofs.lemmas.List.Elements.{All-nil, All-cons, All-head, All-tail}
@@ -10,8 +10,10 @@ use Rattle.hart_board.specs.declared.board.Board.{Board}
 use Rattle.hart_board.specs.declared.core_turn.Ahead.{Ahead}
 use Rattle.hart_board.specs.declared.seat.Seat.{Seat}
 use Rattle.hart_board.specs.BoardRule.{numbers_from}
-use Rattle.hart_board.specs.Seats.{IsSeatOf, number, numbers_of, opening_core, seen}
+use Rattle.hart_board.specs.Journals.{made_by}
+use Rattle.hart_board.specs.Seats.{IsSeatOf, IsWholeJournal, Rules, number, numbers_of, opening_core, seen}
 use Rattle.board_bench.specs.HartSeats.{IsHartSeat}
+use Rattle.board_bench.specs.WholeRuns.{HasRun}
 
 -- seats that keep their numbers place by place
 pub same_numbers : {C L : Type 0} (xs ys : List (Seat C L)) → length ys ≡ length xs →
@@ -53,3 +55,19 @@ module _ {C L : Type 0} (history : C → List Event) (space : C → ℕ) (runs :
       let first = All-head (λ s. IsSeatOf history space runs board s × (seen s ≡ [])) x xs each in
       All-cons (IsHartSeat history space runs hart_count board) x xs (hart_seat history space runs hart_count board x first.0 (omega (arith, here, harts)))
       (hart_seats (at + 1) n xs (omega (arith, harts)) (cc are) (All-tail (λ s. IsSeatOf history space runs board s × (seen s ≡ [])) x xs each))
+
+-- what is found of each seat is found of its number
+by_number : {C L A : Type 0} (f : ℕ → A) (xs : List (Seat C L)) → map (λ s. f (number s)) xs ≡ map f (numbers_of xs)
+by_number f [] = refl
+by_number f (x ∷ xs) = ap (λ (z : List _). f (number x) ∷ z) (by_number f xs)
+
+-- what a board leaves whose seats have the numbers from 0 on
+pub has_run : {C L : Type 0} (r : Rules) (is_play : List Event → C → Type 0) (count : ℕ) (seats : List (Seat C L)) (core : C) (counts : List ℕ) →
+    numbers_of seats ≡ numbers_from 0 count → length seats ≡ count → IsWholeJournal r is_play seats core counts → HasRun r is_play count core counts
+has_run r is_play count seats core counts numbers size w = record {
+  journal = w.journal;
+  legal = w.legal;
+  theirs = subst (λ (n : ℕ). All (λ e. e.seat < n) w.journal) size w.theirs;
+  plays = w.plays;
+  counted = w.counts_are ∙ (by_number (λ n. made_by n w.journal) seats ∙ ap (map (λ n. made_by n w.journal)) numbers);
+}

@@ -1,2 +1,3 @@
 pub mod HartSeats
 pub mod MovingCore
+pub mod WholeRuns

@@ -1,7 +1,7 @@
--- A core whose harts never stop. It represents nothing but that.
-use Rattle.std.specs.Prelude.{ℕ, Bool, false}
+-- A core whose four harts never stop. It represents nothing but that.
+use Rattle.std.specs.Prelude.{ℕ, false, nat_lt, if◌then◌else◌}
 use Rattle.ido_base.specs.declared.event.Event.{Event}
-use Rattle.ido_base.specs.declared.event.Reply.{Reply}
+use Rattle.ido_base.specs.declared.event.Event.TheVariants.{Step, Crash}
 use Rattle.ido_base.specs.declared.event.Reply.TheVariants.{Moved}
 use Rattle.ido_base.specs.Cores.{Behaviour}
 
@@ -13,3 +13,11 @@ moving = record {
   stores_point = λ m hart event. false;
   finishes_fence = λ m hart event. false;
 }
+
+-- no eviction is valid
+abbrev pub no_eviction : (line mask : ℕ) → Type 0
+no_eviction line mask = ⊥
+
+-- the event that a number stands for: a step of the hart that has it, or a crash where none does
+abbrev pub event_of : ℕ → Event
+event_of n = if nat_lt n 4 then Step n else Crash

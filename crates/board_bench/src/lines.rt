@@ -1,7 +1,8 @@
 //! A core of four harts that never stop, each event of which touches eight lines of memory.
-ghost use Rattle.std.specs.Prelude.{◌≡◌, ◌-◌, ◌≤◌, [], IfOk};
+ghost use Rattle.std.specs.Prelude.{◌≡◌, ◌-◌, ◌≤◌, [], IfOk, map};
 ghost use Rattle.std.specs.Vec.{vec_capacity, vec_len};
-ghost use Rattle.board_bench.specs.MovingCore.{moving};
+ghost use Rattle.ido_base.specs.Cores.{IsValid};
+ghost use Rattle.board_bench.specs.MovingCore.{event_of, moving, no_eviction};
 
 use ido_base::event::{Event, Reply};
 use ido_base::machine::Core;
@@ -16,7 +17,8 @@ const LINES: usize = 8;
 pub struct Lines {
     /// Eight lines of eight words, of which the first is counted up.
     pub lines: [u64; 64],
-    journal: Vec<Event>,
+    /// A byte for each event, so that the journal is a small part of what an event touches.
+    journal: Vec<u8>,
     /// Events that it takes.
     most: u64,
     ghost reserved: { most ≤ vec_capacity journal },
@@ -25,6 +27,18 @@ pub struct Lines {
 /// What runs ahead of a hart: nothing.
 #[derive(Clone, Copy, Debug, Drop)]
 pub struct NothingAhead;
+
+/// The journal's byte for an event: the number of the hart whose step it is, or 4 for a crash.
+fn byte_of(event: Event) -> u8
+    requires { IsValid 4 no_eviction event }
+    ensures { event_of result ≡ event }
+{
+    match event {
+        Event::Step(hart) => hart as u8,
+        Event::Evict { .. } => unreachable!(),
+        Event::Crash => 4,
+    }
+}
 
 impl Lines {
     /// A core before any event, that takes so many.
@@ -50,13 +64,13 @@ impl Core for Lines {
 
     ghost opening = { λ _. 0 };
 
-    ghost history = { λ core. core.journal.items };
+    ghost history = { λ core. map event_of core.journal.items };
 
     ghost hart_count = { λ _. 4 };
 
     ghost space = { λ core. core.most - vec_len core.journal };
 
-    ghost evictable = { λ _ _ _. Unit {0} };
+    ghost evictable = { λ _. no_eviction };
 
     ghost is_local = { λ _ _ _. Unit {0} };
 
@@ -71,7 +85,7 @@ impl Core for Lines {
             let word = 8 * line;
             self.lines[word] = self.lines[word].wrapping_add(1);
         }
-        self.journal.push_reserved(event);
+        self.journal.push_reserved(byte_of(event));
         Reply::Moved
     }
 

@@ -1,9 +1,10 @@
 //! Seats of harts, each in a thread of its own.
 ghost use Rattle.std.specs.Prelude.{◌≡◌, ◌<◌, ◌≤◌, [], All};
 ghost use Rattle.hart_board.specs.BoardRule.{numbers_from};
-ghost use Rattle.hart_board.specs.CoreTurns.{RunsIn};
-ghost use Rattle.hart_board.specs.Seats.{IsSeatOf, number, numbers_of, opening_core, seats_of, seen};
+ghost use Rattle.hart_board.specs.CoreTurns.{IsPlayed, RunsIn};
+ghost use Rattle.hart_board.specs.Seats.{IsSeatOf, number, numbers_of, opening_core, rules_of, seats_of, seen};
 ghost use Rattle.board_bench.specs.HartSeats.{IsHartSeat};
+ghost use Rattle.board_bench.specs.WholeRuns.{HasRun};
 
 use hart_board::board::Board;
 use hart_board::seat::{Seat, Turn};
@@ -65,7 +66,7 @@ fn run_harts<C: Core + Send, R: Threads + Wait + Sync>(
     );
 }
 
-/// Turns of all seats, and the end of the board.
+/// Turns of all seats, and the end of the board: the core, with so many events of each seat in the order of their numbers.
 pub fn run<C: Core + Send, R: Threads + Wait + Sync>(
     rt: &R,
     board: Board<C>,
@@ -75,6 +76,8 @@ pub fn run<C: Core + Send, R: Threads + Wait + Sync>(
     requires seats { All (λ s. IsSeatOf C.history C.space (RunsIn C.opening C.hart_count C.is_local C.ahead_by) board s × (seen s ≡ [])) seats.items }
     requires numbers { numbers_of seats.items ≡ numbers_from 0 (seats_of board) }
     requires harts { seats_of board ≡ C.hart_count (opening_core board) }
+    ensures { HasRun (rules_of C.behaviour C.opening C.history C.hart_count board)
+        (IsPlayed C.opening C.history C.hart_count C.space C.evictable (opening_core board)) (seats_of board) result.0 result.1.items }
 {
     run_harts(rt, &board, seats.as_mut_slice(), most);
     board.into_core(seats)

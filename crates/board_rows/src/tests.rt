@@ -110,7 +110,10 @@ fn turns(rt: HostRuntime) -> Result<(), Fail> {
     Ok(())
 }
 
-/// What runs ahead of a hart is adopted at once: three steps of a hart that come before one that isn't local.
+/// Events of a turn at most: one more than the first steps of a hart that are local.
+const MOST: u64 = 4;
+
+/// What runs ahead of a hart is adopted at once, three steps that come before one that isn't local; and the turn goes on with that.
 #[test]
 fn adopts(rt: HostRuntime) -> Result<(), Fail> {
     let watch = Watch::new(true);
@@ -123,19 +126,19 @@ fn adopts_what_ran<R: Wait + Abort + Alloc<A = Global>>(rt: &R, watch: &Watch) -
     let core = Watched::new(rt.alloc(), 1_000, watch)?;
     let (board, seats) = Board::new(rt.alloc(), core, 2, 500, 1_000)?;
     let (mut first, second) = new_seats(&board, seats);
-    let three = board.turn(rt, &mut first, 64);
+    let four = board.turn(rt, &mut first, MOST);
     let (core, counts) = end(board, first, second, room);
     assert_eq!(rt;
-        three,
+        four,
         Turn::Did {
-            events: 3,
+            events: 4,
             last: Reply::Moved
         }
     );
     assert_eq!(rt; watch.adoptions(), 1);
     assert_eq!(rt; watch.adopted(), 3);
-    assert_eq!(rt; counts.as_slice(), [3, 0].as_slice());
-    assert_eq!(rt; core.journal.as_slice(), [Event::Step(0); 3].as_slice());
+    assert_eq!(rt; counts.as_slice(), [4, 0].as_slice());
+    assert_eq!(rt; core.journal.as_slice(), [Event::Step(0); 4].as_slice());
     Ok(())
 }
 
@@ -162,9 +165,9 @@ fn try_twice<C: Core>(watch: &Watch, board: &Board<C>, seat: &mut Seat<C, C::Loc
     ensures seat { IsSeatOf C.history C.space (RunsIn C.opening C.hart_count C.is_local C.ahead_by) board.now seat.new × (number seat.new ≡ number seat.old) }
 {
     watch.await_turn();
-    let first = board.try_turn(seat, 64);
+    let first = board.try_turn(seat, MOST);
     let asked = watch.asked();
-    let second = board.try_turn(seat, 64);
+    let second = board.try_turn(seat, MOST);
     let asked = watch.asked().saturating_sub(asked);
     watch.let_on();
     Tries {
@@ -187,7 +190,7 @@ fn meet<C: Core, R: Wait>(
     ensures { IsSeatOf C.history C.space (RunsIn C.opening C.hart_count C.is_local C.ahead_by) board.now seat.new × (number seat.new ≡ number seat.old) }
 {
     if seat.number() == 0 {
-        let turn = board.turn(rt, seat, 64);
+        let turn = board.turn(rt, seat, MOST);
         *found.turn.lock(rt) = Some(turn);
     } else {
         let tries = try_twice(watch, board, seat);
@@ -287,14 +290,14 @@ fn comes_later<R: Threads + Wait + Sync + Abort + Alloc<A = Global>>(
     let seats = meet_all(rt, watch, &board, &found, seats);
     let (mut first, mut second) = two_seats(&board, seats);
     tell(&board, &mut first, &mut second);
-    let third = board.try_turn(&mut second, 64);
+    let third = board.try_turn(&mut second, MOST);
     let (core, counts) = end(board, first, second, room);
     let later = TryTurn::Later {
         ticket: 1,
         serving: 0,
     };
-    let three = TryTurn::Did {
-        events: 3,
+    let four = TryTurn::Did {
+        events: 4,
         last: Reply::Moved,
     };
     let turn = *found.turn.lock(rt);
@@ -302,7 +305,7 @@ fn comes_later<R: Threads + Wait + Sync + Abort + Alloc<A = Global>>(
     assert_eq!(rt;
         turn,
         Some(Turn::Did {
-            events: 3,
+            events: 4,
             last: Reply::Moved
         })
     );
@@ -314,12 +317,12 @@ fn comes_later<R: Threads + Wait + Sync + Abort + Alloc<A = Global>>(
             asked: 1
         })
     );
-    assert_eq!(rt; third, three);
-    assert_eq!(rt; counts.as_slice(), [3, 3].as_slice());
+    assert_eq!(rt; third, four);
+    assert_eq!(rt; counts.as_slice(), [4, 4].as_slice());
     let [zero, one] = [Event::Step(0), Event::Step(1)];
     assert_eq!(rt;
         core.journal.as_slice(),
-        [zero, zero, zero, one, one, one].as_slice()
+        [zero, zero, zero, zero, one, one, one, one].as_slice()
     );
     Ok(())
 }

@@ -13,11 +13,11 @@ pub struct Points {
 }
 
 impl Replay for Points {
-    ghost use Rattle.std.specs.Prelude.{◌≡◌, ◌<◌, [], ◌∷◌};
+    ghost use Rattle.std.specs.Prelude.{◌≡◌, ◌<◌, ◌%◌, [], ◌∷◌, nat_eq};
 
     ghost has_point = { λ _ k. k < 256 };
 
-    ghost is_outcome = { λ _ k o. o.report ≡ k ∷ [] };
+    ghost is_outcome = { λ _ k o. (o.report ≡ k ∷ []) × (o.settled ≡ nat_eq (k % 2) 0) };
 
     fn outcome(&self, k: u32) -> Result<Outcome, OutOfMemory> {
         let bytes = vec![in self.alloc; k as u8; 1]?;

@@ -4,7 +4,7 @@ use Rattle.std.proofs.lemmas.List.{length-map}
 use Rattle.std.proofs.lemmas.Bool.Decides.{nat_tests}
 use Rattle.hart_board.specs.declared.board.Board.{Board}
 use Rattle.hart_board.specs.declared.seat.Seat.{Seat}
-use Rattle.hart_board.specs.BoardRule.{times, Has, numbers_from}
+use Rattle.hart_board.specs.BoardRule.{Has, numbers_from}
 use Rattle.hart_board.specs.Seats.{AreAllSeats, number, numbers_of, seats_of}
 use Rattle.hart_board.proofs.FirstState.{count_from, times_below}
 

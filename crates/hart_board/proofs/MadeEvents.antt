@@ -1,5 +1,5 @@
 -- One event more in a turn.
-use Rattle.std.proofs.Common.{◌≡◌, ◌≢◌, ℕ, ◌+◌, ◌<◌, ◌≤◌, List, [], ◌∷◌, ◌++◌, length, replicate, false, Some}
+use Rattle.std.proofs.Common.{◌≡◌, ◌≢◌, ℕ, ◌+◌, ◌<◌, ◌≤◌, List, [], ◌∷◌, ◌++◌, length, replicate, false, Option, Some, None}
 use Rattle.std.proofs.Common.{sym, ap, ◌∙◌, subst, inl, inr, ⊎_elim, arith, length-append, zero, suc, refl}
 use Rattle.std.proofs.lemmas.List.{append-nil, length-replicate, replicate-append-replicate}
 use mathlib.Core.List.{append_assoc}
@@ -9,13 +9,29 @@ use Rattle.ido_base.specs.declared.event.Reply.{Reply}
 use Rattle.ido_base.specs.declared.event.Reply.TheVariants.{Moved}
 use Rattle.ido_base.specs.Cores.{Behaviour, played, is_idle, EachMoves}
 use Rattle.hart_board.specs.declared.core_turn.Quota.{Quota}
+use Rattle.hart_board.specs.declared.core_turn.Made.{Made}
 use Rattle.hart_board.specs.Journals.{last_reply, IsOwn}
-use Rattle.hart_board.specs.CoreTurns.{IsPlayed, reply_after, IsDone, Makes}
+use Rattle.hart_board.specs.CoreTurns.{IsPlayed, reply_after, IsDone, Makes, TurnGives}
 use Rattle.hart_board.proofs.Journals.{cut_more}
 use Rattle.hart_board.proofs.CoreTurns.{last_reply-more, no_cut}
 
 pub one_more : {A : Type 0} (n : ℕ) (a : A) → replicate (n + 1) a ≡ replicate n a ++ a ∷ []
 one_more n a = sym (replicate-append-replicate n 1 a)
+
+-- what a turn comes to of so few events at most, one of more at most may come to
+pub gives_more : {C M : Type 0} (b : Behaviour M) (opening : C → M) (history : C → List Event) (hart_count : C → ℕ) (core : C) (q : Quota) (event : Event)
+    (few most : ℕ) (result : Option Made) → few ≤ most → TurnGives b opening history hart_count core q event few result →
+    TurnGives b opening history hart_count core q event most result
+gives_more b opening history hart_count core q event few most None fewer h = h
+gives_more b opening history hart_count core q event few most (Some made) fewer h = record {
+  some = h.some;
+  few = (let f = h.few in omega (arith, f, fewer));
+  within_turns = h.within_turns;
+  within_ceiling = h.within_ceiling;
+  each = h.each;
+  moves = h.moves;
+  last = h.last;
+}
 
 module _ {C M : Type 0} (b : Behaviour M) (opening : C → M) (history : C → List Event) (hart_count space : C → ℕ) (evictable : C → ℕ → ℕ → Type 0) where
   pub makes_first : (core : C) (q : Quota) (event : Event) (most : ℕ) (last : Reply) → 0 < most → ¬ IsDone b opening history hart_count core q [] →

@@ -8,6 +8,9 @@ ghost use Rattle.ido_base.specs.Cores.{IsValid, is_idle};
 use ido_base::event::{Event, Reply};
 use ido_base::machine::Core;
 
+/// Events at most that a turn makes one by one after its first, however many steps it has adopted. A short section has fewer.
+const ONE_BY_ONE: u64 = 96;
+
 /// What a seat may make of a core's events.
 #[derive(Clone, Copy, Drop)]
 pub struct Quota {
@@ -44,7 +47,7 @@ fn is_done<C: Core>(core: &C, quota: Quota) -> bool
     quota.made == quota.turns || core.events() == quota.ceiling
 }
 
-/// A turn at the core: the steps that were run ahead, where the hart still stands at their beginning, or else events one by one.
+/// A turn at the core: the steps that were run ahead, where the hart still stands at their beginning, and then events one by one.
 /// What runs ahead begins again.
 pub(crate) fn take_turn<C: Core>(
     core: &mut C,
@@ -63,12 +66,12 @@ pub(crate) fn take_turn<C: Core>(
     ensures turn { TurnGives C.behaviour C.opening C.history C.hart_count core.old quota event most result }
     ensures ahead { RunsIn C.opening C.hart_count C.is_local C.ahead_by core.old quota.seat ahead.new }
 {
-    let made = adopt_or_make(core, event, most, quota, ahead);
+    let made = make_events(core, event, most, quota, ahead);
     begin_again(core, quota.seat, ahead);
     made
 }
 
-/// Adopts the steps that were run ahead, or makes the event.
+/// Adopts the steps that were run ahead, or makes the event once.
 fn adopt_or_make<C: Core>(
     core: &mut C,
     event: Event,
@@ -88,7 +91,7 @@ fn adopt_or_make<C: Core>(
     if let Some(made) = adopt(core, most, quota, ahead) {
         return Some(made);
     }
-    make_events(core, event, most, quota)
+    make_one(core, event, quota)
 }
 
 /// Adopts the steps that were run ahead, where they are at least one and fit.
@@ -157,22 +160,48 @@ fn go_ahead<C: Core>(ahead: &mut Ahead<C::Local>, most: u64)
     }
 }
 
-/// Makes the event at the core, as often as `most` allows, until it waits or there is nothing more to do.
-fn make_events<C: Core>(core: &mut C, event: Event, most: u64, quota: Quota) -> Option<Made>
+/// Makes the event at the core, unless there is nothing to do.
+fn make_one<C: Core>(core: &mut C, event: Event, quota: Quota) -> Option<Made>
+    requires valid { IsValid (C.hart_count core.old) (C.evictable core.old) event }
+    requires turns { quota.made ≤ quota.turns }
+    requires ceiling { (length (C.history core.old) ≤ quota.ceiling) × (quota.ceiling ≤ length (C.history core.old) + C.space core.old) }
+    ensures played { IsPlayed C.opening C.history C.hart_count C.space C.evictable core.old (events_made event result) core.new }
+    ensures turn { TurnGives C.behaviour C.opening C.history C.hart_count core.old quota event 1 result }
+{
+    if is_done(core, quota) {
+        return None;
+    }
+    let last = core.event(event);
+    Some(Made { count: 1, last })
+}
+
+/// Adopts the steps that were run ahead, or makes the event, and goes on with it one by one, until it waits, there is nothing more
+/// to do, or the turn has as many as it may.
+fn make_events<C: Core>(
+    core: &mut C,
+    event: Event,
+    most: u64,
+    quota: Quota,
+    ahead: &Option<Ahead<C::Local>>,
+) -> Option<Made>
     requires own { IsOwn (C.hart_count core.old) quota.seat event }
     requires valid { IsValid (C.hart_count core.old) (C.evictable core.old) event }
     requires some { 0 < most }
     requires turns { quota.made ≤ quota.turns }
     requires ceiling { (length (C.history core.old) ≤ quota.ceiling) × (quota.ceiling ≤ length (C.history core.old) + C.space core.old) }
+    requires ahead { RunsIn C.opening C.hart_count C.is_local C.ahead_by core.old quota.seat ahead.now }
     ensures played { IsPlayed C.opening C.history C.hart_count C.space C.evictable core.old (events_made event result) core.new }
     ensures turn { TurnGives C.behaviour C.opening C.history C.hart_count core.old quota event most result }
 {
-    if is_done(core, quota) {
+    let Some(first) = adopt_or_make(core, event, most, quota, ahead) else {
         return None;
-    }
-    let mut last = core.event(event);
-    let mut count = 1;
-    while count < most {
+    };
+    let Made {
+        mut count,
+        mut last,
+    } = first;
+    let limit = most.min(count.saturating_add(ONE_BY_ONE));
+    while count < limit {
         if is_idle(last) {
             break;
         }

@@ -20,7 +20,7 @@ use std::thread::yield_now;
 const LOOKS: u32 = 64;
 
 impl<C: Core> Board<C> {
-    /// Steps of the seat's hart, as many as `most` allows, once all turns with earlier tickets were taken.
+    /// Steps of the seat's hart, at most `most`, once all turns with earlier tickets were taken.
     pub fn turn<R: Wait>(&self, rt: &R, seat: &mut Seat<C, C::Local>, most: u64) -> Turn
         requires seat { IsSeatOf C.history C.space (RunsIn C.opening C.hart_count C.is_local C.ahead_by) self.now seat.old }
         requires hart { number seat.old < C.hart_count (opening_core self.now) }
@@ -110,7 +110,7 @@ impl<C: Core> Board<C> {
             × (number seat.new ≡ number seat.old) }
         ensures turn { TryTells (rules_of C.behaviour C.opening C.history C.hart_count self.now) event most result seat.old seat.new }
     {
-        run_ahead::<C>(&mut seat.local, most);
+        run_ahead::<C>(&mut seat.local, most.min(seat.turns - seat.made));
         self.try_serve(seat, event, most)
     }
 

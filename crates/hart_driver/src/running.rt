@@ -15,7 +15,7 @@ use std::sync::Wait;
 use std::thread::{Threads, for_each_mut};
 
 /// Events of a turn at most.
-const MOST: u64 = 64;
+const MOST: u64 = 4096;
 
 /// Turns of a hart's seat, until it has nothing more to do. After 2^64 - 2 turns, which no run comes to, the rest is left to the caller.
 fn take_turns<C: Core, R: Wait, G: Gate>(

@@ -1,21 +1,16 @@
 use Rattle.std.proofs.Common.{sym, subst, length, ◌+◌, ◌≤◌, replicate}
 use Rattle.ido_base.specs.declared.event.Event.{Event}
 use Rattle.ido_base.specs.Cores.{IsValid}
-use Rattle.hart_board.specs.Journals.{IsOwn}
 use Rattle.hart_board.specs.CoreTurns.{IsPlayed, Makes, TurnGives, events_made}
-use Rattle.hart_board.proofs.MadeEvents.{own_step}
+use Rattle.hart_board.proofs.MadeEvents.{gives_more, own_step}
 use Rattle.hart_board.proofs.core_turn.adopt_or_make.Goals as goal
 
-pub make_events-requires-clause-own : goal.make_events-requires-clause-own
-make_events-requires-clause-own g c κs within =
-    subst (λ (z : g.row.C.Denot). IsOwn (g.C.Core.hart_count z) c.args.quota.seat c.args.event) (sym c.in_default.ensures) c.requires.own
-
-pub make_events-requires-clause-valid : goal.make_events-requires-clause-valid
-make_events-requires-clause-valid g c κs within =
+pub make_one-requires-clause-valid : goal.make_one-requires-clause-valid
+make_one-requires-clause-valid g c κs within =
     subst (λ (z : g.row.C.Denot). IsValid (g.C.Core.hart_count z) (g.C.Core.evictable z) c.args.event) (sym c.in_default.ensures) c.requires.valid
 
-pub make_events-requires-clause-ceiling : goal.make_events-requires-clause-ceiling
-make_events-requires-clause-ceiling g c κs within =
+pub make_one-requires-clause-ceiling : goal.make_one-requires-clause-ceiling
+make_one-requires-clause-ceiling g c κs within =
     subst (λ (z : g.row.C.Denot). (length (g.C.Core.history z) ≤ c.args.quota.ceiling)
     × (c.args.quota.ceiling ≤ length (g.C.Core.history z) + g.C.Core.space z)) (sym c.in_default.ensures) c.requires.ceiling
 
@@ -34,8 +29,10 @@ pub returns : goal.returns
 returns g c = record {
   played =
       subst (λ (z : g.row.C.Denot). IsPlayed g.C.Core.opening g.C.Core.history g.C.Core.hart_count g.C.Core.space g.C.Core.evictable z
-      (events_made c.args.event c.make_events.result) c.make_events.new.core) c.in_default.ensures c.make_events.ensures.played;
+      (events_made c.args.event c.make_one.result) c.make_one.new.core) c.in_default.ensures c.make_one.ensures.played;
   turn =
       subst (λ (z : g.row.C.Denot). TurnGives g.C.Core.behaviour g.C.Core.opening g.C.Core.history g.C.Core.hart_count z c.args.quota c.args.event c.args.most
-      c.make_events.result) c.in_default.ensures c.make_events.ensures.turn;
+      c.make_one.result) c.in_default.ensures
+      (gives_more g.C.Core.behaviour g.C.Core.opening g.C.Core.history g.C.Core.hart_count c.adopt.new.core c.args.quota c.args.event 1 c.args.most
+      c.make_one.result c.requires.some c.make_one.ensures.turn);
 }
