@@ -13,7 +13,7 @@ fn a_play(rt: HostRuntime) -> Result<(), Fail> {
         return Err("refused".into());
     };
     let mut core = Counter::new(alloc, MOST_EVENTS as u32)?;
-    let played = play(&script, &mut core);
+    let played = play(&script, &mut core, MOST_EVENTS);
     assert!(rt; played.is_ok());
     assert_eq!(rt; core.events(), 18);
     assert_eq!(rt; core.points(0), 2);

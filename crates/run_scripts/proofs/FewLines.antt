@@ -1,9 +1,9 @@
 -- A script of few events, made line by line.
-use Rattle.std.proofs.Common.{◌≡◌, refl, ℕ, ◌+◌, ◌<◌, ◌≤◌, List, [], ◌∷◌, ◌++◌, length, take, drop, map, get_or, true, false}
+use Rattle.std.proofs.Common.{◌≡◌, refl, ℕ, ◌+◌, ◌<◌, ◌≤◌, List, [], ◌∷◌, ◌++◌, ◌-◌, length, take, drop, map, get_or, true, false}
 use Rattle.std.proofs.Common.{nat_le, sym, ◌∙◌, ap, arith, append_assoc, length-append}
 use Rattle.std.proofs.lemmas.Grind.{common_steps}
 use Rattle.std.proofs.lemmas.Bool.{leb-true, leb-false}
-use Rattle.std.proofs.lemmas.List.{append-nil, at_drop_more, map-append, take-append-drop, take_more}
+use Rattle.std.proofs.lemmas.List.{append-nil, at_drop_more, map-append, take-append-drop, take-append-le, take_more}
 use Rattle.ido_base.specs.declared.event.Event.{Event}
 use Rattle.ido_base.specs.Cores.{Behaviour, played}
 use Rattle.ido_base.proofs.Public.{played-append}
@@ -30,16 +30,24 @@ pub taken_all : (items : List declared.Line) (i : ℕ) → length items ≤ i �
 taken_all items i past = grind (arith, common_steps)
 
 module _ {M : Type 0} (b : Behaviour M) (harts : ℕ) where
+  -- of lines after lines, those of the first ones, and then those of the others
+  pub events_append : (m : M) (lines more : List Line) →
+      script_events b harts m (lines ++ more) ≡ script_events b harts m lines ++ script_events b harts (played b m (script_events b harts m lines)) more
+  events_append m [] more = refl
+  events_append m (l ∷ ls) more =
+      let es = line_events b harts m l.command in
+      let rest = script_events b harts (played b m es) ls in
+      ap (λ (xs : List Event). es ++ xs) (events_append (played b m es) ls more)
+      ∙ sym (append_assoc es rest (script_events b harts (played b (played b m es) rest) more))
+      ∙ ap (λ (n : M). (es ++ rest) ++ script_events b harts n more) (sym (played-append b m es rest))
+
   pub events_snoc : (m : M) (lines : List Line) (line : Line) →
       script_events b harts m (lines ++ line ∷ [])
       ≡ script_events b harts m lines ++ line_events b harts (played b m (script_events b harts m lines)) line.command
-  events_snoc m [] line = append-nil (line_events b harts m line.command)
-  events_snoc m (l ∷ ls) line =
-      let es = line_events b harts m l.command in
-      let rest = script_events b harts (played b m es) ls in
-      ap (λ (xs : List Event). es ++ xs) (events_snoc (played b m es) ls line)
-      ∙ sym (append_assoc es rest (line_events b harts (played b (played b m es) rest) line.command))
-      ∙ ap (λ (n : M). (es ++ rest) ++ line_events b harts n line.command) (sym (played-append b m es rest))
+  events_snoc m lines line =
+      let now = played b m (script_events b harts m lines) in
+      events_append m lines (line ∷ [])
+      ∙ ap (λ (xs : List Event). script_events b harts m lines ++ xs) (append-nil (line_events b harts now line.command))
 
   module _ (opening : M) (before now : List Event) (done : List Line) (line : Line)
       (so_far : now ≡ before ++ script_events b harts (played b opening before) done) where
@@ -119,6 +127,45 @@ module _ {M : Type 0} (b : Behaviour M) (harts kept : ℕ) (equal : kept ≡ har
   past_few most few within more =
       let fits = leb-true (length es) left within in
       of_few done (map line_of (drop (i + 1) items)) line (get_or shown i d).place (passes most few more) refl (omega (arith, many, fits, room))
+
+  -- what a line's events are among those of all lines
+  here : script_events b harts (played b opening before) (map line_of items)
+      ≡ (script_events b harts (played b opening before) done ++ es)
+      ++ script_events b harts (played b (played b opening before) (script_events b harts (played b opening before) (done ++ line ∷ [])))
+      (map line_of (drop (i + 1) items))
+  here =
+      let m = played b opening before in
+      let rest = map line_of (drop (i + 1) items) in
+      ap (script_events b harts m)
+      (parted items i d (omega (arith, within, ap length is))
+      ∙ ap (λ (xs : List declared.Line). map line_of (take i items) ++ line_of (get_or xs i d) ∷ rest) (sym is)
+      ∙ sym (append_assoc done (line ∷ []) rest))
+      ∙ events_append b harts m (done ++ line ∷ []) rest
+      ∙ ap (λ (xs : List Event). xs ++ script_events b harts (played b m (script_events b harts m (done ++ line ∷ []))) rest)
+      (with_line b harts opening before now done line so_far
+      ∙ ap (λ (xs : List Event). script_events b harts m done ++ xs) (sym at_once))
+
+  -- only first ones of the script's events are made, wherever the line ended
+  pub begun : (new : List Event) (space was : ℕ) → new ≡ now ++ take left es → space + length new ≡ was + length before →
+      new ≡ before ++ take (was - space) (script_events b harts (played b opening before) (map line_of items))
+  begun new space was made kept_room =
+      let front = script_events b harts (played b opening before) done in
+      let first = front ++ take left es in
+      let rest = script_events b harts (played b (played b opening before) (script_events b harts (played b opening before) (done ++ line ∷ [])))
+      (map line_of (drop (i + 1) items)) in
+      let is_first : new ≡ before ++ first =
+      made ∙ ap (λ (xs : List Event). xs ++ take left es) so_far ∙ append_assoc before front (take left es) in
+      let all : script_events b harts (played b opening before) (map line_of items) ≡ first ++ (drop left es ++ rest) =
+      here ∙ append_assoc front es rest
+      ∙ ap (λ (xs : List Event). front ++ (xs ++ rest)) (sym (take-append-drop left es))
+      ∙ ap (λ (xs : List Event). front ++ xs) (append_assoc (take left es) (drop left es) rest)
+      ∙ sym (append_assoc front (take left es) (drop left es ++ rest)) in
+      let many : was - space ≡ length first = omega (arith, kept_room, ap length is_first, length-append before first) in
+      is_first
+      ∙ ap (λ (xs : List Event). before ++ xs)
+      (sym (take-append-le (length first) first (drop left es ++ rest) (omega arith) ∙ take_all first (length first) (omega arith)))
+      ∙ ap (λ (n : ℕ). before ++ take n (first ++ (drop left es ++ rest))) (sym many)
+      ∙ ap (λ (xs : List Event). before ++ take (was - space) xs) (sym all)
 
   module _ (enough : nat_le (length es) left ≡ true) (new : List Event) (made : new ≡ now ++ take left es) where
     all_made : new ≡ now ++ es

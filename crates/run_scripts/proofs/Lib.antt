@@ -18,5 +18,6 @@ mod GeneratedTexts
 mod JournalLines
 mod JournalReads
 mod EnabledSteps
+mod EventBounds
 mod MadeEvents
 mod Worked

@@ -1,3 +1,4 @@
+pub mod Bounds
 pub mod Draws
 pub mod FewEvents
 pub mod GeneratedSources

@@ -1,5 +1,5 @@
 //! The play of a script of few events.
-ghost use Rattle.std.specs.Prelude.{◌≡◌, ◌+◌, ◌≤◌, ◌++◌, All, length, map, OnOk, IfErr};
+ghost use Rattle.std.specs.Prelude.{◌≡◌, ◌↔◌, ◌+◌, ◌-◌, ◌≤◌, ◌++◌, ℕ, All, length, map, take, OnOk, IfErr};
 ghost use Rattle.ido_base.specs.declared.limits.TheConstants.{MOST_EVENTS};
 ghost use Rattle.ido_base.specs.Cores.{played};
 ghost use Rattle.run_scripts.specs.FewEvents.{IsExcess};
@@ -25,7 +25,8 @@ pub enum Excess {
     Few(Place),
 }
 
-/// Makes the events of a script on a core, where they are at most so many. Else the answer is the first line whose events go past that.
+/// Makes the events of a script on a core, where they are at most so many. Else the answer is the first line whose events go past that,
+/// and of the script's events only its first ones are made.
 pub fn play_few<C: Core>(script: &Script, core: &mut C, most: u64) -> Result<(), Excess>
     requires lines { All (λ line. IsDoable (C.hart_count core.old) (C.evictable core.old) line.command) script.now.lines.items }
     requires room { MOST_EVENTS ≤ C.space core.old }
@@ -42,6 +43,13 @@ pub fn play_few<C: Core>(script: &Script, core: &mut C, most: u64) -> Result<(),
     ensures excess { IfErr result (λ e.
         IsExcess C.behaviour (C.hart_count core.old) (played C.behaviour (C.opening core.old) (C.history core.old)) most
         (map views.line_of script.now.lines.items) e) }
+    ensures begun { IfErr result (λ _. C.history core.new
+        ≡ C.history core.old ++ take (C.space core.old - C.space core.new)
+        (script_events C.behaviour (C.hart_count core.old) (played C.behaviour (C.opening core.old) (C.history core.old))
+        (map views.line_of script.now.lines.items))) }
+    ensures room { C.space core.new + length (C.history core.new) ≡ C.space core.old + length (C.history core.old) }
+    ensures harts { C.hart_count core.new ≡ C.hart_count core.old }
+    ensures evictable { (line mask : ℕ) → C.evictable core.new line mask ↔ C.evictable core.old line mask }
 {
     let floor = core.room() - MOST_EVENTS;
     for line in &script.lines {

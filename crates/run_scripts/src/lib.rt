@@ -2,6 +2,7 @@
 //! a state; and sources that are made of numbers.
 #![tactic(auto)]
 
+pub mod bounds;
 pub mod draw;
 pub mod events;
 pub mod evictor;

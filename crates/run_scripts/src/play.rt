@@ -9,7 +9,7 @@ ghost use Rattle.run_scripts.specs.links.ScriptViews as views;
 
 use crate::script::{Command, Script};
 use ido_base::event::Event;
-use ido_base::limits::{MOST_EVENTS, MOST_STEPS_TO};
+use ido_base::limits::MOST_STEPS_TO;
 use ido_base::machine::Core;
 use ido_base::place::Place;
 use thiserror::Error;
@@ -180,7 +180,7 @@ pub(crate) fn play_line<C: Core>(core: &mut C, command: Command, floor: u64) -> 
 
 /// Makes the events of a script on a core, at most so many of them. Where there are more, the answer is the line whose events go past that, and those
 /// before the excess are made.
-pub fn play_first<C: Core>(script: &Script, core: &mut C, most: u64) -> Result<(), TooManyEvents>
+pub fn play<C: Core>(script: &Script, core: &mut C, most: u64) -> Result<(), TooManyEvents>
     requires lines { All (λ line. IsDoable (C.hart_count core.old) (C.evictable core.old) line.command) script.now.lines.items }
     requires room { most ≤ C.space core.old }
     ensures opening { C.opening core.new ≡ C.opening core.old }
@@ -206,28 +206,4 @@ pub fn play_first<C: Core>(script: &Script, core: &mut C, most: u64) -> Result<(
         }
     }
     Ok(())
-}
-
-/// Makes the events of a script on a core, at most 4,000,000 of them. Where there are more, the answer is the line
-/// whose events go past that, and the 4,000,000 before the excess are made.
-pub fn play<C: Core>(script: &Script, core: &mut C) -> Result<(), TooManyEvents>
-    requires lines { All (λ line. IsDoable (C.hart_count core.old) (C.evictable core.old) line.command) script.now.lines.items }
-    requires room { MOST_EVENTS ≤ C.space core.old }
-    ensures opening { C.opening core.new ≡ C.opening core.old }
-    ensures events { C.history core.new
-        ≡ C.history core.old ++ take MOST_EVENTS
-        (script_events C.behaviour (C.hart_count core.old) (played C.behaviour (C.opening core.old) (C.history core.old))
-        (map views.line_of script.now.lines.items)) }
-    ensures whole { IfOk result (λ x.
-        excess_at C.behaviour (C.hart_count core.old) (played C.behaviour (C.opening core.old) (C.history core.old)) MOST_EVENTS
-        (map views.line_of script.now.lines.items) ≡ None) }
-    ensures excess { IfErr result (λ e.
-        excess_at C.behaviour (C.hart_count core.old) (played C.behaviour (C.opening core.old) (C.history core.old)) MOST_EVENTS
-        (map views.line_of script.now.lines.items)
-        ≡ Some e.line.0) }
-    ensures room { C.space core.new + length (C.history core.new) ≡ C.space core.old + length (C.history core.old) }
-    ensures harts { C.hart_count core.new ≡ C.hart_count core.old }
-    ensures evictable { (line mask : ℕ) → C.evictable core.new line mask ↔ C.evictable core.old line mask }
-{
-    play_first(script, core, MOST_EVENTS)
 }

@@ -8,7 +8,7 @@ use Rattle.run_scripts.specs.declared.script.Command.TheVariants.{Steps}
 use Rattle.run_scripts.specs.links.ScriptViews.{line_of}
 use Rattle.run_scripts.proofs.EventsWithinRoom as cuts
 use Rattle.run_scripts.proofs.Lines.{all_made, line_made, no_excess, excess_left, nothing_left}
-use Rattle.run_scripts.proofs.play.play_first.Goals as goal
+use Rattle.run_scripts.proofs.play.play.Goals as goal
 
 pub loop-line-preserved : goal.loop-line-preserved
 loop-line-preserved g c =

@@ -3,7 +3,7 @@ use Rattle.std.specs.Prelude.{◌↔◌}
 use Rattle.ido_base.specs.Cores.{played}
 use Rattle.run_scripts.specs.Plays.{script_events, excess_at}
 use Rattle.run_scripts.specs.links.ScriptViews.{line_of}
-use Rattle.run_scripts.proofs.play.play_first.Given as goal
+use Rattle.run_scripts.proofs.play.play.Given as goal
 
 abbrev pub invariant-loop-line : goal.invariant-loop-line
 invariant-loop-line g l =
