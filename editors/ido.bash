@@ -7,6 +7,8 @@ _ido() {
     if ((COMP_CWORD == at)); then
         words='compile list regions order play image recover source seeded live make load sweep'
         ((at == 1)) && words+=' --explain --help --version'
+    elif [[ ${COMP_WORDS[at]} == regions ]]; then
+        words='--least'
     elif [[ ${COMP_WORDS[at]} == live ]]; then
         words='--evict --journal'
     fi

@@ -19,7 +19,7 @@ SCHEDULE = "schedule"
 COMMANDS = (
     ("compile", "", "a source", "its object file"),
     ("list", "", "an object file", "the listing of its code"),
-    ("regions", "", "a source", "its nodes, and the boundaries chosen among them"),
+    ("regions", "[--least]", "a source", "its nodes, and the boundaries chosen among them; with `--least` how few there are in straight code too"),
     ("order", "", "a source", "`ordered`, or the first lock that is taken out of order"),
     ("play", "", "a source, a line `%%`, a script", "the report of a run of the compiled source"),
     ("image", "", "a source, a line `%%`, a script", "the image file that a crash after that run would leave"),

@@ -1,17 +1,15 @@
 -- A life that makes the first events of a script, a crash, and rounds.
-use Rattle.std.proofs.Common.{◌≡◌, refl, ℕ, ◌+◌, ◌-◌, ◌≤◌, ◌<◌, List, [], ◌∷◌, ◌++◌, length, map, take, sym, ap, ◌∙◌, subst, arith, append_assoc, length-append}
-use Rattle.std.proofs.Common.{Bool, true, false, All, Option, Some, None, IfSome, IsSome}
+use Rattle.std.proofs.Common.{◌≡◌, ℕ, ◌+◌, ◌-◌, ◌≤◌, List, [], ◌∷◌, ◌++◌, length, take, sym, ap, ◌∙◌, subst, arith, append_assoc}
+use Rattle.std.proofs.Common.{Bool, Option, Some, None, IfSome, IsSome}
 use Rattle.std.specs.Prelude.{◌==◌, Err}
 use Rattle.ido_base.specs.declared.event.Event.{Event}
 use Rattle.ido_base.specs.declared.event.Event.TheVariants.{Crash}
-use Rattle.ido_base.specs.declared.place.Place.{Place}
 use Rattle.ido_base.specs.Cores.{played}
 use Rattle.c_tree.specs.Flats as f
 use Rattle.c_tree.specs.Flats.{flat_of}
 use Rattle.rv64_isa.specs.declared.object.Object.{Object}
 use Rattle.rv64_isa.specs.declared.object.Marks.{Marks}
 use Rattle.flow_graph.specs.Refusals.{IsAccepted, IsRefusedBy}
-use Rattle.hart_driver.specs.declared.sweep.Outcome.{Outcome}
 use Rattle.ido_compile.specs.CompileAnswers.{IsCompileAnswer}
 use Rattle.ido_compile.specs.declared.error.CompileError.{CompileError}
 use Rattle.ido_compile.specs.declared.error.CompileError.TheVariants as error

@@ -30,7 +30,7 @@ pub made : {E : Type 0} (product : Product) (input : List ℕ) (r : Result Said 
     → IfOk r (λ said. CommandAnswer (command_making product) input said.status said.output.items) →
     IfOk r (λ said. AnswerToInput (command_making product) input said.status said.output.items)
 made products.Object input (Ok said) short answer = within_limits (λ long. omega (arith, short, long)) answer
-made products.Regions input (Ok said) short answer = within_limits (λ long. omega (arith, short, long)) answer
+made (products.Regions least) input (Ok said) short answer = within_limits (λ long. omega (arith, short, long)) answer
 made products.Order input (Ok said) short answer = within_limits (λ long. omega (arith, short, long)) answer
 made product input (Err e) short answer = tt
 
@@ -51,7 +51,7 @@ pub made_past : (product : Product) (input : List ℕ) (status : ℕ) (output : 
     Refuses 6 status (codes "limit") output →
     AnswerToInput (command_making product) input status output
 made_past products.Object input status output past refuses = past_limits past refuses
-made_past products.Regions input status output past refuses = past_limits past refuses
+made_past (products.Regions least) input status output past refuses = past_limits past refuses
 made_past products.Order input status output past refuses = past_limits past refuses
 
 pub plays : {E : Type 0} (asked : Asked) (input source : List ℕ) (r : Result Said E) → length input ≤ MOST_INPUT_BYTES → length source ≤ MOST_SOURCE_BYTES →

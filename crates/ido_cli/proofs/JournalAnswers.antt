@@ -1,12 +1,11 @@
 -- What `play` answers to a journal.
-use Rattle.std.proofs.Common.{◌≡◌, ℕ, suc, ◌+◌, ◌<◌, ◌≤◌, List, [], ◌∷◌, ◌++◌, length, All, map, Bool, true, codes, flat_map}
-use Rattle.std.proofs.Common.{refl, sym, ap, subst, ◌∙◌, ◌==◌, if◌then◌else◌, arith, append_assoc}
+use Rattle.std.proofs.Common.{◌≡◌, ℕ, suc, ◌<◌, ◌≤◌, List, [], ◌∷◌, ◌++◌, length, map, Bool, true, codes, flat_map}
+use Rattle.std.proofs.Common.{sym, ap, subst, ◌∙◌, ◌==◌, if◌then◌else◌, arith, append_assoc}
 use Rattle.std.proofs.lemmas.Bool.{eqb-true}
 use Rattle.std.proofs.lemmas.List.{length-map}
 use Rattle.std.specs.Prelude.{◌-◌, slice_index}
 use Rattle.ido_base.specs.declared.event.Event.{Event}
 use Rattle.ido_base.specs.declared.limits.TheConstants.{MOST_EVENTS}
-use Rattle.ido_base.specs.Cores.{IsValid}
 use Rattle.ido_base.specs.Places.{line_feed}
 use Rattle.c_tree.specs.Flats as f
 use Rattle.rv64_isa.specs.Programs.{slot_of}
@@ -21,7 +20,7 @@ use Rattle.run_scripts.specs.Reports.{line}
 use Rattle.run_scripts.specs.Scripts as scripts
 use Rattle.run_scripts.specs.Scripts.{IsEviction}
 use Rattle.run_tracker.specs.ObjectLives.{living}
-use Rattle.ido_cli.specs.Answers.{PlayAnswer, ScriptedAnswer, unplayed, no_script, of_script}
+use Rattle.ido_cli.specs.Answers.{ScriptedAnswer, unplayed, no_script, of_script}
 use Rattle.ido_cli.specs.Inputs.{rest_from, rest_of, source_from, source_of}
 use Rattle.ido_cli.specs.Laws.{IsAlone, JournalsArePlayed}
 use Rattle.ido_cli.specs.Plays.{IsRunBy, IsTranslationOf, ScriptAnswer, beginning, events_by, too_long, ran}

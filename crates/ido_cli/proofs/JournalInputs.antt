@@ -1,13 +1,12 @@
 -- A source that ends with an LF and has no line `%%`, with that line and more after it: the input is split there.
-use Rattle.std.proofs.Common.{◌≡◌, ℕ, ◌+◌, ◌-◌, ◌<◌, ◌≤◌, List, [], ◌∷◌, ◌++◌, length, All, Bool, true, false, Option, Some, None, codes}
-use Rattle.std.proofs.Common.{refl, sym, ap, subst, ◌∙◌, ◌==◌, if◌then◌else◌, arith}
-use Rattle.std.proofs.lemmas.Bool.{eqb-true}
-use Rattle.std.specs.Prelude.{nat_eq, slice_index, drop, flat_map, ◌&&◌}
+use Rattle.std.proofs.Common.{◌≡◌, ℕ, List, [], ◌∷◌, ◌++◌, Bool, true, false, Option, Some, None, codes}
+use Rattle.std.proofs.Common.{refl, sym, ap, subst, ◌∙◌, ◌==◌, if◌then◌else◌}
+use Rattle.std.specs.Prelude.{nat_eq, drop, ◌&&◌}
 use Rattle.std.specs.Cmp.Lexicographic.{pointwise}
 use Rattle.std.specs.List.{starts_with}
 use Rattle.ido_base.specs.Places.{line_feed}
 use Rattle.run_scripts.specs.Reports.{line}
-use Rattle.ido_cli.specs.Inputs.{after_mark, after_mark_at, last_mark, mark, mark_with_return, rest_from, rest_of, source_from, source_of}
+use Rattle.ido_cli.specs.Inputs.{after_mark, after_mark_at, last_mark, mark, mark_with_return, rest_from, source_from}
 
 -- ---- A mark that begins in a text ends in it, where an LF is its last byte
 

@@ -1,5 +1,5 @@
 -- No more steps are kept than there are events, whatever events they are.
-use Rattle.std.proofs.Common.{◌≡◌, ◌⊎◌, inl, inr, ℕ, suc, ◌+◌, ◌<◌, ◌≤◌, List, [], ◌∷◌, length, Bool, true, false, refl, ap, ◌∙◌, arith, replicate}
+use Rattle.std.proofs.Common.{◌≡◌, ◌⊎◌, inl, inr, ℕ, ◌+◌, ◌<◌, ◌≤◌, List, [], ◌∷◌, length, Bool, true, false, refl, ap, ◌∙◌, arith}
 use Rattle.std.proofs.lemmas.Bool.{cases_lt}
 use Rattle.std.proofs.lemmas.List.{set_past}
 use Rattle.ido_base.specs.declared.event.Event.{Event}
@@ -8,9 +8,9 @@ use Rattle.ido_base.specs.Words.{Word, last_position, word_at}
 use Rattle.rv64_isa.specs.declared.object.Slot.{Slot}
 use Rattle.rv64_isa.specs.Machine.{World, after_event}
 use Rattle.rv64_isa.specs.Schedule.{HartSteps, Steps, first_steps, hart_steps, passes_mark, steps_after}
-use Rattle.rv64_isa.specs.Schedule.{steps_along, stores_point, with_begun, with_bound, with_all_kept}
+use Rattle.rv64_isa.specs.Schedule.{steps_along, stores_point}
 use Rattle.run_tracker.specs.links.AccountRepresentation.{point_word, weight}
-use Rattle.run_tracker.proofs.Public.{begun_if, harts-noted, noted, weight-after, weight-noted, weightless, weight-all_kept}
+use Rattle.run_tracker.proofs.Public.{begun_if, harts-noted, noted, weight-after, weightless, weight-all_kept}
 
 -- ---- A hart that doesn't exist
 

@@ -12,6 +12,8 @@ mod RestLengths
 mod RefusedSchedules
 mod UniqueAnswers
 mod NodeLines
+mod FewestBoundaries
+mod HeldSteps
 mod Lengths
 mod SettledReports
 mod DurableNumbers

@@ -1,11 +1,11 @@
 -- Lines of nodes, as they are added; the nodes of threads, and the boundaries among them.
 use Rattle.std.proofs.Common.{◌≡◌, refl, ℕ, zero, suc, ◌+◌, ◌-◌, ◌<◌, ◌≤◌, List, [], ◌∷◌, ◌++◌, length, map, drop}
-use Rattle.std.proofs.Common.{get_or, min, ⊎_elim, sym, ◌∙◌, ap, ap₂, Option, Some, arith, append_assoc, length-append}
+use Rattle.std.proofs.Common.{get_or, sym, ◌∙◌, ap, ap₂, Option, Some, arith, append_assoc, length-append}
 use Rattle.std.specs.Prelude.{slice_get, option_map}
-use Rattle.std.proofs.lemmas.Bool.{cases_lt}
 use Rattle.std.proofs.lemmas.List.{append-nil, drop_more, drop_all, length-map}
 use Rattle.std.proofs.lemmas.Option.{none-some, same_Some, slice_get_read, slice_get-map}
 use Rattle.c_tree.specs.Flats as f
+use Rattle.c_tree.specs.declared.flat.Flat as flat
 use Rattle.c_tree.specs.declared.flat.Thread as thread
 use Rattle.rv64_isa.specs.declared.object.Object.{Object}
 use Rattle.rv64_isa.specs.declared.object.Marks.{Marks}
@@ -16,12 +16,12 @@ use Rattle.flow_graph.specs.declared.graph.Part.{Part}
 use Rattle.flow_graph.specs.IdempotentCuts.{Boundaries}
 use Rattle.flow_graph.specs.Lowering.{lowered, part, parts, thread_count, thread_nodes, threads_nodes}
 use Rattle.flow_graph.specs.Nodes.{Graph, Node, graph_of, node_of}
-use Rattle.flow_graph.proofs.Public.{length-thread_nodes}
+use Rattle.flow_graph.proofs.Public.{length-thread_nodes, lowered_threads}
 use Rattle.flat_compile.specs.TranslatedForms.{IsTranslated}
-use Rattle.ido_cli.specs.Regions.{is_chosen, line_at, lines_from, node_line, node_lines, regions_of, thread_line}
+use Rattle.ido_cli.specs.Regions.{Straight, is_chosen, least_lines, line_at, lines_from, node_line, node_lines, regions_of, thread_line}
 
-regroup : (a b c d : List ℕ) → a ++ b ++ c ++ d ≡ a ++ (b ++ c ++ d)
-regroup a b c d = simp append_assoc
+regroup : (a b c d e : List ℕ) → a ++ b ++ c ++ d ++ e ≡ a ++ (b ++ c ++ d ++ e)
+regroup a b c d e = simp append_assoc
 
 -- ---- The lines of a thread's nodes
 
@@ -46,39 +46,48 @@ module _ (text : List ℕ) (g : Graph) (b : Boundaries) where
 
   -- ---- The lines of threads
 
-  abbrev left_of : List thread.Thread → List Part → (k : ℕ) → List ℕ
-  left_of threads ps k = regions_of text g b (map f.thread_of (drop k threads)) (drop k ps)
+  module _ (x : Straight) where
+    abbrev left_of : List thread.Thread → List Part → (k : ℕ) → List ℕ
+    left_of threads ps k = regions_of text g b x k (map f.thread_of (drop k threads)) (drop k ps)
 
-  pub thread_added : (threads : List thread.Thread) (ps : List Part) (k : ℕ) (t : thread.Thread) (p : Part) (out mid new whole : List ℕ) →
-      k < length threads → k < length ps →
-      t ≡ get_or threads k t → p ≡ get_or ps k p → mid ≡ out ++ thread_line (f.thread_of t) → new ≡ mid ++ node_lines text g b p →
-      out ++ left_of threads ps k ≡ whole → new ++ left_of threads ps (k + 1) ≡ whole
-  thread_added threads ps k t p out mid new whole below within thread_is part_is line_is lines_are so_far =
-      let rest = left_of threads ps (k + 1) in
-      let one : drop k threads ≡ t ∷ drop (k + 1) threads =
-      drop_more threads k t below ∙ ap (λ (z : thread.Thread). z ∷ drop (k + 1) threads) (sym thread_is) in
-      let two : drop k ps ≡ p ∷ drop (k + 1) ps = drop_more ps k p within ∙ ap (λ (z : Part). z ∷ drop (k + 1) ps) (sym part_is) in
-      let both : left_of threads ps k ≡ thread_line (f.thread_of t) ++ node_lines text g b p ++ rest =
-      ap₂ (λ (xs : List thread.Thread) (ys : List Part). regions_of text g b (map f.thread_of xs) ys) one two in
-      let own = node_lines text g b p in
-      let title = thread_line (f.thread_of t) in
-      let made : new ≡ out ++ title ++ own = lines_are ∙ ap (λ (zs : List ℕ). zs ++ own) line_is in
-      ap (λ (zs : List ℕ). zs ++ rest) made ∙ regroup out title own rest ∙ ap (λ (zs : List ℕ). out ++ zs) (sym both) ∙ so_far
+    pub thread_added : (threads : List thread.Thread) (ps : List Part) (k : ℕ) (t : thread.Thread) (p : Part) (out titled listed new whole : List ℕ) →
+        k < length threads → k < length ps → t ≡ get_or threads k t → p ≡ get_or ps k p → titled ≡ out ++ thread_line (f.thread_of t) →
+        listed ≡ titled ++ node_lines text g b p → new ≡ listed ++ least_lines b x.held k p x.stretches → out ++ left_of threads ps k ≡ whole →
+        new ++ left_of threads ps (k + 1) ≡ whole
+    thread_added threads ps k t p out titled listed new whole below within thread_is part_is title_is nodes_are stretches_are so_far =
+        let rest = left_of threads ps (k + 1) in
+        let one : drop k threads ≡ t ∷ drop (k + 1) threads =
+        drop_more threads k t below ∙ ap (λ (z : thread.Thread). z ∷ drop (k + 1) threads) (sym thread_is) in
+        let two : drop k ps ≡ p ∷ drop (k + 1) ps = drop_more ps k p within ∙ ap (λ (z : Part). z ∷ drop (k + 1) ps) (sym part_is) in
+        let title = thread_line (f.thread_of t) in
+        let own = node_lines text g b p in
+        let least = least_lines b x.held k p x.stretches in
+        let both : left_of threads ps k ≡ title ++ own ++ least ++ rest =
+        ap₂ (λ (xs : List thread.Thread) (ys : List Part). regions_of text g b x k (map f.thread_of xs) ys) one two in
+        let made : new ≡ out ++ title ++ own ++ least =
+        stretches_are ∙ ap (λ (zs : List ℕ). zs ++ least) (nodes_are ∙ ap (λ (zs : List ℕ). zs ++ own) title_is) in
+        ap (λ (zs : List ℕ). zs ++ rest) made ∙ regroup out title own least rest ∙ ap (λ (zs : List ℕ). out ++ zs) (sym both) ∙ so_far
 
-  none_left : (threads : List thread.Thread) (ps : List Part) (k : ℕ) → k ≡ min (length threads) (length ps) → left_of threads ps k ≡ []
-  none_left threads ps k all = ⊎_elim
-      (λ few. ap (λ (ts : List thread.Thread). regions_of text g b (map f.thread_of ts) (drop k ps)) (drop_all k threads (omega (arith, all, few))))
-      (λ many. ap (λ (qs : List Part). regions_of text g b (map f.thread_of (drop k threads)) qs) (drop_all k ps (omega (arith, all, many)))
-      ∙ no_part (map f.thread_of (drop k threads)))
-      (cases_lt (length threads) (length ps))
-    where
-      no_part : (ts : List f.Thread) → regions_of text g b ts [] ≡ []
-      no_part [] = refl
-      no_part (t ∷ ts) = refl
+    none_left : (ts : List f.Thread) (k : ℕ) (ps : List Part) → ps ≡ [] → regions_of text g b x k ts ps ≡ []
+    none_left [] k ps none = refl
+    none_left (t ∷ ts) k ps none = ap (regions_of text g b x k (t ∷ ts)) none
 
-  pub left_whole : (threads : List thread.Thread) (ps : List Part) (k : ℕ) (out whole : List ℕ) → k ≡ min (length threads) (length ps) →
-      out ++ left_of threads ps k ≡ whole → out ≡ whole
-  left_whole threads ps k out whole all so_far = sym (append-nil out) ∙ ap (λ (zs : List ℕ). out ++ zs) (sym (none_left threads ps k all)) ∙ so_far
+    pub left_whole : (threads : List thread.Thread) (ps : List Part) (k : ℕ) (out whole : List ℕ) → length ps ≤ k → out ++ left_of threads ps k ≡ whole →
+        out ≡ whole
+    left_whole threads ps k out whole all so_far =
+        sym (append-nil out) ∙ ap (λ (zs : List ℕ). out ++ zs) (sym (none_left (map f.thread_of (drop k threads)) k (drop k ps) (drop_all k ps all)))
+        ∙ so_far
+
+-- ---- As many threads as parts
+
+pub parts_many : (ts : List f.Thread) (first : ℕ) → length (parts ts first) ≡ length ts
+parts_many [] first = refl
+parts_many (t ∷ ts) first = ap suc (parts_many ts (first + thread_count t))
+
+pub threads_many : (x : flat.Flat) (g : code.Graph) → graph_of g ≡ lowered (f.flat_of x) → length g.threads.items ≡ length x.threads.items
+threads_many x g is =
+    ap (λ (y : Graph). length y.threads) is ∙ ap length (lowered_threads (f.flat_of x)) ∙ parts_many (map f.thread_of x.threads.items) 0
+    ∙ length-map x.threads.items f.thread_of
 
 -- ---- A thread's nodes are in the graph
 

@@ -1,7 +1,7 @@
 -- Lives of ordered texts go on until all harts have stopped.
-use Rattle.std.proofs.Common.{◌≡◌, List, length, None, refl, sym, ap, subst}
+use Rattle.std.proofs.Common.{◌≡◌, length, None, sym, ap, subst}
 use Rattle.std.specs.Prelude.{◌↔◌}
-use Rattle.ido_base.specs.Cores.{least_enabled, played}
+use Rattle.ido_base.specs.Cores.{least_enabled}
 use Rattle.rv64_isa.specs.Machine.{World}
 use Rattle.deadlock_freedom.specs.Deadlocks.{HaveStopped, NoneDeadlocks}
 use Rattle.ido_compile.specs.CompileAnswers.{translation_in}

@@ -1,6 +1,6 @@
 -- What is played of a compiled source: the machine and the kept steps of its translation, which are those of the source.
 use Rattle.std.proofs.Common.{◌≡◌, refl, ℕ, suc, ◌+◌, ◌≤◌, List, [], ◌∷◌, ◌++◌, length, map, take}
-use Rattle.std.proofs.Common.{sym, ◌∙◌, ap, ap₂, subst, true, Some, None, ◌-◌, ◌^◌, flat_map}
+use Rattle.std.proofs.Common.{sym, ◌∙◌, ap, ap₂, subst, Some, None, ◌-◌, ◌^◌, flat_map, min, arith}
 use Rattle.std.specs.Prelude.{codes}
 use Rattle.std.proofs.lemmas.List.{length-map, take_all}
 use Rattle.ido_base.specs.declared.event.Event.{Event}
@@ -29,6 +29,8 @@ use Rattle.source_machine.specs.Laws.{SizesStay}
 use Rattle.flat_compile.specs.TranslatedForms.{IsTranslated}
 use Rattle.compiler_correctness.specs.Translations.{world, steps, translation_to}
 use Rattle.compiler_correctness.specs.Compilations.{IsCompilation}
+use Rattle.run_scripts.proofs.Public.{events_few}
+use Rattle.run_scripts.specs.Bounds.{lines_bound}
 use Rattle.run_scripts.specs.Reports as r
 use Rattle.run_scripts.specs.Plays.{excess_at, script_events}
 use Rattle.run_scripts.specs.Scripts.{Line}
@@ -139,6 +141,20 @@ module _ (flat : f.Flat) (object : Object) (marks : Marks) (cuts : Cuts) (lines 
         lines ≡ Some place
     passed_at place some =
         subst (λ (x : Course). excess_at living (length x.runs.program) (played living (opening_of x) x.journal) room lines ≡ Some place) is some
+
+  -- what goes past a bound of the events goes past the greatest one
+  pub past_most : (cap place : ℕ) → cap ≡ min MOST_EVENTS (lines_bound lines) →
+      excess_at living (length (translation_to flat object marks cuts).runs.program) (beginning (translation_to flat object marks cuts)) cap
+      lines ≡ Some place →
+      excess_at living (length (translation_to flat object marks cuts).runs.program) (beginning (translation_to flat object marks cuts)) MOST_EVENTS
+      lines ≡ Some place
+  past_most cap place is some =
+      let harts = length (translation_to flat object marks cuts).runs.program in
+      let begin = beginning (translation_to flat object marks cuts) in
+      let past = events_pass living harts begin cap place lines some in
+      let few = events_few living harts begin lines in
+      let full : cap ≡ MOST_EVENTS = omega (arith, past, few, is) in
+      subst (λ (n : ℕ). excess_at living harts begin n lines ≡ Some place) full some
 
   pub refused : (Says : List Event → ℕ → List ℕ → Type 0) (input : List ℕ) (begins place status : ℕ) (output : List ℕ) →
       excess_at living (length (translation_to flat object marks cuts).runs.program) (beginning (translation_to flat object marks cuts)) MOST_EVENTS

@@ -53,7 +53,7 @@ module _ (law : RunImagesAreRead) (source image : List ℕ) (flat : Flat) (objec
 
   by : RecoverAnswer turns image answer output → Recovered
   by (no_image error told six line) = not_read error six line (read (Err error) told)
-  by (of_image found told recovery) = is_read found recovery (read (Ok found) told)
+  by (of_image found told on recovery) = is_read found recovery (read (Ok found) told)
 
 pub runs_are_recovered : RunImagesAreRead → RunsAreRecovered
 runs_are_recovered law source image flat c before turns status answer output accepted of short written told =

@@ -17,14 +17,17 @@ use Rattle.rv64_isa.proofs.Public.{crashes_simulate}
 use Rattle.flow_graph.specs.declared.cuts.Cuts.{Cuts}
 use Rattle.flat_compile.specs.TranslatedForms.{IsTranslated}
 use Rattle.compiler_correctness.specs.Compilations.{IsCompilation}
-use Rattle.compiler_correctness.specs.Images.{Image, file_of, first_from, image_in, image_of, steps_from, world_from}
+use Rattle.compiler_correctness.specs.Images.{Image, file_of, image_in, image_of, steps_from, world_from}
 use Rattle.compiler_correctness.specs.Laws.{ImagesAreCrashes}
-use Rattle.compiler_correctness.specs.Translations.{Translation, steps, world, translation_to}
+use Rattle.compiler_correctness.specs.Translations.{Translation, world, translation_to}
+use Rattle.compiler_correctness.specs.WordRuns.{RunsOn}
 use Rattle.ido_cli.specs.declared.compiled_image.Image as i
+use Rattle.ido_cli.specs.Answers.{file_in}
 use Rattle.ido_cli.specs.CompiledImages.{IsImageAnswer, whole}
 use Rattle.hart_driver.specs.declared.stop.Stop.{Stop}
 use Rattle.hart_driver.specs.Legs.{IsLeg}
-use Rattle.ido_compile.specs.CompileAnswers.{IsCompiled}
+use Rattle.ido_compile.specs.CompileAnswers.{IsCompiled, translation_in}
+use Rattle.image_runs.specs.Laws.{AcceptedRunOn}
 use Rattle.ido_compile.specs.Files.{FilesBegin}
 use Rattle.run_scripts.specs.declared.evictor.Evictor.{Evictor}
 use Rattle.run_tracker.specs.ObjectLives.{Course, LifeConfig, life_from, opening_of, steps_in, world_of}
@@ -152,3 +155,16 @@ module _ (flat : f.Flat) (object : Object) (marks : Marks) (cuts : Cuts) (t : Is
 
 pub compiled_in : (bytes : List ℕ) (image : i.Image) → IsImageAnswer bytes (Ok image) → (source : List ℕ) × IsCompiled source image.compiled
 compiled_in bytes image (whole read is) = (is.is.source.source, is.is.source.compiled)
+
+-- what is read as an image is run on, whoever wrote it
+pub accepted_runs_on : AcceptedRunOn → (bytes : List ℕ) (image : i.Image) → IsImageAnswer bytes (Ok image) →
+    RunsOn (translation_in image.compiled) (image_in (translation_in image.compiled) (file_in image))
+accepted_runs_on run bytes image (whole read is) =
+    let c = image.compiled in
+    let t = c.translated in
+    let state = is.state in
+    let on = run (f.flat_of c.flat) t.object t.marks t.cuts t.resumes.items state is.is.source.compiled.resumable is.is.fits is.sound in
+    let count : length state.variables ≡ length t.object.initial.items / 8 = omega (arith, is.is.fits.variables) in
+    let spread = ap₂ (λ (n : ℕ) (ws : List ℕ). spread_words n ws) count (sym is.words) in
+    let same = ap₂ (λ (ws kept : List ℕ). let x : Image = record { words = ws; kept = kept } in x) spread (sym is.schedule) in
+    subst (λ (x : Image). RunsOn (translation_in c) x) same on

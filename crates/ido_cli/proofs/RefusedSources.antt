@@ -1,5 +1,5 @@
 -- What is answered to a source that isn't compiled.
-use Rattle.std.proofs.Common.{◌≡◌, ℕ, List, ap, ◌∙◌, subst}
+use Rattle.std.proofs.Common.{◌≡◌, ℕ, Bool, List, ap, ◌∙◌, subst}
 use Rattle.std.specs.Prelude.{Err}
 use Rattle.ido_base.specs.declared.event.Event.{Event}
 use Rattle.flow_graph.specs.Refusals.{IsRefusedBy}
@@ -19,10 +19,10 @@ pub compile_refused : (source : List ℕ) (found : CompileError) → IsCompileAn
 compile_refused source (error.Refused x) refused status output told = uncompiled x.rule x.place refused told
 compile_refused source error.Memory refused status output none = absurd none
 
-pub regions_refused : (source : List ℕ) (found : CompileError) → IsRefusal source found → (status : ℕ) (output : List ℕ) →
-    TellsRefusal found source status output → RegionsAnswer source status output
-regions_refused source (error.Refused x) refused status output told = uncut x.rule x.place refused told
-regions_refused source error.Memory refused status output none = absurd none
+pub regions_refused : (least : Bool) (source : List ℕ) (found : CompileError) → IsRefusal source found → (status : ℕ) (output : List ℕ) →
+    TellsRefusal found source status output → RegionsAnswer least source status output
+regions_refused least source (error.Refused x) refused status output told = uncut x.rule x.place refused told
+regions_refused least source error.Memory refused status output none = absurd none
 
 pub order_refused : (source : List ℕ) (found : CompileError) → IsFrontAnswer source (Err found) → (status : ℕ) (output : List ℕ) →
     TellsRefusal found source status output → OrderAnswer source status output

@@ -5,8 +5,7 @@ use Rattle.std.proofs.lemmas.Bool.{cases_eq}
 use Rattle.std.proofs.lemmas.List.{append-nil}
 use Rattle.ido_base.specs.declared.event.Event.{Event}
 use Rattle.ido_base.specs.declared.event.Event.TheVariants.{Step}
-use Rattle.ido_base.specs.Cores.{played}
-use Rattle.run_tracker.specs.ObjectLives.{Course, LifeConfig, is_stopped, living, opening_of, world_of}
+use Rattle.run_tracker.specs.ObjectLives.{Course, LifeConfig, is_stopped, opening_of, world_of}
 use Rattle.run_tracker.proofs.Public.{played_is}
 use Rattle.ido_cli.specs.ThreadedRuns.{AreRounds, all_stopped, full, is_stopped_after, most_leg_events, next_round, passes, steps}
 use Rattle.ido_cli.specs.links.LegRuns.{AreQuiet, HasRounds, IsQuiet, LeadsTo, enough, more, quiet, stopped}

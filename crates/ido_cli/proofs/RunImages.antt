@@ -1,5 +1,5 @@
 -- What a crash would leave of a life that a script was played on.
-use Rattle.std.proofs.Common.{◌≡◌, ℕ, ◌+◌, ◌*◌, ◌/◌, ◌≤◌, List, [], length, map, take, drop, ap, sym, subst, ◌∙◌, arith}
+use Rattle.std.proofs.Common.{◌≡◌, ℕ, ◌+◌, ◌*◌, ◌/◌, ◌≤◌, List, [], length, map, take, drop, ap, subst, ◌∙◌, arith}
 use Rattle.std.proofs.lemmas.List.{length-map}
 use Rattle.ido_base.specs.declared.limits.TheConstants.{LOG_WORDS, VARIABLE_WORDS}
 use Rattle.ido_base.specs.declared.event.Event.{Event}
@@ -8,13 +8,13 @@ use Rattle.rv64_isa.specs.declared.object.Object.{Object}
 use Rattle.rv64_isa.specs.declared.object.Marks.{Marks}
 use Rattle.rv64_isa.specs.Executables.{first_world}
 use Rattle.rv64_isa.specs.Machine.{World}
-use Rattle.rv64_isa.specs.Programs.{program_of, slot_of}
+use Rattle.rv64_isa.specs.Programs.{slot_of}
 use Rattle.rv64_isa.specs.Schedule.{Steps}
 use Rattle.flow_graph.specs.declared.cuts.Cuts.{Cuts}
 use Rattle.flat_compile.specs.TranslatedForms.{IsTranslated}
 use Rattle.compiler_correctness.specs.Compilations.{IsCompilation}
 use Rattle.compiler_correctness.specs.Images.{file_of, image_of, variable_words}
-use Rattle.compiler_correctness.specs.Translations.{Translation, steps, world, translation_to}
+use Rattle.compiler_correctness.specs.Translations.{Translation, translation_to}
 use Rattle.crash_images.specs.Contents.{Contents, contents}
 use Rattle.crash_images.specs.ImageDecoder.{IsReadAs}
 use Rattle.crash_images.specs.ImageEncoder.{spelling}

@@ -1,14 +1,11 @@
 -- The summary of a run: that of the source's own run, where it is settled.
-use Rattle.std.proofs.Common.{◌≡◌, ℕ, List, [], length, ap, ◌∙◌, subst}
+use Rattle.std.proofs.Common.{◌≡◌, ℕ, List, [], ap, ◌∙◌}
 use Rattle.ido_base.specs.declared.event.Event.{Event}
-use Rattle.rv64_isa.specs.Machine.{World}
-use Rattle.rv64_isa.specs.Schedule.{Steps}
 use Rattle.compiler_correctness.specs.Translations.{Translation, source, steps, world}
 use Rattle.compiler_correctness.specs.Compilations.{IsCompilation}
 use Rattle.run_scripts.specs.Reports as r
 use Rattle.ido_cli.specs.Loads.{IsSummary, IsSummaryOf, settled_summary, summary_by}
 use Rattle.ido_cli.specs.Reports.{machine_state, unsettled_harts}
-use Rattle.ido_cli.specs.Runs.{run_state}
 use Rattle.ido_cli.proofs.SettledReports.{all_between, none_by_status, same_state, settled_by_none}
 
 settled_is : (s : r.ReportedState) (output : List ℕ) → s.unsettled ≡ [] → output ≡ summary_by s.unsettled s → output ≡ settled_summary s

@@ -1,7 +1,7 @@
 -- Sums of what is reported of a machine.
-use Rattle.std.proofs.Common.{◌≡◌, refl, ℕ, zero, suc, ◌+◌, ◌*◌, ◌<◌, ◌≤◌, ◌^◌, List, [], ◌∷◌, ◌++◌, length, map, sym, ap, ◌∙◌, subst, arith, length-append, ℤ}
+use Rattle.std.proofs.Common.{◌≡◌, refl, ℕ, zero, suc, ◌+◌, ◌*◌, ◌<◌, ◌≤◌, List, [], ◌∷◌, length, map, sym, ap, ◌∙◌, arith, length-append, ℤ}
 use Rattle.std.proofs.lemmas.Int.{ints}
-use Rattle.std.specs.Prelude.{All, pos, neg_ℤ, ◌≤ℤ◌, ◌<ℤ◌, ◌+ℤ◌, flat_map, slice_index_or}
+use Rattle.std.specs.Prelude.{All, flat_map}
 use Rattle.std.proofs.lemmas.List.{length-map}
 use Rattle.std.proofs.lemmas.List.Elements.{All-append}
 use Rattle.ido_base.specs.Words.{Word, durable_value}
@@ -10,7 +10,7 @@ use Rattle.ido_base.specs.declared.limits.TheConstants.{MOST_THREADS}
 use Rattle.ido_base.specs.Layout.{aligned_up, byte_number, end_from, variable_at}
 use Rattle.ido_ints.specs.declared.kinds.Kind.{Kind}
 use Rattle.ido_ints.specs.Kinds.{bytes_of}
-use Rattle.ido_ints.proofs.Public.{Bounded, Holds-Bounded, Holds-reduced}
+use Rattle.ido_ints.proofs.Public.{Holds-Bounded, Holds-reduced}
 use Rattle.c_tree.specs.Flats as f
 use Rattle.c_tree.specs.Programs as p
 use Rattle.c_tree.specs.Source as m
@@ -23,9 +23,9 @@ use Rattle.variable_words.proofs.Public.{by_size}
 use Rattle.run_scripts.specs.Reports as r
 use Rattle.run_scripts.specs.Reports.{report}
 use Rattle.ido_cli.specs.Loads.{IsSummary, settled_summary, summary_by}
-use Rattle.ido_cli.specs.Reports.{machine_state, unsettled_harts}
+use Rattle.ido_cli.specs.Reports.{machine_state}
 use Rattle.ido_cli.specs.Runs.{named, status_by}
-use Rattle.ido_cli.specs.links.LegRuns.{IsSmall, IsSummable, numbers_of}
+use Rattle.ido_cli.specs.links.LegRuns.{IsSmall, IsSummable}
 
 -- ---- How great a number is
 

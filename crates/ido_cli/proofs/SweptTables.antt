@@ -1,5 +1,5 @@
 -- The table of outcomes, run after run.
-use Rattle.std.proofs.Common.{◌≡◌, refl, ℕ, zero, suc, ◌+◌, ◌-◌, ◌<◌, ◌≤◌, List, [], ◌∷◌, ◌++◌, length, map, take, drop, replicate, sym, ap, ◌∙◌, subst, arith}
+use Rattle.std.proofs.Common.{◌≡◌, refl, ℕ, zero, suc, ◌+◌, ◌-◌, ◌<◌, ◌≤◌, List, [], ◌∷◌, ◌++◌, length, take, drop, replicate, sym, ap, ◌∙◌, subst, arith}
 use Rattle.std.proofs.Common.{Option, Some, Bool, true, false, get_or, ap₂}
 use Rattle.std.specs.Prelude.{◌≢◌, ◌==◌, nat_eq, not, option_map, slice_get}
 use Rattle.std.specs.Cmp.Lexicographic.{pointwise}
@@ -9,7 +9,7 @@ use Rattle.std.proofs.lemmas.Slice.Eq.{bytes_eq-Decides}
 use Rattle.std.proofs.lemmas.Grind.{common_steps}
 use Rattle.hart_driver.specs.declared.sweep.Outcome.{Outcome}
 use Rattle.ido_cli.specs.Runs.{status_by}
-use Rattle.ido_cli.specs.Sweeps.{IsTable, are_settled, longest_run, reports_of, run_text, status_of}
+use Rattle.ido_cli.specs.Sweeps.{IsTable, longest_run, reports_of, run_text, status_of}
 
 -- ---- A run at the front
 

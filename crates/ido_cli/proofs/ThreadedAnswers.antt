@@ -1,5 +1,5 @@
 -- What is said of runs on threads.
-use Rattle.std.proofs.Common.{◌≡◌, refl, ℕ, ◌+◌, ◌<◌, ◌≤◌, ◌^◌, List, [], ◌∷◌, ◌++◌, length, sym, ap, ap₂}
+use Rattle.std.proofs.Common.{◌≡◌, refl, ℕ, ◌+◌, ◌<◌, ◌≤◌, ◌^◌, List, [], ◌∷◌, ◌++◌, length, sym, ap}
 use Rattle.std.proofs.Common.{◌∙◌, subst, arith, length-append, Option, Some, None, Bool, true, false}
 use Rattle.std.specs.Prelude.{◌-◌, Err, IfSome, codes, decimal, flat_map, nat_le}
 use Rattle.std.proofs.lemmas.Bool.{leb-true}
@@ -13,8 +13,7 @@ use Rattle.rv64_isa.specs.declared.object.Marks.{Marks}
 use Rattle.rv64_isa.specs.Machine.{IsEviction, World}
 use Rattle.rv64_isa.specs.Schedule.{Steps}
 use Rattle.flow_graph.specs.declared.cuts.Cuts.{Cuts}
-use Rattle.flat_compile.specs.TranslatedForms.{IsTranslated}
-use Rattle.compiler_correctness.specs.Translations.{Translation, steps, world, translation_to}
+use Rattle.compiler_correctness.specs.Translations.{Translation, world, translation_to}
 use Rattle.compiler_correctness.specs.Compilations.{IsCompilation}
 use Rattle.hart_driver.specs.declared.stop.Stop.{Stop}
 use Rattle.hart_driver.specs.Driven.{evictions_of as coming_of}
@@ -32,10 +31,9 @@ use Rattle.ido_cli.specs.Answers.{IsTold, LiveAnswer, LoadAnswer, unloaded, unru
 use Rattle.ido_cli.specs.Loads.{IsSummary}
 use Rattle.ido_cli.specs.Plays.{beginning}
 use Rattle.ido_cli.specs.Reports.{machine_state}
-use Rattle.ido_cli.specs.Runs.{IsReport}
-use Rattle.ido_cli.specs.ThreadedRuns.{AreLegs, AreRounds, IsLoadedRun, evictions_by, is_eviction, leg_after, load_turns, moment_after, most_leg_events}
+use Rattle.ido_cli.specs.ThreadedRuns.{AreLegs, AreRounds, evictions_by, leg_after, load_turns, moment_after, most_leg_events}
 use Rattle.ido_cli.specs.links.CompileRefusals.{TellsRefusal}
-use Rattle.ido_cli.specs.links.LegRuns.{CanRun, HasRounds, HasRunLegs, IsLiveRun, IsLoad, IsSaidOf, leg_from}
+use Rattle.ido_cli.specs.links.LegRuns.{CanRun, HasRounds, HasRunLegs, IsLiveRun, IsLoad, IsSaidOf}
 use Rattle.ido_cli.proofs.DrawnLives.{many_harts}
 use Rattle.ido_cli.proofs.LegRuns.{IsLifeDriven, is_leg_after}
 use Rattle.ido_cli.proofs.PlayedRuns.{HasPlayed, run_by, same_steps, same_world}

@@ -27,7 +27,7 @@ use Rattle.ido_cli.specs.Answers.{CommandAnswer, ListAnswer, no_object, of_objec
 use Rattle.ido_cli.specs.Answers.{SweepAnswer, no_points, of_points, unswept}
 use Rattle.ido_cli.specs.Sweeps.{status_of, swept, too_long as past_script, too_many as past_few}
 use Rattle.ido_cli.specs.Answers.{LiveAnswer, unrun, ran as ran_on_threads, LoadAnswer, unloaded, loaded}
-use Rattle.ido_cli.specs.Answers.{IsPastLimits, AnswerToInput, past_limits, within_limits, Answer, Refuses, wrong_words, taken_words}
+use Rattle.ido_cli.specs.Answers.{IsPastLimits, AnswerToInput, past_limits, within_limits, Refuses, wrong_words, taken_words}
 use Rattle.ido_cli.specs.Answers.{IsAnswer, IsAnswered, Outside, answered, no_memory, sink_failed, source_failed}
 use Rattle.ido_cli.specs.Deliveries.{IsSaidToInput, IsSaidTo, IsTaken, to_wrong_words, to_command, IsDelivered, whole, broken}
 
@@ -38,7 +38,7 @@ some_longer n = (replicate (n + 1) 0, omega (arith, length-replicate {A = ℕ} (
 
 long_is_past : (c : Command) (input : List ℕ) → reads_input c ≡ true → MOST_INPUT_BYTES < length input → IsPastLimits c input
 long_is_past command.Compile input reads long = omega (arith, long)
-long_is_past command.Regions input reads long = omega (arith, long)
+long_is_past (command.Regions least) input reads long = omega (arith, long)
 long_is_past command.Play input reads long = inl long
 long_is_past command.Source input reads long = inl long
 long_is_past command.List input reads long = long
@@ -68,7 +68,7 @@ told_some None = ([], tt)
 any_input : (c : Command) (input other : List ℕ) (status : ℕ) (output : List ℕ) → reads_input c ≡ false → AnswerToInput c input status output →
     AnswerToInput c other status output
 any_input command.Compile input other status output unread answer = cc unread
-any_input command.Regions input other status output unread answer = cc unread
+any_input (command.Regions least) input other status output unread answer = cc unread
 any_input command.Play input other status output unread answer = cc unread
 any_input command.Source input other status output unread answer = cc unread
 any_input command.List input other status output unread answer = cc unread
@@ -142,9 +142,9 @@ of_compile : (source : List ℕ) (status : ℕ) (output : List ℕ) → CompileA
 of_compile source status output (uncompiled found place is refused) h = not_four_or_seven status 1 refused.0 (inl (omega arith)) h
 of_compile source status output (compiled flat is c made e told) h = not_four_or_seven status 0 e (inl (omega arith)) h
 
-of_regions : (source : List ℕ) (status : ℕ) (output : List ℕ) → RegionsAnswer source status output → (status ≡ 4) ⊎ (status ≡ 7) → ⊥
-of_regions source status output (uncut found place is refused) h = not_four_or_seven status 1 refused.0 (inl (omega arith)) h
-of_regions source status output (cut flat is c made e told) h = not_four_or_seven status 0 e (inl (omega arith)) h
+of_regions : (least : Bool) (source : List ℕ) (status : ℕ) (output : List ℕ) → RegionsAnswer least source status output → (status ≡ 4) ⊎ (status ≡ 7) → ⊥
+of_regions least source status output (uncut found place is refused) h = not_four_or_seven status 1 refused.0 (inl (omega arith)) h
+of_regions least source status output (cut flat is c made e told) h = not_four_or_seven status 0 e (inl (omega arith)) h
 
 of_order : (source : List ℕ) (status : ℕ) (output : List ℕ) → OrderAnswer source status output → (status ≡ 4) ⊎ (status ≡ 7) → ⊥
 of_order source status output (unlocked found place is refused) h = not_four_or_seven status 1 refused.0 (inl (omega arith)) h
@@ -173,7 +173,7 @@ of_sweep input status output (of_points flat is lines read c made (swept few all
 
 of_recover : (turns : ℕ) (input : List ℕ) (status : ℕ) (output : List ℕ) → RecoverAnswer turns input status output → (status ≡ 4) ⊎ (status ≡ 7) → ⊥
 of_recover turns input status output (no_image error is e told) h = not_four_or_seven status 6 e (inr refl) h
-of_recover turns input status output (of_image image is recovery) h = by_unsettled _ status recovery.reported.status_is h
+of_recover turns input status output (of_image image is on recovery) h = by_unsettled _ status recovery.reported.status_is h
 
 of_seeded : (seed turns : ℕ) (crashes source : List ℕ) (status : ℕ) (output : List ℕ) → SeededAnswer seed turns crashes source status output →
     (status ≡ 4) ⊎ (status ≡ 7) → ⊥
@@ -197,7 +197,7 @@ of_list input status output (of_object object read e told) h = not_four_or_seven
 
 of_command : (c : Command) (input : List ℕ) (status : ℕ) (output : List ℕ) → CommandAnswer c input status output → (status ≡ 4) ⊎ (status ≡ 7) → ⊥
 of_command command.Compile input status output answer h = of_compile input status output answer h
-of_command command.Regions input status output answer h = of_regions input status output answer h
+of_command (command.Regions least) input status output answer h = of_regions least input status output answer h
 of_command command.Play input status output answer h =
     of_scripted IsRunBy (λ c events s o run. by_unsettled _ s run.reported.status_is) input status output answer h
 of_command command.Source input status output answer h = of_source input status output answer h

@@ -1,5 +1,5 @@
 -- Sums of numbers, one after another.
-use Rattle.std.proofs.Common.{◌≡◌, ℕ, ◌+◌, ◌<◌, ◌≤◌, ◌^◌, List, length, drop, arith, ap, ◌∙◌, ℤ}
+use Rattle.std.proofs.Common.{◌≡◌, ℕ, ◌+◌, ◌<◌, ◌≤◌, ◌^◌, List, length, drop, arith, ap, ℤ}
 use Rattle.std.specs.Int.{w128}
 use Rattle.std.specs.Prelude.{◌+ℤ◌, FitsSigned, negsuc, pos, slice_index_or, unsigned_abs}
 use Rattle.std.proofs.lemmas.Int.{fits_signed_from_abs, ints}

@@ -13,7 +13,6 @@ use Rattle.ido_cli.specs.declared.command.Command.TheVariants as command
 use Rattle.c_tree.specs.declared.rule.Rule as r
 use Rattle.flow_graph.specs.Refusals.{IsAccepted, IsRefusedBy}
 use Rattle.compiler_correctness.specs.Translations.{Translation}
-use Rattle.ido_cli.specs.Commands.{command_of}
 use Rattle.ido_cli.specs.Draws.{IsGenerated}
 use Rattle.ido_cli.specs.Images.{IsImageAfter}
 use Rattle.ido_cli.specs.Plays.{IsRunBy, ScriptAnswer, too_long, ran as ran_by}
@@ -165,9 +164,9 @@ module _ (one_flat : OneFlat) (one_fault : OneFault) (not_both : NotBoth) (one_s
   of_compile text status output (uncompiled found place is told) = breaks found place is told
   of_compile text status output (compiled flat is x made e told) = keeps flat is (λ one. omega (arith, e, one))
 
-  of_regions : (text : List ℕ) (status : ℕ) (output : List ℕ) → RegionsAnswer text status output → Verdict text status output
-  of_regions text status output (uncut found place is told) = breaks found place is told
-  of_regions text status output (cut flat is x made e told) = keeps flat is (λ one. omega (arith, e, one))
+  of_regions : (least : Bool) (text : List ℕ) (status : ℕ) (output : List ℕ) → RegionsAnswer least text status output → Verdict text status output
+  of_regions least text status output (uncut found place is told) = breaks found place is told
+  of_regions least text status output (cut flat is x made e told) = keeps flat is (λ one. omega (arith, e, one))
 
   of_seeded : (seed turns : ℕ) (crashes text : List ℕ) (status : ℕ) (output : List ℕ) → SeededAnswer seed turns crashes text status output →
       Verdict text status output
@@ -225,7 +224,7 @@ module _ (one_flat : OneFlat) (one_fault : OneFault) (not_both : NotBoth) (one_s
 
   not_of_recover : (turns : ℕ) (input : List ℕ) (status : ℕ) (output : List ℕ) → RecoverAnswer turns input status output → status ≡ 1 → ⊥
   not_of_recover turns input status output (no_image error is e told) one = omega (arith, e, one)
-  not_of_recover turns input status output (of_image image is recovery) one = not_by_unsettled _ status recovery.reported.status_is one
+  not_of_recover turns input status output (of_image image is on recovery) one = not_by_unsettled _ status recovery.reported.status_is one
 
   -- ---- A script that isn't spelled as one
 
@@ -285,10 +284,10 @@ module _ (one_flat : OneFlat) (one_fault : OneFault) (not_both : NotBoth) (one_s
   one_within command.Compile input status other output written within (breaks_rule one) told more =
       one_refusal input status other output written one (of_compile input status output told) (of_compile input other written more)
   one_within command.Compile input status other output written within (misspelled takes flat is x bad) told more = absurd takes
-  one_within command.Regions input status other output written within (plain n) told more = absurd n
-  one_within command.Regions input status other output written within (breaks_rule one) told more =
-      one_refusal input status other output written one (of_regions input status output told) (of_regions input other written more)
-  one_within command.Regions input status other output written within (misspelled takes flat is x bad) told more = absurd takes
+  one_within (command.Regions least) input status other output written within (plain n) told more = absurd n
+  one_within (command.Regions least) input status other output written within (breaks_rule one) told more =
+      one_refusal input status other output written one (of_regions least input status output told) (of_regions least input other written more)
+  one_within (command.Regions least) input status other output written within (misspelled takes flat is x bad) told more = absurd takes
   one_within command.Play input status other output written within (plain n) told more = absurd n
   one_within command.Play input status other output written within (breaks_rule one) told more =
       one_refusal (source_of input) status other output written one (of_play input status output told) (of_play input other written more)

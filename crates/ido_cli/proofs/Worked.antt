@@ -49,9 +49,25 @@ compile_is_taken : command_of (codes "ido" ∷ codes "compile" ∷ []) ≡ Some 
 unfolding command_of clap_on_literals
 compile_is_taken = refl
 
-regions_is_taken : command_of (codes "ido" ∷ codes "regions" ∷ []) ≡ Some command.Regions
+regions_is_taken : command_of (codes "ido" ∷ codes "regions" ∷ []) ≡ Some (command.Regions false)
 unfolding command_of clap_on_literals
 regions_is_taken = refl
+
+least_is_taken : command_of (codes "ido" ∷ codes "regions" ∷ codes "--least" ∷ []) ≡ Some (command.Regions true)
+unfolding command_of clap_on_literals
+least_is_taken = refl
+
+no_other_flag : command_of (codes "ido" ∷ codes "regions" ∷ codes "--most" ∷ []) ≡ None
+unfolding command_of clap_on_literals
+no_other_flag = refl
+
+no_word_after_least : command_of (codes "ido" ∷ codes "regions" ∷ codes "--least" ∷ codes "x" ∷ []) ≡ None
+unfolding command_of clap_on_literals
+no_word_after_least = refl
+
+least_once : command_of (codes "ido" ∷ codes "regions" ∷ codes "--least" ∷ codes "--least" ∷ []) ≡ None
+unfolding command_of clap_on_literals
+least_once = refl
 
 source_is_taken : command_of (codes "ido" ∷ codes "source" ∷ []) ≡ Some command.Source
 unfolding command_of clap_on_literals

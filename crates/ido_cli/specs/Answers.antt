@@ -7,10 +7,10 @@ use Rattle.ido_outside.specs.Causes.{Rose}
 use Rattle.ido_outside.specs.Sink.{Adds, AddsPrefix}
 use Rattle.c_tree.specs.Flats as f
 use Rattle.c_tree.specs.declared.rule.Rule as r
-use Rattle.flow_graph.specs.Lowering.{lowered}
 use Rattle.flow_graph.specs.Refusals.{IsAccepted, IsRefusedBy}
 use Rattle.compiler_correctness.specs.Translations.{Translation}
-use Rattle.compiler_correctness.specs.Images.{Image}
+use Rattle.compiler_correctness.specs.Images.{Image, image_in}
+use Rattle.compiler_correctness.specs.WordRuns.{RunsOn}
 use Rattle.file_fields.specs.Fields as fields
 use Rattle.image_checks.specs.declared.error.ImageError.{ImageError}
 use Rattle.ido_cli.specs.declared.compiled_image.Image as i
@@ -37,7 +37,7 @@ use Rattle.ido_cli.specs.Plays.{IsRunBy, IsTranslationOf, ScriptAnswer, beginnin
 use Rattle.ido_cli.specs.Recoveries.{IsRecovery}
 use Rattle.ido_cli.specs.Refusals.{IsRefusedAt, code_of, fault_code, fault_place, image_line, line_after, line_at_byte}
 use Rattle.ido_cli.specs.Refusals.{object_fault_code, object_fault_place, script_fault_code, script_fault_place}
-use Rattle.ido_cli.specs.Regions.{regions}
+use Rattle.ido_cli.specs.Regions.{IsListing}
 use Rattle.ido_cli.specs.Runs.{RunAnswer}
 use Rattle.ido_cli.specs.Sweeps.{SweptScript}
 use Rattle.ido_cli.specs.ThreadedRuns.{AreLegs, IsLoadedRun, evictions_by}
@@ -48,7 +48,7 @@ IsSourcePastLimits input = (MOST_INPUT_BYTES < length input) ⊎ (MOST_SOURCE_BY
 
 abbrev pub IsPastLimits : Command → (input : List ℕ) → Type 0
 IsPastLimits command.Compile input = MOST_SOURCE_BYTES < length input
-IsPastLimits command.Regions input = MOST_SOURCE_BYTES < length input
+IsPastLimits (command.Regions least) input = MOST_SOURCE_BYTES < length input
 IsPastLimits command.Play input = IsSourcePastLimits input
 IsPastLimits command.Source input = IsSourcePastLimits input
 IsPastLimits command.List input = MOST_INPUT_BYTES < length input
@@ -91,12 +91,12 @@ pub data CompileAnswer (source : List ℕ) (status : ℕ) (output : List ℕ) : 
 
 -- ---- `regions`
 
--- what a source is answered: the nodes of its graph, and the boundaries of a compilation that are chosen among them
-pub data RegionsAnswer (source : List ℕ) (status : ℕ) (output : List ℕ) : Type 0 where
+-- what a source is answered: the nodes of its graph, the boundaries of a compilation that are chosen among them, and, where that is asked, how few they are
+pub data RegionsAnswer (least : Bool) (source : List ℕ) (status : ℕ) (output : List ℕ) : Type 0 where
   uncut : (found : r.Rule) (place : Place) → IsRefusedBy source found place → IsRefusedAt 1 (code_of found) source place.0 status output →
-      RegionsAnswer source status output
+      RegionsAnswer least source status output
   cut : (flat : f.Flat) → IsAccepted source flat → (c : Translation) → IsTranslationOf flat c → status ≡ 0 →
-      output ≡ regions source (lowered flat) c.boundaries flat.threads → RegionsAnswer source status output
+      IsListing least source flat c.boundaries output → RegionsAnswer least source status output
 
 -- ---- `order`
 
@@ -180,11 +180,13 @@ pub data LoadAnswer (rounds seed : ℕ) (status : ℕ) (output : List ℕ) : Typ
 abbrev pub file_in : i.Image → Image
 file_in image = record { words = image.words.items; kept = image.schedule.items }
 
--- what an input of an image is answered: its first fault, or what is said of a run that goes on from it
+-- What an input of an image is answered: its first fault, or what is said of a run that goes on from it. Whoever wrote the image, that run is never stuck,
+-- its delays are bounded, and no hart waits that takes its locks.
 pub data RecoverAnswer (turns : ℕ) (input : List ℕ) (status : ℕ) (output : List ℕ) : Type 0 where
   no_image : (error : ImageError) → IsImageAnswer input (Err error) → status ≡ 6 → image_line error ≡ Some output → RecoverAnswer turns input status output
-  of_image : (image : i.Image) → IsImageAnswer input (Ok image) → IsRecovery (translation_in image.compiled) (file_in image) turns status output →
-      RecoverAnswer turns input status output
+  of_image : (image : i.Image) → IsImageAnswer input (Ok image) →
+      RunsOn (translation_in image.compiled) (image_in (translation_in image.compiled) (file_in image)) →
+      IsRecovery (translation_in image.compiled) (file_in image) turns status output → RecoverAnswer turns input status output
 
 -- ---- `list`
 
@@ -199,7 +201,7 @@ pub data ListAnswer (input : List ℕ) (status : ℕ) (output : List ℕ) : Type
 -- what an input within the limits is answered
 abbrev pub CommandAnswer : Command → (input : List ℕ) → (status : ℕ) → (output : List ℕ) → Type 0
 CommandAnswer command.Compile input status output = CompileAnswer input status output
-CommandAnswer command.Regions input status output = RegionsAnswer input status output
+CommandAnswer (command.Regions least) input status output = RegionsAnswer least input status output
 CommandAnswer command.Play input status output = PlayAnswer input status output
 CommandAnswer command.Source input status output = SourceAnswer input status output
 CommandAnswer command.List input status output = ListAnswer input status output

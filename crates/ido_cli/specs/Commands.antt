@@ -49,9 +49,12 @@ crash_rule = record (new_rule (codes "CRASH")) { action = Some Append; parser = 
 abbrev pub evict_rule : Rule
 evict_rule = record (new_rule (codes "evict")) { long = Some (codes "evict"); parser = Some (parser.Unsigned 0 (2 ^ 64 - 1)) }
 
--- `--journal`, with nothing after it
-abbrev pub journal_rule : Rule
-journal_rule = record (new_rule (codes "journal")) { long = Some (codes "journal"); action = Some SetTrue }
+-- the name with two hyphens before it, and nothing after it
+abbrev pub flag_rule : (name : List ℕ) → Rule
+flag_rule name = record (new_rule name) { long = Some name; action = Some SetTrue }
+
+abbrev pub regions_shape : Shape
+regions_shape = record (new_shape (codes "regions")) { rules = flag_rule (codes "least") ∷ [] }
 
 abbrev pub recover_shape : Shape
 recover_shape = record (new_shape (codes "recover")) { rules = turns_rule ∷ [] }
@@ -67,19 +70,19 @@ seeded_shape = record (new_shape (codes "seeded")) {
 }
 
 abbrev pub live_shape : Shape
-live_shape = record (new_shape (codes "live")) { rules = turns_rule ∷ crash_rule ∷ evict_rule ∷ journal_rule ∷ [] }
+live_shape = record (new_shape (codes "live")) { rules = turns_rule ∷ crash_rule ∷ evict_rule ∷ flag_rule (codes "journal") ∷ [] }
 
 abbrev pub load_shape : Shape
 load_shape = record (new_shape (codes "load")) {
   rules = number_rule (codes "N") (parser.Unsigned 1 most_loaded_rounds) ∷ number_rule (codes "SEED") (parser.Unsigned 0 (2 ^ 32 - 1)) ∷ [];
 }
 
--- one of the commands is required; the first seven and the last take no word of their own
+-- one of the commands is required; the first seven, but for `regions`, and the last take no word of their own
 abbrev pub table : App
 table =
     let top = record (new_shape (codes "ido")) { subcommand_required = true } in
     let one = with_subcommand (record { top = top; subs = [] }) (new_shape (codes "compile")) in
-    let two = with_subcommand (with_subcommand one (new_shape (codes "list"))) (new_shape (codes "regions")) in
+    let two = with_subcommand (with_subcommand one (new_shape (codes "list"))) regions_shape in
     let three = with_subcommand (with_subcommand two (new_shape (codes "play"))) (new_shape (codes "source")) in
     let order = with_subcommand (with_subcommand three (new_shape (codes "image"))) (new_shape (codes "order")) in
     let four = with_subcommand order recover_shape in
@@ -119,6 +122,9 @@ crashes_of texts = if nat_lt most_crashes (length texts) then None else numbers_
 abbrev pub crashes_in : List Row → Option (List ℕ)
 crashes_in rows = crashes_of (unwrap_or (all_of (codes "CRASH") rows) [])
 
+abbrev pub regions_in : List Row → c.Command
+regions_in rows = command.Regions (is_set (codes "least") rows)
+
 abbrev pub recover_in : List Row → Option c.Command
 recover_in rows = option_map (λ turns. command.Recover turns) (number_in 32 (codes "TURNS") rows)
 
@@ -145,7 +151,7 @@ abbrev pub command_by_name : (name : List ℕ) → List Row → Option c.Command
 command_by_name name rows =
     if is_named (codes "compile") name then Some command.Compile
     else if is_named (codes "list") name then Some command.List
-    else if is_named (codes "regions") name then Some command.Regions
+    else if is_named (codes "regions") name then Some (regions_in rows)
     else if is_named (codes "play") name then Some command.Play
     else if is_named (codes "source") name then Some command.Source
     else if is_named (codes "image") name then Some command.Image

@@ -22,7 +22,7 @@ abbrev pub IsPlain : Option Command → Type 0
 IsPlain None = Unit {0}
 IsPlain (Some command.Compile) = ⊥
 IsPlain (Some command.List) = Unit {0}
-IsPlain (Some command.Regions) = ⊥
+IsPlain (Some (command.Regions least)) = ⊥
 IsPlain (Some command.Play) = ⊥
 IsPlain (Some command.Source) = Unit {0}
 IsPlain (Some command.Image) = ⊥
@@ -39,7 +39,7 @@ abbrev pub TakesScript : Option Command → Type 0
 TakesScript None = ⊥
 TakesScript (Some command.Compile) = ⊥
 TakesScript (Some command.List) = ⊥
-TakesScript (Some command.Regions) = ⊥
+TakesScript (Some (command.Regions least)) = ⊥
 TakesScript (Some command.Play) = Unit {0}
 TakesScript (Some command.Source) = ⊥
 TakesScript (Some command.Image) = Unit {0}

@@ -1,5 +1,5 @@
 -- Lives of texts whose threads lock their mutexes in the order of the declarations.
-use Rattle.std.specs.Prelude.{◌≡◌, ◌↔◌, ℕ, List, length, Some, None}
+use Rattle.std.specs.Prelude.{◌≡◌, ◌↔◌, ℕ, List, length, None}
 use Rattle.ido_base.specs.Cores.{least_enabled, played}
 use Rattle.c_tree.specs.Flats.{flat_of}
 use Rattle.deadlock_freedom.specs.Deadlocks.{HaveStopped}

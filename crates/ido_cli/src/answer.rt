@@ -35,8 +35,8 @@ use std::thread::Threads;
 enum Product {
     /// Its object.
     Object,
-    /// The nodes of its graph, and the boundaries among them.
-    Regions,
+    /// The nodes of its graph, and the boundaries among them; and how few there are in straight code, where that is asked.
+    Regions { least: bool },
     /// Whether its threads lock in order.
     Order,
 }
@@ -48,7 +48,7 @@ fn product_answer(alloc: Global, product: Product, source: &[u8]) -> Result<Said
 {
     match product {
         Product::Object => compile_answer(alloc, source),
-        Product::Regions => regions_answer(alloc, source),
+        Product::Regions { least } => regions_answer(alloc, source, least),
         Product::Order => order_answer(alloc, source),
     }
 }
@@ -146,7 +146,7 @@ pub fn answer(alloc: Global, command: Command, input: &[u8]) -> Result<Said, Out
     match command {
         Command::Compile => product_input(alloc, Product::Object, input),
         Command::List => list_answer(alloc, input),
-        Command::Regions => product_input(alloc, Product::Regions, input),
+        Command::Regions { least } => product_input(alloc, Product::Regions { least }, input),
         Command::Play => scripted_input(alloc, Asked::Report, input),
         Command::Source => source_input(alloc, input),
         Command::Image => scripted_input(alloc, Asked::Image, input),
@@ -194,7 +194,7 @@ pub fn threaded_answer<R: Threads + Wait + Sync, G: Gate + Sync>(
         Command::Sweep => sweep_input(rt, alloc, input, gate),
         Command::Compile
         | Command::List
-        | Command::Regions
+        | Command::Regions { .. }
         | Command::Play
         | Command::Source
         | Command::Image

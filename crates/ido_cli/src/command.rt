@@ -5,10 +5,10 @@ ghost use Rattle.clap.specs.Matches.{found_of};
 ghost use Rattle.clap.specs.Simple.{new_shape};
 ghost use Rattle.clap.specs.Walk.{rows_of};
 ghost use Rattle.clap.specs.Words.{app_of, rule_of, with_subcommand};
-ghost use Rattle.ido_cli.specs.Commands.{command_by_name, command_of, crash_rule, crashes_in, crashes_of, evict_rule, is_set, journal_rule};
+ghost use Rattle.ido_cli.specs.Commands.{command_by_name, command_of, crash_rule, crashes_in, crashes_of, evict_rule, flag_rule, is_set};
 ghost use Rattle.ido_cli.specs.Commands.{live_in, live_shape, load_in, load_shape, make_in, make_shape, most_crash, most_loaded_rounds};
 ghost use Rattle.ido_cli.specs.Commands.{most_rounds, most_turns, needs_threads, number_in, number_of, number_rule, numbers_of, reads_input};
-ghost use Rattle.ido_cli.specs.Commands.{recover_in, recover_shape, seeded_in, seeded_shape, table};
+ghost use Rattle.ido_cli.specs.Commands.{recover_in, recover_shape, regions_in, regions_shape, seeded_in, seeded_shape, table};
 
 use crate::crashes::Crashes;
 use clap::builder::ValueParser;
@@ -27,8 +27,10 @@ pub enum Command {
     Compile,
     /// Lists an object.
     List,
-    /// Lists the nodes of a source, and the boundaries among them.
-    Regions,
+    /// Lists the nodes of a source, and the boundaries among them; and how few there are in straight code, where that is asked.
+    Regions {
+        least: bool,
+    },
     /// Runs a compiled source by a script.
     Play,
     /// Runs a source by itself, by a schedule.
@@ -169,14 +171,23 @@ fn evict_option<'a>(alloc: Global) -> Arg<'a>
         .value_parser(long_parser())
 }
 
-/// The flag `--journal`.
-fn journal_flag<'a>(alloc: Global) -> Arg<'a>
-    ensures rule { rule_of result ≡ journal_rule }
+/// The flag of this name, with two hyphens before it.
+fn flag<'a>(alloc: Global, name: &'a str) -> Arg<'a>
+    ensures rule { rule_of result ≡ flag_rule name.entry.now }
     ensures local { result.global ≡ false }
 {
-    Arg::new(alloc, "journal")
-        .long("journal")
-        .action(ArgAction::SetTrue)
+    Arg::new(alloc, name).long(name).action(ArgAction::SetTrue)
+}
+
+/// A table with the command `regions` more, which takes a flag.
+fn with_regions<'a>(
+    alloc: Global,
+    table: clap::Command<'a>,
+) -> Result<clap::Command<'a>, AllocError>
+    ensures { IfOk result (λ c. app_of c ≡ with_subcommand (app_of table.entry) regions_shape) }
+{
+    let least = flag(alloc, "least");
+    table.subcommand(clap::Command::new(alloc, "regions").arg(least)?)
 }
 
 /// A table with the command `recover` more, which takes a number.
@@ -221,7 +232,7 @@ fn with_live<'a>(alloc: Global, table: clap::Command<'a>) -> Result<clap::Comman
     let turns = number_word(alloc, "TURNS", turns_parser());
     let crashes = crash_words(alloc);
     let evict = evict_option(alloc);
-    let journal = journal_flag(alloc);
+    let journal = flag(alloc, "journal");
     let one = clap::Command::new(alloc, "live").arg(turns)?;
     let two = one.arg(crashes)?;
     let three = two.arg(evict)?;
@@ -247,7 +258,7 @@ fn table<'a>(alloc: Global) -> Result<clap::Command<'a>, AllocError>
     let empty = clap::Command::new(alloc, "ido").subcommand_required(true);
     let one = with_command(alloc, empty, "compile")?;
     let two = with_command(alloc, one, "list")?;
-    let three = with_command(alloc, two, "regions")?;
+    let three = with_regions(alloc, two)?;
     let four = with_command(alloc, three, "play")?;
     let five = with_command(alloc, four, "source")?;
     let six = with_command(alloc, five, "image")?;
@@ -335,6 +346,14 @@ fn crashes_in(alloc: Global, matches: &ArgMatches) -> Result<Option<Crashes>, Ou
     }
 }
 
+/// The command `regions` by its words.
+fn regions_in(matches: &ArgMatches) -> Command
+    ensures { result ≡ regions_in (rows_of (found_of matches.now)) }
+{
+    let least = is_set(matches, "least");
+    Command::Regions { least }
+}
+
 /// The command `recover` by its words.
 fn recover_in(matches: &ArgMatches) -> Option<Command>
     ensures { result ≡ recover_in (rows_of (found_of matches.now)) }
@@ -412,7 +431,7 @@ fn command_by_name(
     match name {
         "compile" => Ok(Some(Command::Compile)),
         "list" => Ok(Some(Command::List)),
-        "regions" => Ok(Some(Command::Regions)),
+        "regions" => Ok(Some(regions_in(matches))),
         "play" => Ok(Some(Command::Play)),
         "source" => Ok(Some(Command::Source)),
         "image" => Ok(Some(Command::Image)),

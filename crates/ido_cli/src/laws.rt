@@ -33,9 +33,8 @@ pub fn lives_are_compiled()
     files_begin();
 }
 
-/// A life of a text that `order` calls ordered comes to no standstill: after every list of events, steps, evictions and crashes in any order, `can_step` finds
-/// a
-/// hart unless each has ended or is done with its recovery. It says nothing of threads of the host.
+/// A life of a text that `order` calls ordered comes to no standstill: after every list of events, steps, evictions and crashes in any
+/// order, `can_step` finds a hart unless each has ended or is done with its recovery. It says nothing of threads of the host.
 pub fn ordered_lives_go_on()
     ensures { OrderedLivesGoOn }
 {

@@ -21,6 +21,7 @@ use crate::said::Said;
 use ido_base::limits::MOST_EVENTS;
 use ido_base::memory::OutOfMemory;
 use ido_compile::{Compiled, compile};
+use run_scripts::bounds::script_bound;
 use run_scripts::play::play;
 use run_scripts::script::{Script, ScriptError, ScriptFault, read_script};
 use run_tracker::life::Life;
@@ -54,13 +55,14 @@ fn script_answer(
     ensures { IfOk result (λ said. ScriptAnswer (translation_in compiled.now) (Says asked compiled.now.text.items (translation_in compiled.now))
         (record { lines = map scripts.line_of script.now.lines.items; input = input.now; begins = begins }) said.status said.output.items) }
 {
+    let cap = script_bound(script, MOST_EVENTS as u32);
     let mut life = Life::new(
         alloc,
         &compiled.translated.object,
         &compiled.translated.marks,
-        MOST_EVENTS,
+        cap,
     )?;
-    match play(script, &mut life) {
+    match play(script, &mut life, cap) {
         Ok(()) => match asked {
             Asked::Report => say(alloc, &compiled.flat, &life),
             Asked::Image => image(alloc, &compiled.text, &compiled.translated.object, &life),

@@ -24,6 +24,7 @@ use ido_base::place::Place;
 use ido_compile::laws::files_begin;
 use ido_outside::Gate;
 use image_checks::error::ImageError;
+use image_runs::laws::shapes_run_on;
 use run_scripts::evictor::Evictor;
 use run_tracker::life::Life;
 use std::alloc::Global;
@@ -106,6 +107,7 @@ pub fn recover_answer<R: Threads + Wait + Sync, G: Gate + Sync>(
     requires { length input.now ≤ MOST_INPUT_BYTES }
     ensures { IfOk result (λ said. RecoverAnswer turns input.now said.status said.output.items) }
 {
+    shapes_run_on();
     match read_image(alloc, input) {
         Ok(image) => recovered(rt, alloc, &image, turns, gate),
         Err(error) => image_refused(alloc, error),

@@ -1,13 +1,14 @@
-//! The command `regions`: the nodes of a source's graph, and the boundaries that are chosen among them.
-ghost use Rattle.std.specs.Prelude.{◌≡◌, ◌<◌, ◌≤◌, ◌++◌, ◌^◌, length, IfOk, OnOk};
+//! The command `regions`: the nodes of a source's graph, the boundaries that are chosen among them, and how few they are in straight code.
+ghost use Rattle.std.specs.Prelude.{◌≡◌, ◌<◌, ◌≤◌, ◌++◌, ◌^◌, length, slice_index_or, false, IfOk, OnOk};
 ghost use Rattle.ido_base.specs.declared.limits.TheConstants.{MOST_SOURCE_BYTES};
 ghost use Rattle.c_tree.specs.Flats.{flat_of, thread_of};
 ghost use Rattle.flow_graph.specs.Nodes.{action_of, graph_of, node_of};
 ghost use Rattle.flow_graph.specs.IdempotentCuts.{boundaries_of};
 ghost use Rattle.flow_graph.specs.Lowering.{lowered};
 ghost use Rattle.ido_cli.specs.Answers.{RegionsAnswer};
-ghost use Rattle.ido_cli.specs.links.Regions.{IsRegionsAnswer};
-ghost use Rattle.ido_cli.specs.Regions.{action_name, cut_mark, is_chosen, node_line, node_lines, regions, thread_line};
+ghost use Rattle.ido_cli.specs.links.Regions.{HasSets, HaveNodes, HaveSets, IsRegionsAnswer};
+ghost use Rattle.ido_cli.specs.Regions.{action_name, boundaries_inside, cut_mark, is_chosen, is_in_section, least_line, least_lines};
+ghost use Rattle.ido_cli.specs.Regions.{AreTold, node_line, node_lines, regions, stretch_line, thread_line};
 
 use crate::instruction::put;
 use crate::refusal::{place_in, source_refused};
@@ -20,6 +21,8 @@ use flow_graph::graph::{Action, Graph, Node, Part};
 use ido_base::memory::OutOfMemory;
 use ido_compile::laws::translations_are_compilations;
 use ido_compile::{CompileError, checked, flatten};
+use lock_discipline::Held;
+use region_cutter::{Stretch, stretches};
 use std::alloc::Global;
 
 /// The name of what a node does.
@@ -103,46 +106,169 @@ fn put_thread(out: &mut Vec<u8>, thread: &Thread) -> Result<(), OutOfMemory>
     put(out, b"\n")
 }
 
-/// The nodes of a flat form, thread after thread.
+// ---- Straight code
+
+/// Whether a boundary stands before the node.
+fn has_before(cuts: &Cuts, node: usize) -> bool
+    ensures { result ≡ slice_index_or cuts.now.before.items node false }
+{
+    cuts.before.get(node).copied().unwrap_or(false)
+}
+
+/// How many boundaries stand inside straight code: before its nodes but for the first.
+fn boundaries_inside(cuts: &Cuts, stretch: Stretch) -> usize
+    requires { stretch.first < stretch.past }
+    ensures { result ≡ boundaries_inside (boundaries_of cuts.now) stretch }
+{
+    let mut inside = 0;
+    for node in stretch.first + 1..stretch.past {
+        if has_before(cuts, node) {
+            inside += 1;
+        }
+    }
+    inside
+}
+
+/// Whether the node is one of the thread's, and some mutex is held before it.
+fn is_in_section(held: &Held, thread: usize, part: Part, node: usize) -> bool
+    requires { HasSets held.now thread part }
+    ensures { result ≡ is_in_section held.now thread part node }
+{
+    part.first <= node
+        && node < part.end
+        && held.held(thread as u32, (node - part.first) as u32) != 0
+}
+
+/// Adds the line of straight code.
+#[tactic(auto, unfolding(crate::specs::Regions::least_line))]
+fn put_least(
+    alloc: Global,
+    out: &mut Vec<u8>,
+    cuts: &Cuts,
+    stretch: Stretch,
+) -> Result<(), OutOfMemory>
+    requires { stretch.first < stretch.past }
+    ensures { OnOk result (out.new.items ≡ out.old.items ++ least_line (boundaries_of cuts.now) stretch) }
+{
+    let Stretch { first, past } = stretch;
+    let inside = boundaries_inside(cuts, stretch);
+    let said = format!(in alloc; "least {first} {past} {inside}\n")?;
+    put(out, said.as_bytes())
+}
+
+/// Adds the line of straight code, if it stands in a section of the thread.
+fn put_stretch(
+    alloc: Global,
+    out: &mut Vec<u8>,
+    cuts: &Cuts,
+    held: &Held,
+    thread: usize,
+    part: Part,
+    stretch: Stretch,
+) -> Result<(), OutOfMemory>
+    requires sets { HasSets held.now thread part }
+    requires node { stretch.first < stretch.past }
+    ensures { OnOk result (out.new.items ≡ out.old.items ++ stretch_line (boundaries_of cuts.now) held.now thread part stretch) }
+{
+    if is_in_section(held, thread, part, stretch.first) {
+        put_least(alloc, out, cuts, stretch)
+    } else {
+        Ok(())
+    }
+}
+
+/// Adds the lines of the straight code in a thread's sections.
+fn put_stretches(
+    alloc: Global,
+    out: &mut Vec<u8>,
+    cuts: &Cuts,
+    held: &Held,
+    thread: usize,
+    part: Part,
+    stretches: &[Stretch],
+) -> Result<(), OutOfMemory>
+    requires sets { HasSets held.now thread part }
+    requires nodes { HaveNodes stretches.now }
+    ensures { OnOk result (out.new.items ≡ out.old.items ++ least_lines (boundaries_of cuts.now) held.now thread part stretches.now) }
+{
+    let mut rest = stretches;
+    while let [stretch, after @ ..] = rest {
+        put_stretch(alloc, out, cuts, held, thread, part, *stretch)?;
+        rest = after;
+    }
+    Ok(())
+}
+
+/// The straight code that is told: none, or all.
+fn told(alloc: Global, graph: &Graph<'_>, least: bool) -> Result<Vec<Stretch>, OutOfMemory>
+    ensures { IfOk result (λ told. AreTold least (graph_of graph.now) told.items) }
+{
+    if least {
+        stretches(alloc, graph)
+    } else {
+        Ok(Vec::new(alloc))
+    }
+}
+
+// ---- A source
+
+/// The nodes of a flat form, thread after thread, and of each thread those of these stretches that stand in its sections.
 fn regions(
     alloc: Global,
     text: &[u8],
     analysis: &Analysis,
     cuts: &Cuts,
+    stretches: &[Stretch],
 ) -> Result<Vec<u8>, OutOfMemory>
     requires short { length text.now < 2 ^ 31 }
     requires graph { graph_of analysis.now.graph ≡ lowered (flat_of analysis.now.flat.now) }
     requires cuts { length cuts.now.before.items ≡ length (lowered (flat_of analysis.now.flat.now)).nodes }
+    requires sets { HaveSets analysis.now.held analysis.now.graph.threads.items }
+    requires stretches { HaveNodes stretches.now }
     ensures { IfOk result (λ said. let flat = flat_of analysis.now.flat.now in
-        said.items ≡ regions text.now (lowered flat) (boundaries_of cuts.now) flat.threads) }
+        said.items ≡ regions text.now (lowered flat) (boundaries_of cuts.now)
+        (record { stretches = stretches.now; held = analysis.now.held }) flat.threads) }
 {
     let mut out = Vec::new(alloc);
-    for (thread, part) in analysis.flat.threads.iter().zip(&analysis.graph.threads) {
+    for number in 0..analysis.graph.threads.len() {
+        let thread = &analysis.flat.threads[number];
+        let part = analysis.graph.threads[number];
         put_thread(&mut out, thread)?;
-        put_nodes(alloc, &mut out, text, &analysis.graph, cuts, *part)?;
+        put_nodes(alloc, &mut out, text, &analysis.graph, cuts, part)?;
+        put_stretches(
+            alloc,
+            &mut out,
+            cuts,
+            &analysis.held,
+            number,
+            part,
+            stretches,
+        )?;
     }
     Ok(out)
 }
 
-/// The nodes of a source's flat form, with the boundaries of its object, or why it has none.
-fn source_regions(alloc: Global, source: &[u8]) -> Result<Vec<u8>, CompileError>
+/// The nodes of a source's flat form, with the boundaries of its object, and how few they are in straight code where that is asked, or why
+/// it has none.
+fn source_regions(alloc: Global, source: &[u8], least: bool) -> Result<Vec<u8>, CompileError>
     requires { length source.now ≤ MOST_SOURCE_BYTES }
-    ensures { IsRegionsAnswer source.now result }
+    ensures { IsRegionsAnswer least source.now result }
 {
     translations_are_compilations();
     let flat = flatten(alloc, source)?;
     let analysis = checked(alloc, source, &flat)?;
     let translated = translate(alloc, &analysis)?;
-    let output = regions(alloc, source, &analysis, &translated.cuts)?;
+    let stretches = told(alloc, &analysis.graph, least)?;
+    let output = regions(alloc, source, &analysis, &translated.cuts, &stretches)?;
     Ok(output)
 }
 
 /// The answer to a source text.
-pub fn regions_answer(alloc: Global, source: &[u8]) -> Result<Said, OutOfMemory>
+pub fn regions_answer(alloc: Global, source: &[u8], least: bool) -> Result<Said, OutOfMemory>
     requires { length source.now ≤ MOST_SOURCE_BYTES }
-    ensures { IfOk result (λ said. RegionsAnswer source.now said.status said.output.items) }
+    ensures { IfOk result (λ said. RegionsAnswer least source.now said.status said.output.items) }
 {
-    match source_regions(alloc, source) {
+    match source_regions(alloc, source, least) {
         Ok(output) => Ok(Said { status: 0, output }),
         Err(error) => source_refused(alloc, source, error),
     }

@@ -26,7 +26,7 @@ use ido_base::memory::OutOfMemory;
 use ido_compile::{Compiled, compile};
 use ido_outside::Gate;
 use run_scripts::few::{Excess, play_few};
-use run_scripts::play::play_first;
+use run_scripts::play::play;
 use run_scripts::rounds::make_rounds;
 use run_scripts::script::{Script, read_script};
 use run_tracker::life::Life;
@@ -56,7 +56,7 @@ fn life_after(points: &CrashPoints, k: u32) -> Result<Life, OutOfMemory>
     let translated = &points.translated;
     let cap = u64::from(k) + MOST_ROUND_STEPS + 1;
     let mut life = Life::new(points.alloc, &translated.object, &translated.marks, cap)?;
-    let _all = play_first(&points.script, &mut life, u64::from(k));
+    let _all = play(&points.script, &mut life, u64::from(k));
     life.event(Event::Crash);
     make_rounds(&mut life, MOST_ROUND_STEPS);
     Ok(life)

@@ -2,6 +2,7 @@
 ghost use Rattle.std.specs.Prelude.{◌≡◌, ◌≢◌, ◌+◌, ◌≤◌, ◌++◌, length, replicate, slice_get, take, IfOk, OnOk, Some};
 ghost use Rattle.ido_cli.specs.Sweeps.{IsTable, reports_of, run_text};
 
+use crate::instruction::put;
 use hart_driver::report::Report;
 use hart_driver::sweep::Outcome;
 use ido_base::memory::OutOfMemory;
@@ -19,14 +20,6 @@ fn run_length(outcomes: &[Outcome], report: &Report) -> usize
         }
     }
     outcomes.len()
-}
-
-/// Adds bytes.
-fn put(text: &mut Vec<u8>, bytes: &[u8]) -> Result<(), OutOfMemory>
-    ensures { OnOk result (text.new.items ≡ text.old.items ++ bytes.now) }
-{
-    text.extend_from_slice(bytes)?;
-    Ok(())
 }
 
 /// Adds `from A to B` and the report of these points.

@@ -2,13 +2,14 @@
 use super::{alone, ido};
 use ido_outside::{Gate, MemSink, MemSource, OpenGate, SureSink, SureSource};
 use std::alloc::{AllocError, Global};
+use std::process::Abort;
 use std::sync::Wait;
 use std::sync::atomic::{AtomicBool, AtomicU64, Ordering};
 use std::test::Fail;
 use std::thread::Threads;
 
 const ADD_ONE: &[u8] =
-    b"mutex m; persistent(m) long x = 5; thread t { lock(m); x = x + 1; unlock(m); }";
+    b"mutex m; persistent(m) long x = 5; thread t { lock(m); x = x + 1; unlock(m); }\n";
 
 fn words_of(alloc: Global, texts: &[&str]) -> Result<Vec<String>, AllocError> {
     let mut words = Vec::new(alloc);
@@ -18,45 +19,98 @@ fn words_of(alloc: Global, texts: &[&str]) -> Result<Vec<String>, AllocError> {
     Ok(words)
 }
 
-#[test]
-fn no_words_and_faults_outside(rt: HostRuntime) -> Result<(), Fail> {
-    for (texts, read, write, status, output) in [
-        (
-            ["ido", "play"].as_slice(),
-            0,
-            0,
-            0,
-            b"x = 5\nended 0 0\nschedule\n".as_slice(),
-        ),
-        (&["ido", "play"], 3, 0, 4, b""),
-        (&["ido", "play"], 0, 1, 5, b""),
-        (&["ido", "play"], 0, 2, 5, b"x = 5\ne"),
-        (&[], 0, 0, 2, b"refused words\n"),
-        (&["ido"], 0, 0, 2, b"refused words\n"),
-        (&["play"], 0, 0, 2, b"refused words\n"),
-        (&["ido", "live", "0"], 3, 0, 4, b""),
-        (&["ido", "live", "0", "--journal"], 0, 2, 5, b"mutex m"),
-        (
-            &["ido", "live", "1000000"],
-            0,
-            0,
-            0,
-            b"x = 6\nended 0 1\nschedule 0*4\n",
-        ),
-        (&["ido", "load", "1", "0"], 1, 0, 0, b"ended 16\ntotal 73\n"),
-        (&["ido", "load", "1", "0"], 0, 1, 5, b""),
-        (&["ido", "load", "0", "0"], 0, 0, 2, b"refused words\n"),
-    ] {
-        let words = words_of(rt.alloc(), texts)?;
-        let reads = vec![in rt.alloc(); read]?;
-        let writes = vec![in rt.alloc(); write]?;
-        let mut source = MemSource::new(ADD_ONE.to_vec(rt.alloc())?, 10, reads);
-        let mut sink = MemSink::new(rt.alloc(), 200, 7, writes)?;
-        let answer = ido(&rt, rt.alloc(), &words, &mut source, &mut sink, &OpenGate);
+/// What a call comes to where its read and its write of these numbers fail, counted from 1.
+fn call_with_faults<R: Threads + Wait + Sync>(
+    rt: &R,
+    alloc: Global,
+    texts: &[&str],
+    input: &[u8],
+    read: u64,
+    write: u64,
+) -> Result<(u8, Vec<u8>), Fail> {
+    let words = words_of(alloc, texts)?;
+    let reads = vec![in alloc; read]?;
+    let writes = vec![in alloc; write]?;
+    let mut source = MemSource::new(input.to_vec(alloc)?, 16, reads);
+    let mut sink = MemSink::new(alloc, 2_000, 8, writes)?;
+    let status = ido(rt, alloc, &words, &mut source, &mut sink, &OpenGate);
+    Ok((status, sink.into_written()))
+}
+
+/// Each read of a call fails in turn, and then each of its writes: how many of each there are.
+fn fail_each<R: Threads + Wait + Sync + Abort>(
+    rt: &R,
+    alloc: Global,
+    texts: &[&str],
+    input: &[u8],
+) -> Result<(usize, usize), Fail> {
+    let (ended, output) = call_with_faults(rt, alloc, texts, input, 0, 0)?;
+    let mut reads = 0;
+    for read in 1..1_000u32 {
+        let (status, written) = call_with_faults(rt, alloc, texts, input, u64::from(read), 0)?;
+        if status == ended {
+            break;
+        }
+        assert_eq!(rt; (status, written.len()), (4, 0), "{texts:?}, read {read}");
+        reads = read as usize;
+    }
+    let mut writes = 0;
+    for write in 1..1_000u32 {
+        let (status, written) = call_with_faults(rt, alloc, texts, input, 0, u64::from(write))?;
+        if status == ended {
+            break;
+        }
         assert_eq!(rt;
-            (answer, sink.written()),
-            (status, output),
-            "{texts:?}, faults at {read} and {write}"
+            (status, written.len()),
+            (5, 8 * (write as usize - 1)),
+            "{texts:?}, write {write}"
+        );
+        assert!(rt; output.starts_with(&written), "{texts:?}, write {write}");
+        writes = write as usize;
+    }
+    Ok((reads, writes))
+}
+
+/// Each read and each write of each command fails in turn. Reads have 16 bytes at most, writes 8.
+#[test]
+fn faults_outside(rt: HostRuntime) -> Result<(), Fail> {
+    let played = joined(rt.alloc(), ADD_ONE, b"s 0 100000\n")?;
+    let swept = joined(rt.alloc(), ADD_ONE, b"s 0 3\n")?;
+    let scheduled = joined(rt.alloc(), ADD_ONE, b"schedule 0*4\n")?;
+    let (_, object) = call(&rt, rt.alloc(), &["ido", "compile"], ADD_ONE)?;
+    let (_, image) = call(&rt, rt.alloc(), &["ido", "image"], &played)?;
+    for (texts, input, writes) in [
+        (["ido", "play"].as_slice(), played.as_slice(), 4),
+        (&["ido", "image"], &played, 143),
+        (&["ido", "sweep"], &swept, 5),
+        (&["ido", "source"], &scheduled, 4),
+        (&["ido", "compile"], ADD_ONE, 32),
+        (&["ido", "regions"], ADD_ONE, 10),
+        (&["ido", "order"], ADD_ONE, 1),
+        (&["ido", "seeded", "7", "1000"], ADD_ONE, 4),
+        (&["ido", "live", "1000"], ADD_ONE, 4),
+        (&["ido", "list"], &object, 226),
+        (&["ido", "recover", "1000"], &image, 4),
+    ] {
+        let found = fail_each(&rt, rt.alloc(), texts, input)?;
+        assert_eq!(rt; found, (input.len().div_ceil(16) + 1, writes), "{texts:?}");
+    }
+    let made = fail_each(&rt, rt.alloc(), &["ido", "make", "1", "0"], b"")?;
+    assert_eq!(rt; made, (0, 130));
+    let loaded = fail_each(&rt, rt.alloc(), &["ido", "load", "1", "0"], b"")?;
+    assert_eq!(rt; loaded, (0, 3));
+    Ok(())
+}
+
+/// Words that name no command, and none at all.
+#[test]
+fn no_words(rt: HostRuntime) -> Result<(), Fail> {
+    for texts in [[].as_slice(), &["ido"], &["play"]] {
+        let (status, output) = call(&rt, rt.alloc(), texts, ADD_ONE)?;
+        assert_eq!(rt;
+            (status, output.as_slice()),
+            (2, b"refused words\n".as_slice()),
+            "{texts:?}"
         );
     }
     Ok(())

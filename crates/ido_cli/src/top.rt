@@ -163,8 +163,8 @@ fn is_threaded(named: &Option<Command>) -> bool
 }
 
 /// Answers words, the program's name first, and an input: writes the output, and answers the
-/// status. It takes no runtime, and does whole every command that needs no threads; for one that does, `live`, `recover` or `load`,
-/// it answers `None`, and has read and written nothing. Where memory is wanting to read the words it answers 7, whatever they name.
+/// status. It takes no runtime, and does whole every command that needs no threads; for one that does, `live`, `sweep`, `recover` or
+/// `load`, it answers `None`, and has read and written nothing. Where memory is wanting to read the words it answers 7, whatever they name.
 ///
 /// The input is read to its end, or to one byte past its limit, before anything is said of it, but for
 /// `make`, which reads none; and the whole output is made before its first byte is written.
@@ -227,8 +227,8 @@ fn serve_on_threads<R: Threads + Wait + Sync, S: Source, K: Sink, G: Gate + Sync
 }
 
 /// Answers words, the program's name first, and an input: writes the output, and answers the
-/// status. What `alone` leaves, `live`, `recover` and `load`, it does on threads that `rt` starts, which all have ended when it
-/// answers. Before each turn of a worker the gate is passed.
+/// status. What `alone` leaves, `live`, `sweep`, `recover` and `load`, it does on threads that `rt` starts, which all have ended when
+/// it answers. Before each turn of a worker, and before each point of a sweep, the gate is passed.
 ///
 /// It owes no return: by its bounds `Threads` and `Wait` it may wait, and its clauses say what holds if it returns. What `alone`
 /// answers is proved to return as far as the source and the sink do.

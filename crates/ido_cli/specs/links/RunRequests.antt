@@ -24,5 +24,5 @@ Says asked.Image source c events status output = IsImageAfter source c events st
 -- the command that makes it
 abbrev pub command_making : Product → Command
 command_making product.Object = command.Compile
-command_making product.Regions = command.Regions
+command_making (product.Regions least) = command.Regions least
 command_making product.Order = command.Order

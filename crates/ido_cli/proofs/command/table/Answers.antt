@@ -2,7 +2,7 @@ use Rattle.std.proofs.Common.{◌≡◌, List, [], ℕ, true, ap, codes, ◌∙�
 use Rattle.std.proofs.lemmas.Result.{IfOk-weaker}
 use Rattle.clap.specs.Simple.{App, app_of_fields, new_shape}
 use Rattle.clap.specs.Words.{app_of, with_subcommand}
-use Rattle.ido_cli.specs.Commands.{live_shape, load_shape, make_shape, recover_shape, seeded_shape}
+use Rattle.ido_cli.specs.Commands.{live_shape, load_shape, make_shape, recover_shape, regions_shape, seeded_shape}
 use Rattle.ido_cli.proofs.command.table.Goals as goal
 
 -- a table with a command of this name more
@@ -22,7 +22,7 @@ returns c =
     ap app_of_fields c.subcommand_required-empty.ensures ∙ ap requiring c.new.ensures.app in
     let one = c.in_ok-one.ensures ∙ ap (named (codes "compile")) empty_is in
     let two = c.in_ok-two.ensures ∙ ap (named (codes "list")) one in
-    let three = c.in_ok-three.ensures ∙ ap (named (codes "regions")) two in
+    let three = c.in_ok-three.ensures ∙ ap (λ (a : App). with_subcommand a regions_shape) two in
     let four = c.in_ok-four.ensures ∙ ap (named (codes "play")) three in
     let five = c.in_ok-five.ensures ∙ ap (named (codes "source")) four in
     let six = c.in_ok-six.ensures ∙ ap (named (codes "image")) five in
@@ -32,4 +32,4 @@ returns c =
     let ten = c.in_ok-ten.ensures ∙ ap (λ (a : App). with_subcommand a seeded_shape) nine in
     let eleven = c.in_ok-eleven.ensures ∙ ap (λ (a : App). with_subcommand a live_shape) ten in
     let twelve = c.in_ok-twelve.ensures ∙ ap (λ (a : App). with_subcommand a load_shape) eleven in
-    IfOk-weaker c.with_command-8.result _ _ (λ made is. is ∙ ap (named (codes "sweep")) twelve) c.with_command-8.ensures
+    IfOk-weaker c.with_command-7.result _ _ (λ made is. is ∙ ap (named (codes "sweep")) twelve) c.with_command-7.ensures

@@ -11,7 +11,7 @@ returns c =
     let turns = c.number_word-turns in
     let crashes = c.crash_words-crashes in
     let evict = c.evict_option-evict in
-    let journal = c.journal_flag-journal in
+    let journal = c.flag-journal in
     let turns_is : rule_of turns.result ≡ turns_rule = turns.ensures.rule ∙ ap (number_rule (codes "TURNS")) c.turns_parser.ensures in
     let none : (out-Command c.in_ok-one.one).has_globals ≡ false =
     c.in_ok-one.ensures.globals ∙ ap₂ (λ (a b : Bool). a || b) c.new.ensures.local turns.ensures.local in

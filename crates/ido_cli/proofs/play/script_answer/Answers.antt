@@ -14,7 +14,7 @@ use Rattle.ido_cli.specs.Refusals.{line_at}
 use Rattle.ido_compile.specs.CompileAnswers.{translation_in}
 use Rattle.ido_cli.specs.links.RunRequests.{Says}
 use Rattle.ido_cli.proofs.RunImages.{image_after, logs_few, same_variables, steps_few, variables_few, variables_within}
-use Rattle.ido_cli.proofs.PlayedRuns.{as_many_threads, fits, harts_of_life, has_played, has_room, passed_at, refused, run_by}
+use Rattle.ido_cli.proofs.PlayedRuns.{as_many_threads, fits, harts_of_life, has_played, has_room, passed_at, past_most, refused, run_by}
 use Rattle.ido_cli.proofs.ScriptAnswers.{all_doable}
 use Rattle.ido_cli.proofs.RefusedSchedules.{both_ok}
 use Rattle.ido_cli.proofs.play.script_answer.Goals as goal
@@ -28,8 +28,9 @@ play-requires-clause-lines c = λ _.
 
 pub play-requires-clause-room : goal.play-requires-clause-room
 play-requires-clause-room c = λ _.
-    let least : MOST_EVENTS ≤ MOST_EVENTS - 0 = omega arith in
-    subst (λ (life : Course). MOST_EVENTS ≤ life.cap - length life.journal) (sym c.in_ok-life.ensures) least
+    let cap = c.script_bound-cap.result in
+    let least : cap ≤ cap - 0 = omega arith in
+    subst (λ (life : Course). cap ≤ life.cap - length life.journal) (sym c.in_ok-life.ensures) least
 
 pub say-requires-clause-few : goal.say-requires-clause-few
 say-requires-clause-few c =
@@ -49,7 +50,8 @@ say-requires-clause-harts c =
     let x = c.args.compiled.now in
     let y = x.translated in
     let lines = map scripts.line_of c.args.script.now.lines.items in
-    let played = has_played (flat_of x.flat) y.object y.marks y.cuts lines MOST_EVENTS MOST_EVENTS c.in_ok-life.life c.in_ok-life.ensures c.play.new.core
+    let played = has_played (flat_of x.flat) y.object y.marks y.cuts lines c.script_bound-cap.result c.script_bound-cap.result c.in_ok-life.life
+    c.in_ok-life.ensures c.play.new.core
     c.play.ensures.opening c.play.ensures.events c.in-Ok.ensures.whole in
     harts_of_life (flat_of x.flat) y.object y.marks y.cuts c.play.new.core _ played
 
@@ -59,7 +61,8 @@ image-requires-clause-variables c =
     let y = x.translated in
     let flat = flat_of x.flat in
     let lines = map scripts.line_of c.args.script.now.lines.items in
-    let played = has_played flat y.object y.marks y.cuts lines MOST_EVENTS MOST_EVENTS c.in_ok-life.life c.in_ok-life.ensures c.play.new.core
+    let played = has_played flat y.object y.marks y.cuts lines c.script_bound-cap.result c.script_bound-cap.result c.in_ok-life.life
+    c.in_ok-life.ensures c.play.new.core
     c.play.ensures.opening
     c.play.ensures.events c.in-Ok.ensures.whole in
     variables_few flat y.object y.marks y.cuts c.play.new.core _ played c.requires.translated c.requires.compilation
@@ -70,7 +73,8 @@ image-requires-clause-object c =
     let y = x.translated in
     let flat = flat_of x.flat in
     let lines = map scripts.line_of c.args.script.now.lines.items in
-    let played = has_played flat y.object y.marks y.cuts lines MOST_EVENTS MOST_EVENTS c.in_ok-life.life c.in_ok-life.ensures c.play.new.core
+    let played = has_played flat y.object y.marks y.cuts lines c.script_bound-cap.result c.script_bound-cap.result c.in_ok-life.life
+    c.in_ok-life.ensures c.play.new.core
     c.play.ensures.opening
     c.play.ensures.events c.in-Ok.ensures.whole in
     same_variables flat y.object y.marks y.cuts c.play.new.core _ played
@@ -81,7 +85,8 @@ image-requires-clause-within c =
     let y = x.translated in
     let flat = flat_of x.flat in
     let lines = map scripts.line_of c.args.script.now.lines.items in
-    let played = has_played flat y.object y.marks y.cuts lines MOST_EVENTS MOST_EVENTS c.in_ok-life.life c.in_ok-life.ensures c.play.new.core
+    let played = has_played flat y.object y.marks y.cuts lines c.script_bound-cap.result c.script_bound-cap.result c.in_ok-life.life
+    c.in_ok-life.ensures c.play.new.core
     c.play.ensures.opening
     c.play.ensures.events c.in-Ok.ensures.whole in
     variables_within flat y.object y.marks y.cuts c.play.new.core _ played c.requires.translated c.requires.compilation
@@ -92,7 +97,8 @@ image-requires-clause-logs c =
     let y = x.translated in
     let flat = flat_of x.flat in
     let lines = map scripts.line_of c.args.script.now.lines.items in
-    let played = has_played flat y.object y.marks y.cuts lines MOST_EVENTS MOST_EVENTS c.in_ok-life.life c.in_ok-life.ensures c.play.new.core
+    let played = has_played flat y.object y.marks y.cuts lines c.script_bound-cap.result c.script_bound-cap.result c.in_ok-life.life
+    c.in_ok-life.ensures c.play.new.core
     c.play.ensures.opening
     c.play.ensures.events c.in-Ok.ensures.whole in
     logs_few flat y.object y.marks y.cuts c.play.new.core _ played c.requires.translated c.requires.compilation
@@ -103,11 +109,13 @@ image-requires-clause-schedule c =
     let y = x.translated in
     let flat = flat_of x.flat in
     let lines = map scripts.line_of c.args.script.now.lines.items in
-    let played = has_played flat y.object y.marks y.cuts lines MOST_EVENTS MOST_EVENTS c.in_ok-life.life c.in_ok-life.ensures c.play.new.core
+    let played = has_played flat y.object y.marks y.cuts lines c.script_bound-cap.result c.script_bound-cap.result c.in_ok-life.life
+    c.in_ok-life.ensures c.play.new.core
     c.play.ensures.opening
     c.play.ensures.events c.in-Ok.ensures.whole in
-    let fit = fits flat y.object y.marks y.cuts lines MOST_EVENTS MOST_EVENTS c.in_ok-life.life c.in_ok-life.ensures c.in-Ok.ensures.whole in
-    omega (arith, fit, steps_few flat y.object y.marks y.cuts c.play.new.core _ played)
+    let fit = fits flat y.object y.marks y.cuts lines c.script_bound-cap.result c.script_bound-cap.result c.in_ok-life.life c.in_ok-life.ensures
+    c.in-Ok.ensures.whole in
+    omega (arith, fit, c.script_bound-cap.ensures, steps_few flat y.object y.marks y.cuts c.play.new.core _ played)
 
 pub returns-in-Report : goal.returns-in-Report
 returns-in-Report c =
@@ -116,9 +124,12 @@ returns-in-Report c =
     let flat = flat_of x.flat in
     let lines = map scripts.line_of c.args.script.now.lines.items in
     let life = c.play.new.core in
-    let played = has_played flat y.object y.marks y.cuts lines MOST_EVENTS MOST_EVENTS c.in_ok-life.life c.in_ok-life.ensures life c.play.ensures.opening
+    let played = has_played flat y.object y.marks y.cuts lines c.script_bound-cap.result c.script_bound-cap.result c.in_ok-life.life c.in_ok-life.ensures life
+    c.play.ensures.opening
     c.play.ensures.events c.in-Ok.ensures.whole in
-    let fit = fits flat y.object y.marks y.cuts lines MOST_EVENTS MOST_EVENTS c.in_ok-life.life c.in_ok-life.ensures c.in-Ok.ensures.whole in
+    let few = fits flat y.object y.marks y.cuts lines c.script_bound-cap.result c.script_bound-cap.result c.in_ok-life.life c.in_ok-life.ensures
+    c.in-Ok.ensures.whole in
+    let fit : length (events_by (translation_in x) lines) ≤ MOST_EVENTS = omega (arith, few, c.script_bound-cap.ensures) in
     IfOk-weaker c.say.result _ _
     (λ said is.
     ran fit (subst (λ (asked : Asked). Says asked x.text.items (translation_in x) (events_by (translation_in x) lines) said.status said.output.items)
@@ -132,9 +143,12 @@ returns-in-Ok c =
     let flat = flat_of x.flat in
     let lines = map scripts.line_of c.args.script.now.lines.items in
     let life = c.play.new.core in
-    let played = has_played flat y.object y.marks y.cuts lines MOST_EVENTS MOST_EVENTS c.in_ok-life.life c.in_ok-life.ensures life c.play.ensures.opening
+    let played = has_played flat y.object y.marks y.cuts lines c.script_bound-cap.result c.script_bound-cap.result c.in_ok-life.life c.in_ok-life.ensures life
+    c.play.ensures.opening
     c.play.ensures.events c.in-Ok.ensures.whole in
-    let fit = fits flat y.object y.marks y.cuts lines MOST_EVENTS MOST_EVENTS c.in_ok-life.life c.in_ok-life.ensures c.in-Ok.ensures.whole in
+    let few = fits flat y.object y.marks y.cuts lines c.script_bound-cap.result c.script_bound-cap.result c.in_ok-life.life c.in_ok-life.ensures
+    c.in-Ok.ensures.whole in
+    let fit : length (events_by (translation_in x) lines) ≤ MOST_EVENTS = omega (arith, few, c.script_bound-cap.ensures) in
     IfOk-weaker c.image.result _ _
     (λ said both.
     ran fit (subst (λ (asked : Asked). Says asked x.text.items (translation_in x) (events_by (translation_in x) lines) said.status said.output.items)
@@ -151,8 +165,9 @@ returns c =
     let lines = map scripts.line_of c.args.script.now.lines.items in
     let input = c.args.input.now in
     let begins = c.args.begins in
-    let some = passed_at flat y.object y.marks y.cuts lines MOST_EVENTS MOST_EVENTS c.in_ok-life.life c.in_ok-life.ensures c.in-Err.many.line.0
-    c.in-Err.ensures.excess in
+    let cap = c.script_bound-cap.result in
+    let passed = passed_at flat y.object y.marks y.cuts lines cap cap c.in_ok-life.life c.in_ok-life.ensures c.in-Err.many.line.0 c.in-Err.ensures.excess in
+    let some = past_most flat y.object y.marks y.cuts lines cap c.in-Err.many.line.0 c.script_bound-cap.ensures passed in
     IfOk-weaker c.refused_at.result _ _
     (λ said both.
     refused flat y.object y.marks y.cuts lines (Says c.args.asked x.text.items (translation_in x)) input begins c.in-Err.many.line.0 said.status

@@ -1,6 +1,6 @@
 use Rattle.std.proofs.lemmas.Result.{IfOk-weaker}
 use Rattle.ido_cli.specs.Answers.{no_image, of_image}
-use Rattle.ido_cli.proofs.RecoveredRuns.{compiled_in}
+use Rattle.ido_cli.proofs.RecoveredRuns.{accepted_runs_on, compiled_in}
 use Rattle.ido_cli.proofs.RefusedSchedules.{both_ok}
 use Rattle.ido_cli.proofs.recover.recover_answer.Goals as goal
 
@@ -11,7 +11,9 @@ pub recovered-requires-clause-compilation : goal.recovered-requires-clause-compi
 recovered-requires-clause-compilation g c κs within = (compiled_in c.args.input.now c.in-Ok.image c.in-Ok.ensures.answer).1.compilation
 
 pub returns-in-Ok : goal.returns-in-Ok
-returns-in-Ok g c = IfOk-weaker c.recovered.result _ _ (λ said is. of_image c.in-Ok.image c.in-Ok.ensures.answer is) c.recovered.ensures
+returns-in-Ok g c = IfOk-weaker c.recovered.result _ _
+    (λ said is. of_image c.in-Ok.image c.in-Ok.ensures.answer
+    (accepted_runs_on c.shapes_run_on.ensures.accepted c.args.input.now c.in-Ok.image c.in-Ok.ensures.answer) is) c.recovered.ensures
 
 pub returns-in-Err : goal.returns-in-Err
 returns-in-Err g c =

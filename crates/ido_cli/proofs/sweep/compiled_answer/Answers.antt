@@ -1,9 +1,8 @@
-use Rattle.std.proofs.Common.{List, ℕ, subst, ◌-◌, ◌≡◌, ◌∙◌, arith, ap, length, refl}
+use Rattle.std.proofs.Common.{◌≡◌, ◌∙◌, arith, ap, length, refl}
 use Rattle.std.proofs.lemmas.Result.{IfOk-weaker}
 use Rattle.c_tree.specs.Flats.{flat_of}
 use Rattle.run_scripts.specs.links.ScriptViews as scripts
 use Rattle.ido_compile.specs.CompileAnswers.{translation_in}
-use Rattle.ido_cli.specs.Inputs.{source_of}
 use Rattle.ido_cli.specs.links.CrashPoints.{lines_in}
 use Rattle.ido_cli.proofs.PlayedRuns.{as_many_threads}
 use Rattle.ido_cli.proofs.RestLengths.{rest_short}

@@ -1,4 +1,4 @@
-use Rattle.std.proofs.Common.{sym, ap, ◌∙◌, arith, length, map}
+use Rattle.std.proofs.Common.{sym, ap, ◌∙◌, length, map}
 use Rattle.std.proofs.lemmas.List.{length-map}
 use Rattle.rv64_isa.specs.Programs.{slot_of}
 use Rattle.run_tracker.specs.ObjectLives.{Course}

@@ -1,7 +1,6 @@
-use Rattle.std.proofs.Common.{List, ℕ, refl, subst, sym, arith, length}
+use Rattle.std.proofs.Common.{List, ℕ, refl, subst, sym, arith}
 use Rattle.std.specs.Prelude.{◌==◌}
 use Rattle.std.proofs.lemmas.List.{length-map}
-use Rattle.hart_driver.specs.declared.sweep.Outcome.{Outcome}
 use Rattle.c_tree.specs.Flats.{flat_of, thread_of}
 use Rattle.ido_cli.specs.links.CrashPoints.{IsOutcomeAt}
 use Rattle.ido_cli.proofs.PlayedRuns.{as_many_threads, has_room}

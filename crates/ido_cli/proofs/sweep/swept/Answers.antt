@@ -1,8 +1,8 @@
-use Rattle.std.proofs.Common.{◌≡◌, ℕ, ◌+◌, List, ap, sym, subst}
+use Rattle.std.proofs.Common.{◌≡◌, ℕ, ◌+◌, List, sym, subst}
 use Rattle.std.proofs.lemmas.Result.{IfOk-weaker}
 use Rattle.hart_driver.specs.declared.sweep.Outcome.{Outcome}
 use Rattle.hart_driver.specs.Outcomes.{AreOutcomes}
-use Rattle.ido_cli.specs.Sweeps.{IsSweep, IsTable, are_settled, reports_of, status_of}
+use Rattle.ido_cli.specs.Sweeps.{IsTable, are_settled, reports_of, status_of}
 use Rattle.ido_cli.specs.links.CrashPoints.{IsOutcomeAt}
 use Rattle.ido_cli.proofs.sweep.swept.Goals as goal
 
