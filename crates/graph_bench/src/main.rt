@@ -1,5 +1,6 @@
-//! Analyses of a flow graph: eight threads of 681 nodes each, which assign a local and then one of 16 variables, over and over in
-//! one section. It is lowered, its live locals, registers and cuts are found, and the cuts are checked.
+//! Analyses of two flow graphs of eight threads. The first has 681 nodes a thread, which assign a local and then one of 16 variables, over and
+//! over in one section; the second has a loop of 230 assignments a thread, of each of as many elements to any element of the same array. They
+//! are lowered, their live locals, registers and cuts are found, and the cuts are checked.
 //!
 //! To measure: `cd crates/graph_bench && rt run && time out/graph_bench`. The whole check compares what it prints; it measures nothing.
 #![tactic(auto)]
@@ -11,7 +12,7 @@ use c_tree::tree::Name;
 use flow_live::live;
 use flow_lower::lower;
 use ido_base::place::Place;
-use ido_ints::{Binary, Kind};
+use ido_ints::{Binary, Kind, Value};
 use reg_colour::colour;
 use region_checker::check;
 use region_cutter::cut;
@@ -28,6 +29,8 @@ const ROUNDS: u32 = 226;
 const VARIABLES: u32 = 16;
 
 const LOCALS: u32 = 16;
+
+const ELEMENTS: u32 = 230;
 
 fn placed(expr: Expr) -> Placed {
     Placed { place: HERE, expr }
@@ -75,15 +78,70 @@ fn to_variable(a: Global, local: u32, variable: u32) -> Result<Statement, AllocE
     })
 }
 
-fn thread(a: Global) -> Result<Thread, AllocError> {
+/// Any element of the array, by a local, takes the number of this one.
+fn to_element(a: Global, element: u32) -> Result<Statement, AllocError> {
+    let any = Expr::Local {
+        local: 0,
+        kind: KIND,
+    };
+    let one = Expr::Constant {
+        value: Value::reduce(KIND, element as i128),
+    };
+    Ok(Statement::Assign {
+        place: HERE,
+        target: Lvalue::Element {
+            place: HERE,
+            variable: 0,
+            kind: KIND,
+            index: placed(any),
+        },
+        value: placed(Expr::Element {
+            place: HERE,
+            variable: 0,
+            kind: KIND,
+            index_place: HERE,
+            index: Box::new(a, one)?,
+        }),
+    })
+}
+
+/// Assignments in a row.
+fn row(a: Global) -> Result<Vec<Statement>, AllocError> {
+    let mut row = Vec::new(a);
+    for round in 0..ROUNDS {
+        row.push(to_local(a, round % LOCALS, round % VARIABLES)?)?;
+        row.push(to_variable(a, round % LOCALS, round % VARIABLES)?)?;
+    }
+    Ok(row)
+}
+
+/// Assignments in a loop.
+fn turns(a: Global) -> Result<Vec<Statement>, AllocError> {
+    let mut body = Vec::new(a);
+    for element in 0..ELEMENTS {
+        body.push(to_element(a, element)?)?;
+    }
+    let mut all = Vec::new(a);
+    all.push(Statement::While {
+        place: HERE,
+        condition: placed(Expr::Local {
+            local: 0,
+            kind: KIND,
+        }),
+        body,
+    })?;
+    Ok(all)
+}
+
+/// A thread with one section, in which it does these.
+fn thread(a: Global, inner: Vec<Statement>) -> Result<Thread, AllocError> {
     let mut body = Vec::new(a);
     body.push(Statement::Lock {
         place: HERE,
         mutex: 0,
     })?;
-    for round in 0..ROUNDS {
-        body.push(to_local(a, round % LOCALS, round % VARIABLES)?)?;
-        body.push(to_variable(a, round % LOCALS, round % VARIABLES)?)?;
+    for statement in inner {
+        body.push(statement)?;
     }
     body.push(Statement::Unlock {
         place: HERE,
@@ -100,10 +158,11 @@ fn thread(a: Global) -> Result<Thread, AllocError> {
     })
 }
 
-fn flat(a: Global) -> Result<Flat, AllocError> {
+fn flat(a: Global, looped: bool) -> Result<Flat, AllocError> {
     let mut threads = Vec::new(a);
     for _ in 0..THREADS {
-        threads.push(thread(a)?)?;
+        let inner = if looped { turns(a)? } else { row(a)? };
+        threads.push(thread(a, inner)?)?;
     }
     Ok(Flat {
         mutexes: Vec::new(a),
@@ -114,16 +173,18 @@ fn flat(a: Global) -> Result<Flat, AllocError> {
 
 fn main(rt: HostRuntime) -> Result<(), Error> {
     let a = rt.alloc();
-    let flat = flat(a)?;
-    let graph = lower(a, &flat)?;
-    let live = live(a, &graph)?;
-    let coloured = colour(a, &graph, &live).is_ok();
-    let cuts = cut(a, &graph)?;
-    let accepted = check(a, &graph, &cuts).is_ok();
-    let chosen = cuts.before.iter().filter(|stands| **stands).count();
-    println!(rt;
-        "{} nodes, registers {coloured}, {chosen} boundaries, accepted {accepted}",
-        graph.nodes.len()
-    )?;
+    for looped in [false, true] {
+        let flat = flat(a, looped)?;
+        let graph = lower(a, &flat)?;
+        let live = live(a, &graph)?;
+        let coloured = colour(a, &graph, &live).is_ok();
+        let cuts = cut(a, &graph)?;
+        let accepted = check(a, &graph, &cuts).is_ok();
+        let chosen = cuts.before.iter().filter(|stands| **stands).count();
+        println!(rt;
+            "{} nodes, registers {coloured}, {chosen} boundaries, accepted {accepted}",
+            graph.nodes.len()
+        )?;
+    }
     Ok(())
 }

@@ -146,3 +146,14 @@ module _ (Step : ℕ → ℕ → Type 0) (End Start : ℕ → Type 0) (found : T
   pub searched_none : (s : List Bool) (w : List ℕ) → w ≡ [] → ((node : ℕ) → ReachesEnd Step End node → node < length s) → Searched Step End Start found s w →
       (from : ℕ) → Start from → ¬ (ReachesEnd Step End from)
   searched_none s w e within h from start comes = not_come s within (all_followed s w e h) from (h.begun from start (within from comes)) comes
+
+  -- where steps lead to nodes that exist
+  come_nowhere : (s : List Bool) → ((node to : ℕ) → Step node to → to < length s) → ((node : ℕ) → IsSeen s node → Followed Step End s node) → (node : ℕ) →
+      IsSeen s node → ReachesEnd Step End node → ⊥
+  come_nowhere s within done node seen (there _ end) = (done node seen).no_end end
+  come_nowhere s within done node seen (goes_on _ to step rest) =
+      come_nowhere s within done to ((done node seen).followed to step (within node to step)) rest
+
+  pub searched_nowhere : (s : List Bool) (w : List ℕ) → w ≡ [] → ((node to : ℕ) → Step node to → to < length s) → Searched Step End Start found s w →
+      (from : ℕ) → Start from → from < length s → ¬ (ReachesEnd Step End from)
+  searched_nowhere s w e within h from start lt comes = come_nowhere s within (all_followed s w e h) from (h.begun from start lt) comes

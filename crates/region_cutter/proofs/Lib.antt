@@ -7,8 +7,8 @@ mod Edges
 mod Lines
 mod ConflictPaths
 mod TrialParts
+mod CoveredReads
 mod LocksAtStores
-mod PassedPlaceMarks
 mod SingleElements
 mod Worked
 mod WorkedStraightCode

@@ -15,7 +15,7 @@ use Rattle.region_cutter.specs.Elements.{ReadsElements, WritesSame}
 use Rattle.region_cutter.specs.FewestCuts.{Synchronises, IsStretch, Conflict, ConflictOver, Divides, one_region}
 use Rattle.region_cutter.specs.FewestCuts.{region_and, AreInside, none_inside, one_inside, AreFewestCuts}
 use Rattle.region_cutter.specs.links.FewBoundaries.{IsInStretch}
-use Rattle.region_cutter.specs.links.RemovalWindows.{Inside}
+use Rattle.region_cutter.specs.links.RemovalPaths.{Inside}
 use Rattle.region_cutter.proofs.Lists.{some_same}
 use Rattle.region_cutter.proofs.Edges.{same_node}
 use Rattle.region_cutter.proofs.BoundariesEverywhere.{entered}

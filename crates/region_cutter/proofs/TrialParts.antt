@@ -1,25 +1,27 @@
 -- What the parts of a trial through one node say.
-use Rattle.std.proofs.Common.{◌≡◌, ◌⊎◌, ◌↔◌, inl, inr, ℕ, ◌+◌, ◌<◌, ◌≤◌, ◌||◌, ◌&&◌, Bool, true, false, not, List, length, Option, Some, None, refl, ap}
-use Rattle.std.proofs.Common.{sym, subst, ◌∙◌, arith}
+use Rattle.std.proofs.Common.{◌≡◌, ◌⊎◌, ◌↔◌, inl, inr, ℕ, zero, suc, ◌+◌, ◌<◌, ◌≤◌, ◌||◌, ◌++◌, [], ◌∷◌, Bool, true, false, List, length, replicate}
+use Rattle.std.proofs.Common.{Option, Some, None, Vec, Global, refl, ap, sym, subst, ◌∙◌, arith}
 use Rattle.std.specs.Prelude.{slice_get, Contains, IsTrue}
-use Rattle.std.proofs.lemmas.Bool.{cases_lt}
+use Rattle.std.proofs.lemmas.Bool.{cases_eq, cases_lt}
+use Rattle.std.proofs.lemmas.List.Elements.{Contains-push, Contains-push_cases, Contains-append_left}
 use Rattle.std.proofs.lemmas.Option.{slice_get_within, slice_get_read}
 use Rattle.ido_base.specs.declared.location.Location.{Location}
 use Rattle.ido_base.specs.Locations.{overlap, same}
 use Rattle.flow_graph.specs.Nodes.{Node, Graph, next_of, other_of}
 use Rattle.flow_graph.specs.Liveness.{NodeAt}
-use Rattle.flow_graph.specs.IdempotentCuts.{Boundaries, IsIdempotent, HasBefore, HasBoundaryAfter, BeginsRegion, past_lock, at_boundary}
-use Rattle.region_cutter.specs.declared.window.Window.{Window}
+use Rattle.flow_graph.specs.IdempotentCuts.{Boundaries, IsEdge, HasBefore, HasBoundaryAfter, BeginsRegion, past_lock, at_boundary}
+use Rattle.flow_graph.proofs.Public.{found_in}
 use Rattle.region_cutter.specs.links.BoundaryTrials as t
-use Rattle.region_cutter.specs.links.GraphSearch.{ReachesEnd, there, goes_on, IsSeen}
-use Rattle.region_cutter.specs.links.PassedPlaces.{IsAfterLock, IsAfterLockBelow, AreBegun}
-use Rattle.region_cutter.specs.links.RemovalWindows.{Inside, WritesOver, WritesSame, InsidePast, IsInWindow}
-use Rattle.region_cutter.specs.links.RemovalWindows.{IsWindow, AllAfter, BeginsIn, BeginsBy, BeginsBelow}
-use Rattle.region_cutter.specs.links.RemovalWindows.{IsUnwritten, IsOverAny, Exposes, IsExposed, IsExposedAny, IsAfterExposed, IsAfterExposedIn}
-use Rattle.region_cutter.specs.links.RemovalWindows.{IsAfterExposedBelow, AreUnwritten, AreAhead, AreWritten, AreReadOver, AddsRead, IsKnownWithout}
+use Rattle.region_cutter.specs.links.GraphSearch.{ReachesEnd, there, goes_on, IsSeen, IsSearchStep, Searched}
+use Rattle.region_cutter.specs.links.NodeMarks.{AddsSource, AreNone, AreSources, IsAfterLock, IsAfterLockBelow, AreBegun}
+use Rattle.region_cutter.specs.links.RemovalPaths.{Inside, WritesOver, WritesSame, AllAfter, StoresTo, AddsWritten, AreAhead, AreWrittenFrom, Never}
+use Rattle.region_cutter.specs.links.RemovalPaths.{ComesBack, ComesFrom, ComesFromAny, ComesFromBelow, WritesPast}
+use Rattle.region_cutter.specs.links.RemovalPaths.{ExposesOver, OverwritesFromAny, OverwritesRead}
 use Rattle.region_cutter.proofs.BoundariesEverywhere.{locked}
-use Rattle.region_cutter.proofs.Edges.{and, both, is_lock, same_node, edge_to, edge_from, or_either, or_left, or_right}
-use Rattle.region_cutter.proofs.ConflictPaths.{exposed_conflicts, none_exposed}
+use Rattle.region_cutter.proofs.Edges.{is_lock, same_node, edge_to, edge_from, or_either, or_left, or_right}
+use Rattle.region_cutter.proofs.Lists.{some_same}
+use Rattle.region_cutter.proofs.GraphSearchComplete.{searched_first, searched_step, all_followed, none_seen, none_waits}
+use Rattle.region_cutter.proofs.ConflictPaths.{reaches_as, reaches_more, comes_over_any, over_any_comes}
 
 -- ---- Lists
 
@@ -37,6 +39,11 @@ below_more P xs n item at p old k x lt is = elim (cases_lt k n) [
 
 pub contained : {A : Type 0} (xs : List A) (x : A) → Contains xs x → (k : ℕ) × (k < length xs) × (slice_get xs k ≡ Some x)
 contained xs x k = (k.0, k.1, slice_get_read xs (length xs) k.0 x refl k.1 (sym k.2))
+
+pub found_contained : {A : Type 0} (xs : List A) (x : A) (k : ℕ) → slice_get xs k ≡ Some x → Contains xs x
+found_contained [] x k e = absurd (cc)
+found_contained (y ∷ xs) x zero e = (0, omega arith, some_same y x e)
+found_contained (y ∷ xs) x (suc k) e = let c = found_contained xs x k e in (suc c.0, (let lt = c.1 in omega (arith, lt)), c.2)
 
 -- ---- Writes
 
@@ -98,10 +105,6 @@ inside_both g b n x after next other one two at k e f h j m = (
   ],
 )
 
-pub comes_over_within : (g : Graph) (b : Boundaries) (elements : Location) (n : ℕ) → ReachesEnd (Inside g b) (WritesOver g elements) n → n < length g.nodes
-comes_over_within g b elements n (there _ w) = slice_get_within g.nodes n w.is w.at
-comes_over_within g b elements n (goes_on _ to step rest) = slice_get_within g.nodes n step.edge.is step.edge.at
-
 -- ---- Where regions begin
 
 pub after_by : (g : Graph) (n : ℕ) (x : Node) (takes : Bool) (next other one two : Option ℕ) → NodeAt g n x → takes ≡ t.locks x.action → next ≡
@@ -152,186 +155,299 @@ begins_is g b begun n before after lt a all k j = (
         (record { one = from; below = slice_get_within g.nodes from edge.is edge.at; by = record { locks = stands.locks; edge = edge } })))
     to (at_boundary has) = or_left before after (k.1 has)
 
-pub begins_first : (g : Graph) (b : Boundaries) (w : Window) (m : ℕ) → BeginsBelow g b w w.first m → ⊥
-begins_first g b w m d = let lt = d.below in let le = d.of.near.from_first in omega (arith, lt, le)
+-- ---- Where edges lead from
 
-pub begins_next : (g : Graph) (b : Boundaries) (w : Window) (n m : ℕ) → IsInWindow w n →
-    (BeginsBelow g b w n m ⊎ BeginsBy g b n m) ↔ BeginsBelow g b w (n + 1) m
-begins_next g b w n m near = (
-  λ d. elim d [
-    | inl old ↦ record { of = old.of; below = (let lt = old.below in omega (arith, lt)) }
-    | inr new ↦ (let is = new.is in record { of = record { begins = new.begins; near = subst (λ (k : ℕ). IsInWindow w k) is near }; below = omega (arith, is) })
-  ],
-  λ d. elim (cases_lt m n) [
-    | inl less ↦ inl (record { of = d.of; below = less })
-    | inr most ↦ inr (let lt = d.below in record { is = omega (arith, lt); begins = d.of.begins })
-  ],
+-- edges of the nodes below the number are noted
+pub record AreSourcesBelow (g : Graph) (number : ℕ) (sources : List (Vec ℕ Global)) : Type 0 where
+  pub long : length sources ≡ length g.nodes
+  pub all : (from to : ℕ) (at : Vec ℕ Global) → from < number → IsEdge g from to → slice_get sources to ≡ Some at → Contains at.items from
+  pub are : (from to : ℕ) (at : Vec ℕ Global) → slice_get sources to ≡ Some at → Contains at.items from → IsEdge g from to
+
+pub sources_none : (g : Graph) (n : ℕ) (sources : List (Vec ℕ Global)) → n ≡ length g.nodes → AreNone n sources → AreSourcesBelow g 0 sources
+sources_none g n sources count none = record {
+  long = none.long ∙ count;
+  all = λ from to at below edge is. absurd (omega (arith, below));
+  are = λ from to at is k. absurd (none_waits at.items from (none.none to at is) k);
+}
+
+leads_or : (to : Option ℕ) (node : ℕ) → (to ≡ Some node) ⊎ ¬ (to ≡ Some node)
+leads_or None node = inr (λ e. (cc))
+leads_or (Some n) node = elim (cases_eq n node) [ inl e ↦ inl (ap (λ (k : ℕ). Some k) e) | inr ne ↦ inr (λ e. ne (some_same n node e)) ]
+
+-- what a node has before an edge is noted
+record Noted (from : ℕ) (to : Option ℕ) (old : List (Vec ℕ Global)) (node : ℕ) (is : Vec ℕ Global) : Type 0 where
+  pub was : Vec ℕ Global
+  pub had : slice_get old node ≡ Some was
+  pub kept : (n : ℕ) → Contains was.items n → Contains is.items n
+  pub added : to ≡ Some node → Contains is.items from
+  pub new_is : (n : ℕ) → Contains is.items n → Contains was.items n ⊎ ((n ≡ from) × (to ≡ Some node))
+
+noted : (from : ℕ) (to : Option ℕ) (old new : List (Vec ℕ Global)) (node : ℕ) (is : Vec ℕ Global) → AddsSource from to old new →
+    slice_get new node ≡ Some is → Noted from to old node is
+noted from to old new node is a at = elim (leads_or to node) [
+  | inl here ↦ (
+      let long = a.long in
+      let lt = slice_get_within new node is at in
+      let was = found_in old node (omega (arith, lt, long)) in
+      let e = a.noted node was.0 is here was.1 at in
+      record {
+        was = was.0;
+        had = was.1;
+        kept = λ n k. subst (λ (xs : List ℕ). Contains xs n) (sym e) (Contains-append_left was.0.items (from ∷ []) n k);
+        added = λ _. subst (λ (xs : List ℕ). Contains xs from) (sym e) (Contains-push was.0.items from);
+        new_is = λ n k. elim (Contains-push_cases was.0.items from n (subst (λ (xs : List ℕ). Contains xs n) e k)) [
+          | inl old' ↦ inl old'
+          | inr one ↦ inr (sym one, here)
+        ];
+      })
+  | inr elsewhere ↦ record {
+    was = is;
+    had = sym (a.same node elsewhere) ∙ at;
+    kept = λ n k. k;
+    added = λ e. absurd (elsewhere e);
+    new_is = λ n k. inl k;
+  }
+]
+
+-- both edges of one node are noted
+pub sources_both : (g : Graph) (n : ℕ) (x : Node) (next other : Option ℕ) (old mid new : List (Vec ℕ Global)) → NodeAt g n x → next ≡ next_of x.action →
+    other ≡ other_of x.action → AddsSource n next old mid → AddsSource n other mid new → AreSourcesBelow g n old →
+    AreSourcesBelow g (n + 1) new
+sources_both g n x next other old mid new at e f a c are = record {
+  long = c.long ∙ a.long ∙ are.long;
+  all = λ from to is below edge there'.
+      let two = noted n other mid new to is c there' in
+      let one = noted n next old mid to two.was a two.had in
+      elim (cases_lt from n) [
+        | inl less ↦ two.kept from (one.kept from (are.all from to one.was less edge one.had))
+        | inr most ↦ (
+            let same : from ≡ n = omega (arith, below, most) in
+            let edge' : IsEdge g n to = subst (λ (m : ℕ). IsEdge g m to) same edge in
+            subst (λ (m : ℕ). Contains is.items m) (sym same) (elim (edge_from g n to x at edge') [
+              | inl goes ↦ two.kept n (one.added (e ∙ goes))
+              | inr goes ↦ two.added (f ∙ goes)
+            ]))
+      ];
+  are = λ from to is there' k.
+      let two = noted n other mid new to is c there' in
+      let one = noted n next old mid to two.was a two.had in
+      elim (two.new_is from k) [
+        | inr here ↦ subst (λ (m : ℕ). IsEdge g m to) (sym here.0) (edge_to g n to x at (inr (sym f ∙ here.1)))
+        | inl k' ↦ elim (one.new_is from k') [
+          | inr here ↦ subst (λ (m : ℕ). IsEdge g m to) (sym here.0) (edge_to g n to x at (inl (sym e ∙ here.1)))
+          | inl k'' ↦ are.are from to one.was one.had k''
+        ]
+      ];
+}
+
+pub sources_all : (g : Graph) (n : ℕ) (sources : List (Vec ℕ Global)) → length g.nodes ≤ n → AreSourcesBelow g n sources → AreSources g sources
+sources_all g n sources all are = record {
+  long = are.long;
+  all = λ from to at edge is. are.all from to at (let lt = slice_get_within g.nodes from edge.is edge.at in omega (arith, lt, all)) edge is;
+  are = are.are;
+}
+
+-- ---- Ahead
+
+pub reaches_within : (g : Graph) (b : Boundaries) (End : ℕ → Type 0) (n : ℕ) → ((m : ℕ) → End m → m < length g.nodes) → ReachesEnd (Inside g b) End n →
+    n < length g.nodes
+reaches_within g b End n within (there _ end) = within n end
+reaches_within g b End n within (goes_on _ to step rest) = slice_get_within g.nodes n step.edge.is step.edge.at
+
+-- a search that collects what nodes write has come so far
+pub record IsCollecting (g : Graph) (b : Boundaries) (from : ℕ) (seen : List Bool) (waiting : List ℕ) (writes : List Location) : Type 0 where
+  pub search : Searched (Inside g b) Never (λ n. from ≡ n) ⊥ seen waiting
+  pub reached : (n : ℕ) → Contains waiting n → ReachesEnd (Inside g b) (λ m. m ≡ n) from
+  pub had : (n : ℕ) (written : Location) → IsSeen seen n → StoresTo g written n → Contains waiting n ⊎ Contains writes written
+  pub are : (written : Location) → Contains writes written → ReachesEnd (Inside g b) (StoresTo g written) from
+
+never : (g : Graph) (b : Boundaries) (n : ℕ) → ReachesEnd (Inside g b) Never n → ⊥
+never g b n (there _ end) = end
+never g b n (goes_on _ to step rest) = never g b to rest
+
+pub collects_first : (g : Graph) (b : Boundaries) (from size : ℕ) (seen : List Bool) (waiting : List ℕ) (writes : List Location) → writes ≡ [] →
+    IsSearchStep (λ n. from ≡ n) (replicate size false) [] seen waiting → IsCollecting g b from seen waiting writes
+collects_first g b from size seen waiting writes empty f = record {
+  search = searched_first (Inside g b) Never (λ n. from ≡ n) ⊥ (λ n. from ≡ n) size seen waiting f (λ n is comes. never g b n comes) (λ n is lt. is);
+  reached = λ n k. elim (f.new n k) [ inl none ↦ absurd (none_waits [] n refl none) | inr new ↦ there from new.1 ];
+  had = λ n written s w. elim (f.known n s) [ inl none ↦ absurd (none_seen size n none) | inr k ↦ inl k ];
+  are = λ written k. absurd (none_written writes written empty k);
+}
+  where
+    none_written : (writes : List Location) (written : Location) → writes ≡ [] → Contains writes written → ⊥
+    none_written writes written e k = omega (arith, k.1, ap length e)
+
+pub collects_step : (g : Graph) (b : Boundaries) (from : ℕ) (s : List Bool) (w rest : List ℕ) (writes : List Location) (s' : List Bool) (w' : List ℕ)
+    (writes' : List Location) (n : ℕ) (x : Node) → w ≡ rest ++ n ∷ [] → IsCollecting g b from s w writes → NodeAt g n x → AddsWritten x writes writes' →
+    IsSearchStep (Inside g b n) s rest s' w' → IsCollecting g b from s' w' writes'
+collects_step g b from s w rest writes s' w' writes' n x e h at a f =
+    let here : ReachesEnd (Inside g b) (λ m. m ≡ n) from = h.reached n (subst (λ (xs : List ℕ). Contains xs n) (sym e) (Contains-push rest n)) in record {
+      search = searched_step (Inside g b) Never (λ m. from ≡ m) ⊥ s w rest s' w' n e h.search (λ z. z) f;
+      reached = λ m k. elim (f.new m k) [
+        | inl old ↦ h.reached m (subst (λ (xs : List ℕ). Contains xs m) (sym e) (Contains-append_left rest (n ∷ []) m old))
+        | inr new ↦ reaches_more n m new.1 from here
+      ];
+      had = λ m written seen stores. elim (f.known m seen) [
+        | inr k ↦ inl k
+        | inl old ↦ elim (h.had m written old stores) [
+          | inr k ↦ inr (a.kept written k)
+          | inl waited ↦ elim (Contains-push_cases rest n m (subst (λ (xs : List ℕ). Contains xs m) e waited)) [
+            | inl still ↦ inl (f.waits m still)
+            | inr is ↦ inr (a.added written (
+                let at' : NodeAt g n stores.is = subst (λ (i : ℕ). NodeAt g i stores.is) (sym is) stores.at in
+                ap (λ (y : Node). y.writes) (same_node g n x stores.is at at') ∙ stores.writes))
+          ]
+        ]
+      ];
+      are = λ written k. elim (a.new_is written k) [
+        | inl old ↦ h.are written old
+        | inr is ↦ reaches_as (λ (m : ℕ). m ≡ n) (StoresTo g written)
+            (λ m same'. subst (λ (i : ℕ). StoresTo g written i) (sym same') (record { is = x; at = at; writes = is })) from here
+      ];
+    }
+
+pub collects_all : (g : Graph) (b : Boundaries) (from : ℕ) (s : List Bool) (w : List ℕ) (writes : List Location) → w ≡ [] → length s ≡ length g.nodes →
+    IsCollecting g b from s w writes → AreWrittenFrom g b from writes
+collects_all g b from s w writes none count h = record {
+  all = λ written comes. along written from (h.search.begun from refl (omega (arith, within written from comes, count))) comes;
+  are = h.are;
+}
+  where
+    within : (written : Location) (n : ℕ) → ReachesEnd (Inside g b) (StoresTo g written) n → n < length g.nodes
+    within written n comes = reaches_within g b (StoresTo g written) n (λ m x. slice_get_within g.nodes m x.is x.at) comes
+
+    along : (written : Location) (n : ℕ) → IsSeen s n → ReachesEnd (Inside g b) (StoresTo g written) n → Contains writes written
+    along written n seen (there _ stores) = elim (h.had n written seen stores) [ inl waits ↦ absurd (none_waits w n none waits) | inr k ↦ k ]
+    along written n seen (goes_on _ to step rest) = along written to
+        ((all_followed (Inside g b) Never (λ m. from ≡ m) ⊥ s w none h.search n seen).followed to step (omega (arith, within written to rest, count))) rest
+
+pub collects_ahead : (g : Graph) (b : Boundaries) (from : ℕ) (s : List Bool) (w : List ℕ) (writes : List Location) → w ≡ [] → length s ≡ length g.nodes →
+    IsCollecting g b from s w writes → AreAhead g b from s
+collects_ahead g b from s w writes none count h node lt comes = along from (h.search.begun from refl (omega (arith, within from comes, count))) comes
+  where
+    within : (n : ℕ) → ReachesEnd (Inside g b) (λ m. m ≡ node) n → n < length g.nodes
+    within n comes' = reaches_within g b (λ m. m ≡ node) n (λ m is. omega (arith, lt, is)) comes'
+
+    along : (n : ℕ) → IsSeen s n → ReachesEnd (Inside g b) (λ m. m ≡ node) n → IsSeen s node
+    along n seen (there _ is) = subst (λ (m : ℕ). IsSeen s m) is seen
+    along n seen (goes_on _ to step rest) = along to
+        ((all_followed (Inside g b) Never (λ m. from ≡ m) ⊥ s w none h.search n seen).followed to step (omega (arith, within to rest, count))) rest
+
+-- ---- Back
+
+pub past_some : (g : Graph) (element : Location) (n : ℕ) (answer : Bool) → (IsTrue answer ↔ WritesSame g element n) →
+    IsTrue answer ↔ WritesPast g (Some element) n
+past_some g element n answer k = (
+  λ h. record { element = element; is = refl; writes = k.0 h },
+  λ w. k.1 (let e : w.element ≡ element = (let is = w.is in cc) in subst (λ (l : Location). WritesSame g l n) e w.writes),
 )
 
-pub begins_all : (g : Graph) (b : Boundaries) (w : Window) (n m : ℕ) → w.end ≤ n → BeginsBelow g b w n m ↔ BeginsIn g b w m
-begins_all g b w n m all = (λ d. d.of, λ d. record { of = d; below = (let lt = d.near.below_end in omega (arith, lt)) })
-
-target_within : (g : Graph) (b : Boundaries) (element : Location) (target n : ℕ) → target < length g.nodes →
-    ReachesEnd (InsidePast g b element) (λ m. m ≡ target) n → n < length g.nodes
-target_within g b element target n lt (there _ is) = omega arith
-target_within g b element target n lt (goes_on _ to step rest) = slice_get_within g.nodes n step.inside.edge.is step.inside.edge.at
-
--- ---- Nodes that are exposed
-
-one_more : (g : Graph) (b : Boundaries) (element : Location) (node to : ℕ) → InsidePast g b element node to → (from : ℕ) →
-    ReachesEnd (InsidePast g b element) (λ m. m ≡ node) from → ReachesEnd (InsidePast g b element) (λ m. m ≡ to) from
-one_more g b element node to step from (there _ is) = goes_on from to (subst (λ (m : ℕ). InsidePast g b element m to) (sym is) step) (there to refl)
-one_more g b element node to step from (goes_on _ next first rest) = goes_on from next first (one_more g b element node to step next rest)
-
-pub unwritten_more : (g : Graph) (b : Boundaries) (w : Window) (element : Location) (node to : ℕ) → InsidePast g b element node to →
-    IsUnwritten g b w element node → IsUnwritten g b w element to
-unwritten_more g b w element node to step u = record { from = u.from; begins = u.begins; comes = one_more g b element node to step u.from u.comes }
-
-pub begun_unwritten : (g : Graph) (b : Boundaries) (w : Window) (element : Location) (n : ℕ) → BeginsIn g b w n → IsUnwritten g b w element n
-begun_unwritten g b w element n d = record { from = n; begins = d; comes = there n refl }
-
-pub unwritten_seen : (g : Graph) (b : Boundaries) (element : Location) (seen : List Bool) (target : ℕ) → length seen ≡ length g.nodes →
-    target < length g.nodes →
-    ((node : ℕ) → IsSeen seen node → (to : ℕ) → InsidePast g b element node to → to < length seen → IsSeen seen to) → (node : ℕ) → IsSeen seen node →
-    ReachesEnd (InsidePast g b element) (λ m. m ≡ target) node → IsSeen seen target
-unwritten_seen g b element seen target count lt followed node s (there _ is) = subst (λ (m : ℕ). IsSeen seen m) is s
-unwritten_seen g b element seen target count lt followed node s (goes_on _ to step rest) =
-    unwritten_seen g b element seen target count lt followed to
-    (followed node s to step (let w = target_within g b element target to lt rest in omega (arith, w, count))) rest
-
-pub exposes_is : (g : Graph) (b : Boundaries) (w : Window) (elements : Location) (unwritten : List Bool) (n : ℕ) (x : Node) (seen reads : Bool) →
-    NodeAt g n x → AreUnwritten g b w elements unwritten →
-    (IsTrue seen ↔ (slice_get unwritten n ≡ Some true)) → (IsTrue reads ↔ Contains x.reads elements) → IsTrue (seen && reads) ↔ Exposes g b w elements n
-exposes_is g b w elements unwritten n x seen reads at a k j = (
-  λ h. let d = both seen reads h in
-      record { reads = record { is = x; at = at; reads = j.0 d.1 }; unwritten = (a n (slice_get_within g.nodes n x at)).0 (k.0 d.0) },
-  λ e. and seen reads (k.1 ((a n (slice_get_within g.nodes n x at)).1 e.unwritten))
-      (j.1 (subst (λ (z : Node). Contains z.reads elements) (same_node g n e.reads.is x e.reads.at at) e.reads.reads)),
-)
-
-pub exposes_none : (g : Graph) (b : Boundaries) (w : Window) (elements : Location) (unwritten : List Bool) (n : ℕ) (x : Node) (seen : Bool) → NodeAt g n x →
-    AreUnwritten g b w elements unwritten →
-    (IsTrue seen ↔ (slice_get unwritten n ≡ Some true)) → seen ≡ false → IsTrue seen ↔ Exposes g b w elements n
-exposes_none g b w elements unwritten n x seen at a k none = (
-  λ h. let wrong : seen ≡ true = h in absurd (cc),
-  λ e. absurd (let yes' : seen ≡ true = k.1 ((a n (slice_get_within g.nodes n x at)).1 e.unwritten) in cc),
-)
-
-pub exposed_first : (g : Graph) (b : Boundaries) (w : Window) (elements : Location) (m : ℕ) → IsAfterExposedBelow g b w elements w.first m → ⊥
-exposed_first g b w elements m d = let lt = d.below in let le = d.near.from_first in omega (arith, lt, le)
-
-pub exposed_next : (g : Graph) (b : Boundaries) (w : Window) (elements : Location) (n m : ℕ) → IsInWindow w n →
-    (IsAfterExposedBelow g b w elements n m ⊎ IsAfterExposed g b w elements n m) ↔ IsAfterExposedBelow g b w elements (n + 1) m
-exposed_next g b w elements n m near = (
-  λ d. elim d [
-    | inl old ↦ record { one = old.one; near = old.near; below = (let lt = old.below in omega (arith, lt)); by = old.by }
-    | inr new ↦ record { one = n; near = near; below = omega arith; by = new }
-  ],
-  λ d. elim (cases_lt d.one n) [
-    | inl less ↦ inl (record { one = d.one; near = d.near; below = less; by = d.by })
-    | inr most ↦ inr (let lt = d.below in let e : d.one ≡ n = omega (arith, lt) in subst (λ (k : ℕ). IsAfterExposed g b w elements k m) e d.by)
-  ],
-)
-
-pub exposed_all : (g : Graph) (b : Boundaries) (w : Window) (elements : Location) (n m : ℕ) → w.end ≤ n →
-    IsAfterExposedBelow g b w elements n m ↔ IsAfterExposedIn g b w elements m
-exposed_all g b w elements n m all = (
-  λ d. record { one = d.one; near = d.near; by = d.by },
-  λ d. record {
-    one = d.one;
-    near = d.near;
-    below =
-        (let lt = d.near.below_end in omega (arith, lt));
-    by = d.by;
+pub comes_from_is : (g : Graph) (b : Boundaries) (past : Option Location) (from : ℕ) → ¬ (HasBoundaryAfter g b from) → ¬ (WritesPast g past from) → (n : ℕ) →
+    (from ≡ n) ↔ ComesFrom g b past from n
+comes_from_is g b past from free spares n = (
+  λ e. record {
+    is = e;
+    free = subst (λ (m : ℕ). ¬ (HasBoundaryAfter g b m)) e free;
+    spares = subst (λ (m : ℕ). ¬ (WritesPast g past m)) e spares;
   },
+  λ d. d.is,
 )
 
--- what comes after such a node overwrites the elements
-pub exposed_found : (g : Graph) (b : Boundaries) (w : Window) (elements : Location) (m : ℕ) → IsAfterExposedIn g b w elements m →
-    ReachesEnd (Inside g b) (WritesOver g elements) m → IsExposed g b w elements
-exposed_found g b w elements m d comes =
-    record { node = d.one; near = d.near; exposes = d.by.exposes; overwritten = record { to = m; inside = d.by.inside; comes = comes } }
+pub comes_from_none : (g : Graph) (b : Boundaries) (past : Option Location) (from : ℕ) → HasBoundaryAfter g b from ⊎ WritesPast g past from → (n : ℕ) →
+    ComesFrom g b past from n → ⊥
+comes_from_none g b past from either n d = elim either [
+  | inl after ↦ d.free (subst (λ (m : ℕ). HasBoundaryAfter g b m) d.is after)
+  | inr writes ↦ d.spares (subst (λ (m : ℕ). WritesPast g past m) d.is writes)
+]
 
-pub known_false : (g : Graph) (now : Boundaries) (w : Window) (elements : Location) (node : ℕ) → IsExposed g now w elements → IsKnownWithout g now node false
-known_false g now w elements node e b is h =
-    (λ t. let wrong : false ≡ true = t in absurd (cc), λ idempotent. absurd (exposed_conflicts g now w elements e idempotent))
+pub comes_none : (g : Graph) (b : Boundaries) (past : Option Location) (sources : List ℕ) (n : ℕ) → ComesFromBelow g b past sources 0 n → ⊥
+comes_none g b past sources n d = let lt = d.below_it in omega (arith, lt)
 
-pub known_true : (g : Graph) (now : Boundaries) (near : Window) (seen : List Bool) (writes : List Location) (node : ℕ) → IsWindow g now node near →
-    AreAhead g now node seen → AreWritten g near seen writes →
-    ((elements : Location) → IsOverAny writes elements → ¬ (IsExposed g now near elements)) → IsKnownWithout g now node true
-known_true g now near seen writes node window a w none b is h = (
-  λ t. subst (λ (c : Boundaries). IsIdempotent g c) (sym is) (
-      none_exposed g b node near seen writes (subst (λ (c : Boundaries). IsWindow g c node near) is window)
-      (subst (λ (c : Boundaries). AreAhead g c node seen) is a) w h
-      (λ e any. subst (λ (c : Boundaries). ¬ (IsExposed g c near e)) is (none e any))),
-  λ _. refl,
+pub comes_next : (g : Graph) (b : Boundaries) (past : Option Location) (sources : List ℕ) (i from n : ℕ) → slice_get sources i ≡ Some from →
+    (ComesFromBelow g b past sources i n ⊎ ComesFrom g b past from n) ↔ ComesFromBelow g b past sources (i + 1) n
+comes_next g b past sources i from n at = (
+  λ d. elim d [
+    | inl old ↦ record { place = old.place; below_it = (let lt = old.below_it in omega (arith, lt)); there = old.there; free = old.free; spares = old.spares }
+    | inr new ↦ record { place = i; below_it = omega arith; there = at ∙ ap (λ (m : ℕ). Some m) new.is; free = new.free; spares = new.spares }
+  ],
+  λ d. elim (cases_lt d.place i) [
+    | inl less ↦ inl (record { place = d.place; below_it = less; there = d.there; free = d.free; spares = d.spares })
+    | inr most ↦ inr (
+        let lt = d.below_it in
+        let e : d.place ≡ i = omega (arith, lt, most) in
+        let both : Some from ≡ Some n = sym at ∙ sym (ap (λ (m : ℕ). slice_get sources m) e) ∙ d.there in
+        record { is = some_same from n both; free = d.free; spares = d.spares })
+  ],
 )
 
-pub known_by : (g : Graph) (now : Boundaries) (near : Window) (seen : List Bool) (writes : List Location) (node : ℕ) (exposed : Bool) →
-    IsWindow g now node near → AreAhead g now node seen → AreWritten g near seen writes →
-    IsExposedAny g now near writes exposed → IsKnownWithout g now node (not exposed)
-known_by g now near seen writes node true window a w any = known_false g now near any.0 node any.1
-known_by g now near seen writes node false window a w none = known_true g now near seen writes node window a w none
+pub comes_any : (g : Graph) (b : Boundaries) (past : Option Location) (sources : List ℕ) (i n : ℕ) → length sources ≤ i →
+    ComesFromBelow g b past sources i n ↔ ComesFromAny g b past sources n
+comes_any g b past sources i n all = (
+  λ d. record { among = found_contained sources n d.place d.there; free = d.free; spares = d.spares },
+  λ d. (let k = contained sources n d.among in let lt = k.1 in
+      record { place = k.0; below_it = omega (arith, lt, all); there = k.2; free = d.free; spares = d.spares }),
+)
 
-pub any_exposed : (g : Graph) (now : Boundaries) (near : Window) (writes : List Location) (elements : Location) → IsExposed g now near elements →
-    IsExposedAny g now near writes true
-any_exposed g now near writes elements e = (elements, e)
+-- the node's sources, where no boundary stands before it, are those from which regions come to it
+pub comes_back : (g : Graph) (b : Boundaries) (past : Option Location) (sources : List (Vec ℕ Global)) (at : Vec ℕ Global) (n : ℕ) → AreSources g sources →
+    slice_get sources n ≡ Some at → ¬ (HasBefore b n) → (from : ℕ) → ComesFromAny g b past at.items from ↔ ComesBack g b past n from
+comes_back g b past sources at n are is free from = (
+  λ d. record {
+    inside = record { edge = are.are from n at is d.among; free = λ over. elim over [ inl after ↦ d.free after | inr has ↦ free has ] };
+    spares = d.spares;
+  },
+  λ d. record { among = are.all from n at d.inside.edge is; free = λ after. d.inside.free (inl after); spares = d.spares },
+)
 
-pub none_of_reads : (g : Graph) (now : Boundaries) (near : Window) (writes reads : List Location) → AreReadOver g near writes reads →
-    ((elements : Location) → Contains reads elements → ¬ (IsExposed g now near elements)) → IsExposedAny g now near writes false
-none_of_reads g now near writes reads r none e any x = none e (r x.node x.exposes.reads.is e x.near x.exposes.reads.at x.exposes.reads.reads any) x
+pub comes_never : (g : Graph) (b : Boundaries) (past : Option Location) (n from : ℕ) → HasBefore b n → ComesBack g b past n from → ⊥
+comes_never g b past n from has d = d.inside.free (inr has)
 
--- ---- Lists of what is read
+pub back_within : (g : Graph) (b : Boundaries) (past : Option Location) (node from : ℕ) → ComesBack g b past node from → from < length g.nodes
+back_within g b past node from step = slice_get_within g.nodes from step.inside.edge.is step.inside.edge.at
 
-pub adds_none : (writes xs old : List Location) → AddsRead writes (λ r. (k : ℕ) × (k < 0) × (slice_get xs k ≡ Some r)) old old
-adds_none writes xs old = record { kept = λ l k. k; added = λ l is any. absurd (let lt = is.1 in omega (arith, lt)) }
+-- ---- Whether a node's region overwrites what it reads
 
-pub adds_more : (writes xs start old new : List Location) (i : ℕ) (item : Location) → slice_get xs i ≡ Some item →
-    AddsRead writes (λ r. (k : ℕ) × (k < i) × (slice_get xs k ≡ Some r)) start old →
-    AddsRead writes (λ r. item ≡ r) old new → AddsRead writes (λ r. (k : ℕ) × (k < i + 1) × (slice_get xs k ≡ Some r)) start new
-adds_more writes xs start old new i item at o h = record {
-  kept = λ r k. h.kept r (o.kept r k);
-  added = λ r is any. elim (cases_lt is.0 i) [
-    | inl less ↦ h.kept r (o.added r (is.0, less, is.2) any)
-    | inr most ↦ (
-        let lt = is.1 in
-        let e : is.0 ≡ i = omega (arith, lt, most) in
-        let both : Some item ≡ Some r = sym at ∙ sym (ap (λ m. slice_get xs m) e) ∙ is.2 in
-        let one : item ≡ r = cc in
-        h.added r one any)
-  ];
-}
+pub overwrites_is : (g : Graph) (b : Boundaries) (writes : List Location) (n at : ℕ) (to : Option ℕ) (answer : Bool) → to ≡ Some at →
+    AreWrittenFrom g b at writes → (IsTrue answer ↔ ExposesOver g b writes n) → IsTrue answer ↔ OverwritesFromAny g b n to
+overwrites_is g b writes n at to answer is are k = (
+  λ h. (let e = k.0 h in
+      record {
+        at = at;
+        is = is;
+        overwrites = record {
+          elements = e.elements;
+          reads = e.reads;
+          unwritten = e.exposed.unwritten;
+          comes = comes_over_any g b writes at e.elements are e.exposed.over;
+        };
+      }),
+  λ o. k.1 (
+      let both : Some at ≡ Some o.at = sym is ∙ o.is in
+      let same' : o.at ≡ at = cc in
+      let f = o.overwrites in
+      record {
+        elements = f.elements;
+        reads = f.reads;
+        exposed = record {
+          over = over_any_comes g b writes at f.elements are (subst (λ (m : ℕ). ReachesEnd (Inside g b) (WritesOver g f.elements) m) same' f.comes);
+          unwritten = f.unwritten;
+        };
+      }),
+)
 
-pub adds_all : (writes xs start new : List Location) (i : ℕ) → length xs ≤ i →
-    AddsRead writes (λ r. (k : ℕ) × (k < i) × (slice_get xs k ≡ Some r)) start new → AddsRead writes (Contains xs) start new
-adds_all writes xs start new i all h = record {
-  kept = h.kept;
-  added = λ r is any. let k = contained xs r is in let lt = k.1 in h.added r (k.0, omega (arith, lt, all), k.2) any;
-}
+pub overwrites_none : (g : Graph) (b : Boundaries) (n : ℕ) (to : Option ℕ) → to ≡ None → IsTrue false ↔ OverwritesFromAny g b n to
+overwrites_none g b n to none = (λ t. let wrong : false ≡ true = t in absurd (cc), λ o. absurd (let is = o.is in cc))
 
-pub reads_more : (g : Graph) (w : Window) (writes reads reads' : List Location) (n : ℕ) (x : Node) → NodeAt g n x →
-    ((k : ℕ) (y : Node) (r : Location) → IsInWindow w k → k < n → NodeAt g k y → Contains y.reads r → IsOverAny writes r → Contains reads r) →
-    AddsRead writes (Contains x.reads) reads reads' → (k : ℕ) (y : Node) (r : Location) → IsInWindow w k → k < n + 1 → NodeAt g k y → Contains y.reads r →
-    IsOverAny writes r → Contains reads' r
-reads_more g w writes reads reads' n x at old adds k y r near lt at' is any = elim (cases_lt k n) [
-  | inl less ↦ adds.kept r (old k y r near less at' is any)
-  | inr most ↦ (
-      let e : k ≡ n = omega arith in
-      let one : y ≡ x = same_node g n y x (subst (λ (m : ℕ). NodeAt g m y) e at') at in
-      adds.added r (subst (λ (z : Node). Contains z.reads r) one is) any)
-]
-
--- ---- What nodes write
-
-pub written_more : (g : Graph) (near : Window) (seen : List Bool) (writes writes' : List Location) (n : ℕ) (x : Node) → NodeAt g n x →
-    ((k : ℕ) (y : Node) (w : Location) → IsInWindow near k → k < n → IsSeen seen k → NodeAt g k y → y.writes ≡ Some w → Contains writes w) →
-    ((w : Location) → Contains writes w → Contains writes' w) →
-    (IsSeen seen n → (w : Location) → x.writes ≡ Some w → Contains writes' w) → (k : ℕ) (y : Node) (w : Location) → IsInWindow near k → k < n + 1 →
-    IsSeen seen k → NodeAt g k y → y.writes ≡ Some w → Contains writes' w
-written_more g near seen writes writes' n x at old kept added k y w in_window lt s at' e = elim (cases_lt k n) [
-  | inl less ↦ kept w (old k y w in_window less s at' e)
-  | inr most ↦ (
-      let is : k ≡ n = omega arith in
-      let one : x ≡ y = same_node g n x y at (subst (λ (m : ℕ). NodeAt g m y) is at') in
-      added (subst (λ (m : ℕ). IsSeen seen m) is s) w (ap (λ (z : Node). z.writes) one ∙ e))
-]
+pub read_is : (g : Graph) (b : Boundaries) (n : ℕ) (next other : Option ℕ) (one two : Bool) →
+    ((m : ℕ) → ((next ≡ Some m) ⊎ (other ≡ Some m)) ↔ Inside g b n m) → (IsTrue one ↔ OverwritesFromAny g b n next) →
+    (IsTrue two ↔ OverwritesFromAny g b n other) → IsTrue (one || two) ↔ OverwritesRead g b n
+read_is g b n next other one two ways k l = (
+  λ h. elim (or_either one two h) [
+    | inl e ↦ (let o = k.0 e in record { to = o.at; inside = (ways o.at).0 (inl o.is); overwrites = o.overwrites })
+    | inr e ↦ (let o = l.0 e in record { to = o.at; inside = (ways o.at).0 (inr o.is); overwrites = o.overwrites })
+  ],
+  λ o. elim ((ways o.to).1 o.inside) [
+    | inl is ↦ or_left one two (k.1 (record { at = o.to; is = is; overwrites = o.overwrites }))
+    | inr is ↦ or_right one two (l.1 (record { at = o.to; is = is; overwrites = o.overwrites }))
+  ],
+)

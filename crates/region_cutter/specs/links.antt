@@ -1,8 +1,9 @@
 pub mod BoundaryTrials
 pub mod GraphSearch
 pub mod Lines
-pub mod RemovalWindows
-pub mod PassedPlaces
+pub mod RemovalPaths
+pub mod NodeMarks
 pub mod RegionLimits
 pub mod Stretches
 pub mod FewBoundaries
+pub mod CoveredReads

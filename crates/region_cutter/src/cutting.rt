@@ -4,6 +4,7 @@ ghost use Rattle.flow_graph.specs.Nodes.{graph_of};
 ghost use Rattle.flow_graph.specs.IdempotentCuts.{AreCuts, IsMinimal, boundaries_of, AreAtWrites};
 ghost use Rattle.region_cutter.specs.FewestCuts.{AreFewestCuts};
 
+use crate::covered::none_covered;
 use crate::marks::marks_of;
 use crate::placing::few;
 use crate::trying::take_away;
@@ -23,6 +24,7 @@ pub fn cut(alloc: Global, graph: &Graph) -> Result<Cuts, OutOfMemory>
 {
     let mut cuts = few(alloc, graph)?;
     let marks = marks_of(alloc, graph)?;
-    while take_away(alloc, graph, &mut cuts, &marks)? {}
+    let mut covered = none_covered(alloc, graph)?;
+    while take_away(alloc, graph, &mut cuts, &marks, &mut covered)? {}
     Ok(cuts)
 }

@@ -3,6 +3,7 @@
 #![tactic(auto)]
 
 mod cleaning;
+mod covered;
 mod cutting;
 mod elements;
 mod fewest_cuts;
@@ -16,7 +17,6 @@ mod search;
 mod start;
 mod straight;
 mod trying;
-mod window;
 
 pub use cleaning::cleaned_later;
 pub use cutting::cut;

@@ -1,17 +1,18 @@
-//! What may change where one boundary is taken away: only paths that pass the node before which it stood, and so only what is near it.
-ghost use Rattle.std.specs.Prelude.{◌≡◌, ◌↔◌, ◌<◌, ◌≤◌, [], ℕ, Contains, IfOk, OnOk, IsTrue, Some, false, length, replicate, slice_get};
+//! What may change where one boundary is taken away: only paths that pass the node before which it stood.
+ghost use Rattle.std.specs.Prelude.{◌≡◌, ◌↔◌, ◌<◌, ℕ, Contains, IfOk, OnOk, IsTrue, Some, None, length, slice_get};
 ghost use Rattle.flow_graph.specs.Nodes.{graph_of, node_of};
 ghost use Rattle.flow_graph.specs.IdempotentCuts.{BeginsRegion, HasBefore, boundaries_of};
-ghost use Rattle.region_cutter.specs.links.RemovalWindows.{AddsRead, AddsWritten, AllAfter, AreAhead, AreReadOver, AreUnwritten, AreWritten};
-ghost use Rattle.region_cutter.specs.links.RemovalWindows.{BeginsBy, BeginsIn, Exposes, Inside, InsidePast, IsAfterExposed, IsAfterExposedIn};
-ghost use Rattle.region_cutter.specs.links.RemovalWindows.{IsExposed, IsExposedAny, IsKnownWithout, IsOverAny, WritesOver, WritesSame};
-ghost use Rattle.region_cutter.specs.links.PassedPlaces.{AreMarks};
+ghost use Rattle.region_cutter.specs.links.RemovalPaths.{AddsWritten, AllAfter, AreAhead, AreWrittenFrom, ComesBack, ComesFrom, ComesFromAny, ExposesOver};
+ghost use Rattle.region_cutter.specs.links.RemovalPaths.{Inside, IsExposedBefore, IsExposedOver, IsKnownWithout, IsOverAny, IsUnwritten};
+ghost use Rattle.region_cutter.specs.links.RemovalPaths.{OverwritesFromAny, OverwritesRead, WritesOver, WritesPast, WritesSame};
+ghost use Rattle.region_cutter.specs.links.CoveredReads.{AreCovered, AreCoveredAfter, AreFound, IsRead};
+ghost use Rattle.region_cutter.specs.links.NodeMarks.{AreMarks};
 ghost use Rattle.region_cutter.specs.links.GraphSearch.{IsSearchStep};
 
 use crate::cleaning::{has_after, stands};
+use crate::covered::{Read, is_covered, note};
 use crate::marks::Marks;
 use crate::search::Search;
-use crate::window::{Window, window_at};
 use flow_graph::cuts::Cuts;
 use flow_graph::graph::{Graph, Node};
 use ido_base::location::{Location, overlap, same};
@@ -19,7 +20,7 @@ use ido_base::memory::OutOfMemory;
 use std::alloc::Global;
 
 /// The node, unless a boundary is passed on the way to it.
-pub(crate) fn inside(cuts: &Cuts, after: bool, to: Option<usize>) -> Option<usize>
+fn inside(cuts: &Cuts, after: bool, to: Option<usize>) -> Option<usize>
     ensures { (node : ℕ) → (result ≡ Some node) ↔ ((to ≡ Some node) × (IsTrue after → ⊥) × ¬ (HasBefore (boundaries_of cuts.now) node)) }
 {
     match to {
@@ -52,18 +53,6 @@ fn go_on(
     Ok(())
 }
 
-/// Of each node whether regions go on to it from this one.
-fn ahead(alloc: Global, graph: &Graph, cuts: &Cuts, from: usize) -> Result<Vec<bool>, OutOfMemory>
-    ensures { IfOk result (λ seen. AreAhead (graph_of graph.now) (boundaries_of cuts.now) from seen.items) }
-{
-    let mut search = Search::at(alloc, graph.nodes.len(), from)?;
-    while let Some(number) = search.waiting.pop() {
-        go_on(graph, cuts, &mut search, number, &graph.nodes[number])?;
-    }
-    let Search { seen, waiting: _ } = search;
-    Ok(seen)
-}
-
 /// Adds what the node writes.
 fn add_written(writes: &mut Vec<Location>, node: &Node) -> Result<(), OutOfMemory>
     ensures { OnOk result (AddsWritten (node_of node.now) writes.old.items writes.new.items) }
@@ -74,23 +63,27 @@ fn add_written(writes: &mut Vec<Location>, node: &Node) -> Result<(), OutOfMemor
     Ok(())
 }
 
-/// What the window's nodes among these write.
-pub(crate) fn written(
-    alloc: Global,
-    graph: &Graph,
-    window: Window,
-    among: &[bool],
-) -> Result<Vec<Location>, OutOfMemory>
-    requires { window.end ≤ length graph.now.nodes.items }
-    ensures { IfOk result (λ writes. AreWritten (graph_of graph.now) window among.now writes.items) }
+/// The nodes to which regions go on from a node, itself among them, and where they write.
+#[derive(Drop)]
+struct Ahead {
+    seen: Vec<bool>,
+    writes: Vec<Location>,
+}
+
+/// What lies ahead of the node.
+fn ahead_of(alloc: Global, graph: &Graph, cuts: &Cuts, from: usize) -> Result<Ahead, OutOfMemory>
+    ensures seen { IfOk result (λ ahead. AreAhead (graph_of graph.now) (boundaries_of cuts.now) from ahead.seen.items) }
+    ensures writes { IfOk result (λ ahead. AreWrittenFrom (graph_of graph.now) (boundaries_of cuts.now) from ahead.writes.items) }
 {
+    let mut search = Search::at(alloc, graph.nodes.len(), from)?;
     let mut writes = Vec::new(alloc);
-    for number in window.first..window.end {
-        if stands(among, number) {
-            add_written(&mut writes, &graph.nodes[number])?;
-        }
+    while let Some(number) = search.waiting.pop() {
+        let node = &graph.nodes[number];
+        add_written(&mut writes, node)?;
+        go_on(graph, cuts, &mut search, number, node)?;
     }
-    Ok(writes)
+    let Search { seen, waiting: _ } = search;
+    Ok(Ahead { seen, writes })
 }
 
 /// Whether one of these writes may be over the elements.
@@ -127,108 +120,6 @@ pub(crate) fn writes_same(graph: &Graph, element: Location, number: usize, node:
     }
 }
 
-/// Whether a region begins at the node.
-fn begins_at(graph: &Graph, cuts: &Cuts, marks: &Marks, number: usize) -> bool
-    requires exists { number < length graph.now.nodes.items }
-    requires marks { AreMarks (graph_of graph.now) marks.now }
-    requires locks { AllAfter (graph_of graph.now) (boundaries_of cuts.now) }
-    ensures { IsTrue result ↔ BeginsRegion (graph_of graph.now) (boundaries_of cuts.now) number }
-{
-    let before = stands(&cuts.before, number);
-    let after = stands(&marks.begun, number);
-    before || after
-}
-
-/// Comes to the node, if a region begins there.
-fn come_to_begun(
-    graph: &Graph,
-    cuts: &Cuts,
-    marks: &Marks,
-    search: &mut Search,
-    number: usize,
-) -> Result<(), OutOfMemory>
-    requires exists { number < length graph.now.nodes.items }
-    requires marks { AreMarks (graph_of graph.now) marks.now }
-    requires locks { AllAfter (graph_of graph.now) (boundaries_of cuts.now) }
-    ensures { OnOk result (IsSearchStep (BeginsBy (graph_of graph.now) (boundaries_of cuts.now) number) search.old.seen.items search.old.waiting.items
-        search.new.seen.items search.new.waiting.items) }
-{
-    if begins_at(graph, cuts, marks, number) {
-        search.come_to(number)?;
-    }
-    Ok(())
-}
-
-/// A search that has come to each node of the window where a region begins.
-fn begin_search(
-    alloc: Global,
-    graph: &Graph,
-    cuts: &Cuts,
-    marks: &Marks,
-    window: Window,
-) -> Result<Search, OutOfMemory>
-    requires within { window.end ≤ length graph.now.nodes.items }
-    requires marks { AreMarks (graph_of graph.now) marks.now }
-    requires locks { AllAfter (graph_of graph.now) (boundaries_of cuts.now) }
-    ensures { IfOk result (λ search.
-        IsSearchStep (BeginsIn (graph_of graph.now) (boundaries_of cuts.now) window) (replicate (length graph.now.nodes.items) false) [] search.seen.items
-        search.waiting.items) }
-{
-    let mut search = Search::nowhere(alloc, graph.nodes.len())?;
-    for number in window.first..window.end {
-        come_to_begun(graph, cuts, marks, &mut search, number)?;
-    }
-    Ok(search)
-}
-
-/// Goes on with a search inside the region, unless the node writes the very element.
-fn go_on_past(
-    graph: &Graph,
-    cuts: &Cuts,
-    search: &mut Search,
-    element: Location,
-    number: usize,
-    node: &Node,
-) -> Result<(), OutOfMemory>
-    requires { slice_get graph.now.nodes.items number ≡ Some node.now }
-    ensures { OnOk result (IsSearchStep (InsidePast (graph_of graph.now) (boundaries_of cuts.now) element number) search.old.seen.items search.old.waiting.items
-        search.new.seen.items search.new.waiting.items) }
-{
-    if !writes_same(graph, element, number, node) {
-        go_on(graph, cuts, search, number, node)?;
-    }
-    Ok(())
-}
-
-/// Of each node whether a region comes to it that has not written the very element before.
-fn unwritten(
-    alloc: Global,
-    graph: &Graph,
-    cuts: &Cuts,
-    marks: &Marks,
-    window: Window,
-    element: Location,
-) -> Result<Vec<bool>, OutOfMemory>
-    requires within { window.end ≤ length graph.now.nodes.items }
-    requires marks { AreMarks (graph_of graph.now) marks.now }
-    requires locks { AllAfter (graph_of graph.now) (boundaries_of cuts.now) }
-    ensures { IfOk result (λ seen. AreUnwritten (graph_of graph.now) (boundaries_of cuts.now) window element seen.items) }
-{
-    let mut search = begin_search(alloc, graph, cuts, marks, window)?;
-    while let Some(number) = search.waiting.pop() {
-        go_on_past(
-            graph,
-            cuts,
-            &mut search,
-            element,
-            number,
-            &graph.nodes[number],
-        )?;
-    }
-    let Search { seen, waiting: _ } = search;
-    Ok(seen)
-}
-
 /// Whether these are among the locations.
 pub(crate) fn is_among(locations: &[Location], elements: Location) -> bool
     ensures { IsTrue result ↔ Contains locations.now elements }
@@ -241,161 +132,176 @@ pub(crate) fn is_among(locations: &[Location], elements: Location) -> bool
     false
 }
 
-/// Adds the elements, if one of these writes may be over them.
-fn add_read(
-    reads: &mut Vec<Location>,
-    writes: &[Location],
-    elements: Location,
-) -> Result<(), OutOfMemory>
-    ensures { OnOk result (AddsRead writes.now (λ read. elements ≡ read) reads.old.items reads.new.items) }
+/// Whether a region begins at the node.
+fn begins_at(graph: &Graph, cuts: &Cuts, marks: &Marks, number: usize) -> bool
+    requires exists { number < length graph.now.nodes.items }
+    requires marks { AreMarks (graph_of graph.now) marks.now }
+    requires locks { AllAfter (graph_of graph.now) (boundaries_of cuts.now) }
+    ensures { IsTrue result ↔ BeginsRegion (graph_of graph.now) (boundaries_of cuts.now) number }
 {
-    if is_over_any(writes, elements) && !is_among(reads, elements) {
-        reads.push(elements)?;
+    let before = stands(&cuts.before, number);
+    let after = stands(&marks.begun, number);
+    before || after
+}
+
+/// Whether the node writes the very element that is to be passed by, if there is one.
+fn writes_past(graph: &Graph, past: Option<Location>, number: usize, node: &Node) -> bool
+    requires { slice_get graph.now.nodes.items number ≡ Some node.now }
+    ensures { IsTrue result ↔ WritesPast (graph_of graph.now) past number }
+{
+    match past {
+        Some(element) => writes_same(graph, element, number, node),
+        None => false,
     }
-    Ok(())
 }
 
-/// Adds what the node reads and one of these writes may be over.
-fn add_reads(reads: &mut Vec<Location>, writes: &[Location], node: &Node) -> Result<(), OutOfMemory>
-    ensures { OnOk result (AddsRead writes.now (Contains node.now.reads.items) reads.old.items reads.new.items) }
-{
-    for elements in &node.reads {
-        add_read(reads, writes, *elements)?;
-    }
-    Ok(())
-}
-
-/// What the window's nodes read and one of these writes may be over, each location once.
-fn reads_over(
-    alloc: Global,
-    graph: &Graph,
-    window: Window,
-    writes: &[Location],
-) -> Result<Vec<Location>, OutOfMemory>
-    requires { window.end ≤ length graph.now.nodes.items }
-    ensures { IfOk result (λ reads. AreReadOver (graph_of graph.now) window writes.now reads.items) }
-{
-    let mut reads = Vec::new(alloc);
-    for number in window.first..window.end {
-        add_reads(&mut reads, writes, &graph.nodes[number])?;
-    }
-    Ok(reads)
-}
-
-/// Whether the node reads the elements, where these are the nodes at which they are unwritten.
-fn exposes(
-    graph: &Graph,
-    cuts: &Cuts,
-    window: Window,
-    unwritten: &[bool],
-    elements: Location,
-    number: usize,
-    node: &Node,
-) -> bool
-    requires node { slice_get graph.now.nodes.items number ≡ Some node.now }
-    requires unwritten { AreUnwritten (graph_of graph.now) (boundaries_of cuts.now) window elements unwritten.now }
-    ensures { IsTrue result ↔ Exposes (graph_of graph.now) (boundaries_of cuts.now) window elements number }
-{
-    stands(unwritten, number) && is_among(&node.reads, elements)
-}
-
-/// Goes on from the node, if it exposes the elements.
-fn come_after_exposed(
+/// Comes back to the node, unless a boundary stands after it or it writes the very element.
+fn come_from(
     graph: &Graph,
     cuts: &Cuts,
     search: &mut Search,
-    window: Window,
-    unwritten: &[bool],
-    elements: Location,
-    number: usize,
-    node: &Node,
+    past: Option<Location>,
+    from: usize,
 ) -> Result<(), OutOfMemory>
-    requires node { slice_get graph.now.nodes.items number ≡ Some node.now }
-    requires unwritten { AreUnwritten (graph_of graph.now) (boundaries_of cuts.now) window elements unwritten.now }
-    ensures { OnOk result (IsSearchStep (IsAfterExposed (graph_of graph.now) (boundaries_of cuts.now) window elements number) search.old.seen.items
+    requires { from < length graph.now.nodes.items }
+    ensures { OnOk result (IsSearchStep (ComesFrom (graph_of graph.now) (boundaries_of cuts.now) past from) search.old.seen.items search.old.waiting.items
+        search.new.seen.items search.new.waiting.items) }
+{
+    let node = &graph.nodes[from];
+    if has_after(graph, cuts, from, node) {
+        return Ok(());
+    }
+    if writes_past(graph, past, from, node) {
+        return Ok(());
+    }
+    search.come_to(from)?;
+    Ok(())
+}
+
+/// Comes back to each of these nodes.
+fn come_from_each(
+    graph: &Graph,
+    cuts: &Cuts,
+    search: &mut Search,
+    past: Option<Location>,
+    sources: &[usize],
+) -> Result<(), OutOfMemory>
+    requires { (from : ℕ) → Contains sources.now from → from < length graph.now.nodes.items }
+    ensures { OnOk result (IsSearchStep (ComesFromAny (graph_of graph.now) (boundaries_of cuts.now) past sources.now) search.old.seen.items
         search.old.waiting.items search.new.seen.items search.new.waiting.items) }
 {
-    if exposes(graph, cuts, window, unwritten, elements, number, node) {
-        go_on(graph, cuts, search, number, node)?;
+    for from in sources {
+        come_from(graph, cuts, search, past, *from)?;
     }
     Ok(())
 }
 
-/// A search that has come to each node after one of the window that exposes the elements.
-fn after_exposed(
-    alloc: Global,
+/// Goes back with a search inside the region, but not to nodes that write the very element, if there is one.
+fn go_back(
     graph: &Graph,
     cuts: &Cuts,
-    window: Window,
-    unwritten: &[bool],
-    elements: Location,
-) -> Result<Search, OutOfMemory>
-    requires within { window.end ≤ length graph.now.nodes.items }
-    requires unwritten { AreUnwritten (graph_of graph.now) (boundaries_of cuts.now) window elements unwritten.now }
-    ensures { IfOk result (λ search.
-        IsSearchStep (IsAfterExposedIn (graph_of graph.now) (boundaries_of cuts.now) window elements) (replicate (length graph.now.nodes.items) false) []
-        search.seen.items search.waiting.items) }
+    marks: &Marks,
+    search: &mut Search,
+    past: Option<Location>,
+    number: usize,
+) -> Result<(), OutOfMemory>
+    requires exists { number < length graph.now.nodes.items }
+    requires marks { AreMarks (graph_of graph.now) marks.now }
+    ensures { OnOk result (IsSearchStep (ComesBack (graph_of graph.now) (boundaries_of cuts.now) past number) search.old.seen.items search.old.waiting.items
+        search.new.seen.items search.new.waiting.items) }
 {
-    let mut search = Search::nowhere(alloc, graph.nodes.len())?;
-    for number in window.first..window.end {
-        let node = &graph.nodes[number];
-        come_after_exposed(
-            graph,
-            cuts,
-            &mut search,
-            window,
-            unwritten,
-            elements,
-            number,
-            node,
-        )?;
+    if !stands(&cuts.before, number) {
+        come_from_each(graph, cuts, search, past, &marks.sources[number])?;
     }
-    Ok(search)
+    Ok(())
 }
 
-/// Whether a node of the window exposes the elements and its region may overwrite them. One search goes on from all such nodes.
-fn is_exposed(
+/// Whether a region comes to the node that has not written the very element before. It goes back from the node.
+fn is_unwritten(
     alloc: Global,
     graph: &Graph,
     cuts: &Cuts,
     marks: &Marks,
-    window: Window,
-    elements: Location,
+    element: Location,
+    node: usize,
 ) -> Result<bool, OutOfMemory>
-    requires within { window.end ≤ length graph.now.nodes.items }
+    requires exists { node < length graph.now.nodes.items }
     requires marks { AreMarks (graph_of graph.now) marks.now }
     requires locks { AllAfter (graph_of graph.now) (boundaries_of cuts.now) }
-    ensures { IfOk result (λ yes. IsTrue yes ↔ IsExposed (graph_of graph.now) (boundaries_of cuts.now) window elements) }
+    ensures { IfOk result (λ yes. IsTrue yes ↔ IsUnwritten (graph_of graph.now) (boundaries_of cuts.now) element node) }
 {
-    let unwritten = unwritten(alloc, graph, cuts, marks, window, elements)?;
-    let mut search = after_exposed(alloc, graph, cuts, window, &unwritten, elements)?;
+    let mut search = Search::at(alloc, graph.nodes.len(), node)?;
     while let Some(number) = search.waiting.pop() {
-        let node = &graph.nodes[number];
-        if writes_over(graph, elements, number, node) {
+        if begins_at(graph, cuts, marks, number) {
             return Ok(true);
         }
-        go_on(graph, cuts, &mut search, number, node)?;
+        go_back(graph, cuts, marks, &mut search, Some(element), number)?;
     }
     Ok(false)
 }
 
-/// Whether a node of the window exposes elements that its region may overwrite, where these are what the region may write.
-pub(crate) fn exposes_any(
+/// Whether one of these writes may be over the elements, and a region comes to the read that has not written them before. Where one of them may
+/// be and none comes, the read is one more that was found.
+fn is_exposed_over(
     alloc: Global,
     graph: &Graph,
     cuts: &Cuts,
     marks: &Marks,
-    window: Window,
+    covered: &[Vec<bool>],
+    found: &mut Vec<Read>,
     writes: &[Location],
+    read: Read,
+    elements: Location,
 ) -> Result<bool, OutOfMemory>
-    requires within { window.end ≤ length graph.now.nodes.items }
+    requires read { IsRead (graph_of graph.now) read elements }
     requires marks { AreMarks (graph_of graph.now) marks.now }
     requires locks { AllAfter (graph_of graph.now) (boundaries_of cuts.now) }
-    ensures { IfOk result (IsExposedAny (graph_of graph.now) (boundaries_of cuts.now) window writes.now) }
+    requires covered { AreCovered (graph_of graph.now) (boundaries_of cuts.now) covered.now }
+    requires found { AreFound (graph_of graph.now) (boundaries_of cuts.now) found.old.items }
+    ensures exposed { IfOk result (λ yes. IsTrue yes ↔ IsExposedOver (graph_of graph.now) (boundaries_of cuts.now) writes.now read.node elements) }
+    ensures found { IfOk result (λ _. AreFound (graph_of graph.now) (boundaries_of cuts.now) found.new.items) }
 {
-    let reads = reads_over(alloc, graph, window, writes)?;
-    for elements in &reads {
-        let exposed = is_exposed(alloc, graph, cuts, marks, window, *elements)?;
+    if !is_over_any(writes, elements) {
+        return Ok(false);
+    }
+    if is_covered(covered, read) {
+        return Ok(false);
+    }
+    if is_unwritten(alloc, graph, cuts, marks, elements, read.node)? {
+        return Ok(true);
+    }
+    found.push(read)?;
+    Ok(false)
+}
+
+/// Whether the node reads such elements.
+fn exposes_over(
+    alloc: Global,
+    graph: &Graph,
+    cuts: &Cuts,
+    marks: &Marks,
+    covered: &[Vec<bool>],
+    found: &mut Vec<Read>,
+    writes: &[Location],
+    number: usize,
+    node: &Node,
+) -> Result<bool, OutOfMemory>
+    requires node { slice_get graph.now.nodes.items number ≡ Some node.now }
+    requires marks { AreMarks (graph_of graph.now) marks.now }
+    requires locks { AllAfter (graph_of graph.now) (boundaries_of cuts.now) }
+    requires covered { AreCovered (graph_of graph.now) (boundaries_of cuts.now) covered.now }
+    requires found { AreFound (graph_of graph.now) (boundaries_of cuts.now) found.old.items }
+    ensures exposed { IfOk result (λ yes. IsTrue yes ↔ ExposesOver (graph_of graph.now) (boundaries_of cuts.now) writes.now number) }
+    ensures found { IfOk result (λ _. AreFound (graph_of graph.now) (boundaries_of cuts.now) found.new.items) }
+{
+    for (place, elements) in node.reads.iter().enumerate() {
+        let read = Read {
+            node: number,
+            number: place,
+        };
+        let exposed = is_exposed_over(
+            alloc, graph, cuts, marks, covered, found, writes, read, *elements,
+        )?;
         if exposed {
             return Ok(true);
         }
@@ -403,22 +309,131 @@ pub(crate) fn exposes_any(
     Ok(false)
 }
 
-/// Whether regions can be run again without the boundary before the node, which is gone already, if they could with it.
-pub(crate) fn is_idempotent_without(
+/// Whether a node reads such elements from which a region comes to this one. It goes back from this one, and ends at the first.
+fn is_exposed_before(
     alloc: Global,
     graph: &Graph,
     cuts: &Cuts,
     marks: &Marks,
+    covered: &[Vec<bool>],
+    found: &mut Vec<Read>,
+    writes: &[Location],
     node: usize,
 ) -> Result<bool, OutOfMemory>
     requires exists { node < length graph.now.nodes.items }
     requires marks { AreMarks (graph_of graph.now) marks.now }
     requires locks { AllAfter (graph_of graph.now) (boundaries_of cuts.now) }
-    ensures { IfOk result (IsKnownWithout (graph_of graph.now) (boundaries_of cuts.now) node) }
+    requires covered { AreCovered (graph_of graph.now) (boundaries_of cuts.now) covered.now }
+    requires found { AreFound (graph_of graph.now) (boundaries_of cuts.now) found.old.items }
+    ensures exposed { IfOk result (λ yes. IsTrue yes ↔ IsExposedBefore (graph_of graph.now) (boundaries_of cuts.now) writes.now node) }
+    ensures found { IfOk result (λ _. AreFound (graph_of graph.now) (boundaries_of cuts.now) found.new.items) }
 {
-    let window = window_at(graph, cuts, marks, node);
-    let seen = ahead(alloc, graph, cuts, node)?;
-    let writes = written(alloc, graph, window, &seen)?;
-    let exposed = exposes_any(alloc, graph, cuts, marks, window, &writes)?;
+    let mut search = Search::nowhere(alloc, graph.nodes.len())?;
+    go_back(graph, cuts, marks, &mut search, None, node)?;
+    while let Some(number) = search.waiting.pop() {
+        let reader = &graph.nodes[number];
+        let exposed = exposes_over(
+            alloc, graph, cuts, marks, covered, found, writes, number, reader,
+        )?;
+        if exposed {
+            return Ok(true);
+        }
+        go_back(graph, cuts, marks, &mut search, None, number)?;
+    }
+    Ok(false)
+}
+
+/// Whether regions can be run again without the boundary before the node, which is gone already, if they could with it. What it finds of
+/// reads it notes: all of it where the boundary stays away, and else what holds with it too.
+pub(crate) fn is_idempotent_without(
+    alloc: Global,
+    graph: &Graph,
+    cuts: &Cuts,
+    marks: &Marks,
+    covered: &mut Vec<Vec<bool>>,
+    node: usize,
+) -> Result<bool, OutOfMemory>
+    requires exists { node < length graph.now.nodes.items }
+    requires marks { AreMarks (graph_of graph.now) marks.now }
+    requires locks { AllAfter (graph_of graph.now) (boundaries_of cuts.now) }
+    requires covered { AreCovered (graph_of graph.now) (boundaries_of cuts.now) covered.old.items }
+    ensures known { IfOk result (IsKnownWithout (graph_of graph.now) (boundaries_of cuts.now) node) }
+    ensures covered { IfOk result (λ known. AreCoveredAfter (graph_of graph.now) (boundaries_of cuts.now) node known covered.old.items covered.new.items) }
+{
+    let ahead = ahead_of(alloc, graph, cuts, node)?;
+    let mut found = Vec::new(alloc);
+    let exposed = is_exposed_before(
+        alloc,
+        graph,
+        cuts,
+        marks,
+        covered,
+        &mut found,
+        &ahead.writes,
+        node,
+    )?;
+    note(covered, &found, &ahead.seen, !exposed);
     Ok(!exposed)
+}
+
+/// Whether the node reads elements that its region may not have written before, and may write from the other node on, if there is that one.
+fn overwrites_from(
+    alloc: Global,
+    graph: &Graph,
+    cuts: &Cuts,
+    marks: &Marks,
+    number: usize,
+    node: &Node,
+    to: Option<usize>,
+) -> Result<bool, OutOfMemory>
+    requires node { slice_get graph.now.nodes.items number ≡ Some node.now }
+    requires marks { AreMarks (graph_of graph.now) marks.now }
+    requires locks { AllAfter (graph_of graph.now) (boundaries_of cuts.now) }
+    ensures { IfOk result (λ yes. IsTrue yes ↔ OverwritesFromAny (graph_of graph.now) (boundaries_of cuts.now) number to) }
+{
+    match to {
+        Some(to) => {
+            let ahead = ahead_of(alloc, graph, cuts, to)?;
+            let none: Vec<Vec<bool>> = Vec::new(alloc);
+            let mut found = Vec::new(alloc);
+            let exposed = exposes_over(
+                alloc,
+                graph,
+                cuts,
+                marks,
+                &none,
+                &mut found,
+                &ahead.writes,
+                number,
+                node,
+            )?;
+            Ok(exposed)
+        }
+        None => Ok(false),
+    }
+}
+
+/// Whether the node reads elements that its region may not have written before, and may write later.
+pub(crate) fn overwrites_read(
+    alloc: Global,
+    graph: &Graph,
+    cuts: &Cuts,
+    marks: &Marks,
+    number: usize,
+    node: &Node,
+) -> Result<bool, OutOfMemory>
+    requires node { slice_get graph.now.nodes.items number ≡ Some node.now }
+    requires marks { AreMarks (graph_of graph.now) marks.now }
+    requires locks { AllAfter (graph_of graph.now) (boundaries_of cuts.now) }
+    ensures { IfOk result (λ yes. IsTrue yes ↔ OverwritesRead (graph_of graph.now) (boundaries_of cuts.now) number) }
+{
+    if node.reads.is_empty() {
+        return Ok(false);
+    }
+    let after = has_after(graph, cuts, number, node);
+    let next = inside(cuts, after, node.next());
+    let other = inside(cuts, after, node.other());
+    let one = overwrites_from(alloc, graph, cuts, marks, number, node, next)?;
+    let two = overwrites_from(alloc, graph, cuts, marks, number, node, other)?;
+    Ok(one || two)
 }

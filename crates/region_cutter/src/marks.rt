@@ -1,7 +1,7 @@
 //! What is known of a graph's nodes whatever boundaries stand before them.
 ghost use Rattle.std.specs.Prelude.{◌≡◌, ◌↔◌, ◌<◌, [], ℕ, IfOk, OnOk, IsTrue, Some, false, length, replicate, slice_get};
 ghost use Rattle.flow_graph.specs.Nodes.{graph_of, next_of, node_of, other_of};
-ghost use Rattle.region_cutter.specs.links.PassedPlaces.{AreMarks, AreBegun, ArePassed, IsAfterLock, IsAfterLockBelow, MarksEdge, MarksRange};
+ghost use Rattle.region_cutter.specs.links.NodeMarks.{AddsSource, AreNone, AreMarks, AreBegun, AreSources, IsAfterLock, IsAfterLockBelow};
 ghost use Rattle.region_cutter.specs.links.GraphSearch.{IsSearchStep};
 
 use crate::search::Search;
@@ -12,50 +12,50 @@ use std::alloc::Global;
 
 #[derive(Drop)]
 pub(crate) struct Marks {
-    /// Of each node whether an edge goes past the place before it, but for the one from the node before it to the node.
-    pub(crate) passed: Vec<bool>,
+    /// Of each node those from which edges lead to it.
+    pub(crate) sources: Vec<Vec<usize>>,
     /// Of each node whether it stands after one that takes a mutex.
     pub(crate) begun: Vec<bool>,
 }
 
-/// Marks the nodes from the first up to the end, without the end.
-fn mark_range(marks: &mut Vec<bool>, first: usize, end: usize)
-    ensures { MarksRange first end marks.old.items marks.new.items }
-{
-    for number in first..end {
-        if number < marks.len() {
-            marks[number] = true;
-        }
-    }
-}
-
-/// Marks the places that an edge goes past, if there is one and it leads elsewhere than to the next node.
-fn mark_edge(marks: &mut Vec<bool>, from: usize, to: Option<usize>)
-    requires { from < length marks.old.items }
-    ensures { MarksEdge from to marks.old.items marks.new.items }
+/// Notes an edge from the one node to the other, if there is that one.
+fn add_source(
+    sources: &mut Vec<Vec<usize>>,
+    from: usize,
+    to: Option<usize>,
+) -> Result<(), OutOfMemory>
+    ensures { OnOk result (AddsSource from to sources.old.items sources.new.items) }
 {
     if let Some(to) = to {
-        if to <= from {
-            mark_range(marks, to + 1, from + 1);
-        } else if to >= marks.len() {
-            let end = marks.len();
-            mark_range(marks, from + 1, end);
-        } else if to > from + 1 {
-            mark_range(marks, from + 1, to + 1);
+        if to < sources.len() {
+            sources[to].push(from)?;
         }
     }
+    Ok(())
 }
 
-fn passed(alloc: Global, graph: &Graph) -> Result<Vec<bool>, OutOfMemory>
-    ensures { IfOk result (λ passed. ArePassed (graph_of graph.now) passed.items) }
+/// For each of so many nodes none.
+fn no_sources(alloc: Global, nodes: usize) -> Result<Vec<Vec<usize>>, OutOfMemory>
+    ensures { IfOk result (λ sources. AreNone nodes sources.items) }
 {
-    let mut passed = vec![in alloc; false; graph.nodes.len()]?;
+    let mut sources = Vec::with_capacity(alloc, nodes)?;
+    for _ in 0..nodes {
+        sources.push(Vec::new(alloc))?;
+    }
+    Ok(sources)
+}
+
+/// Of each node those from which edges lead to it.
+fn sources_of(alloc: Global, graph: &Graph) -> Result<Vec<Vec<usize>>, OutOfMemory>
+    ensures { IfOk result (λ sources. AreSources (graph_of graph.now) sources.items) }
+{
+    let mut sources = no_sources(alloc, graph.nodes.len())?;
     for number in 0..graph.nodes.len() {
         let node = &graph.nodes[number];
-        mark_edge(&mut passed, number, node.next());
-        mark_edge(&mut passed, number, node.other());
+        add_source(&mut sources, number, node.next())?;
+        add_source(&mut sources, number, node.other())?;
     }
-    Ok(passed)
+    Ok(sources)
 }
 
 /// The node, if the one before it takes a mutex.
@@ -97,7 +97,7 @@ fn begun(alloc: Global, graph: &Graph) -> Result<Vec<bool>, OutOfMemory>
 pub(crate) fn marks_of(alloc: Global, graph: &Graph) -> Result<Marks, OutOfMemory>
     ensures { IfOk result (λ marks. AreMarks (graph_of graph.now) marks) }
 {
-    let passed = passed(alloc, graph)?;
+    let sources = sources_of(alloc, graph)?;
     let begun = begun(alloc, graph)?;
-    Ok(Marks { passed, begun })
+    Ok(Marks { sources, begun })
 }

@@ -2,8 +2,9 @@
 ghost use Rattle.std.specs.Prelude.{◌<◌, IfOk, length};
 ghost use Rattle.flow_graph.specs.Nodes.{graph_of};
 ghost use Rattle.flow_graph.specs.IdempotentCuts.{HasBefore, IsIdempotent, boundaries_of};
-ghost use Rattle.region_cutter.specs.links.RemovalWindows.{AllAfter};
-ghost use Rattle.region_cutter.specs.links.PassedPlaces.{AreMarks};
+ghost use Rattle.region_cutter.specs.links.RemovalPaths.{AllAfter};
+ghost use Rattle.region_cutter.specs.links.CoveredReads.{AreCovered};
+ghost use Rattle.region_cutter.specs.links.NodeMarks.{AreMarks};
 ghost use Rattle.region_cutter.specs.links.BoundaryTrials.{AreKept, IsTried, IsTrialPass};
 
 use crate::local::is_idempotent_without;
@@ -20,6 +21,7 @@ fn try_without(
     graph: &Graph,
     cuts: &mut Cuts,
     marks: &Marks,
+    covered: &mut Vec<Vec<bool>>,
     node: usize,
 ) -> Result<bool, OutOfMemory>
     requires exists { node < length graph.now.nodes.items }
@@ -27,10 +29,12 @@ fn try_without(
     requires locks { AllAfter (graph_of graph.now) (boundaries_of cuts.old) }
     requires stands { HasBefore (boundaries_of cuts.old) node }
     requires idempotent { IsIdempotent (graph_of graph.now) (boundaries_of cuts.old) }
-    ensures { IfOk result (λ taken. IsTried (graph_of graph.now) (boundaries_of cuts.old) (boundaries_of cuts.new) node taken) }
+    requires covered { AreCovered (graph_of graph.now) (boundaries_of cuts.old) covered.old.items }
+    ensures tried { IfOk result (λ taken. IsTried (graph_of graph.now) (boundaries_of cuts.old) (boundaries_of cuts.new) node taken) }
+    ensures covered { IfOk result (λ _. AreCovered (graph_of graph.now) (boundaries_of cuts.new) covered.new.items) }
 {
     cuts.before[node] = false;
-    let taken = is_idempotent_without(alloc, graph, cuts, marks, node)?;
+    let taken = is_idempotent_without(alloc, graph, cuts, marks, covered, node)?;
     if !taken {
         cuts.before[node] = true;
     }
@@ -44,15 +48,19 @@ pub(crate) fn take_away(
     graph: &Graph,
     cuts: &mut Cuts,
     marks: &Marks,
+    covered: &mut Vec<Vec<bool>>,
 ) -> Result<bool, OutOfMemory>
     requires kept { AreKept (graph_of graph.now) (boundaries_of cuts.old) }
     requires marks { AreMarks (graph_of graph.now) marks.now }
-    ensures { IfOk result (λ taken. IsTrialPass (graph_of graph.now) (boundaries_of cuts.old) (boundaries_of cuts.new) (length graph.now.nodes.items) taken) }
+    requires covered { AreCovered (graph_of graph.now) (boundaries_of cuts.old) covered.old.items }
+    ensures pass { IfOk result (λ taken. IsTrialPass (graph_of graph.now) (boundaries_of cuts.old) (boundaries_of cuts.new)
+        (length graph.now.nodes.items) taken) }
+    ensures covered { IfOk result (λ _. AreCovered (graph_of graph.now) (boundaries_of cuts.new) covered.new.items) }
 {
     let mut any = false;
     for (number, node) in graph.nodes.iter().enumerate() {
         if cuts.before[number] && !unlocks(node) {
-            if try_without(alloc, graph, cuts, marks, number)? {
+            if try_without(alloc, graph, cuts, marks, covered, number)? {
                 any = true;
             }
         }

@@ -3,7 +3,7 @@ use Rattle.std.specs.Option.{option_map}
 use Rattle.std.proofs.lemmas.Option.{slice_get-map}
 use Rattle.flow_graph.specs.Nodes.{graph_of, node_of}
 use Rattle.flow_graph.specs.IdempotentCuts.{boundaries_of}
-use Rattle.region_cutter.specs.links.RemovalWindows.{Inside}
+use Rattle.region_cutter.specs.links.RemovalPaths.{Inside}
 use Rattle.region_cutter.proofs.TrialParts.{inside_both}
 use Rattle.region_cutter.proofs.GraphSearchComplete.{follows_as, follows_both}
 use Rattle.region_cutter.proofs.local.go_on.Goals as goal

@@ -5,7 +5,7 @@ use Rattle.std.proofs.lemmas.List.{length-map, length-replicate}
 use Rattle.flow_graph.specs.declared.graph.Node as code
 use Rattle.flow_graph.specs.Nodes.{graph_of, node_of}
 use Rattle.region_cutter.specs.links.GraphSearch.{IsSearchStep}
-use Rattle.region_cutter.specs.links.PassedPlaces.{AreBegun, IsAfterLock, IsAfterLockBelow}
+use Rattle.region_cutter.specs.links.NodeMarks.{AreBegun, IsAfterLock, IsAfterLockBelow}
 use Rattle.region_cutter.proofs.TrialParts.{locks_none, locks_next}
 use Rattle.region_cutter.proofs.GraphSearchComplete.{follows_none, follows_as, follows_both, none_seen, none_waits}
 use Rattle.region_cutter.proofs.marks.begun.Goals as goal

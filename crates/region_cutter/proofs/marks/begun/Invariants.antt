@@ -1,7 +1,7 @@
 use Rattle.std.proofs.Common.{[], length, replicate, false}
 use Rattle.flow_graph.specs.Nodes.{graph_of}
 use Rattle.region_cutter.specs.links.GraphSearch.{IsSearchStep}
-use Rattle.region_cutter.specs.links.PassedPlaces.{IsAfterLockBelow}
+use Rattle.region_cutter.specs.links.NodeMarks.{IsAfterLockBelow}
 use Rattle.region_cutter.proofs.marks.begun.Given as goal
 
 abbrev pub invariant-loop-number : goal.invariant-loop-number

@@ -2,7 +2,7 @@ use Rattle.std.proofs.Common.{◌≡◌, ◌⊎◌, Some, ap, ◌∙◌}
 use Rattle.std.specs.Option.{option_map}
 use Rattle.std.proofs.lemmas.Option.{slice_get-map}
 use Rattle.flow_graph.specs.Nodes.{graph_of, node_of}
-use Rattle.region_cutter.specs.links.PassedPlaces.{IsAfterLock}
+use Rattle.region_cutter.specs.links.NodeMarks.{IsAfterLock}
 use Rattle.region_cutter.proofs.TrialParts.{after_by}
 use Rattle.region_cutter.proofs.GraphSearchComplete.{follows_as, follows_both}
 use Rattle.region_cutter.proofs.marks.come_after_lock.Goals as goal
