@@ -18,7 +18,7 @@ use Rattle.c_reader.specs.links.ParserFunctions.{statement_by, statement_over, a
 use Rattle.c_reader.specs.links.ParserSteps.{statement_by_word, statement_by_mark, parse_named_statement, parse_declaration_statement}
 use Rattle.c_reader.specs.links.ParserSteps.{parse_assignment_statement, parse_lock}
 use Rattle.c_reader.specs.links.ParserSteps.{parse_unlock, parse_if, parse_while, parse_do, parse_for}
-use Rattle.c_reader.specs.links.ParserSteps.{ForHead, parse_start_of_for, parse_middle_of_for, parse_end_of_for, parse_head_of_for}
+use Rattle.c_reader.specs.links.ParserSteps.{parse_start_of_for, parse_middle_of_for, parse_end_of_for, parse_head_of_for}
 use Rattle.c_reader.specs.links.ParserSteps.{parse_arm, then_statements, then_arms, more_statements, more_arms}
 use Rattle.c_reader.proofs.ParserStepEquations.{where_followed}
 

@@ -1,6 +1,6 @@
 //! What stands at the front of a text.
-ghost use Rattle.std.specs.Prelude.{◌≡◌, ◌≤◌, length, map, not, ◌==◌, IfSome};
-ghost use Rattle.std.specs.List.{prefix_len};
+ghost use Rattle.std.specs.Prelude.{◌≡◌, ◌≤◌, length, map, nat_eq, not, ◌==◌, IfSome};
+ghost use Rattle.std.specs.List.{prefix_len, starts_with};
 ghost use Rattle.ido_base.specs.Places.{line_feed};
 ghost use Rattle.c_tree.specs.LexicalScan.{is_word_byte, reserved, punctuators, through_comment, line_comment, closed_comment};
 ghost use Rattle.c_tree.specs.LexicalScan.{word_prefix, number_prefix, punctuator_prefix, prefix_from, prefix};
@@ -114,23 +114,55 @@ fn keyword(word: &[u8]) -> Option<Keyword>
     keyword_among(&RESERVED, word)
 }
 
+/// Whether these bytes stand at the front: the first one is looked at alone, since most often it is another.
+#[inline(always)]
+fn begins_with(text: &[u8], bytes: &[u8]) -> bool
+    ensures { result ≡ starts_with nat_eq text.now bytes.now }
+{
+    match (text, bytes) {
+        (_, []) => true,
+        ([], _) => false,
+        ([first, ..], [wanted, ..]) => first == wanted && text.starts_with(bytes),
+    }
+}
+
 /// The first punctuator of those listed that stands at the front, and how many bytes it has.
 fn punctuator_among(entries: &[(&[u8], Punctuator)], text: &[u8]) -> Option<(Punctuator, usize)>
     ensures { result ≡ punctuator_in (map (λ e. (e.0.now, e.1)) entries.now) text.now }
 {
     for (bytes, punctuator) in entries {
-        if text.starts_with(*bytes) {
+        if begins_with(text, *bytes) {
             return Some((*punctuator, bytes.len()));
         }
     }
     None
 }
 
-/// The longest punctuator that stands at the front, and how many bytes it has.
+/// The longest punctuator that stands at the front, and how many bytes it has. Those that begin no longer
+/// one, and frequent operators before a blank, need no table.
 fn punctuator(text: &[u8]) -> Option<(Punctuator, usize)>
     ensures { result ≡ punctuator_in punctuators text.now }
 {
-    punctuator_among(&PUNCTUATORS, text)
+    match text {
+        [b'(', ..] => Some((Punctuator::OpenParenthesis, 1)),
+        [b')', ..] => Some((Punctuator::CloseParenthesis, 1)),
+        [b'[', ..] => Some((Punctuator::OpenBracket, 1)),
+        [b']', ..] => Some((Punctuator::CloseBracket, 1)),
+        [b'{', ..] => Some((Punctuator::OpenBrace, 1)),
+        [b'}', ..] => Some((Punctuator::CloseBrace, 1)),
+        [b';', ..] => Some((Punctuator::Semicolon, 1)),
+        [b',', ..] => Some((Punctuator::Comma, 1)),
+        [b'?', ..] => Some((Punctuator::Question, 1)),
+        [b':', ..] => Some((Punctuator::Colon, 1)),
+        [b'~', ..] => Some((Punctuator::Complement, 1)),
+        [b'=', b' ', ..] => Some((Punctuator::Assign, 1)),
+        [b'+', b' ', ..] => Some((Punctuator::Binary(Binary::Add), 1)),
+        [b'-', b' ', ..] => Some((Punctuator::Binary(Binary::Sub), 1)),
+        [b'*', b' ', ..] => Some((Punctuator::Binary(Binary::Mul), 1)),
+        [b'<', b' ', ..] => Some((Punctuator::Binary(Binary::Less), 1)),
+        [b'>', b' ', ..] => Some((Punctuator::Binary(Binary::Greater), 1)),
+        _ => punctuator_among(&PUNCTUATORS, text),
+    }
 }
 
 /// How many bytes stand before the first `*/`, and those two; none where there is none.
@@ -221,9 +253,9 @@ fn prefix_from<'a>(first: u8, text: &'a [u8]) -> Prefix<'a>
 {
     if is_blank(first) {
         Prefix::Blank(1)
-    } else if text.starts_with(b"//") {
+    } else if begins_with(text, b"//") {
         line_comment(text)
-    } else if text.starts_with(b"/*") {
+    } else if begins_with(text, b"/*") {
         closed_comment(text)
     } else if is_letter(first) {
         word_prefix(text)
