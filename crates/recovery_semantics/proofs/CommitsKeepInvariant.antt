@@ -1,16 +1,16 @@
 -- A thread's begun steps that are kept: the invariant holds.
 use Rattle.std.proofs.Common.{◌≡◌, ◌≢◌, ◌⊎◌, inl, inr, refl, ℕ, suc, ◌+◌, ◌≤◌, ◌==◌, List, [], ◌∷◌, ◌++◌, replicate}
 use Rattle.std.proofs.Common.{sym, ◌∙◌, ap, subst, arith, Bool, true, false, Option, Some, None, ℤ, ⊎_elim}
-use Rattle.std.specs.Prelude.{slice_get, slice_index_or, pos, if◌then◌else◌}
+use Rattle.std.specs.Prelude.{slice_get, if◌then◌else◌}
 use Rattle.std.proofs.lemmas.Bool.{cases_eq}
 use Rattle.c_tree.specs.Flats as f
 use Rattle.c_tree.specs.Source as m
 use Rattle.c_tree.specs.Source.{source_step}
-use Rattle.c_tree.specs.LockDiscipline.{guard_of}
+use Rattle.source_machine.specs.ElementLocks.{element_lock, found_number}
 use Rattle.source_machine.specs.Mutexes.{locks, unlocks}
-use Rattle.source_machine.specs.Discipline.{StateKeeps, Guards}
+use Rattle.source_machine.specs.Discipline.{StateKeeps, Guards, IsSameElement}
 use Rattle.source_machine.specs.StepExchanges.{steps_of, without, TransfersLock, IsExchanged, IsSolo, IsSameTo}
-use Rattle.source_machine.proofs.Public.{after_by, runs_by, goes_on, index_same, some_is, Passed, takes, gives, Stepped, locks_found, unlocks_found, stepped}
+use Rattle.source_machine.proofs.Public.{after_by, runs_by, goes_on, found_same, some_is, Passed, takes, gives, Stepped, locks_found, unlocks_found, stepped}
 use Rattle.source_machine.proofs.Public.{step_keeps, run_keeps, writes_guarded, mutex_stays, mutex_passed, sizes_stay, steps_dropped, LeadsAlong, steps_made}
 use Rattle.source_machine.proofs.Public.{exchange, solo as solo_law}
 use Rattle.recovery_semantics.specs.ElementHistories.{IsStable, history_at, number_at}
@@ -23,7 +23,7 @@ use Rattle.recovery_semantics.proofs.Schedules.{equal_self, BegunBy, tried_of}
 use Rattle.recovery_semantics.proofs.StepsKeepInvariant.{passes_same, passing_stores_nothing}
 use Rattle.recovery_semantics.proofs.ShortenedSchedules.{none_left, others_left, none_of_other, alone_no_hands, last_first, more_empty, join}
 
--- ---- A variable whose mutex nobody locks
+-- ---- An element whose lock nobody takes
 
 abbrev count_by : Bool → ℕ → ℕ
 count_by b n = if b then suc n else n
@@ -41,9 +41,9 @@ none_later t u us c = by (u == t) c
     by true h = absurd (omega (arith, h))
     by false h = h
 
-module _ (x : f.Flat) (t v : ℕ) where
+module _ (x : f.Flat) (t v d : ℕ) where
   abbrev g : ℕ
-  g = guard_of x.variables v
+  g = element_lock x.variables v d
 
   -- a free mutex that a step doesn't lock
   free_stays : (s next : m.State) (u : ℕ) → StateKeeps x s → source_step s u ≡ Some next → locks s u ≢ Some g → slice_get s.holders g ≡ Some None →
@@ -55,35 +55,35 @@ module _ (x : f.Flat) (t v : ℕ) where
         | gives a own to ↦ none_some u (some_is None (Some u) (sym free ∙ subst (λ (k : ℕ). slice_get s.holders k ≡ Some (Some u)) (sym is) own))
       ]) ∙ free
 
-  -- the variable keeps its numbers where its mutex is free and no other thread locks it
+  -- the element keeps its number where its lock is free and no other thread takes it
   quiet : (us : List ℕ) (s last : m.State) → StateKeeps x s → LeadsAlong s us last → steps_of t us ≡ 0 → slice_get s.holders g ≡ Some None →
       ((between : List ℕ) (taker : ℕ) (more : List ℕ) → us ≡ between ++ taker ∷ more → taker ≢ t → locks (m.after_from s between) taker ≢ Some g) →
-      slice_get last.variables v ≡ slice_get s.variables v
-  quiet [] s last keeps made none free never = ap (λ (z : m.State). slice_get z.variables v) (sym made)
+      IsSameElement s last v d
+  quiet [] s last keeps made none free never = ap (λ (z : m.State). found_number z.variables v d) (sym made)
   quiet (u ∷ us) s last keeps made none free never =
       let next = made.0 in
       quiet us next last (step_keeps x s next u keeps made.1) made.2 (none_later t u us none)
       (free_stays s next u keeps made.1 (never [] u us refl (not_first t u us none)) free)
       (λ between taker more is n l. never (u ∷ between) taker more (ap (λ (ks : List ℕ). u ∷ ks) is) n
       (ap (λ (z : m.State). locks z taker) (after_first s next u between made.1) ∙ l))
-      ∙ writes_guarded x s next u v keeps made.1 (λ own. none_some u (some_is None (Some u) (sym free ∙ own)))
+      ∙ writes_guarded x s next u v d keeps made.1 (λ own. none_some u (some_is None (Some u) (sym free ∙ own)))
     where
       after_first : (z next : m.State) (w : ℕ) (ts : List ℕ) → source_step z w ≡ Some next → m.after_from z (w ∷ ts) ≡ m.after_from next ts
       after_first z next w ts h = ap (after_by ts z) h
 
   -- a mutex that the thread holds it holds after its step, unless the step unlocks it
-  held_or_given : (s next : m.State) → StateKeeps x s → source_step s t ≡ Some next → Guards x s t v →
-      Guards x next t v ⊎ ((unlocks s t ≡ Some g) × (slice_get next.holders g ≡ Some None))
+  held_or_given : (s next : m.State) → StateKeeps x s → source_step s t ≡ Some next → Guards x s t v d →
+      Guards x next t v d ⊎ ((unlocks s t ≡ Some g) × (slice_get next.holders g ≡ Some None))
   held_or_given s next keeps h own = by_passed p.does.change.passed refl
     where
       p : Stepped x s t next
       p = stepped x s next t keeps h
 
-      stays : ((q : Passed) → p.does.change.passed ≡ Some q → g ≢ q.mutex) → Guards x next t v
+      stays : ((q : Passed) → p.does.change.passed ≡ Some q → g ≢ q.mutex) → Guards x next t v d
       stays n = mutex_stays x s next t p g n ∙ own
 
       at_it : (q : Passed) → p.does.change.passed ≡ Some q → g ≡ q.mutex →
-          Guards x next t v ⊎ ((unlocks s t ≡ Some g) × (slice_get next.holders g ≡ Some None))
+          Guards x next t v d ⊎ ((unlocks s t ≡ Some g) × (slice_get next.holders g ≡ Some None))
       at_it q e is = elim (p.does.passes q e) [
         | takes a free to ↦ absurd (none_some t (some_is None (Some t) (sym free ∙ subst (λ (k : ℕ). slice_get s.holders k ≡ Some (Some t)) is own)))
         | gives a mine to ↦ inr (
@@ -92,7 +92,7 @@ module _ (x : f.Flat) (t v : ℕ) where
         )
       ]
 
-      by_passed : (o : Option Passed) → p.does.change.passed ≡ o → Guards x next t v ⊎ ((unlocks s t ≡ Some g) × (slice_get next.holders g ≡ Some None))
+      by_passed : (o : Option Passed) → p.does.change.passed ≡ o → Guards x next t v d ⊎ ((unlocks s t ≡ Some g) × (slice_get next.holders g ≡ Some None))
       by_passed None e = inl (stays (λ q e'. absurd (none_some q (sym e ∙ e'))))
       by_passed (Some q) e = ⊎_elim
           (λ is. at_it q e is)
@@ -235,21 +235,21 @@ module _ (x : f.Flat) (old : Config) (t : ℕ) (i : Invariant x old) where
       ∙ (number_unstored z l.next t v e l.is (λ q is. absurd (passing_stores_nothing z t p.1.0 q p.1.1 is)) ∙ before))
       (i.tried t).begun
 
-  -- the variable that it has written is as it is now
-  guarded_stays : (v : ℕ) → Guards x K' t v → slice_get (now old).variables v ≡ slice_get K'.variables v
-  guarded_stays v h = own.same.guarded v (held_same t K'.holders (now old).holders (guard_of x.variables v) (sym own.same.held) h)
+  -- the element that it has written is as it is now
+  guarded_stays : (v e : ℕ) → Guards x K' t v e → IsSameElement K' (now old) v e
+  guarded_stays v e h = own.same.guarded v e (held_same t K'.holders (now old).holders (element_lock x.variables v e) (sym own.same.held) h)
 
-  given_stays : (v : ℕ) → c ≡ suc a.done → unlocks z t ≡ Some (guard_of x.variables v) → slice_get K'.holders (guard_of x.variables v) ≡ Some None →
-      slice_get (now old).variables v ≡ slice_get K'.variables v
-  given_stays v count given free =
-      let quiet_rest = quiet x t v rest K' (m.after_from K' rest) keeps_now (steps_made K' rest rest_runs) (none_left t c old.uncommitted refl) free
+  given_stays : (v e : ℕ) → c ≡ suc a.done → unlocks z t ≡ Some (element_lock x.variables v e) →
+      slice_get K'.holders (element_lock x.variables v e) ≡ Some None → IsSameElement K' (now old) v e
+  given_stays v e count given free =
+      let quiet_rest = quiet x t v e rest K' (m.after_from K' rest) keeps_now (steps_made K' rest rest_runs) (none_left t c old.uncommitted refl) free
       (λ between taker more is n l. exchanged.hands (record {
         before = replicate a.done t;
         giver = t;
         between = between;
         taker = taker;
         rest = more;
-        mutex = guard_of x.variables v;
+        mutex = element_lock x.variables v e;
         is = ap (λ (ks : List ℕ). first ++ ks) is ∙ (ap (λ (k : ℕ). replicate k t ++ (between ++ taker ∷ more)) count
             ∙ (sym (last_first a.done t (between ++ taker ∷ more)) ∙ join (replicate a.done t) between more t taker));
         others = n;
@@ -257,23 +257,24 @@ module _ (x : f.Flat) (old : Config) (t : ℕ) (i : Invariant x old) where
         takes = ap (λ (ks : List ℕ). locks (m.after_from K ks) taker) (last_first a.done t between ∙ ap (λ (k : ℕ). replicate k t ++ between) (sym count))
             ∙ (ap (λ (y : m.State). locks y taker) (goes_on K first between first_runs).after ∙ l);
       })) in
-      ap (λ (y : m.State). slice_get y.variables v) (sym rest_after) ∙ quiet_rest
+      ap (λ (y : m.State). found_number y.variables v e) (sym rest_after) ∙ quiet_rest
 
   written_stays : (v e : ℕ) → Writes K t a.done v e → number_at (now old) v e ≡ number_at K' v e
   written_stays v e w =
-      let before : Guards x K t v = writer_guards x t a.done K v e i.keeps inner_done w in
-      let held : Guards x z t v = ap (λ (hs : List (Option ℕ)). slice_get hs (guard_of x.variables v)) (solo_holders x t a.done a.done K i.keeps inner_done
+      let lock : ℕ = element_lock x.variables v e in
+      let before : Guards x K t v e = writer_guards x t a.done K v e i.keeps inner_done w in
+      let held : Guards x z t v e = ap (λ (hs : List (Option ℕ)). slice_get hs lock) (solo_holders x t a.done a.done K i.keeps inner_done
       (omega arith)) ∙ before in
-      let same : slice_get (now old).variables v ≡ slice_get K'.variables v = ⊎_elim
-      (λ s. guarded_stays v (subst (λ (k : ℕ). Guards x (solo K t k) t v) (sym s) held))
+      let same : IsSameElement K' (now old) v e = ⊎_elim
+      (λ s. guarded_stays v e (subst (λ (k : ℕ). Guards x (solo K t k) t v e) (sym s) held))
       (λ p.
       let l = last_if p.0 in
       ⊎_elim
-      (λ h. guarded_stays v (subst (λ (y : m.State). Guards x y t v) (sym (kept_is p.0)) h))
-      (λ h. given_stays v p.0 h.0 (subst (λ (y : m.State). slice_get y.holders (guard_of x.variables v) ≡ Some None) (sym (kept_is p.0)) h.1))
-      (held_or_given x t v z l.next (run_keeps x K (replicate a.done t) i.keeps) l.is held))
+      (λ h. guarded_stays v e (subst (λ (y : m.State). Guards x y t v e) (sym (kept_is p.0)) h))
+      (λ h. given_stays v e p.0 h.0 (subst (λ (y : m.State). slice_get y.holders lock ≡ Some None) (sym (kept_is p.0)) h.1))
+      (held_or_given x t v e z l.next (run_keeps x K (replicate a.done t) i.keeps) l.is held))
       (i.tried t).begun in
-      ap (λ (ns : List ℤ). slice_index_or ns e (pos 0)) (index_same K'.variables (now old).variables v same)
+      found_same K'.variables (now old).variables v e same
 
   -- ---- The next config
 

@@ -5,7 +5,7 @@ use Rattle.std.specs.Prelude.{slice_get, is_none, if◌then◌else◌, slice_ind
 use Rattle.std.proofs.lemmas.Bool.{cases_eq}
 use Rattle.ido_base.specs.Locks.{is_held_by, held_from}
 use Rattle.c_tree.specs.Source as m
-use Rattle.c_tree.specs.LockDiscipline.{guard_of}
+use Rattle.source_machine.specs.ElementLocks.{element_lock}
 use Rattle.source_machine.specs.Discipline.{Guards}
 use Rattle.source_machine.proofs.Public.{goes_on, ended_appended, some_is, solo as solo_law}
 use Rattle.recovery_semantics.specs.ElementHistories.{IsSince, IsStable, History, history_of, durable_number, history_at, number_at}
@@ -25,15 +25,16 @@ pub reads_are_right : ReadsAreRight
 reads_are_right x old t v e i guards rewritten =
     let own = solo_law x old.kept old.uncommitted t i.keeps i.runs i.hands in
     let kept = m.after_from old.kept (replicate (steps_begun old t) t) in
-    let mine : Guards x kept t v = held_same t (now old).holders kept.holders (guard_of x.variables v) own.same.held guards in
+    let lock : ℕ = element_lock x.variables v e in
+    let mine : Guards x kept t v e = held_same t (now old).holders kept.holders lock own.same.held guards in
     i.live v e (λ u w. ⊎_elim
     (λ same.
     let ahead : IsOverrun old.kept t (attempt_of old t) v e = subst (λ (k : ℕ). IsOverrun old.kept k (attempt_of old k) v e) same w in
     ahead.unwritten (rewritten ahead.later ahead.not_done ahead.within ahead.at))
     (λ n.
-    let before : Guards x old.kept u v = writer_guards x u (attempt_of old u).longest old.kept v e i.keeps (i.tried u).inner
+    let before : Guards x old.kept u v e = writer_guards x u (attempt_of old u).longest old.kept v e i.keeps (i.tried u).inner
     (record { before = w.later; within = w.within; at = w.at }) in
-    let theirs : Guards x kept u v = held_same u old.kept.holders kept.holders (guard_of x.variables v) (sym (same_other x old t i u n).held) before in
+    let theirs : Guards x kept u v e = held_same u old.kept.holders kept.holders lock (sym (same_other x old t i u n).held) before in
     n (some_is u t (some_is (Some u) (Some t) (sym theirs ∙ mine))))
     (cases_eq u t))
 
@@ -86,9 +87,9 @@ pub writers_guard : WritersGuard
 writers_guard x old t v e i w = writer_guards x t (attempt_of old t).longest old.kept v e i.keeps (i.tried t).inner w
 
 pub writers_apart : WritersApart
-writers_apart x old one other v e d i n w w' =
+writers_apart x old one other v e i n w w' =
     let mine = writers_guard x old one v e i w in
-    let theirs = writers_guard x old other v d i w' in
+    let theirs = writers_guard x old other v e i w' in
     n (some_is other one (some_is (Some other) (Some one) (sym theirs ∙ mine)))
 
 -- a thread that holds none holds none of them
@@ -106,12 +107,12 @@ none_from (o ∷ hs) at t (suc k) none h = by (is_held_by t o) none (λ g. none_
 
 pub between_is_kept : BetweenIsKept
 between_is_kept x old i between = durable_is_kept x old i (λ u v e w.
-    none_from old.kept.holders 0 u (guard_of x.variables v) (between u) (writers_guard x old u v e i w))
+    none_from old.kept.holders 0 u (element_lock x.variables v e) (between u) (writers_guard x old u v e i w))
 
 pub between_is_stable : BetweenIsStable
 between_is_stable x old i between = record {
   size = i.size;
-  each = λ v e. i.durable v e (λ u w. none_from old.kept.holders 0 u (guard_of x.variables v) (between u) (writers_guard x old u v e i w));
+  each = λ v e. i.durable v e (λ u w. none_from old.kept.holders 0 u (element_lock x.variables v e) (between u) (writers_guard x old u v e i w));
 }
 
 -- ---- Paths
@@ -145,7 +146,7 @@ since_settles x old t v e q i w since low =
     (λ same.
     let ahead : IsOverrun old.kept t (attempt_of old t) v e = subst (λ (k : ℕ). IsOverrun old.kept k (attempt_of old k) v e) same h in
     ahead.unwritten w)
-    (λ n. writers_apart x old t u v e e i n (writes_more old.kept t (attempt_of old t).done (attempt_of old t).longest v e (i.tried t).within w)
+    (λ n. writers_apart x old t u v e i n (writes_more old.kept t (attempt_of old t).done (attempt_of old t).longest v e (i.tried t).within w)
     (record { before = h.later; within = h.within; at = h.at }))
     (cases_eq u t) in
     subst (λ (n : ℤ). IsStable (history_at old.memory v e) n) (i.live v e caught_up)

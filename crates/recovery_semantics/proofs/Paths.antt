@@ -6,7 +6,8 @@ use Rattle.std.proofs.lemmas.Bool.{cases_eq}
 use Rattle.c_tree.specs.Flats as f
 use Rattle.c_tree.specs.Source as m
 use Rattle.c_tree.specs.Source.{source_step}
-use Rattle.c_tree.specs.LockDiscipline.{Held, holds, guard_of}
+use Rattle.c_tree.specs.LockDiscipline.{Held, holds}
+use Rattle.source_machine.specs.ElementLocks.{element_lock}
 use Rattle.source_machine.specs.Mutexes.{locks, unlocks, held_by}
 use Rattle.source_machine.specs.Discipline.{StateKeeps, Guards, LooksSame}
 use Rattle.source_machine.specs.StepExchanges.{IsSameTo}
@@ -35,7 +36,7 @@ module _ (x : f.Flat) (u : ℕ) where
     own = i.own;
     held = λ k g. held_same u b.holders a.holders k (sym i.held) g ∙ sym g;
     ahead = λ k l. absurd (none_some k (sym no_lock ∙ l));
-    guarded = λ v g. i.guarded v (held_same u b.holders a.holders (guard_of x.variables v) (sym i.held) g);
+    guarded = λ v e g. i.guarded v e (held_same u b.holders a.holders (element_lock x.variables v e) (sym i.held) g);
   }
 
   -- an inner step that is made from the one is made from the other
@@ -50,8 +51,8 @@ module _ (x : f.Flat) (u : ℕ) where
         record {
           own = r.own;
           held = ap (held_by u) ha ∙ (i.held ∙ sym (ap (held_by u) hb));
-          guarded = λ v g. r.guarded v (held_same u a.holders b.holders (guard_of x.variables v) i.held
-              (ap (λ (hs : List (Option ℕ)). slice_get hs (guard_of x.variables v)) (sym ha) ∙ g));
+          guarded = λ v e g. r.guarded v e (held_same u a.holders b.holders (element_lock x.variables v e) i.held
+              (ap (λ (hs : List (Option ℕ)). slice_get hs (element_lock x.variables v e)) (sym ha) ∙ g));
         },
       )
 
@@ -147,17 +148,18 @@ module _ (x : f.Flat) (t : ℕ) where
       ∙ inner_holders x s g.next t keeps g.is g.locks_none g.unlocks_none)
 
   -- what a thread writes along them it guards before
-  pub writer_guards : (n : ℕ) (s : m.State) (v e : ℕ) → StateKeeps x s → IsInner s t n → Writes s t n v e → Guards x s t v
+  pub writer_guards : (n : ℕ) (s : m.State) (v e : ℕ) → StateKeeps x s → IsInner s t n → Writes s t n v e → Guards x s t v e
   writer_guards n s v e keeps inner w =
       let z = solo s t w.before in
       let a = storing z t w.at.store w.at.is in
       let kept = run_keeps x s (replicate w.before t) keeps in
-      let owns : holds (held_by t z.holders) (guard_of x.variables w.at.store.variable) ≡ true = (kept.each t a.thread a.there).pending w.at.store a.pending in
+      let lock : ℕ = element_lock x.variables w.at.store.variable w.at.store.element in
+      let owns : holds (held_by t z.holders) lock ≡ true = (kept.each t a.thread a.there).pending w.at.store a.pending in
       let within = w.within in
       let holders = solo_holders w.before n s keeps inner (omega (arith, within)) in
-      subst (λ (i : ℕ). Guards x s t i) w.at.variable_is
-      (ap (λ (hs : List (Option ℕ)). slice_get hs (guard_of x.variables w.at.store.variable)) (sym holders)
-      ∙ held_found t z.holders (guard_of x.variables w.at.store.variable) owns)
+      subst (λ (i : ℕ). Guards x s t i e) w.at.variable_is
+      (subst (λ (k : ℕ). Guards x s t w.at.store.variable k) w.at.element_is
+      (ap (λ (hs : List (Option ℕ)). slice_get hs lock) (sym holders) ∙ held_found t z.holders lock owns))
 
   -- what a thread doesn't write along its inner steps keeps its number
   pub solo_numbers : (k n : ℕ) (s : m.State) (v e : ℕ) → IsInner s t n → k ≤ n → ¬ (Writes s t n v e) → number_at (solo s t k) v e ≡ number_at s v e

@@ -54,7 +54,7 @@ after_more s next us t runs h =
 
 pub same_back : (x : f.Flat) (a b : m.State) (t : ℕ) → ((v : ℕ) → slice_get a.holders v ≡ Some (Some t) → slice_get b.holders v ≡ Some (Some t)) →
     ((v : ℕ) → slice_get b.holders v ≡ Some (Some t) → slice_get a.holders v ≡ Some (Some t)) → IsSameTo x a b t → IsSameTo x b a t
-same_back x a b t to_b to_a i = record { own = sym i.own; held = sym i.held; guarded = λ v g. sym (i.guarded v (to_a _ g)) }
+same_back x a b t to_b to_a i = record { own = sym i.own; held = sym i.held; guarded = λ v e g. sym (i.guarded v e (to_a _ g)) }
 
 abbrev pub BegunBy : m.State → List ℕ → (thread : ℕ) → Attempt → Type 0
 BegunBy kept pending t a = (steps_of t pending ≡ a.done) ⊎ ((steps_of t pending ≡ suc a.done) × ((mutex : ℕ) × PassesMutex (solo kept t a.done) t mutex))

@@ -37,9 +37,9 @@ abbrev pub IsRewritten : Config → (thread variable element : ℕ) → Type 0
 IsRewritten m thread variable element = (k : ℕ) → (attempt_of m thread).done ≤ k → k < (attempt_of m thread).longest →
     WritesAt m.kept thread k variable element → Writes m.kept thread (attempt_of m thread).done variable element
 
--- what a thread reads of its own variables is the source's number
+-- what a thread reads of the elements that it guards is the source's number
 abbrev pub ReadsAreRight : Type 0
-ReadsAreRight = (x : f.Flat) (m : Config) (thread variable element : ℕ) → Invariant x m → Guards x (now m) thread variable →
+ReadsAreRight = (x : f.Flat) (m : Config) (thread variable element : ℕ) → Invariant x m → Guards x (now m) thread variable element →
     IsRewritten m thread variable element → live_number (history_at m.memory variable element) ≡ number_at (now m) variable element
 
 -- where no attempt has written anything, durable memory has what is kept
@@ -51,12 +51,12 @@ DurableIsKept = (x : f.Flat) (m : Config) → Invariant x m →
 -- what a thread writes along its attempts it guards in what is kept
 abbrev pub WritersGuard : Type 0
 WritersGuard = (x : f.Flat) (m : Config) (thread variable element : ℕ) → Invariant x m →
-    Writes m.kept thread (attempt_of m thread).longest variable element → Guards x m.kept thread variable
+    Writes m.kept thread (attempt_of m thread).longest variable element → Guards x m.kept thread variable element
 
--- two threads write no elements of one variable
+-- two threads write no element both
 abbrev pub WritersApart : Type 0
-WritersApart = (x : f.Flat) (m : Config) (one other variable e d : ℕ) → Invariant x m → other ≢ one →
-    Writes m.kept one (attempt_of m one).longest variable e → ¬ (Writes m.kept other (attempt_of m other).longest variable d)
+WritersApart = (x : f.Flat) (m : Config) (one other variable element : ℕ) → Invariant x m → other ≢ one →
+    Writes m.kept one (attempt_of m one).longest variable element → ¬ (Writes m.kept other (attempt_of m other).longest variable element)
 
 -- where what is kept leaves all threads between sections, durable memory has its variables
 abbrev pub BetweenIsKept : Type 0

@@ -20,13 +20,13 @@ pub fn invariant_is_kept()
     ensures event { EventsKeep }
 {}
 
-/// What a thread reads of the variables that it guards is the source's number, where what earlier attempts wrote from here on
+/// What a thread reads of the elements that it guards is the source's number, where what earlier attempts wrote from here on
 /// this one has written already.
 pub fn reads_are_right()
     ensures { ReadsAreRight }
 {}
 
-/// A thread writes only variables that it guards in what is kept, so no two threads write one.
+/// A thread writes only elements that it guards in what is kept, so no two threads write one.
 pub fn writers_guard()
     ensures guard { WritersGuard }
     ensures apart { WritersApart }

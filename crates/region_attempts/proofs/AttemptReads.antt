@@ -1,7 +1,7 @@
 -- What an attempt reads is right.
 use Rattle.std.proofs.Common.{◌≡◌, ◌≢◌, refl, ℕ, suc, ◌<◌, ◌≤◌, List, replicate, sym, ◌∙◌, ap, subst, arith, Option, Some, None, true, ⊎_elim}
 use Rattle.std.proofs.lemmas.Bool.{cases_eq}
-use Rattle.std.specs.Prelude.{slice_get, slice_index_or, IsTrue, ℤ, pos}
+use Rattle.std.specs.Prelude.{slice_get, IsTrue}
 use Rattle.std.proofs.lemmas.Bool.Decides.{nat_tests}
 use Rattle.ido_base.specs.declared.location.Location.{Location}
 use Rattle.ido_base.specs.Locations.{overlap, same}
@@ -9,10 +9,10 @@ use Rattle.c_tree.specs.Flats as f
 use Rattle.c_tree.specs.Source as m
 use Rattle.c_tree.specs.Source.{Pending}
 use Rattle.c_tree.specs.WellFormed.{IsWellFormed}
-use Rattle.c_tree.specs.LockDiscipline.{guard_of}
+use Rattle.source_machine.specs.ElementLocks.{element_lock}
 use Rattle.source_machine.specs.Mutexes.{held_by}
 use Rattle.source_machine.specs.Discipline.{Guards}
-use Rattle.source_machine.proofs.Public.{held_found, index_same, run_keeps}
+use Rattle.source_machine.proofs.Public.{found_same, held_found, run_keeps}
 use Rattle.flow_graph.specs.Nodes.{Node}
 use Rattle.flow_graph.specs.Lowering.{lowered, threads_nodes}
 use Rattle.flow_graph.specs.Liveness.{NodeAt}
@@ -89,18 +89,18 @@ module _ (x : f.Flat) (w : IsWellFormed x) (old : Config) (t : ℕ) (i : Invaria
   there_now : IsThere x (now old) t r.graph_thread r.node
   there_now = is_there x w t (flow_now x kept old) (now old) (matched_run x w old.uncommitted kept old.kept match) r.graph_thread r.node r.found r.at
 
-  pub reader_guards : Guards x (now old) t one.variable
+  pub reader_guards : Guards x (now old) t one.variable one.element
   reader_guards =
       let keeps = run_keeps x old.kept old.uncommitted i.keeps in
       let guarded = guarded_at x (now old) t keeps r.graph_thread r.node there_now in
-      held_found t (now old).holders (guard_of x.variables one.variable)
+      held_found t (now old).holders (element_lock x.variables one.variable one.element)
       (read_held x.variables (held_by t (now old).holders) (seen_by (flow_now x kept old) r.graph_thread) one r.node.action guarded r.reads)
 
   -- the thread has the mutex of what it reads in what is kept
-  pub kept_guards : Guards x old.kept t one.variable
+  pub kept_guards : Guards x old.kept t one.variable one.element
   kept_guards =
       let tried = i.tried t in
-      let guard = guard_of x.variables one.variable in
+      let guard = element_lock x.variables one.variable one.element in
       let n = (attempt_of old t).done in
       let there : slice_get (solo old.kept t n).holders guard ≡ Some (Some t) =
       held_same t (now old).holders (solo old.kept t n).holders guard (schedules_alone x old t i r.going).held reader_guards in
@@ -117,9 +117,9 @@ module _ (x : f.Flat) (w : IsWellFormed x) (old : Config) (t : ℕ) (i : Invaria
 module _ (x : f.Flat) (w : IsWellFormed x) (old : Config) (t steps : ℕ) (i : Invariant x old) (kept : FlowState) (match : Matches x kept old.kept)
     (one : Element) (r : ReadAfter x kept old t steps one) where
   abbrev guard : ℕ
-  guard = guard_of x.variables one.variable
+  guard = element_lock x.variables one.variable one.element
 
-  guards_there : Guards x (solo old.kept t steps) t one.variable
+  guards_there : Guards x (solo old.kept t steps) t one.variable one.element
   guards_there =
       let s = solo old.kept t steps in
       let keeps = run_keeps x old.kept (replicate steps t) i.keeps in
@@ -133,10 +133,10 @@ module _ (x : f.Flat) (w : IsWellFormed x) (old : Config) (t steps : ℕ) (i : I
       let within = tried.within in
       solo_holders x t k (attempt_of old t).longest old.kept i.keeps tried.inner (omega (arith, l, within))
 
-  pub guards_kept : Guards x old.kept t one.variable
+  pub guards_kept : Guards x old.kept t one.variable one.element
   guards_kept = ap (λ (hs : List (Option ℕ)). slice_get hs guard) (sym (holders_along steps r.within)) ∙ guards_there
 
-  pub guards_now : Guards x (now old) t one.variable
+  pub guards_now : Guards x (now old) t one.variable one.element
   guards_now =
       let n = (attempt_of old t).done in
       let there : slice_get (solo old.kept t n).holders guard ≡ Some (Some t) =
@@ -147,9 +147,9 @@ module _ (x : f.Flat) (w : IsWellFormed x) (old : Config) (t steps : ℕ) (i : I
   pub as_made : (attempt_of old t).done ≤ suc steps → number_at (now old) one.variable one.element ≡ number_at (solo old.kept t steps) one.variable one.element
   as_made few =
       let n = (attempt_of old t).done in
-      let same = (schedules_alone x old t i r.going).guarded one.variable guards_now in
+      let same = (schedules_alone x old t i r.going).guarded one.variable one.element guards_now in
       let index : number_at (now old) one.variable one.element ≡ number_at (solo old.kept t n) one.variable one.element =
-      ap (λ (ns : List ℤ). slice_index_or ns one.element (pos 0)) (index_same (solo old.kept t n).variables (now old).variables one.variable same) in
+      found_same (solo old.kept t n).variables (now old).variables one.variable one.element same in
       ⊎_elim
       (λ e. index ∙ ap (λ (k : ℕ). number_at (solo old.kept t k) one.variable one.element) e)
       (λ d. let within = r.within in index ∙ after (omega (arith, d, few, within)))
@@ -253,8 +253,8 @@ pub record IsReadAt (x : f.Flat) (kept : FlowState) (old : Config) (t i : ℕ) (
   pub at : NodeAt (lowered x) graph_thread.at node
   pub lies : LiesInOne node.reads one
   pub no_store : StoresHere node.action → ⊥
-  pub kept_guards : Guards x old.kept t one.variable
-  pub now_guards : Guards x (now old) t one.variable
+  pub kept_guards : Guards x old.kept t one.variable one.element
+  pub now_guards : Guards x (now old) t one.variable one.element
 
 module _ (x : f.Flat) (b : Boundaries) (w : IsWellFormed x) (cuts : AreCuts (lowered x) b) (old : Config) (t : ℕ) (i : Invariant x old) (kept : FlowState)
     (match : Matches x kept old.kept) (good : Good x kept) (stays : StaysInside x b kept old t) (one : Element) (p : ℕ)
@@ -274,7 +274,7 @@ module _ (x : f.Flat) (b : Boundaries) (w : IsWellFormed x) (cuts : AreCuts (low
     node_read = ap (slice_get (lowered x).nodes) (number_is x w old t i kept match p below ∙ ap (λ (z : GraphThread). z.at) at_read) ∙ r.at
 
     resumes_there : (node : ℕ) → node_of kept t ≡ Some node → Resumes (lowered x) b node
-    resumes_there node h = stays.resumes (guard_of x.variables one.variable) node r.kept_guards h
+    resumes_there node h = stays.resumes (element_lock x.variables one.variable one.element) node r.kept_guards h
 
     at_node : (k : ℕ) (l : k < (attempt_of old t).longest) → NodeAt (lowered x) (number_there k) (node_there x w old t i kept match good k l)
     at_node k l = ap (slice_get (lowered x).nodes) (number_is x w old t i kept match k l) ∙ (made_there x w old t i kept match k l).at

@@ -11,8 +11,9 @@ use Rattle.c_tree.specs.Flats as f
 use Rattle.c_tree.specs.Source as m
 use Rattle.c_tree.specs.Source.{Pending}
 use Rattle.c_tree.specs.LockDiscipline.{Held, holds, expr_uses, target_uses, guard_of, AreGuarded}
+use Rattle.source_machine.specs.ElementLocks.{element_lock}
 use Rattle.source_machine.specs.Mutexes.{first_lock, first_unlock, locks, unlocks}
-use Rattle.source_machine.proofs.Public.{guarded_first, guarded_rest, guarded_left, guarded_right, locks_found, unlocks_found}
+use Rattle.source_machine.proofs.Public.{guarded_first, guarded_rest, guarded_left, guarded_right, holds_each, locks_found, unlocks_found}
 use Rattle.flow_graph.specs.Nodes.{Action, Eval, Store, Test, Lock, Unlock, End, Node}
 use Rattle.flow_graph.specs.Actions.{Seen, GraphThread, Effect, Makes, Takes, Gives, Ends, effect_of, element_in}
 use Rattle.flow_graph.specs.Lockstep.{Standing, threads_standings}
@@ -24,10 +25,10 @@ use Rattle.region_attempts.proofs.StepBisimulation.{action_uses, IsThere}
 
 module _ (vs : List Variable) (h : Held) (seen : Seen) (one : Element) where
   abbrev IsHeld : Type 0
-  IsHeld = holds h (guard_of vs one.variable) ≡ true
+  IsHeld = holds h (element_lock vs one.variable one.element) ≡ true
 
   held_head : (v n : ℕ) → holds h (guard_of vs v) ≡ true → element v n ≡ one → IsHeld
-  held_head v n g is = subst (λ (z : Element). holds h (guard_of vs z.variable) ≡ true) is g
+  held_head v n g is = subst (λ (z : Element). holds h (element_lock vs z.variable z.element) ≡ true) is (holds_each vs h v n g)
 
   of_either : (es fs : List Element) → (Contains es one → IsHeld) → (Contains fs one → IsHeld) → Contains (es ++ fs) one → IsHeld
   of_either es fs l r c = ⊎_elim l r (Contains-append_cases es fs one c)
@@ -63,7 +64,7 @@ module _ (vs : List Variable) (h : Held) (seen : Seen) (one : Element) where
   target_held (e.ToVariable place v kind) g c = absurd (contains_none one c)
   target_held (e.ToElement place v kind index) g c = expr_held index.expr (guarded_rest vs h _ (expr_uses index.expr) g) c
 
-  -- what a node reads is of variables whose mutexes are held there
+  -- what a node reads are elements whose locks are held there
   pub read_held : (a : Action) → AreGuarded vs h (action_uses a) → Contains (reads_of a seen) one → IsHeld
   read_held (Eval target value next) g c =
       of_either (target_elements target seen) (expr_elements value.expr seen)

@@ -12,7 +12,8 @@ use Rattle.c_tree.specs.Flats as f
 use Rattle.c_tree.specs.Source as m
 use Rattle.c_tree.specs.Source.{Pending}
 use Rattle.c_tree.specs.WellFormed.{IsWellFormed}
-use Rattle.c_tree.specs.LockDiscipline.{Held, holds, Use, expr_uses, target_uses, assign_uses, guard_of, AreGuarded}
+use Rattle.c_tree.specs.LockDiscipline.{Held, holds, Use, expr_uses, target_uses, assign_uses, AreGuarded}
+use Rattle.source_machine.specs.ElementLocks.{element_lock, found_number}
 use Rattle.source_machine.specs.Mutexes.{held_by}
 use Rattle.source_machine.specs.Discipline.{KeepList, StateKeeps}
 use Rattle.source_machine.specs.StepExchanges.{IsSameTo}
@@ -36,7 +37,7 @@ action_uses (Unlock mutex next) = []
 action_uses End = []
 
 module _ (variables : List Variable) (h : Held) (ls : List ℤ) (p : Option Pending) (vs ws : List (List ℤ))
-    (same : (v : ℕ) → holds h (guard_of variables v) ≡ true → slice_get ws v ≡ slice_get vs v) where
+    (same : (v e : ℕ) → holds h (element_lock variables v e) ≡ true → found_number ws v e ≡ found_number vs v e) where
   abbrev seen : List (List ℤ) → Seen
   seen us = record { locals = ls; pending = p; variables = us }
 
@@ -129,9 +130,9 @@ others_stay x s next t u n h =
 
 module _ (x : f.Flat) (w : IsWellFormed x) (t : ℕ) (a b : FlowState) (sa sb : m.State) (ma : Matches x a sa) (mb : Matches x b sb)
     (keeps : StateKeeps x sa) (same : IsSameTo x sa sb t) where
-  same_seen : (v : ℕ) → holds (held_by t sa.holders) (guard_of x.variables v) ≡ true → slice_get a.variables v ≡ slice_get b.variables v
-  same_seen v h = ap (λ (vs : List (List ℤ)). slice_get vs v) ma.variables
-      ∙ (same.guarded v (held_found t sa.holders (guard_of x.variables v) h) ∙ ap (λ (vs : List (List ℤ)). slice_get vs v) (sym mb.variables))
+  same_seen : (v e : ℕ) → holds (held_by t sa.holders) (element_lock x.variables v e) ≡ true → found_number a.variables v e ≡ found_number b.variables v e
+  same_seen v e h = ap (λ (vs : List (List ℤ)). found_number vs v e) ma.variables
+      ∙ (same.guarded v e (held_found t sa.holders (element_lock x.variables v e) h) ∙ ap (λ (vs : List (List ℤ)). found_number vs v e) (sym mb.variables))
 
   -- a step does the same to the thread's own graph thread in two states in which that is the same
   pub step_lockstep : (na nb : FlowState) → slice_get a.graph_threads t ≡ slice_get b.graph_threads t → graph_step (lowered x) a t ≡ Some na →

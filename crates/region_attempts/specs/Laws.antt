@@ -77,14 +77,14 @@ pub record RerunReadsNothingOverwritten : Type 0 where
   pub after : ReadsStayRight
   pub made : ReadsAreAsMade
 
--- the thread has the mutexes that guard what it reads
+-- the thread has the locks that guard what it reads
 abbrev pub ReadersGuard : Type 0
 ReadersGuard = (x : f.Flat) (o : Origin x) (m : Config) (schedule : List ℕ) (thread : ℕ) (one : Element) → IsWellFormed x → Invariant x m →
-    IsKeptBy o.source m.kept schedule → ReadsHere x (flow_kept x o schedule) m thread one → Guards x (now m) thread one.variable
+    IsKeptBy o.source m.kept schedule → ReadsHere x (flow_kept x o schedule) m thread one → Guards x (now m) thread one.variable one.element
 
 abbrev pub ReadersGuardStill : Type 0
 ReadersGuardStill = (x : f.Flat) (o : Origin x) (m : Config) (schedule : List ℕ) (thread steps : ℕ) (one : Element) → IsWellFormed x → Invariant x m →
-    IsKeptBy o.source m.kept schedule → ReadAfter x (flow_kept x o schedule) m thread steps one → Guards x (now m) thread one.variable
+    IsKeptBy o.source m.kept schedule → ReadAfter x (flow_kept x o schedule) m thread steps one → Guards x (now m) thread one.variable one.element
 
 -- where an execution begins each attempt stays within its region
 abbrev pub StartStays : Type 0

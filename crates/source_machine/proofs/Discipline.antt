@@ -14,14 +14,15 @@ use Rattle.c_tree.specs.Values.{element_at}
 use Rattle.c_tree.specs.Flats as f
 use Rattle.c_tree.specs.Source as m
 use Rattle.c_tree.specs.Source.{source_step, opened_all}
-use Rattle.c_tree.specs.LockDiscipline.{Held, holds, none_held, expr_uses, target_uses, assign_uses, guard_of, AreGuarded, IsDisciplined}
+use Rattle.c_tree.specs.LockDiscipline.{Held, holds, none_held, expr_uses, target_uses, assign_uses, AreGuarded, IsDisciplined}
+use Rattle.source_machine.specs.ElementLocks.{element_lock, found_number}
 use Rattle.source_machine.specs.Mutexes.{lock_ahead, unlock_ahead, first_lock, first_unlock, lock_of, unlock_of, held_by}
 use Rattle.source_machine.specs.Discipline.{KeepList, ThreadKeeps, StateKeeps, StartKeeps, StepKeeps, RunKeeps, ReachedKeeps, Guards, LooksSame}
 use Rattle.source_machine.proofs.Emission.{set_same, set_other}
 use Rattle.source_machine.proofs.StartStates.{map_found}
 use Rattle.source_machine.proofs.StateRuns.{after_by, step_found, step_missing}
 use Rattle.source_machine.proofs.GuardedValues.{held_found, held_apart, held_taken, held_given, held_kept, held_none}
-use Rattle.source_machine.proofs.GuardedValues.{guarded_first, guarded_rest, guarded_left, guarded_right, value_same}
+use Rattle.source_machine.proofs.GuardedValues.{guarded_first, guarded_rest, guarded_left, guarded_right, holds_each, value_same}
 use Rattle.source_machine.proofs.DisciplinedContinuations.{keep_append, keep_opened_all, keeps_assign, keeps_if}
 use Rattle.source_machine.proofs.DisciplinedContinuations.{keeps_arm, keeps_while, keeps_lock, keeps_unlock, keep_tested}
 use Rattle.source_machine.proofs.StepChanges.{some_is, Passed, Change, with_passed, changed, ChangesMutex}
@@ -29,7 +30,7 @@ use Rattle.source_machine.proofs.StepChanges.{takes, gives, IsDisciplinedChange,
 
 -- a state looks the same as itself
 pub looks_same : (x : f.Flat) (s : m.State) (t : ℕ) → LooksSame x s s t
-looks_same x s t = record { own = refl; held = λ k g. refl; ahead = λ k g. refl; guarded = λ v g. refl }
+looks_same x s t = record { own = refl; held = λ k g. refl; ahead = λ k g. refl; guarded = λ v e g. refl }
 
 -- ---- What a step does
 
@@ -58,20 +59,25 @@ module _ (x : f.Flat) (s : m.State) (t : ℕ) (thread : m.Thread) (there : slice
     same = each;
   }
 
-  -- a variable whose mutex is in the set is the same
-  abbrev same_at : (other : m.State) → LooksSame x s other t → (v : ℕ) → holds held (guard_of x.variables v) ≡ true →
-      slice_get other.variables v ≡ slice_get s.variables v
-  same_at other l v g = l.guarded v (held_found t s.holders (guard_of x.variables v) g)
+  -- an element whose lock is in the set is the same
+  abbrev same_at : (other : m.State) → LooksSame x s other t → (v e : ℕ) → holds held (element_lock x.variables v e) ≡ true →
+      found_number other.variables v e ≡ found_number s.variables v e
+  same_at other l v e g = l.guarded v e (held_found t s.holders (element_lock x.variables v e) g)
+
+  -- the set has the lock of the element that a store is to
+  abbrev HoldsFor : Held → m.Pending → Type 0
+  HoldsFor h p = holds h (element_lock x.variables p.variable p.element) ≡ true
 
   -- ---- The pending store
 
-  -- the pending store writes a variable whose mutex the thread holds
-  by_store : (p : m.Pending) → thread.pending ≡ Some p → KeepList x.variables held thread.left none → holds held (guard_of x.variables p.variable) ≡ true →
+  -- the pending store is to an element whose lock the thread holds
+  by_store : (p : m.Pending) → thread.pending ≡ Some p → KeepList x.variables held thread.left none → HoldsFor held p →
       IsDisciplinedChange x s t thread (λ z. Some (m.with_thread (m.stored z p) t (record thread { pending = None })))
   by_store p is keep guarded = record {
     change = record { thread = record thread { pending = None }; store = Some p; passed = None };
     keeps = record { left = keep; pending = λ q h. cc };
-    owned = λ q h. subst (λ (w : m.Pending). Guards x s t w.variable) (some_is p q h) (held_found t s.holders (guard_of x.variables p.variable) guarded);
+    owned = λ q h. subst (λ (w : m.Pending). Guards x s t w.variable w.element) (some_is p q h)
+        (held_found t s.holders (element_lock x.variables p.variable p.element) guarded);
     passes = λ q h. cc;
     ahead = λ k h.
         let no : lock_ahead thread ≡ None = ap (λ (o : Option m.Pending). let r : Option ℕ =
@@ -85,7 +91,7 @@ module _ (x : f.Flat) (s : m.State) (t : ℕ) (thread : m.Thread) (there : slice
 
   module _ (idle : thread.pending ≡ None) where
     -- no store is pending
-    at_rest : (h : Held) (p : m.Pending) → thread.pending ≡ Some p → holds h (guard_of x.variables p.variable) ≡ true
+    at_rest : (h : Held) (p : m.Pending) → thread.pending ≡ Some p → HoldsFor h p
     at_rest h p e = cc
 
     -- what is evaluated reads what is guarded
@@ -109,17 +115,15 @@ module _ (x : f.Flat) (s : m.State) (t : ℕ) (thread : m.Thread) (there : slice
 
     -- the store that is pending after an evaluation is guarded
     evaluated_guarded : (target : e.Lvalue) (placed : e.Placed) → AreGuarded x.variables held (assign_uses target placed) → (p : m.Pending) →
-        (m.evaluated s thread target placed.expr).pending ≡ Some p → holds held (guard_of x.variables p.variable) ≡ true
+        (m.evaluated s thread target placed.expr).pending ≡ Some p → HoldsFor held p
     evaluated_guarded (e.ToLocal local kind) placed g p h = at_rest held p h
     evaluated_guarded (e.ToVariable place variable kind) placed g p h =
-        let is : variable ≡ p.variable = ap (λ (q : m.Pending). q.variable) (some_is _ p h) in
-        subst (λ (v : ℕ). holds held (guard_of x.variables v) ≡ true) is
-        (guarded_first x.variables held _ [] (guarded_right x.variables held (expr_uses placed.expr) (target_uses (e.ToVariable place variable kind)) g))
+        subst (HoldsFor held) (some_is _ p h) (holds_each x.variables held variable 0
+        (guarded_first x.variables held _ [] (guarded_right x.variables held (expr_uses placed.expr) (target_uses (e.ToVariable place variable kind)) g)))
     evaluated_guarded (e.ToElement place variable kind index) placed g p h =
-        let is : variable ≡ p.variable = ap (λ (q : m.Pending). q.variable) (some_is _ p h) in
-        subst (λ (v : ℕ). holds held (guard_of x.variables v) ≡ true) is
+        subst (HoldsFor held) (some_is _ p h) (holds_each x.variables held variable (element_at (m.value_in s thread index.expr))
         (guarded_first x.variables held _ (expr_uses index.expr) (guarded_right x.variables held (expr_uses placed.expr)
-        (target_uses (e.ToElement place variable kind index)) g))
+        (target_uses (e.ToElement place variable kind index)) g)))
 
     -- a condition is true in both
     true_same : (other : m.State) → LooksSame x s other t → (condition : e.Placed) → AreGuarded x.variables held (expr_uses condition.expr) →

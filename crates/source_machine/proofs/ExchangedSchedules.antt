@@ -9,7 +9,8 @@ use Rattle.c_tree.specs.Programs.{Variable}
 use Rattle.c_tree.specs.Flats as f
 use Rattle.c_tree.specs.Source as m
 use Rattle.c_tree.specs.Source.{source_step}
-use Rattle.c_tree.specs.LockDiscipline.{Held, holds, guard_of}
+use Rattle.c_tree.specs.LockDiscipline.{Held, holds}
+use Rattle.source_machine.specs.ElementLocks.{element_lock}
 use Rattle.source_machine.specs.Mutexes.{locks, unlocks, lock_ahead, unlock_ahead, first_unlock, held_by}
 use Rattle.source_machine.specs.Discipline.{KeepList, StateKeeps}
 use Rattle.source_machine.specs.StepExchanges.{steps_of, without_first, without, moved, TransfersLock, Exchange, IsSameTo, Solo}
@@ -431,13 +432,14 @@ module _ (x : f.Flat) (t : ℕ) where
       record {
         own = later.own ∙ others s g.0 u t g.1 n;
         held = held;
-        guarded = λ v k. later.guarded v k ∙ leaves_others x s g.0 u t v keeps g.1 n
-            (held_found t s.holders (guard_of x.variables v) (ap (λ (hs : Held). holds hs (guard_of x.variables v)) (sym held)
-            ∙ held_there t last.holders (guard_of x.variables v) k));
+        guarded = λ v d k.
+            let lock = element_lock x.variables v d in
+            later.guarded v d k ∙ leaves_others x s g.0 u t v d keeps g.1 n
+            (held_found t s.holders lock (ap (λ (hs : Held). holds hs lock) (sym held) ∙ held_there t last.holders lock k));
       }
 
   rests : (us : List ℕ) (s last : m.State) → StateKeeps x s → LeadsAlong s us last → steps_of t us ≡ 0 → IsSameTo x last s t
-  rests [] s last keeps g c = subst (λ (z : m.State). IsSameTo x z s t) g (record { own = refl; held = refl; guarded = λ v k. refl })
+  rests [] s last keeps g c = subst (λ (z : m.State). IsSameTo x z s t) g (record { own = refl; held = refl; guarded = λ v d k. refl })
   rests (u ∷ us) s last keeps g c = rests_by (u == t) u us s last refl keeps g c (λ next k g' c'. rests us next last k g' c')
 
 steps_keep : (x : f.Flat) (us : List ℕ) (s last : m.State) → StateKeeps x s → LeadsAlong s us last → StateKeeps x last

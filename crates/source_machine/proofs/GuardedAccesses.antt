@@ -6,6 +6,7 @@ use Rattle.std.proofs.lemmas.Option.{slice_get_within}
 use Rattle.c_tree.specs.Flats as f
 use Rattle.c_tree.specs.Source as m
 use Rattle.c_tree.specs.Source.{source_step}
+use Rattle.source_machine.specs.ElementLocks.{found_number}
 use Rattle.source_machine.specs.Discipline.{Guards, WritesGuarded, LeavesOthers, LeavesHeld, LooksSame, ChangesLockstep, ReadsGuarded}
 use Rattle.source_machine.proofs.Emission.{set_same, set_other}
 use Rattle.source_machine.proofs.StateRuns.{step_found}
@@ -13,13 +14,13 @@ use Rattle.source_machine.proofs.StepChanges.{some_is, Passed, with_passed, chan
 use Rattle.source_machine.proofs.Discipline.{stepped, apart}
 
 pub writes_guarded : WritesGuarded
-writes_guarded x s next t v keeps h n =
+writes_guarded x s next t v e keeps h n =
     let p = stepped x s next t keeps h in
-    ap (λ (z : m.State). slice_get z.variables v) p.is ∙ store_other p.does.change.store s.variables v
-    (λ q g e. n (subst (λ (w : ℕ). Guards x s t w) (sym e) (p.does.owned q g)))
+    ap (λ (z : m.State). found_number z.variables v e) p.is ∙ store_other p.does.change.store s.variables v e
+    (λ q g a b. n (subst (λ (w : ℕ). Guards x s t w e) (sym a) (subst (λ (d : ℕ). Guards x s t q.variable d) (sym b) (p.does.owned q g))))
 
 pub leaves_others : LeavesOthers
-leaves_others x s next t u v keeps h n g = writes_guarded x s next t v keeps h (λ k. n (some_is u t (some_is (Some u) (Some t) (sym g ∙ k))))
+leaves_others x s next t u v e keeps h n g = writes_guarded x s next t v e keeps h (λ k. n (some_is u t (some_is (Some u) (Some t) (sym g ∙ k))))
 
 pub leaves_held : LeavesHeld
 leaves_held x s next t u keeps h n = apart x s next t u (stepped x s next t keeps h) n
@@ -72,5 +73,6 @@ reads_guarded x s next other t keeps h l =
       own = one ∙ (sym two ∙ ap (λ (z : m.State). slice_get z.threads t) (sym p.is));
       holders = λ k. subst (λ (z : m.State). ChangesLockstep s z other (changed other t c) k) (sym p.is)
           (lockstep x s other t p.thread c.passed p.there p.does.passes l k);
-      guarded = λ v g. store_same c.store s.variables other.variables v (l.guarded v g) ∙ ap (λ (z : m.State). slice_get z.variables v) (sym p.is);
+      guarded = λ v e g. store_same c.store s.variables other.variables v e (l.guarded v e g)
+          ∙ ap (λ (z : m.State). found_number z.variables v e) (sym p.is);
     }

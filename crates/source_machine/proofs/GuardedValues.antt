@@ -2,7 +2,7 @@
 use Rattle.std.proofs.Common.{◌≡◌, ◌≢◌, refl, ℕ, zero, suc, List, [], ◌∷◌, ◌++◌, sym, ◌∙◌, ap, ap₂}
 use Rattle.std.proofs.Common.{Bool, true, false, Option, Some, None, slice_set, replicate, arith}
 use Rattle.std.specs.Prelude.{slice_get, slice_index_or, ℤ, pos, not, find, if◌then◌else◌}
-use Rattle.std.specs.Option.{option_map, option_or, unwrap_or}
+use Rattle.std.specs.Option.{option_or, unwrap_or}
 use Rattle.std.proofs.lemmas.Bool.{eqb-true, eq-eqb}
 use Rattle.std.proofs.lemmas.Bool.Decides.{nat_tests}
 use Rattle.std.proofs.lemmas.Option.{unwrap_or-slice_get, get_or_from_slice_get}
@@ -16,6 +16,7 @@ use Rattle.c_tree.specs.Exprs as e
 use Rattle.c_tree.specs.Programs.{Variable}
 use Rattle.c_tree.specs.Values.{element_number, element_at, value}
 use Rattle.c_tree.specs.LockDiscipline.{Held, holds, Use, expr_uses, guard_of, is_guarded, AreGuarded}
+use Rattle.source_machine.specs.ElementLocks.{element_lock, found_number}
 use Rattle.source_machine.specs.Mutexes.{held_by}
 
 -- ---- What a thread holds
@@ -92,28 +93,26 @@ module _ (vs : List Variable) (h : Held) where
   pub guarded_right : (us ws : List Use) → AreGuarded vs h (us ++ ws) → AreGuarded vs h ws
   guarded_right us ws g = right_of_none (find unguarded us) (find unguarded ws) (sym (find-append unguarded us ws) ∙ g)
 
+-- ---- Elements
+
+-- a set that has a variable's mutex has the lock of each of its elements; only here is it known which lock that is
+pub holds_each : (vs : List Variable) (h : Held) (v e : ℕ) → holds h (guard_of vs v) ≡ true → holds h (element_lock vs v e) ≡ true
+unfolding element_lock
+holds_each vs h v e g = g
+
+-- an element that is the same reads the same
+pub found_same : (vs ws : List (List ℤ)) (v e : ℕ) → found_number ws v e ≡ found_number vs v e → element_number ws v e ≡ element_number vs v e
+found_same vs ws v e h =
+    sym (unwrap_or-slice_get (slice_index_or ws v []) e (pos 0))
+    ∙ (ap (λ (o : Option ℤ). unwrap_or o (pos 0)) h ∙ unwrap_or-slice_get (slice_index_or vs v []) e (pos 0))
+
 -- ---- Values
 
--- lists that are the same at a place are so at an index
-pub index_same : (xs ys : List (List ℤ)) (k : ℕ) → slice_get ys k ≡ slice_get xs k → slice_index_or ys k [] ≡ slice_index_or xs k []
-index_same xs ys k h = sym (unwrap_or-slice_get ys k []) ∙ (ap (λ (o : Option (List ℤ)). unwrap_or o []) h ∙ unwrap_or-slice_get xs k [])
-
--- what is written at a place is made of what stood there
-written : (xs : List (List ℤ)) (k : ℕ) (g : List ℤ → List ℤ) → slice_get (slice_set xs k (g (slice_index_or xs k []))) k ≡ option_map g (slice_get xs k)
-written [] k g = refl
-written (x ∷ xs) zero g = refl
-written (x ∷ xs) (suc k) g = written xs k g
-
--- what is written at a place is equal over lists that are equal there
-pub written_same : (xs ys : List (List ℤ)) (k : ℕ) (g : List ℤ → List ℤ) → slice_get ys k ≡ slice_get xs k →
-    slice_get (slice_set ys k (g (slice_index_or ys k []))) k ≡ slice_get (slice_set xs k (g (slice_index_or xs k []))) k
-written_same xs ys k g h = written ys k g ∙ (ap (option_map g) h ∙ sym (written xs k g))
-
 module _ (variables : List Variable) (h : Held) (ls : List ℤ) (vs ws : List (List ℤ))
-    (same : (v : ℕ) → holds h (guard_of variables v) ≡ true → slice_get ws v ≡ slice_get vs v) where
+    (same : (v e : ℕ) → holds h (element_lock variables v e) ≡ true → found_number ws v e ≡ found_number vs v e) where
   -- an element of a guarded variable
   element_same : (v n m : ℕ) → holds h (guard_of variables v) ≡ true → n ≡ m → element_number ws v n ≡ element_number vs v m
-  element_same v n m g is = ap (element_number ws v) is ∙ ap (λ (xs : List ℤ). slice_index_or xs m (pos 0)) (index_same vs ws v (same v g))
+  element_same v n m g is = ap (element_number ws v) is ∙ found_same vs ws v m (same v m (holds_each variables h v m g))
 
   -- an expression whose uses are guarded has one value over variables that are the same where they are guarded
   pub value_same : (x : e.Expr) → AreGuarded variables h (expr_uses x) → value ls ws x ≡ value ls vs x

@@ -19,3 +19,4 @@ mod StepSwaps
 mod ExchangedSchedules
 mod NoLockTransfer
 mod WellFormedSteps
+mod Worked

@@ -5,7 +5,7 @@ pub use Rattle.source_machine.proofs.DisciplinedContinuations.{keep_append, keep
 pub use Rattle.source_machine.proofs.Emission.{get_same}
 pub use Rattle.source_machine.proofs.ExchangedSchedules.{LeadsAlong, exchange, held_there, locks_same, solo, steps_made, unlocks_held, unlocks_same}
 pub use Rattle.source_machine.proofs.GuardedAccesses.{leaves_held, reads_guarded, writes_guarded}
-pub use Rattle.source_machine.proofs.GuardedValues.{guarded_first, guarded_left, guarded_rest, guarded_right, held_found, index_same, value_same}
+pub use Rattle.source_machine.proofs.GuardedValues.{found_same, guarded_first, guarded_left, guarded_rest, guarded_right, held_found, holds_each, value_same}
 pub use Rattle.source_machine.proofs.HeldBeforeContinuations.{held_is_given}
 pub use Rattle.source_machine.proofs.NoLockTransfer.{step_added, steps_dropped}
 pub use Rattle.source_machine.proofs.SectionEndCases.{counted_as, counted_same, ends_same, ends_taken}

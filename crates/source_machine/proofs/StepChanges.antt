@@ -1,14 +1,16 @@
 -- What a step changes: its thread, at most one element of a variable, and at most one mutex.
-use Rattle.std.proofs.Common.{◌≡◌, ◌≢◌, refl, ℕ, List, [], sym, ◌∙◌, ap, subst, Option, Some, None, slice_set, ⊎_elim}
+use Rattle.std.proofs.Common.{◌≡◌, ◌≢◌, refl, ℕ, zero, suc, List, [], ◌∷◌, sym, ◌∙◌, ap, ap₂, Option, Some, None, slice_set, ⊎_elim}
 use Rattle.std.specs.Prelude.{slice_get, slice_index_or, ℤ}
+use Rattle.std.specs.Option.{option_map, unwrap_or}
+use Rattle.std.proofs.lemmas.Option.{unwrap_or-slice_get}
 use Rattle.std.proofs.lemmas.Bool.{cases_eq}
 use Rattle.c_tree.specs.Flats as f
 use Rattle.c_tree.specs.Source as m
 use Rattle.c_tree.specs.Source.{source_step}
 use Rattle.source_machine.specs.Mutexes.{locks, unlocks, lock_ahead, unlock_ahead, held_by}
+use Rattle.source_machine.specs.ElementLocks.{found_number}
 use Rattle.source_machine.specs.Discipline.{ThreadKeeps, Guards, LooksSame}
 use Rattle.source_machine.proofs.Emission.{set_other}
-use Rattle.source_machine.proofs.GuardedValues.{written_same}
 
 -- one value under `Some`
 pub some_is : {X : Type 0} (a b : X) → Some a ≡ Some b → a ≡ b
@@ -44,7 +46,7 @@ pub data ChangesMutex (s : m.State) (t : ℕ) (thread : m.Thread) (p : Passed) :
 pub record IsDisciplinedChange (x : f.Flat) (s : m.State) (t : ℕ) (thread : m.Thread) (step : m.State → Option m.State) : Type 0 where
   pub change : Change
   pub keeps : ThreadKeeps x (held_by t (with_passed change.passed s.holders)) change.thread
-  pub owned : (p : m.Pending) → change.store ≡ Some p → Guards x s t p.variable
+  pub owned : (p : m.Pending) → change.store ≡ Some p → Guards x s t p.variable p.element
   pub passes : (p : Passed) → change.passed ≡ Some p → ChangesMutex s t thread p
   pub ahead : (k : ℕ) → lock_ahead thread ≡ Some k → change.passed ≡ Some (record { mutex = k; holder = Some t })
   pub same : (other : m.State) → LooksSame x s other t → step other ≡ Some (changed other t change)
@@ -58,23 +60,63 @@ pub record Stepped (x : f.Flat) (s : m.State) (t : ℕ) (next : m.State) : Type 
 
 -- ---- What stays
 
--- a variable that isn't stored to
-pub store_other : (o : Option m.Pending) (vs : List (List ℤ)) (v : ℕ) → ((p : m.Pending) → o ≡ Some p → v ≢ p.variable) →
-    slice_get (with_store o vs) v ≡ slice_get vs v
-store_other None vs v n = refl
-store_other (Some p) vs v n = set_other vs p.variable v (slice_set (slice_index_or vs p.variable []) p.element p.number) (n p refl)
+-- the numbers of another variable
+pub index_other : (vs : List (List ℤ)) (i j : ℕ) (a : List ℤ) → j ≢ i → slice_index_or (slice_set vs i a) j [] ≡ slice_index_or vs j []
+index_other vs i j a n =
+    sym (unwrap_or-slice_get (slice_set vs i a) j []) ∙ (ap (λ (o : Option (List ℤ)). unwrap_or o []) (set_other vs i j a n) ∙ unwrap_or-slice_get vs j [])
 
--- a store does the same to a variable that is the same
-pub store_same : (o : Option m.Pending) (vs ws : List (List ℤ)) (v : ℕ) → slice_get ws v ≡ slice_get vs v →
-    slice_get (with_store o ws) v ≡ slice_get (with_store o vs) v
-store_same None vs ws v h = h
-store_same (Some p) vs ws v h = ⊎_elim
-    (λ e.
-    subst (λ (w : ℕ). slice_get (slice_set ws w (slice_set (slice_index_or ws w []) p.element p.number)) v ≡ slice_get
-    (slice_set vs w (slice_set (slice_index_or vs w []) p.element p.number)) v) e
-    (written_same vs ws v (λ ns. slice_set ns p.element p.number) h))
-    (λ n. set_other ws p.variable v _ n ∙ (h ∙ sym (set_other vs p.variable v _ n)))
+-- the numbers of the variable that is stored to
+pub index_stored : (vs : List (List ℤ)) (v e : ℕ) (n : ℤ) →
+    slice_index_or (slice_set vs v (slice_set (slice_index_or vs v []) e n)) v [] ≡ slice_set (slice_index_or vs v []) e n
+index_stored [] v e n = refl
+index_stored (x ∷ vs) zero e n = refl
+index_stored (x ∷ vs) (suc v) e n = index_stored vs v e n
+
+-- what is set is there, where there is a place for it
+found_set : (ns : List ℤ) (e : ℕ) (n : ℤ) → slice_get (slice_set ns e n) e ≡ option_map (λ (old : ℤ). n) (slice_get ns e)
+found_set [] e n = refl
+found_set (x ∷ ns) zero n = refl
+found_set (x ∷ ns) (suc e) n = found_set ns e n
+
+-- the element that is stored to
+found_stored : (vs : List (List ℤ)) (p : m.Pending) →
+    found_number (with_store (Some p) vs) p.variable p.element ≡ option_map (λ (old : ℤ). p.number) (found_number vs p.variable p.element)
+found_stored vs p = ap (λ (ns : List ℤ). slice_get ns p.element) (index_stored vs p.variable p.element p.number)
+    ∙ found_set (slice_index_or vs p.variable []) p.element p.number
+
+-- an element that isn't stored to
+stored_other : (vs : List (List ℤ)) (p : m.Pending) (v e : ℕ) → (v ≡ p.variable → e ≡ p.element → ⊥) →
+    found_number (with_store (Some p) vs) v e ≡ found_number vs v e
+stored_other vs p v e n = ⊎_elim
+    (λ is. ap (λ (w : ℕ). found_number (with_store (Some p) vs) w e) is
+    ∙ (ap (λ (ns : List ℤ). slice_get ns e) (index_stored vs p.variable p.element p.number)
+    ∙ (set_other (slice_index_or vs p.variable []) p.element e p.number (n is) ∙ ap (λ (w : ℕ). found_number vs w e) (sym is))))
+    (λ d. ap (λ (ns : List ℤ). slice_get ns e) (index_other vs p.variable v (slice_set (slice_index_or vs p.variable []) p.element p.number) d))
     (cases_eq v p.variable)
+
+pub store_other : (o : Option m.Pending) (vs : List (List ℤ)) (v e : ℕ) → ((p : m.Pending) → o ≡ Some p → v ≡ p.variable → e ≡ p.element → ⊥) →
+    found_number (with_store o vs) v e ≡ found_number vs v e
+store_other None vs v e n = refl
+store_other (Some p) vs v e n = stored_other vs p v e (n p refl)
+
+-- a store does the same to an element that is the same
+pub store_same : (o : Option m.Pending) (vs ws : List (List ℤ)) (v e : ℕ) → found_number ws v e ≡ found_number vs v e →
+    found_number (with_store o ws) v e ≡ found_number (with_store o vs) v e
+store_same None vs ws v e h = h
+store_same (Some p) vs ws v e h = ⊎_elim
+    (λ a. ⊎_elim
+    (λ b.
+    let there : found_number ws p.variable p.element ≡ found_number vs p.variable p.element =
+    sym (ap₂ (found_number ws) a b) ∙ (h ∙ ap₂ (found_number vs) a b) in
+    ap₂ (found_number (with_store (Some p) ws)) a b
+    ∙ (found_stored ws p ∙ (ap (option_map (λ (old : ℤ). p.number)) there ∙ (sym (found_stored vs p) ∙ sym (ap₂ (found_number (with_store (Some p) vs)) a b)))))
+    (λ d. beside (λ _ b. d b))
+    (cases_eq e p.element))
+    (λ d. beside (λ a _. d a))
+    (cases_eq v p.variable)
+  where
+    beside : (v ≡ p.variable → e ≡ p.element → ⊥) → found_number (with_store (Some p) ws) v e ≡ found_number (with_store (Some p) vs) v e
+    beside n = stored_other ws p v e n ∙ (h ∙ sym (stored_other vs p v e n))
 
 -- a mutex that isn't passed
 pub passed_other : (o : Option Passed) (hs : List (Option ℕ)) (k : ℕ) → ((p : Passed) → o ≡ Some p → k ≢ p.mutex) →

@@ -1,20 +1,20 @@
 -- Two neighbouring steps of different threads change places.
-use Rattle.std.proofs.Common.{◌≡◌, ◌≢◌, refl, ℕ, zero, suc, List, [], ◌∷◌, sym, ◌∙◌, ap, subst, Option, Some, None, slice_set}
+use Rattle.std.proofs.Common.{◌≡◌, ◌≢◌, refl, ℕ, zero, suc, List, [], ◌∷◌, sym, ◌∙◌, ap, subst, Option, Some, None, slice_set, ⊎_elim}
 use Rattle.std.specs.Prelude.{slice_get, slice_index_or, ℤ}
-use Rattle.std.proofs.lemmas.Option.{slice_get_within, unwrap_or-slice_get}
-use Rattle.std.specs.Option.{unwrap_or}
+use Rattle.std.proofs.lemmas.Bool.{cases_eq}
+use Rattle.std.proofs.lemmas.Option.{slice_get_within}
 use Rattle.c_tree.specs.Flats as f
 use Rattle.c_tree.specs.Source as m
 use Rattle.c_tree.specs.Source.{source_step}
-use Rattle.c_tree.specs.LockDiscipline.{guard_of}
+use Rattle.source_machine.specs.ElementLocks.{element_lock}
 use Rattle.source_machine.specs.Mutexes.{locks, unlocks}
 use Rattle.source_machine.specs.Discipline.{StateKeeps, Guards, LooksSame}
 use Rattle.source_machine.specs.StepExchanges.{Swap}
-use Rattle.source_machine.proofs.Emission.{set_same, set_other}
+use Rattle.source_machine.proofs.Emission.{set_same}
 use Rattle.source_machine.proofs.StepsKeepOthers.{others}
 use Rattle.source_machine.proofs.StateRuns.{step_found}
 use Rattle.source_machine.proofs.StepChanges.{some_is, Passed, Change, with_store, with_passed, changed}
-use Rattle.source_machine.proofs.StepChanges.{takes, gives, Stepped, passed_other, locks_found, unlocks_found}
+use Rattle.source_machine.proofs.StepChanges.{takes, gives, Stepped, index_other, index_stored, passed_other, locks_found, unlocks_found}
 use Rattle.source_machine.proofs.Discipline.{stepped, step_keeps}
 use Rattle.source_machine.proofs.GuardedAccesses.{leaves_others}
 
@@ -27,18 +27,39 @@ set_swap (x ∷ xs) zero (suc j) a b n = refl
 set_swap (x ∷ xs) (suc i) zero a b n = refl
 set_swap (x ∷ xs) (suc i) (suc j) a b n = ap (λ ys. x ∷ ys) (set_swap xs i j a b (λ e. n (ap suc e)))
 
--- what stood at another place
-index_other : (xs : List (List ℤ)) (i j : ℕ) (a : List ℤ) → j ≢ i → slice_index_or (slice_set xs i a) j [] ≡ slice_index_or xs j []
-index_other xs i j a n =
-    sym (unwrap_or-slice_get (slice_set xs i a) j []) ∙ (ap (λ (o : Option (List ℤ)). unwrap_or o []) (set_other xs i j a n) ∙ unwrap_or-slice_get xs j [])
+-- the second of two writes at one place stays
+set_twice : {X : Type 0} (xs : List X) (i : ℕ) (a b : X) → slice_set (slice_set xs i a) i b ≡ slice_set xs i b
+set_twice [] i a b = refl
+set_twice (x ∷ xs) zero a b = refl
+set_twice (x ∷ xs) (suc i) a b = ap (λ ys. x ∷ ys) (set_twice xs i a b)
 
-stores_swap : (o p : Option m.Pending) (vs : List (List ℤ)) → ((a b : m.Pending) → o ≡ Some a → p ≡ Some b → b.variable ≢ a.variable) →
-    with_store p (with_store o vs) ≡ with_store o (with_store p vs)
-stores_swap None None vs n = refl
-stores_swap None (Some b) vs n = refl
-stores_swap (Some a) None vs n = refl
-stores_swap (Some a) (Some b) vs n =
-    let apart : b.variable ≢ a.variable = n a b refl refl in
+-- two stores are to different elements
+abbrev AreApart : (a b : m.Pending) → Type 0
+AreApart a b = b.variable ≡ a.variable → b.element ≡ a.element → ⊥
+
+-- two stores to one variable
+stored_twice : (vs : List (List ℤ)) (a b : m.Pending) → b.variable ≡ a.variable → with_store (Some b) (with_store (Some a) vs)
+    ≡ slice_set vs a.variable (slice_set (slice_set (slice_index_or vs a.variable []) a.element a.number) b.element b.number)
+stored_twice vs a b is =
+    let v : ℕ = a.variable in
+    let ns : List ℤ = slice_set (slice_index_or vs v []) a.element a.number in
+    ap (λ (w : ℕ). slice_set (slice_set vs v ns) w (slice_set (slice_index_or (slice_set vs v ns) w []) b.element b.number)) is
+    ∙ (ap (λ (old : List ℤ). slice_set (slice_set vs v ns) v (slice_set old b.element b.number)) (index_stored vs v a.element a.number)
+    ∙ set_twice vs v ns (slice_set ns b.element b.number))
+
+-- stores to one variable
+stores_swap_in : (vs : List (List ℤ)) (a b : m.Pending) → b.variable ≡ a.variable → b.element ≢ a.element →
+    with_store (Some b) (with_store (Some a) vs) ≡ with_store (Some a) (with_store (Some b) vs)
+stores_swap_in vs a b is n =
+    stored_twice vs a b is
+    ∙ (ap (slice_set vs a.variable) (set_swap (slice_index_or vs a.variable []) a.element b.element a.number b.number n)
+    ∙ (ap (λ (w : ℕ). slice_set vs w (slice_set (slice_set (slice_index_or vs w []) b.element b.number) a.element a.number)) (sym is)
+    ∙ sym (stored_twice vs b a (sym is))))
+
+-- stores to two variables
+stores_swap_apart : (vs : List (List ℤ)) (a b : m.Pending) → b.variable ≢ a.variable →
+    with_store (Some b) (with_store (Some a) vs) ≡ with_store (Some a) (with_store (Some b) vs)
+stores_swap_apart vs a b apart =
     let written : (ws : List (List ℤ)) (c : m.Pending) → List ℤ = λ ws c. slice_set (slice_index_or ws c.variable []) c.element c.number in
     let first : List ℤ = written vs a in
     let second : List ℤ = written vs b in
@@ -52,6 +73,16 @@ stores_swap (Some a) (Some b) vs n =
     (index_other vs b.variable a.variable second (λ e. apart (sym e))) in
     one ∙ (set_swap vs a.variable b.variable first second apart ∙ sym two)
 
+stores_swap : (o p : Option m.Pending) (vs : List (List ℤ)) → ((a b : m.Pending) → o ≡ Some a → p ≡ Some b → AreApart a b) →
+    with_store p (with_store o vs) ≡ with_store o (with_store p vs)
+stores_swap None None vs n = refl
+stores_swap None (Some b) vs n = refl
+stores_swap (Some a) None vs n = refl
+stores_swap (Some a) (Some b) vs n = ⊎_elim
+    (λ is. stores_swap_in vs a b is (n a b refl refl is))
+    (λ apart. stores_swap_apart vs a b apart)
+    (cases_eq b.variable a.variable)
+
 passed_swap : (o p : Option Passed) (hs : List (Option ℕ)) → ((a b : Passed) → o ≡ Some a → p ≡ Some b → b.mutex ≢ a.mutex) →
     with_passed p (with_passed o hs) ≡ with_passed o (with_passed p hs)
 passed_swap None None hs n = refl
@@ -59,7 +90,7 @@ passed_swap None (Some b) hs n = refl
 passed_swap (Some a) None hs n = refl
 passed_swap (Some a) (Some b) hs n = set_swap hs a.mutex b.mutex a.holder b.holder (n a b refl refl)
 
-pub changes_swap : (s : m.State) (t u : ℕ) (a b : Change) → u ≢ t → ((p q : m.Pending) → a.store ≡ Some p → b.store ≡ Some q → q.variable ≢ p.variable) →
+pub changes_swap : (s : m.State) (t u : ℕ) (a b : Change) → u ≢ t → ((p q : m.Pending) → a.store ≡ Some p → b.store ≡ Some q → AreApart p q) →
     ((p q : Passed) → a.passed ≡ Some p → b.passed ≡ Some q → q.mutex ≢ p.mutex) → changed (changed s t a) u b ≡ changed (changed s u b) t a
 changes_swap s t u a b n stores passes = λ i. record {
   variables = stores_swap a.store b.store s.variables stores i;
@@ -145,7 +176,7 @@ module _ (x : f.Flat) (s next : m.State) (t u : ℕ) (keeps : StateKeeps x s) (n
     own = others s next t u h n;
     held = λ k g. held_stays x s next t step u k n g;
     ahead = ahead;
-    guarded = λ v g. leaves_others x s next t u v keeps h n g;
+    guarded = λ v e g. leaves_others x s next t u v e keeps h n g;
   }
 
   -- the state before a step looks the same to another thread as that after it, if the mutex that it locks next does
@@ -154,7 +185,7 @@ module _ (x : f.Flat) (s next : m.State) (t u : ℕ) (keeps : StateKeeps x s) (n
     own = sym (others s next t u h n);
     held = λ k g. sym (held_stayed x s next t step u k n g);
     ahead = ahead;
-    guarded = λ v g. sym (leaves_others x s next t u v keeps h n (sym (held_stayed x s next t step u (guard_of x.variables v) n g) ∙ g));
+    guarded = λ v e g. sym (leaves_others x s next t u v e keeps h n (sym (held_stayed x s next t step u (element_lock x.variables v e) n g) ∙ g));
   }
 
 -- ---- The swap
@@ -203,13 +234,15 @@ module _ (x : f.Flat) (s between after : m.State) (one other : ℕ) (keeps : Sta
             ]
       ]
 
-  -- the other thread stores to no variable that the one thread stores to
-  no_store : (a b : m.Pending) → p.does.change.store ≡ Some a → q.does.change.store ≡ Some b → b.variable ≢ a.variable
-  no_store a b ea eb e =
-      let theirs : Guards x between other b.variable = q.does.owned b eb in
-      let before : Guards x s other b.variable = sym (held_stayed x s between one p other (guard_of x.variables b.variable) n theirs) ∙ theirs in
-      let mine : Guards x s one b.variable = subst (λ (v : ℕ). Guards x s one v) (sym e) (p.does.owned a ea) in
-      n (some_is other one (clash (slice_get s.holders (guard_of x.variables b.variable)) (Some other) (Some one) before mine))
+  -- the other thread stores to no element that the one thread stores to
+  no_store : (a b : m.Pending) → p.does.change.store ≡ Some a → q.does.change.store ≡ Some b → AreApart a b
+  no_store a b ea eb e d =
+      let lock : ℕ = element_lock x.variables b.variable b.element in
+      let theirs : Guards x between other b.variable b.element = q.does.owned b eb in
+      let before : Guards x s other b.variable b.element = sym (held_stayed x s between one p other lock n theirs) ∙ theirs in
+      let mine : Guards x s one b.variable b.element =
+      subst (λ (v : ℕ). Guards x s one v b.element) (sym e) (subst (λ (k : ℕ). Guards x s one a.variable k) (sym d) (p.does.owned a ea)) in
+      n (some_is other one (clash (slice_get s.holders lock) (Some other) (Some one) before mine))
 
   -- the one thread's step can be made afterwards
   looks_after : LooksSame x s first one

@@ -4,7 +4,8 @@ use Rattle.c_tree.specs.Programs.{Variable}
 use Rattle.c_tree.specs.Flats as f
 use Rattle.c_tree.specs.Source as m
 use Rattle.c_tree.specs.Source.{State, source_step, start, after_from}
-use Rattle.c_tree.specs.LockDiscipline.{Held, holds, none_held, guard_of, Keeps, IsDisciplined}
+use Rattle.c_tree.specs.LockDiscipline.{Held, holds, none_held, Keeps, IsDisciplined}
+use Rattle.source_machine.specs.ElementLocks.{element_lock, found_number}
 use Rattle.source_machine.specs.Mutexes.{locks, held_by}
 
 -- ---- States that keep it
@@ -18,10 +19,10 @@ KeepList vs h (x ∷ rest) after = (between : Held) × Keeps vs h x between × K
 abbrev pub KeepsLeft : f.Flat → Held → List f.Statement → Type 0
 KeepsLeft x h left = KeepList x.variables h left (none_held (length x.mutexes))
 
--- from the set, what this thread has left keeps the discipline, and the set has the mutex of its pending store
+-- from the set, what this thread has left keeps the discipline, and the set has the lock of the element that its pending store is to
 pub record ThreadKeeps (x : f.Flat) (h : Held) (thread : m.Thread) : Type 0 where
   pub left : KeepsLeft x h thread.left
-  pub pending : (p : m.Pending) → thread.pending ≡ Some p → holds h (guard_of x.variables p.variable) ≡ true
+  pub pending : (p : m.Pending) → thread.pending ≡ Some p → holds h (element_lock x.variables p.variable p.element) ≡ true
 
 -- each thread keeps the discipline from what it holds
 pub record StateKeeps (x : f.Flat) (s : State) : Type 0 where
@@ -55,19 +56,23 @@ HeldIsGiven = (x : f.Flat) (s : State) (number : ℕ) (thread : m.Thread) (h : H
 
 -- ---- What a step writes
 
--- the thread holds the mutex that guards the variable
-abbrev pub Guards : f.Flat → State → (thread variable : ℕ) → Type 0
-Guards x s thread variable = slice_get s.holders (guard_of x.variables variable) ≡ Some (Some thread)
+-- the thread holds the lock that guards the element
+abbrev pub Guards : f.Flat → State → (thread variable element : ℕ) → Type 0
+Guards x s thread variable element = slice_get s.holders (element_lock x.variables variable element) ≡ Some (Some thread)
 
--- a step changes only variables whose mutex its thread holds: none whose mutex another holds, and none whose mutex is free
+-- the element is the same in both states: it has one number in both, or its variable has no such element in either
+abbrev pub IsSameElement : (s other : State) → (variable element : ℕ) → Type 0
+IsSameElement s other variable element = found_number other.variables variable element ≡ found_number s.variables variable element
+
+-- a step changes only elements whose lock its thread holds: none whose lock another holds, and none whose lock is free
 abbrev pub WritesGuarded : Type 0
-WritesGuarded = (x : f.Flat) (s next : State) (thread variable : ℕ) → StateKeeps x s → source_step s thread ≡ Some next →
-    ¬ (Guards x s thread variable) → slice_get next.variables variable ≡ slice_get s.variables variable
+WritesGuarded = (x : f.Flat) (s next : State) (thread variable element : ℕ) → StateKeeps x s → source_step s thread ≡ Some next →
+    ¬ (Guards x s thread variable element) → IsSameElement s next variable element
 
--- a step leaves every variable whose mutex another thread holds
+-- a step leaves every element whose lock another thread holds
 abbrev pub LeavesOthers : Type 0
-LeavesOthers = (x : f.Flat) (s next : State) (thread other variable : ℕ) → StateKeeps x s → source_step s thread ≡ Some next → other ≢ thread →
-    Guards x s other variable → slice_get next.variables variable ≡ slice_get s.variables variable
+LeavesOthers = (x : f.Flat) (s next : State) (thread other variable element : ℕ) → StateKeeps x s → source_step s thread ≡ Some next → other ≢ thread →
+    Guards x s other variable element → IsSameElement s next variable element
 
 -- a step leaves what another thread holds
 abbrev pub LeavesHeld : Type 0
@@ -76,13 +81,13 @@ LeavesHeld = (x : f.Flat) (s next : State) (thread other : ℕ) → StateKeeps x
 
 -- ---- What a step reads
 
--- two states look the same to a thread: its own place and locals, the mutexes that it holds, the one at whose lock it stands, and the variables whose mutex it
+-- two states look the same to a thread: its own place and locals, the mutexes that it holds, the one at whose lock it stands, and the elements whose lock it
 -- holds
 pub record LooksSame (x : f.Flat) (s other : State) (thread : ℕ) : Type 0 where
   pub own : slice_get other.threads thread ≡ slice_get s.threads thread
   pub held : (mutex : ℕ) → slice_get s.holders mutex ≡ Some (Some thread) → slice_get other.holders mutex ≡ slice_get s.holders mutex
   pub ahead : (mutex : ℕ) → locks s thread ≡ Some mutex → slice_get other.holders mutex ≡ slice_get s.holders mutex
-  pub guarded : (variable : ℕ) → Guards x s thread variable → slice_get other.variables variable ≡ slice_get s.variables variable
+  pub guarded : (variable element : ℕ) → Guards x s thread variable element → IsSameElement s other variable element
 
 -- of two steps, from s to next and from other to after: each leaves the mutex, or it had one holder before both and has one after both
 abbrev pub ChangesLockstep : (s next other after : State) (mutex : ℕ) → Type 0
@@ -90,13 +95,13 @@ ChangesLockstep s next other after mutex =
     ((slice_get next.holders mutex ≡ slice_get s.holders mutex) × (slice_get after.holders mutex ≡ slice_get other.holders mutex))
     ⊎ ((slice_get other.holders mutex ≡ slice_get s.holders mutex) × (slice_get after.holders mutex ≡ slice_get next.holders mutex))
 
--- the thread makes the same step from the other state: it is the same afterwards, so are the variables that it guarded, and each mutex changes in lockstep
+-- the thread makes the same step from the other state: it is the same afterwards, so are the elements that it guarded, and each mutex changes in lockstep
 pub record StepsLockstep (x : f.Flat) (s next other : State) (thread : ℕ) : Type 0 where
   pub after : State
   pub is : source_step other thread ≡ Some after
   pub own : slice_get after.threads thread ≡ slice_get next.threads thread
   pub holders : (mutex : ℕ) → ChangesLockstep s next other after mutex
-  pub guarded : (variable : ℕ) → Guards x s thread variable → slice_get after.variables variable ≡ slice_get next.variables variable
+  pub guarded : (variable element : ℕ) → Guards x s thread variable element → IsSameElement next after variable element
 
 -- a step reads only those: from every state that looks the same to the thread the same step is made
 abbrev pub ReadsGuarded : Type 0

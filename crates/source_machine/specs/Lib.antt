@@ -1,6 +1,7 @@
 pub mod Answers
 pub mod Assignments
 pub mod Mutexes
+pub mod ElementLocks
 pub mod Sections
 pub mod links
 pub mod Runs

@@ -3,7 +3,7 @@ use Rattle.std.specs.Prelude.{◌≡◌, ◌≢◌, ◌≤◌, ◌==◌, ℕ, ze
 use Rattle.c_tree.specs.Flats as f
 use Rattle.c_tree.specs.Source.{State, source_step, after_from, runs_from, ended_from}
 use Rattle.source_machine.specs.Mutexes.{locks, unlocks, held_by}
-use Rattle.source_machine.specs.Discipline.{StateKeeps, Guards}
+use Rattle.source_machine.specs.Discipline.{StateKeeps, Guards, IsSameElement}
 
 -- ---- Two steps
 
@@ -85,11 +85,11 @@ Exchange = (x : f.Flat) (s : State) (schedule : List ℕ) (thread steps : ℕ) �
 
 -- ---- One thread alone
 
--- what a thread is in a state, what it holds, and the variables that this guards, are as in the other state
+-- what a thread is in a state, what it holds, and the elements that this guards, are as in the other state
 pub record IsSameTo (x : f.Flat) (s other : State) (thread : ℕ) : Type 0 where
   pub own : slice_get s.threads thread ≡ slice_get other.threads thread
   pub held : held_by thread s.holders ≡ held_by thread other.holders
-  pub guarded : (variable : ℕ) → Guards x s thread variable → slice_get s.variables variable ≡ slice_get other.variables variable
+  pub guarded : (variable element : ℕ) → Guards x s thread variable element → IsSameElement other s variable element
 
 -- the thread's own steps of a schedule can be stepped alone, and give what the thread is after the whole schedule
 pub record IsSolo (x : f.Flat) (s : State) (schedule : List ℕ) (thread : ℕ) : Type 0 where

@@ -39,7 +39,7 @@ pub fn discipline_is_kept()
     ensures held { HeldIsGiven }
 {}
 
-/// Under the lock discipline a step of a thread writes, and reads, only variables whose mutex the thread holds.
+/// Under the lock discipline a step of a thread writes, and reads, only elements of variables whose lock the thread holds.
 pub fn steps_are_guarded()
     ensures writes { WritesGuarded }
     ensures of_others { LeavesOthers }
