@@ -16,7 +16,7 @@ use Rattle.rv64_isa.specs.Rows.{Effect, Continues, Stores, Cleans, row, read, ne
 use Rattle.rv64_isa.specs.Arithmetic.{sign_extended, result_of}
 use Rattle.memory_layout.specs.Roles.{is_temporary, is_kept}
 use Rattle.operator_code.specs.StraightLineCode.{IsConstant}
-use Rattle.boundary_code.specs.Boundaries.{lines_in_use, AtBank}
+use Rattle.boundary_code.specs.Boundaries.{lines_in_use, IsOnSide}
 use Rattle.boundary_code.specs.links.InstructionLists.{keep_slots, clean_lines, bank_part}
 use Rattle.operator_code.proofs.Public.{RunsFrom, stop, go, store, clean, along, constant_runs, read_same, read_other, length-changed, small_immediate}
 use Rattle.operator_code.proofs.Public.{add_small, displaced_small}
@@ -119,7 +119,7 @@ pub record Banked (thread mask bank : ℕ) (log record_code : List Instr) (live 
       (λ line. Cleans (slot_at thread bank (8 * line))) (lines_in_use (0 ∷ live))) left
   pub ready : Ready thread bank x left
 
-flip_row : (x : List ℕ) (bank pc : ℕ) → AtBank bank x → row (OpImmediate Xori 3 3 256) x pc ≡ Continues (slice_set x 3 (256 * (1 - bank))) (next pc)
+flip_row : (x : List ℕ) (bank pc : ℕ) → IsOnSide bank x → row (OpImmediate Xori 3 3 256) x pc ≡ Continues (slice_set x 3 (256 * (1 - bank))) (next pc)
 unfolding row
 flip_row x bank pc h = ap (λ (n : ℕ). Continues (slice_set x 3 n) (next pc)) (ap (λ (n : ℕ). result_of Xor n 256) h.offset ∙ flip bank h.exists)
 
@@ -138,7 +138,7 @@ mask_row thread bank x y mask pc t b h e =
     ap (λ (n : ℕ). Stores n 8 (read y 7)) (slot_address thread bank 0 t b (lit< tt)) ∙ ap (λ (n : ℕ). Stores (slot_at thread bank 0) 8 n) e
 
 pub banked : (thread mask bank : ℕ) (log record_code : List Instr) (live : List ℕ) (x : List ℕ) (pc : ℕ) → thread < MOST_THREADS →
-    AreKept live → AtBank bank x →
+    AreKept live → IsOnSide bank x →
     IsConstant 31 (log_of thread) log → IsConstant 7 mask record_code → Banked thread mask (1 - bank) log record_code live x pc
 banked thread mask bank log record_code live x pc t kept at is_log is_mask =
     let other : ℕ = 1 - bank in

@@ -4,5 +4,6 @@ mod Registers
 mod Banks
 mod Points
 mod WholeBoundaries
+mod Sides
 mod Worked
 mod Lengths

@@ -13,7 +13,7 @@ use Rattle.rv64_isa.specs.Rows.{Effect, Stores, Cleans, Fences, row, read}
 use Rattle.rv64_isa.specs.Signed.{twos_complement}
 use Rattle.memory_layout.specs.Roles.{is_kept, is_temporary}
 use Rattle.operator_code.specs.StraightLineCode.{IsConstant, effects, registers_after}
-use Rattle.boundary_code.specs.Boundaries.{Boundary, AtBank, HasEffects, HasOffset, KeepsRegisters, boundary_effects, resume_address, lines_in_use, is_empty}
+use Rattle.boundary_code.specs.Boundaries.{Boundary, IsOnSide, HasEffects, HasOffset, KeepsRegisters, boundary_effects, resume_address, lines_in_use, is_empty}
 use Rattle.boundary_code.specs.links.InstructionLists.{bank_part, point, commit, boundary_list, last_list}
 use Rattle.operator_code.proofs.Public.{RunsFrom, along, fence, constant_runs, read_same, read_other}
 use Rattle.boundary_code.proofs.Registers.{not_temporary}
@@ -38,11 +38,11 @@ pub record Pieces (b : Boundary) (log mask_code : List Instr) : Type 0 where
   pub is_mask : IsConstant 7 (mask_with b.locks) mask_code
 
 record Whole (b : Boundary) (code : List Instr) (x : List ℕ) (pc bank : ℕ) : Type 0 where
-  effects_are : effects code x pc ≡ boundary_effects b (1 - bank) (resume_address b code pc) x
+  effects_are : effects code x pc ≡ boundary_effects b bank (resume_address b code pc) x
   offset : read (registers_after code x pc) 3 ≡ 256 * (1 - bank)
   others : (r : ℕ) → is_temporary r ≡ false → r ≢ 3 → read (registers_after code x pc) r ≡ read x r
 
-whole : (b : Boundary) (log mask_code : List Instr) (x : List ℕ) (pc bank : ℕ) → Pieces b log mask_code → AtBank bank x →
+whole : (b : Boundary) (log mask_code : List Instr) (x : List ℕ) (pc bank : ℕ) → Pieces b log mask_code → IsOnSide bank x →
     Whole b (parts log mask_code b.live (twos_complement 32 b.resume)) x pc bank
 whole b log mask_code x pc bank p at =
     let r : ℕ = twos_complement 32 b.resume in
@@ -93,7 +93,7 @@ fence_is : (z : List ℕ) (pc : ℕ) → row Fence z pc ≡ Fences
 unfolding row
 fence_is z pc = refl
 
-last_runs : (thread : ℕ) (log : List Instr) (x : List ℕ) (pc bank : ℕ) → thread < MOST_THREADS → IsConstant 31 (log_of thread) log → AtBank bank x →
+last_runs : (thread : ℕ) (log : List Instr) (x : List ℕ) (pc bank : ℕ) → thread < MOST_THREADS → IsConstant 31 (log_of thread) log → IsOnSide bank x →
     RunsFrom (last_list log) x pc (Fences ∷ Stores (point_at thread) 8 0 ∷ Cleans (point_at thread) ∷ Fences ∷ []) (slice_set x 31 (log_of thread))
 last_runs thread log x pc bank t c at =
     let y : List ℕ = slice_set x 31 (log_of thread) in

@@ -24,7 +24,7 @@ seen_of_code : effects code zeros 0x1_0000 ≡
 unfolding code zeros row result_of
 seen_of_code = refl
 
-as_defined : boundary_effects first 1 0x1_003C zeros ≡ effects code zeros 0x1_0000
+as_defined : boundary_effects first 0 0x1_003C zeros ≡ effects code zeros 0x1_0000
 unfolding first code zeros row result_of
 as_defined = refl
 

@@ -42,28 +42,37 @@ commit_effects thread point = Fences ∷ Stores (point_at thread) 8 point ∷ Cl
 abbrev pub resume_address : Boundary → List Instr → (pc : ℕ) → ℕ
 resume_address b code pc = (pc + 4 * length code + twos_complement 64 b.resume) % 2 ^ 64
 
--- what a boundary does to memory, where the other bank has this number
-abbrev pub boundary_effects : Boundary → (bank resume : ℕ) → (registers : List ℕ) → List Effect
-boundary_effects b bank resume x =
-    if is_empty b.locks then commit_effects b.thread 0
-    else bank_effects b bank x ++ commit_effects b.thread ((resume + bank) % 2 ^ 64)
+-- ---- The sides of a log: it has two, each with a bank, of which x3 has one from one boundary to the next. Which one is of no concern above
 
--- registers at a boundary's first instruction, with a bank's offset in x3
-pub record AtBank (bank : ℕ) (x : List ℕ) : Type 0 where
+abbrev pub other_side : (side : ℕ) → ℕ
+other_side side = 1 - side
+
+-- what a boundary does to memory, where x3 has this side before it: the other side's bank is written, and the point names it
+abbrev pub boundary_effects : Boundary → (side resume : ℕ) → (registers : List ℕ) → List Effect
+boundary_effects b side resume x =
+    if is_empty b.locks then commit_effects b.thread 0
+    else bank_effects b (other_side side) x ++ commit_effects b.thread ((resume + other_side side) % 2 ^ 64)
+
+-- the side that x3 has after a boundary: where it has no locks none was written
+abbrev pub side_after : Boundary → (side : ℕ) → ℕ
+side_after b side = if is_empty b.locks then side else other_side side
+
+-- registers of a thread whose log is on this side: x3 has the offset of its bank
+pub record IsOnSide (side : ℕ) (x : List ℕ) : Type 0 where
   pub count : length x ≡ 32
   pub zero_is : read x 0 ≡ 0
-  pub offset : read x bank_offset ≡ bank_bytes * bank
-  pub exists : bank < 2
+  pub offset : read x bank_offset ≡ bank_bytes * side
+  pub exists : side < 2
 
 -- memory sees these stores, cleans and fences, in this order, and nothing else
 pub record HasEffects (b : Boundary) (code : List Instr) : Type 0 where
-  pub does : (x : List ℕ) (pc bank : ℕ) → AtBank bank x → effects code x pc ≡ boundary_effects b (1 - bank) (resume_address b code pc) x
+  pub does : (x : List ℕ) (pc side : ℕ) → IsOnSide side x → effects code x pc ≡ boundary_effects b side (resume_address b code pc) x
 
--- after a boundary's code x3 has the other bank's offset, but the same bank's where no bank was written
+-- after a boundary's code x3 has the other side's offset, but the same side's where no bank was written
 pub record HasOffset (locks : List ℕ) (code : List Instr) : Type 0 where
-  pub leaves : (x : List ℕ) (pc bank : ℕ) → AtBank bank x →
-      read (registers_after code x pc) bank_offset ≡ bank_bytes * (if is_empty locks then bank else 1 - bank)
+  pub leaves : (x : List ℕ) (pc side : ℕ) → IsOnSide side x →
+      read (registers_after code x pc) bank_offset ≡ bank_bytes * (if is_empty locks then side else other_side side)
 
 -- every register but x3 and the temporaries is as it was
 pub record KeepsRegisters (code : List Instr) : Type 0 where
-  pub keeps : (x : List ℕ) (pc bank : ℕ) → AtBank bank x → (r : ℕ) → is_temporary r ≡ false → r ≢ bank_offset → read (registers_after code x pc) r ≡ read x r
+  pub keeps : (x : List ℕ) (pc side : ℕ) → IsOnSide side x → (r : ℕ) → is_temporary r ≡ false → r ≢ bank_offset → read (registers_after code x pc) r ≡ read x r

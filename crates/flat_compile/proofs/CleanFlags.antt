@@ -52,9 +52,9 @@ module _ (p : Plan) (t : Thread) (program : Program) (code : IsThreadCode p t pr
   storing : (m : Entrance) (k : Kind) (store : Pending) → Storing p t old m k store → Storing p t new m k store
   storing m k store s = record { instr = s.instr; stands = s.stands; does = s.does; value = s.value }
 
-  asking : (number mutex next : ℕ) (seen : Seen) (bank : ℕ) (registers : List ℕ) → Asking p t old number mutex next seen bank registers →
-      Asking p t new number mutex next seen bank registers
-  asking number mutex next seen bank registers k = record { call = k.call; lock = k.lock; enters = k.enters }
+  asking : (number mutex next : ℕ) (seen : Seen) (side : ℕ) (registers : List ℕ) → Asking p t old number mutex next seen side registers →
+      Asking p t new number mutex next seen side registers
+  asking number mutex next seen side registers k = record { call = k.call; lock = k.lock; enters = k.enters }
 
   goes_on : (node next : ℕ) → GoesOnAfter p t old node next → GoesOnAfter p t new node next
   goes_on node next g = record { on = g.on }
@@ -80,7 +80,7 @@ module _ (p : Plan) (t : Thread) (program : Program) (code : IsThreadCode p t pr
       let same = makes_store m.node is m.seen is.action store next at refl does in (
         storing m k store both.0,
         subst (λ (b : Bool). Passing p t old m (old.core m.node) (old.entry next) (pending_observations p t old k store (read m.registers pending_value) b)
-            (Enters p t next (seen_after (a.Makes store next) m.seen) m.bank)) same both.1,
+            (Enters p t next (seen_after (a.Makes store next) m.seen) m.side)) same both.1,
       )
   performs is m (a.Goes next) at does h = h
   performs is m (a.Takes mutex next) at does h = record {
@@ -88,7 +88,7 @@ module _ (p : Plan) (t : Thread) (program : Program) (code : IsThreadCode p t pr
     steps = h.steps;
     walks = h.walks;
     short = h.short;
-    are = asking _ mutex next m.seen m.bank h.registers h.are;
+    are = asking _ mutex next m.seen m.side h.registers h.are;
   }
   performs is m (a.Gives mutex next) at does h = record {
     registers = h.registers;

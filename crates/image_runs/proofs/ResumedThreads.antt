@@ -22,11 +22,12 @@ use Rattle.c_tree.specs.Flats as f
 use Rattle.c_tree.specs.Source as m
 use Rattle.c_tree.specs.Source.{Pending}
 use Rattle.c_tree.specs.Exprs.{Placed}
-use Rattle.c_tree.specs.LockDiscipline.{Held, holds, none_held, guard_of}
+use Rattle.c_tree.specs.LockDiscipline.{Held, holds, none_held}
 use Rattle.c_tree.specs.WellFormed.{AreFlatStatements, elements_in, shape_of}
 use Rattle.c_ranges.specs.RunInvariants.{IsStoreInRange, IsThreadOf}
 use Rattle.source_machine.specs.Discipline.{KeepsLeft}
-use Rattle.source_machine.proofs.Public.{keep_opened_all}
+use Rattle.source_machine.specs.ElementLocks.{element_lock}
+use Rattle.source_machine.proofs.Public.{holds_each, keep_opened_all}
 use Rattle.memory_layout.specs.Roles.{pending_address, pending_value}
 use Rattle.rv64_isa.specs.Rows.{read}
 use Rattle.rv64_isa.specs.Machine.{bank_of, durable_point, recorded, record_of}
@@ -41,7 +42,7 @@ use Rattle.flow_graph.specs.Nodes.{Action, Eval, Store, Test, Lock, Unlock, End,
 use Rattle.flow_graph.proofs.Public.{ActionLeads, Tests, all_at, begins_lockstep, chooses, nodes_at, repeats}
 use Rattle.region_attempts.specs.Origins.{IsPendingAt}
 use Rattle.region_cutter.specs.LocksAtBoundaries.{ChosenAreLocked}
-use Rattle.log_states.specs.Logs.{Record, IsKeepable, IsRecord, IsDurable, IsRecorded, HasLog, nothing_recorded, slot_in, value_of, bank_word}
+use Rattle.log_states.specs.Logs.{Record, side_of, IsKeepable, IsRecord, IsDurable, IsRecorded, HasLog, nothing_recorded, slot_in, value_of, bank_word}
 use Rattle.log_states.specs.Laws.{ResumesRecord, resumed_registers}
 use Rattle.log_states.proofs.Public.{contains_cases, log_facts}
 use Rattle.thread_code.specs.Plans.{Plan, Thread, IsPlan, IsKept, of_local, of_address, of_value, locks_held, locks_held_from, set_before, locks_before}
@@ -106,7 +107,7 @@ pub record IsSaid (p : Plan) (code : Code p) (words : List ℕ) : Type 0 where
   pub set : Held
   pub long : length set ≡ length p.flat.mutexes
   pub left : KeepsLeft p.flat set thread.left
-  pub pending : (q : Pending) → thread.pending ≡ Some q → holds set (guard_of p.flat.variables q.variable) ≡ true
+  pub pending : (q : Pending) → thread.pending ≡ Some q → holds set (element_lock p.flat.variables q.variable q.element) ≡ true
   -- its node writes where its pending store goes
   pub stored : (q : Pending) → graph_thread.pending ≡ Some q → IsPendingAt p.flat graph_thread.at q
   pub locks : record_of (map word_of words) code.thread.number ≡ locks_held set
@@ -237,7 +238,7 @@ module _ (locked : ChosenAreLocked) (p : Plan) (plan : IsPlan p) (code : Code p)
       pending : Option Pending
       owes : is_some pending ≡ st.owes
       ranged : (q : Pending) → pending ≡ Some q → IsStoreInRange x.variables q
-      guarded : (q : Pending) → pending ≡ Some q → holds set (guard_of x.variables q.variable) ≡ true
+      guarded : (q : Pending) → pending ≡ Some q → holds set (element_lock x.variables q.variable q.element) ≡ true
       stored : (q : Pending) → pending ≡ Some q → IsPendingAt x node q
       enters : (seen : Seen) → seen.pending ≡ pending → IsPendingIn p is.action seen registers
 
@@ -291,8 +292,9 @@ module _ (locked : ChosenAreLocked) (p : Plan) (plan : IsPlan p) (code : Code p)
         pending = Some store;
         owes = sym owing;
         ranged = λ q e. subst (λ (z : Pending). IsStoreInRange x.variables z) (same_Some store q e) ranged;
-        guarded = λ q e. subst (λ (z : Pending). holds set (guard_of x.variables z.variable) ≡ true) (same_Some store q e)
-            (resumed_store_locked locked p plan code node _ g.own g.resumes variable kind next does owing);
+        guarded = λ q e. subst (λ (z : Pending). holds set (element_lock x.variables z.variable z.element) ≡ true) (same_Some store q e)
+            (holds_each x.variables set variable store.element
+            (resumed_store_locked locked p plan code node _ g.own g.resumes variable kind next does owing));
         stored = λ q e. subst (λ (z : Pending). IsPendingAt x node z) (same_Some store q e) (record {
           node = is;
           is = lowered_is p plan t code.of node g.own;
@@ -403,9 +405,9 @@ module _ (locked : ChosenAreLocked) (p : Plan) (plan : IsPlan p) (code : Code p)
     resumed_record : ResumesRecord n entry ws
     resumed_record = log_facts.registers_resumed.between n entry ws is_record is_recorded
 
-    enters : (kept : FlowState) → Enters p t node (seen_by kept graph_thread) (bank_of entry.point) registers
+    enters : (kept : FlowState) → Enters p t node (seen_by kept graph_thread) (side_of entry) registers
     enters kept = record {
-      at_bank = resumed_record.bank.registers;
+      at_side = resumed_record.side.registers;
       count = decoded_long t.kinds 0;
       locals = carried;
       pending = λ other there.
@@ -442,7 +444,7 @@ module _ (locked : ChosenAreLocked) (p : Plan) (plan : IsPlan p) (code : Code p)
             resumes = g.resumes;
             locks = refl;
             live = refl;
-            bank = bank_of entry.point;
+            side = side_of entry;
             enters = enters kept;
           });
     }

@@ -14,7 +14,7 @@ use Rattle.ido_base.proofs.Public.{same_last}
 use Rattle.rv64_isa.specs.Rows.{Effect, Stores, Cleans, Fences}
 use Rattle.rv64_isa.specs.Machine.{bank_of, durable_point}
 use Rattle.rv64_isa.specs.Schedule.{is_point_store}
-use Rattle.boundary_code.specs.Boundaries.{Boundary, bank_effects, commit_effects, boundary_effects, is_empty}
+use Rattle.boundary_code.specs.Boundaries.{Boundary, bank_effects, commit_effects, boundary_effects, is_empty, other_side}
 use Rattle.log_states.specs.Logs.{Record, value_of, bank_word, log_word, point_in, slot_in, IsWord, HasLog, IsDurable, HasBank, IsRecorded}
 use Rattle.log_states.specs.Stages.{LogConfig, Stored, Cleaned, Fenced, Drained, Elsewhere, stores_of, cleans_of, IsPointed, Stage, Writing, Written, Pointed}
 use Rattle.log_states.specs.Stages.{PointQueued, Over, is_store, is_committed, left_by_crash, fences_ahead}
@@ -181,14 +181,14 @@ stays_committed thread old new m n l (Elsewhere more rest changed unstored queue
 
 -- ---- Where a boundary begins, and after its first fence
 
-pub boundary_stores : (b : Boundary) (bank resume : ℕ) (x : List ℕ) → list_any is_store (boundary_effects b bank resume x) ≡ true
-boundary_stores b bank resume x = cond_both (is_empty b.locks) (commit_effects b.thread 0)
-    (bank_effects b bank x ++ commit_effects b.thread ((resume + bank) % 2 ^ 64)) (λ es. list_any is_store es ≡ true)
+pub boundary_stores : (b : Boundary) (side resume : ℕ) (x : List ℕ) → list_any is_store (boundary_effects b side resume x) ≡ true
+boundary_stores b side resume x = cond_both (is_empty b.locks) (commit_effects b.thread 0)
+    (bank_effects b (other_side side) x ++ commit_effects b.thread ((resume + other_side side) % 2 ^ 64)) (λ es. list_any is_store es ≡ true)
     (λ _. refl) (λ _. refl)
 
 pub begins_uncommitted : BeginsUncommitted
-begins_uncommitted b bank resume x words queue = uncommitted b.thread
-    (record { words = words; queue = queue; rest = boundary_effects b bank resume x }) (boundary_stores b bank resume x)
+begins_uncommitted b side resume x words queue = uncommitted b.thread
+    (record { words = words; queue = queue; rest = boundary_effects b side resume x }) (boundary_stores b side resume x)
 
 pub committed_after_fence : CommittedAfterFence
 committed_after_fence thread old new m l committed = by l.stage

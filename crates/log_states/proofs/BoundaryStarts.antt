@@ -10,11 +10,11 @@ use Rattle.ido_base.specs.Locks.{mask_with}
 use Rattle.ido_base.specs.Layout.{slot_at}
 use Rattle.rv64_isa.specs.Rows.{Effect, Stores, Cleans, read}
 use Rattle.rv64_isa.specs.Machine.{bank_of}
-use Rattle.boundary_code.specs.Boundaries.{Boundary, is_empty, lines_in_use, bank_effects, commit_effects, boundary_effects}
+use Rattle.boundary_code.specs.Boundaries.{Boundary, is_empty, lines_in_use, bank_effects, commit_effects, boundary_effects, other_side}
 use Rattle.boundary_code.proofs.Public.{not_empty, some_there}
 use Rattle.log_states.specs.Logs.{Record, slots_of, value_of, IsKeepable, IsRecord}
 use Rattle.log_states.specs.Stages.{LogConfig, stores_of, cleans_of, ToStore, IsWriting, Writing}
-use Rattle.log_states.specs.Laws.{KeptAreKeepable, recorded_by, IsRecoverable, BoundaryBegins, OffsetFollows, PointSays}
+use Rattle.log_states.specs.Laws.{KeptAreKeepable, recorded_by, IsRecoverable, BoundaryBegins, SideFollows, PointSays}
 use Rattle.log_states.proofs.Lists.{contains_first, contains_later, slot_has_line, lines_below}
 use Rattle.log_states.proofs.UnstoredLogStays.{slot_below}
 
@@ -47,31 +47,26 @@ kept_are_keepable register kept = elim (or_cases (is_local register || register 
 -- ---- The point
 
 pub point_says : PointSays
-point_says b bank resume x r below some =
-    let e : (recorded_by b bank resume x).point ≡ (resume + bank) % 2 ^ 64 =
-    cond-false (is_empty b.locks) 0 ((resume + bank) % 2 ^ 64) (not_empty b.locks some) in (
-      λ zeroth. omega (arith, e, zeroth, below, r.aligned, r.somewhere, r.below),
-      omega (arith, e, below, r.aligned, r.below),
-      omega
-          (arith, e, below, r.aligned, r.below),
+point_says b side resume x r some =
+    let e : (recorded_by b side resume x).point ≡ (resume + (1 - side)) % 2 ^ 64 =
+    cond-false (is_empty b.locks) 0 ((resume + (1 - side)) % 2 ^ 64) (not_empty b.locks some) in (
+      λ zeroth. omega (arith, e, zeroth, r.aligned, r.somewhere, r.below),
+      omega (arith, e, r.aligned, r.below),
+      omega (arith, e, r.aligned, r.below),
     )
 
--- a point that isn't 0 comes of locks
-has_locks : (b : Boundary) (bank resume : ℕ) (x : List ℕ) → (recorded_by b bank resume x).point ≢ 0 → b.locks ≢ []
-has_locks b bank resume x some none = some (cond-true (is_empty b.locks) 0 ((resume + bank) % 2 ^ 64) (ap is_empty none))
+-- a boundary that ends a section leaves no point
+pub points_end : (b : Boundary) (side resume : ℕ) (x : List ℕ) → is_empty b.locks ≡ true → (recorded_by b side resume x).point ≡ 0
+points_end b side resume x none = cond-true (is_empty b.locks) 0 ((resume + other_side side) % 2 ^ 64) none
 
-pub offset_follows : OffsetFollows
-offset_follows b bank resume x y r below count none offset = record {
-  registers = record {
-    count = count;
-    zero_is = none;
-    offset = offset;
-    exists = cond_both (is_empty b.locks) bank (1 - bank) (λ n. n < 2) (λ _. below) (λ _. omega arith);
-  };
-  is = λ some.
-      let locked : b.locks ≢ [] = has_locks b (1 - bank) resume x some in
-      (point_says b (1 - bank) resume x r (omega arith) locked).1 ∙ sym (cond-false (is_empty b.locks) bank (1 - bank) (not_empty b.locks locked));
-}
+-- a point that isn't 0 comes of locks
+has_locks : (b : Boundary) (side resume : ℕ) (x : List ℕ) → (recorded_by b side resume x).point ≢ 0 → b.locks ≢ []
+has_locks b side resume x some none = some (points_end b side resume x (ap is_empty none))
+
+pub side_follows : SideFollows
+side_follows b side resume x r some =
+    let locked : b.locks ≢ [] = has_locks b side resume x some in
+    (point_says b side resume x r locked).1 ∙ sym (cond-false (is_empty b.locks) side (other_side side) (not_empty b.locks locked))
 
 -- ---- What a boundary does, as its record has it
 
@@ -110,20 +105,21 @@ unbanked b x = refl
 with_point : Boundary → List ℕ → ℕ → Record
 with_point b x point = record { point = point; locks = b.locks; live = b.live; registers = x }
 
-boundary_does : (b : Boundary) (bank resume : ℕ) (x : List ℕ) → IsRecoverable b resume x → bank < 2 →
-    boundary_effects b bank resume x ≡ effects_of b.thread (recorded_by b bank resume x)
+boundary_does : (b : Boundary) (side resume : ℕ) (x : List ℕ) → IsRecoverable b resume x →
+    boundary_effects b side resume x ≡ effects_of b.thread (recorded_by b side resume x)
 unfolding with_point
-boundary_does b bank resume x r below = by (is_empty b.locks) refl
+boundary_does b side resume x r = by (is_empty b.locks) refl
   where
-    by : (t : Bool) → is_empty b.locks ≡ t → boundary_effects b bank resume x ≡ effects_of b.thread (recorded_by b bank resume x)
+    by : (t : Bool) → is_empty b.locks ≡ t → boundary_effects b side resume x ≡ effects_of b.thread (recorded_by b side resume x)
     by true e =
-        cond-true (is_empty b.locks) (commit_effects b.thread 0) (bank_effects b bank x ++ commit_effects b.thread ((resume + bank) % 2 ^ 64)) e ∙ unbanked b x
-        ∙ ap (λ (p : ℕ). effects_of b.thread (with_point b x p)) (sym (cond-true (is_empty b.locks) 0 ((resume + bank) % 2 ^ 64) e))
+        cond-true (is_empty b.locks) (commit_effects b.thread 0) (bank_effects b (1 - side) x ++ commit_effects b.thread ((resume + (1 - side)) % 2 ^ 64)) e
+        ∙ unbanked b x
+        ∙ ap (λ (p : ℕ). effects_of b.thread (with_point b x p)) (sym (cond-true (is_empty b.locks) 0 ((resume + (1 - side)) % 2 ^ 64) e))
     by false e =
-        let same : (recorded_by b bank resume x).point ≡ (resume + bank) % 2 ^ 64 = cond-false (is_empty b.locks) 0 ((resume + bank) % 2 ^ 64) e in
-        let says = point_says b bank resume x r below (some_there b.locks e) in
-        cond-false (is_empty b.locks) (commit_effects b.thread 0) (bank_effects b bank x ++ commit_effects b.thread ((resume + bank) % 2 ^ 64)) e
-        ∙ banked b bank ((resume + bank) % 2 ^ 64) x r.live (λ none. says.0 (same ∙ none)) (ap bank_of (sym same) ∙ says.1)
+        let same : (recorded_by b side resume x).point ≡ (resume + (1 - side)) % 2 ^ 64 = cond-false (is_empty b.locks) 0 ((resume + (1 - side)) % 2 ^ 64) e in
+        let says = point_says b side resume x r (some_there b.locks e) in
+        cond-false (is_empty b.locks) (commit_effects b.thread 0) (bank_effects b (1 - side) x ++ commit_effects b.thread ((resume + (1 - side)) % 2 ^ 64)) e
+        ∙ banked b (1 - side) ((resume + (1 - side)) % 2 ^ 64) x r.live (λ none. says.0 (same ∙ none)) (ap bank_of (sym same) ∙ says.1)
         ∙ ap (λ (p : ℕ). effects_of b.thread (with_point b x p)) (sym same)
 
 -- ---- The beginning
@@ -139,29 +135,29 @@ writing_begins thread new m is rest = record {
   each = λ slot c. ToStore c;
 }
 
-is_record : (b : Boundary) (bank resume : ℕ) (x : List ℕ) → IsRecoverable b resume x → IsRecord (recorded_by b bank resume x)
-is_record b bank resume x r = record {
-  point = cond_both (is_empty b.locks) 0 ((resume + bank) % 2 ^ 64) (λ n. n < 2 ^ 64) (λ _. omega arith) (λ _. omega arith);
+is_record : (b : Boundary) (side resume : ℕ) (x : List ℕ) → IsRecoverable b resume x → IsRecord (recorded_by b side resume x)
+is_record b side resume x r = record {
+  point = cond_both (is_empty b.locks) 0 ((resume + other_side side) % 2 ^ 64) (λ n. n < 2 ^ 64) (λ _. omega arith) (λ _. omega arith);
   locks = r.locks;
   live = r.live;
   registers = r.registers;
 }
 
 pub begins : BoundaryBegins
-begins b old bank resume x words queue log entries old_is recorded at r =
-    let new : Record = recorded_by b (1 - bank) resume x in
-    let new_is : IsRecord new = is_record b (1 - bank) resume x r in
-    let m : LogConfig = record { words = words; queue = queue; rest = boundary_effects b (1 - bank) resume x } in
+begins b old side resume x words queue log entries old_is recorded at r =
+    let new : Record = recorded_by b side resume x in
+    let new_is : IsRecord new = is_record b side resume x r in
+    let m : LogConfig = record { words = words; queue = queue; rest = boundary_effects b side resume x } in
     record {
       follows = record {
         old_is = old_is;
         new_is = new_is;
         apart = λ one other same.
-            let says = point_says b (1 - bank) resume x r (omega arith) (has_locks b (1 - bank) resume x other) in
+            let says = point_says b side resume x r (has_locks b side resume x other) in
             omega (arith, same, at.is one, says.1, at.registers.exists);
       };
       log = log;
       queue = entries;
       stage = Writing (slots_of new) (lines_in_use (slots_of new)) (writing_begins b.thread new m new_is
-          (boundary_does b (1 - bank) resume x r (omega arith))) recorded;
+          (boundary_does b side resume x r)) recorded;
     }

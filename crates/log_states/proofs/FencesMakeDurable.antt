@@ -1,5 +1,5 @@
 -- What is queued is durable after the next fence.
-use Rattle.std.proofs.Common.{◌≡◌, ◌⊎◌, inl, inr, ℕ, ◌+◌, ◌*◌, ◌/◌, ◌%◌, ◌^◌, ◌≤◌, map, List, [], ◌∷◌, ◌++◌, refl, ap, arith, sym, ◌∙◌, subst}
+use Rattle.std.proofs.Common.{◌-◌, ◌≡◌, ◌⊎◌, inl, inr, ℕ, ◌+◌, ◌*◌, ◌/◌, ◌%◌, ◌^◌, ◌≤◌, map, List, [], ◌∷◌, ◌++◌, refl, ap, arith, sym, ◌∙◌, subst}
 use Rattle.std.proofs.lemmas.List.{append-nil}
 use Rattle.std.proofs.lemmas.Bool.{cond_both}
 use Rattle.ido_base.specs.Words.{Word, Entry, word_at, entry_of}
@@ -87,7 +87,8 @@ no_fences f none [] = refl
 no_fences f none (x ∷ xs) = let rest = no_fences f none xs in omega (arith, rest, none x)
 
 pub boundaries_fence : BoundariesFence
-boundaries_fence b bank resume x =
+boundaries_fence b side resume x =
+    let bank : ℕ = 1 - side in
     cond_both (is_empty b.locks) (commit_effects b.thread 0) (bank_effects b bank x ++ commit_effects b.thread ((resume + bank) % 2 ^ 64))
     (λ es. fences_ahead es ≡ 2) (λ _. refl)
     (λ _.

@@ -15,5 +15,6 @@ mod BoundaryEffectsInLog
 mod StoresOutsideLog
 mod LogInvariantHolds
 mod FactsByName
+mod LivePoints
 mod Worked
 mod BoundaryCommits

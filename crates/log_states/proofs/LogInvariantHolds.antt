@@ -46,10 +46,10 @@ evictions_keep program line mask thread old new w rest s =
     (evictions_move program w line mask thread s.hart rest s.here)
 
 pub begins_standing : BeginsStanding
-begins_standing b older old bank resume x w s at r = record {
+begins_standing b older old side resume x w s at r = record {
   hart = s.hart;
   here = s.here;
-  log = begins b old bank resume x w.words s.hart.queue s.log.log s.log.queue s.log.follows.new_is
+  log = begins b old side resume x w.words s.hart.queue s.log.log s.log.queue s.log.follows.new_is
       (ends b.thread older old (config_of w s.hart []) s.log refl) at r;
 }
 

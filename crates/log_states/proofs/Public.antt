@@ -2,12 +2,13 @@
 pub use Rattle.log_states.proofs.BoundaryCommits.{begins_uncommitted, boundary_stores, committed_where_durable, ends_committed, point_store_is_last}
 pub use Rattle.log_states.proofs.BoundaryCommits.{stays_committed}
 pub use Rattle.log_states.proofs.BoundaryEffectsInLog.{boundaries_stay_in}
-pub use Rattle.log_states.proofs.BoundaryStarts.{offset_follows, point_says}
+pub use Rattle.log_states.proofs.BoundaryStarts.{kept_are_keepable, point_says, points_end, side_follows}
 pub use Rattle.log_states.proofs.EventsKeepLog.{ends, keeps}
 pub use Rattle.log_states.proofs.FactsByName.{log_facts}
 pub use Rattle.log_states.proofs.FencesMakeDurable.{boundaries_fence}
 pub use Rattle.log_states.proofs.Heads.{address_of, not_done}
 pub use Rattle.log_states.proofs.Lists.{contains_cases, contains_first, contains_later, contains_none}
+pub use Rattle.log_states.proofs.LivePoints.{live_is}
 pub use Rattle.log_states.proofs.LogInvariantHolds.{begins_standing, crashes_standing, evictions_keep, own_steps_keep, starts_standing, steps_keep}
 pub use Rattle.log_states.proofs.Machines.{evictions_move, own_steps_move, steps_move}
 pub use Rattle.log_states.proofs.Numbers.{byte_of_log, logs_are_apart, variables_are_apart, word_of_point}

@@ -62,7 +62,7 @@ module _ (thread : ℕ) (r : Record) (words : List Word) (is : IsRecord r) (h : 
     live_point = h.point.live;
     locks = locks;
     registers = λ some slot c. row_at slot (is.live slot c).exists ∙ register some slot c;
-    bank = record {
+    side = record {
       registers = record { count = refl; zero_is = refl; offset = ap (λ (n : ℕ). bank_bytes * bank_of n) has_point; exists = omega arith };
       is = λ some. refl;
     };

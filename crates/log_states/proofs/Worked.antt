@@ -20,7 +20,7 @@ registers = slice_set (slice_set (replicate 32 0) 8 7) 9 5
 
 effects : List Effect
 unfolding b registers
-effects = boundary_effects b 1 0x1_0040 registers
+effects = boundary_effects b 0 0x1_0040 registers
 
 -- seven before the point's, of which the last is the first fence
 in_order : effects ≡
@@ -96,7 +96,7 @@ committed_with : map (λ count. is_committed 0 (evicted_after count true)) count
 unfolding evicted_after after made first effects b registers with_eviction counts
 committed_with = refl
 
-resumes_there : resume_of (recorded_by b 1 0x1_0040 registers).point ≡ 0x1_0040
+resumes_there : resume_of (recorded_by b 0 0x1_0040 registers).point ≡ 0x1_0040
 unfolding b registers
 resumes_there = refl
 
@@ -106,18 +106,18 @@ unfolding left locks_in after made first effects b registers with_eviction
 no_first_fence = refl
 
 -- the next boundary holds locks 0 and 1, and an eviction makes its mask durable before its point is stored
-next : (bank : ℕ) → List Effect
-next bank = boundary_effects (record { thread = 0; locks = 0 ∷ 1 ∷ []; live = []; resume = pos 0 }) bank 0x1_0080 (replicate 32 0)
+next : (side : ℕ) → List Effect
+next side = boundary_effects (record { thread = 0; locks = 0 ∷ 1 ∷ []; live = []; resume = pos 0 }) side 0x1_0080 (replicate 32 0)
 
 mask_evicted : (line : ℕ) → LogConfig → LogConfig
 mask_evicted line m = record { words = evicted m.words line 1; queue = m.queue; rest = m.rest }
 
 -- where the next mask is in the other bank, its eviction changes nothing
-other_bank : left (mask_evicted 1025 (after 1 (next 0) (evicted_after 9 false))) ≡ everything
+other_bank : left (mask_evicted 1025 (after 1 (next 1) (evicted_after 9 false))) ≡ everything
 unfolding left locks_in evicted_after after made first effects b registers with_eviction next mask_evicted everything
 other_bank = refl
 
 -- where the next mask is in the same bank, the old point would have the new mask
-same_bank : left (mask_evicted 1029 (after 1 (next 1) (evicted_after 9 false))) ≡ 0x1_0041 ∷ 3 ∷ 7 ∷ 5 ∷ 256 ∷ []
+same_bank : left (mask_evicted 1029 (after 1 (next 0) (evicted_after 9 false))) ≡ 0x1_0041 ∷ 3 ∷ 7 ∷ 5 ∷ 256 ∷ []
 unfolding left locks_in evicted_after after made first effects b registers with_eviction next mask_evicted
 same_bank = refl

@@ -1,5 +1,5 @@
 -- What holds of a log at each moment of a boundary, between boundaries, and after a crash.
-use Rattle.std.specs.Prelude.{◌≡◌, ◌≢◌, ◌⊎◌, ℕ, ◌+◌, ◌-◌, ◌*◌, ◌/◌, ◌%◌, ◌^◌, ◌<◌, ◌≤◌, List, [], length, map, replicate, ◌∷◌, true, false, not, nat_le, ◌==◌}
+use Rattle.std.specs.Prelude.{◌≡◌, ◌≢◌, ◌⊎◌, ℕ, ◌+◌, ◌*◌, ◌/◌, ◌%◌, ◌^◌, ◌<◌, ◌≤◌, List, [], length, map, replicate, ◌∷◌, true, false, not, nat_le, ◌==◌}
 use Rattle.std.specs.Prelude.{if◌then◌else◌}
 use Rattle.std.specs.List.{Contains, list_any}
 use Rattle.ido_base.specs.Words.{Word, Entry, word_at, last_position, stored, crashed}
@@ -7,19 +7,24 @@ use Rattle.ido_base.specs.Growth.{Stable, AreEntries, PersistsThrough}
 use Rattle.ido_base.specs.Layout.{variables_base, variable_lines, line_bytes, bank_bytes, log_lines, point_at, byte_number}
 use Rattle.rv64_isa.specs.declared.object.Slot.{Slot}
 use Rattle.rv64_isa.specs.Rows.{Effect, Stores, read}
-use Rattle.rv64_isa.specs.Machine.{durable_point, live_at, bank_of, resume_of, record_of, resumed_register, numbers_from, start_of}
+use Rattle.rv64_isa.specs.Machine.{durable_point, live_at, resume_of, record_of, resumed_register, numbers_from, start_of}
 use Rattle.rv64_isa.specs.Schedule.{is_point_store}
 use Rattle.memory_layout.specs.Roles.{bank_offset, is_kept}
-use Rattle.boundary_code.specs.Boundaries.{Boundary, boundary_effects, is_empty, AtBank}
-use Rattle.log_states.specs.Logs.{Record, nothing_recorded, IsKeepable, AreLoggable, IsRecord, log_word}
+use Rattle.boundary_code.specs.Boundaries.{Boundary, boundary_effects, is_empty, IsOnSide, other_side, side_after}
+use Rattle.log_states.specs.Logs.{Record, nothing_recorded, side_of, IsSideOf, IsKeepable, AreLoggable, IsRecord, log_word}
 use Rattle.log_states.specs.Logs.{bank_word, point_in, HasLog, IsUnstored, IsDurable, IsRecorded}
 use Rattle.log_states.specs.Stages.{LogConfig, Moves, LogSteps, LogIs, fences_ahead, is_store, is_committed, left_by_crash}
 
 -- ---- Boundaries
 
--- what a boundary records, in the bank of this number
-abbrev pub recorded_by : Boundary → (bank resume : ℕ) → (registers : List ℕ) → Record
-recorded_by b bank resume x = record { point = if is_empty b.locks then 0 else (resume + bank) % 2 ^ 64; locks = b.locks; live = b.live; registers = x }
+-- what a boundary records, where the log was on this side before it
+abbrev pub recorded_by : Boundary → (side resume : ℕ) → (registers : List ℕ) → Record
+recorded_by b side resume x = record {
+  point = if is_empty b.locks then 0 else (resume + other_side side) % 2 ^ 64;
+  locks = b.locks;
+  live = b.live;
+  registers = x;
+}
 
 -- a boundary that can be recovered from: it resumes at an instruction, keeps registers of 64 bits that have a slot, and its locks can be logged
 pub record IsRecoverable (b : Boundary) (resume : ℕ) (x : List ℕ) : Type 0 where
@@ -34,16 +39,16 @@ pub record IsRecoverable (b : Boundary) (resume : ℕ) (x : List ℕ) : Type 0 w
 abbrev pub KeptAreKeepable : Type 0
 KeptAreKeepable = (register : ℕ) → is_kept register ≡ true → IsKeepable register
 
--- x3 has the offset of the record's bank, if it has one
-pub record IsAtRecord (r : Record) (bank : ℕ) (x : List ℕ) : Type 0 where
-  pub registers : AtBank bank x
-  pub is : r.point ≢ 0 → bank_of r.point ≡ bank
+-- by these registers the log is on this side, which is the record's
+pub record IsAtRecord (r : Record) (side : ℕ) (x : List ℕ) : Type 0 where
+  pub registers : IsOnSide side x
+  pub is : IsSideOf r side
 
--- a log begins a boundary from its record, where this one writes the other bank
+-- a log begins a boundary from its record
 abbrev pub BoundaryBegins : Type 0
-BoundaryBegins = (b : Boundary) (old : Record) (bank resume : ℕ) (x : List ℕ) (words : List Word) (queue : List Entry) →
-    HasLog b.thread words → AreEntries words queue → IsRecord old → IsRecorded b.thread old words → IsAtRecord old bank x → IsRecoverable b resume x →
-    LogIs b.thread old (recorded_by b (1 - bank) resume x) (record { words = words; queue = queue; rest = boundary_effects b (1 - bank) resume x })
+BoundaryBegins = (b : Boundary) (old : Record) (side resume : ℕ) (x : List ℕ) (words : List Word) (queue : List Entry) →
+    HasLog b.thread words → AreEntries words queue → IsRecord old → IsRecorded b.thread old words → IsAtRecord old side x → IsRecoverable b resume x →
+    LogIs b.thread old (recorded_by b side resume x) (record { words = words; queue = queue; rest = boundary_effects b side resume x })
 
 -- a log that has a record is one on its way that has arrived
 abbrev pub Rests : Type 0
@@ -51,11 +56,9 @@ Rests =
     (thread : ℕ) (r : Record) (m : LogConfig) → m.rest ≡ [] → HasLog thread m.words → AreEntries m.words m.queue → IsRecord r → IsRecorded thread r m.words →
     LogIs thread nothing_recorded r m
 
--- x3 goes with the record: after a boundary it has the offset of the other bank, but the same bank's where none was written
-abbrev pub OffsetFollows : Type 0
-OffsetFollows = (b : Boundary) (bank resume : ℕ) (x y : List ℕ) → IsRecoverable b resume x → bank < 2 → length y ≡ 32 → read y 0 ≡ 0 →
-    let next = if is_empty b.locks then bank else 1 - bank in
-    read y bank_offset ≡ bank_bytes * next → IsAtRecord (recorded_by b (1 - bank) resume x) next y
+-- the side goes with the record: the one after a boundary is that of what it has recorded
+abbrev pub SideFollows : Type 0
+SideFollows = (b : Boundary) (side resume : ℕ) (x : List ℕ) → IsRecoverable b resume x → IsSideOf (recorded_by b side resume x) (side_after b side)
 
 -- ---- Every event
 
@@ -99,10 +102,15 @@ VariablesAreApart = (thread address i : ℕ) → address < variables_base + line
 abbrev pub PointIs : Type 0
 PointIs = (thread : ℕ) (old new : Record) (m : LogConfig) → LogIs thread old new m → durable_point m.words thread ≡ (left_by_crash thread old new m).point
 
+-- the live point is the new one, or the old one's where that isn't committed
+abbrev pub LivePointIs : Type 0
+LivePointIs = (thread : ℕ) (old new : Record) (m : LogConfig) → LogIs thread old new m →
+    (live_at m.words (point_at thread) ≡ new.point) ⊎ ((live_at m.words (point_at thread) ≡ old.point) × (is_committed thread m ≡ false))
+
 -- a boundary isn't committed at its beginning
 abbrev pub BeginsUncommitted : Type 0
-BeginsUncommitted = (b : Boundary) (bank resume : ℕ) (x : List ℕ) (words : List Word) (queue : List Entry) →
-    is_committed b.thread (record { words = words; queue = queue; rest = boundary_effects b bank resume x }) ≡ false
+BeginsUncommitted = (b : Boundary) (side resume : ℕ) (x : List ℕ) (words : List Word) (queue : List Entry) →
+    is_committed b.thread (record { words = words; queue = queue; rest = boundary_effects b side resume x }) ≡ false
 
 -- a boundary that is committed stays so
 abbrev pub StaysCommitted : Type 0
@@ -149,7 +157,7 @@ FencesSettle = (thread : ℕ) (m n : LogConfig) (word position : ℕ) → LogSte
 
 -- a boundary has two
 abbrev pub BoundariesFence : Type 0
-BoundariesFence = (b : Boundary) (bank resume : ℕ) (x : List ℕ) → fences_ahead (boundary_effects b bank resume x) ≡ 2
+BoundariesFence = (b : Boundary) (side resume : ℕ) (x : List ℕ) → fences_ahead (boundary_effects b side resume x) ≡ 2
 
 -- a boundary that is committed has passed its first fence: what was queued before that is durable
 abbrev pub CommittedAfterFence : Type 0
@@ -177,7 +185,7 @@ pub record ResumesRecord (thread : ℕ) (r : Record) (words : List Word) : Type 
   pub live_point : live_at words (point_at thread) ≡ r.point
   pub locks : record_of words thread ≡ (if r.point == 0 then [] else r.locks)
   pub registers : r.point ≢ 0 → (register : ℕ) → Contains r.live register → read (resumed_registers words thread) register ≡ read r.registers register
-  pub bank : IsAtRecord r (bank_of r.point) (resumed_registers words thread)
+  pub side : IsAtRecord r (side_of r) (resumed_registers words thread)
 
 abbrev pub RecordIsResumed : Type 0
 RecordIsResumed = (thread : ℕ) (r : Record) (words : List Word) → IsRecord r → IsRecorded thread r words → ResumesRecord thread r words
@@ -187,12 +195,12 @@ abbrev pub CrashesResume : Type 0
 CrashesResume =
     (thread : ℕ) (old new : Record) (m : LogConfig) → LogIs thread old new m → ResumesRecord thread (left_by_crash thread old new m) (crashed m.words)
 
--- the point of a boundary says its bank and where it resumes
+-- the point of a boundary says its side and where it resumes
 abbrev pub PointSays : Type 0
-PointSays = (b : Boundary) (bank resume : ℕ) (x : List ℕ) → IsRecoverable b resume x → bank < 2 → b.locks ≢ [] →
-    let new = recorded_by b bank resume x in (new.point ≢ 0) × (bank_of new.point ≡ bank) × (resume_of new.point ≡ resume)
+PointSays = (b : Boundary) (side resume : ℕ) (x : List ℕ) → IsRecoverable b resume x → b.locks ≢ [] →
+    let new = recorded_by b side resume x in (new.point ≢ 0) × (side_of new ≡ other_side side) × (resume_of new.point ≡ resume)
 
--- at the start nothing is recorded, and the first bank's offset in x3 will do
+-- at the start nothing is recorded, and registers of 0 are on the first side
 abbrev pub StartsEmpty : Type 0
 StartsEmpty = (program : List (List Slot)) (locks thread : ℕ) (initial : List ℕ) → thread < length program →
     let words = (start_of program locks initial).words in

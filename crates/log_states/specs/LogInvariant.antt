@@ -1,5 +1,5 @@
 -- A thread's log in a machine: how it stands at each moment, whatever happens.
-use Rattle.std.specs.Prelude.{◌≡◌, ℕ, ◌-◌, ◌<◌, List, [], ◌++◌, length, slice_get, Some}
+use Rattle.std.specs.Prelude.{◌≡◌, ℕ, ◌<◌, List, [], ◌++◌, length, slice_get, Some}
 use Rattle.ido_base.specs.declared.event.Event.TheVariants.{Step, Evict, Crash}
 use Rattle.ido_base.specs.declared.event.Reply.TheVariants.{Moved, Drained}
 use Rattle.rv64_isa.specs.declared.object.Slot.{Slot}
@@ -46,8 +46,8 @@ StartsStanding = (program : List (List Slot)) (locks thread : ℕ) (initial : Li
 
 -- a boundary begins
 abbrev pub BeginsStanding : Type 0
-BeginsStanding = (b : Boundary) (older old : Record) (bank resume : ℕ) (x : List ℕ) (w : World) → LogInv b.thread older old w [] → IsAtRecord old bank x →
-    IsRecoverable b resume x → LogInv b.thread old (recorded_by b (1 - bank) resume x) w (boundary_effects b (1 - bank) resume x)
+BeginsStanding = (b : Boundary) (older old : Record) (side resume : ℕ) (x : List ℕ) (w : World) → LogInv b.thread older old w [] → IsAtRecord old side x →
+    IsRecoverable b resume x → LogInv b.thread old (recorded_by b side resume x) w (boundary_effects b side resume x)
 
 -- an instruction of it
 abbrev pub OwnStepsKeep : Type 0

@@ -23,6 +23,14 @@ pub record Record : Type 0 where
 abbrev pub nothing_recorded : Record
 nothing_recorded = record { point = 0; locks = []; live = []; registers = [] }
 
+-- the side of the log that the record's point names
+abbrev pub side_of : Record → ℕ
+side_of r = bank_of r.point
+
+-- a log on this side is on the record's, where that has a point
+abbrev pub IsSideOf : Record → (side : ℕ) → Type 0
+IsSideOf r side = r.point ≢ 0 → side_of r ≡ side
+
 -- the slots that it keeps: slot 0 is the mask of its locks, slot r register r
 abbrev pub slots_of : Record → List ℕ
 slots_of r = if r.point == 0 then [] else 0 ∷ r.live

@@ -1,7 +1,8 @@
 //! Laws of a thread's log, beside whatever the other threads do: nothing is computed here.
 ghost use Rattle.log_states.specs.Laws.{BoundaryBegins, BeginsUncommitted, BoundariesFence, CommittedAfterFence, CommittedWhere, CrashesKeep, CrashesLeave};
 ghost use Rattle.log_states.specs.Laws.{CrashesResume, DurableIsStable, DurableStays, EndsCommitted, BoundaryEnds, FencesSettle, Keeps, KeptAreKeepable};
-ghost use Rattle.log_states.specs.Laws.{LogsAreApart, OffsetFollows, PointIs, PointSays, PointStoreIsLast, PositionStays, ReachGoesOn, RecordIsResumed};
+ghost use Rattle.log_states.specs.Laws.{LivePointIs, LogsAreApart, PointIs, PointSays, PointStoreIsLast, PositionStays, ReachGoesOn, RecordIsResumed};
+ghost use Rattle.log_states.specs.Laws.{SideFollows};
 ghost use Rattle.log_states.specs.Laws.{Rests, SlotsAreIn, StartsEmpty, StaysCommitted, StaysRecorded, StoresElsewhere, VariablesAreApart};
 ghost use Rattle.log_states.specs.Machines.{BoundariesStayIn, CrashesCrash, EvictionsMove, LogEffectsGo, OwnStepsMove};
 ghost use Rattle.log_states.specs.Machines.{StepsMove, StoresNothing, StoresToOtherLog, StoresToVariable};
@@ -27,10 +28,12 @@ pub fn records_stay()
     ensures variables { VariablesAreApart }
 {}
 
-/// The durable point is the old one until the store of the new one is durable, and the new one from then on.
+/// The durable point is the old one until the store of the new one is durable, and the new one from then on; the live one is the new one or, until that is
+/// durable, may be the old one.
 pub fn points_commit()
     ensures begins { BeginsUncommitted }
     ensures point { PointIs }
+    ensures live { LivePointIs }
     ensures stays { StaysCommitted }
     ensures ends { EndsCommitted }
     ensures store { PointStoreIsLast }
@@ -54,11 +57,11 @@ pub fn crashes_leave()
     ensures resumed { CrashesResume }
 {}
 
-/// Recovery makes of a record what the boundary made it of: its locks, its resume address, its registers, and the bank's offset.
+/// Recovery makes of a record what the boundary made it of: its locks, its resume address, its registers, and the side of the log.
 pub fn records_resume()
     ensures record { RecordIsResumed }
     ensures point { PointSays }
-    ensures offset { OffsetFollows }
+    ensures side { SideFollows }
     ensures kept { KeptAreKeepable }
 {}
 

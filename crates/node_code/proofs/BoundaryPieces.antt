@@ -15,7 +15,7 @@ use Rattle.rv64_isa.specs.declared.object.CodeItem.{CodeItem}
 use Rattle.rv64_isa.specs.declared.object.CodeItem.TheVariants.{ResumeNext}
 use Rattle.rv64_isa.specs.Rows.{Effect, Stores, Cleans, row, read, written}
 use Rattle.rv64_link.specs.LabelledCode.{most_words_of, stands_here, is_mark, is_resume, positions_from}
-use Rattle.boundary_code.specs.Boundaries.{Boundary, AtBank, boundary_effects, bank_effects, commit_effects, lines_in_use, resume_address, is_empty}
+use Rattle.boundary_code.specs.Boundaries.{Boundary, IsOnSide, boundary_effects, bank_effects, commit_effects, lines_in_use, resume_address, is_empty}
 use Rattle.operator_code.specs.StraightLineCode.{registers_after, left_by}
 use Rattle.operator_code.proofs.Public as s
 use Rattle.code_runs.specs.CodeTraces.{GoesThrough, AreMemory}
@@ -78,46 +78,47 @@ cleans_memory f (line ∷ lines) = (refl, cleans_memory f lines)
 commit_memory : (thread point : ℕ) → AreMemory (commit_effects thread point)
 commit_memory thread point = (refl, (refl, (refl, (refl, tt))))
 
-pub boundary_memory : (b : Boundary) (bank resume : ℕ) (x : List ℕ) → AreMemory (boundary_effects b bank resume x)
-boundary_memory b bank resume x = by (is_empty b.locks)
+pub boundary_memory : (b : Boundary) (side resume : ℕ) (x : List ℕ) → AreMemory (boundary_effects b side resume x)
+boundary_memory b side resume x = by (is_empty b.locks)
   where
-    by : (m : Bool) → AreMemory (if m then commit_effects b.thread 0 else bank_effects b bank x ++ commit_effects b.thread ((resume + bank) % 2 ^ 64))
+    by : (m : Bool) → AreMemory (if m then commit_effects b.thread 0
+        else bank_effects b (1 - side) x ++ commit_effects b.thread ((resume + (1 - side)) % 2 ^ 64))
     by true = commit_memory b.thread 0
     by false = (
       refl,
-      memory_both (map (λ r. Stores (slot_at b.thread bank r) 8 (read x r)) b.live ++ map (λ line. Cleans (slot_at b.thread bank (8 * line)))
+      memory_both (map (λ r. Stores (slot_at b.thread (1 - side) r) 8 (read x r)) b.live ++ map (λ line. Cleans (slot_at b.thread (1 - side) (8 * line)))
           (lines_in_use (0 ∷ b.live)))
-          (commit_effects b.thread ((resume + bank) % 2 ^ 64))
-          (memory_both (map (λ r. Stores (slot_at b.thread bank r) 8 (read x r)) b.live)
-          (map (λ line. Cleans (slot_at b.thread bank (8 * line))) (lines_in_use (0 ∷ b.live)))
-          (stores_memory (λ r. slot_at b.thread bank r) (λ r. read x r) b.live) (cleans_memory (λ line. slot_at b.thread bank (8 * line))
+          (commit_effects b.thread ((resume + (1 - side)) % 2 ^ 64))
+          (memory_both (map (λ r. Stores (slot_at b.thread (1 - side) r) 8 (read x r)) b.live)
+          (map (λ line. Cleans (slot_at b.thread (1 - side) (8 * line))) (lines_in_use (0 ∷ b.live)))
+          (stores_memory (λ r. slot_at b.thread (1 - side) r) (λ r. read x r) b.live) (cleans_memory (λ line. slot_at b.thread (1 - side) (8 * line))
           (lines_in_use (0 ∷ b.live))))
-          (commit_memory b.thread ((resume + bank) % 2 ^ 64)),
+          (commit_memory b.thread ((resume + (1 - side)) % 2 ^ 64)),
     )
 
 -- ---- Code of a boundary
 
-pub some_code : (b : Boundary) (x : List ℕ) (bank : ℕ) → AtBank bank x → IsCodeOf b [] → ⊥
-some_code b x bank a h = by (is_empty b.locks) (h.effects_are.does x 0 bank a)
+pub some_code : (b : Boundary) (x : List ℕ) (side : ℕ) → IsOnSide side x → IsCodeOf b [] → ⊥
+some_code b x side a h = by (is_empty b.locks) (h.effects_are.does x 0 side a)
   where
-    by : (m : Bool) → [] ≡ (if m then commit_effects b.thread 0 else bank_effects b (1 - bank) x ++ commit_effects b.thread
-        ((resume_address b [] 0 + (1 - bank)) % 2 ^ 64)) → ⊥
+    by : (m : Bool) → [] ≡ (if m then commit_effects b.thread 0 else bank_effects b (1 - side) x ++ commit_effects b.thread
+        ((resume_address b [] 0 + (1 - side)) % 2 ^ 64)) → ⊥
     by true e = cc e
     by false e = cc e
 
-pub left_is : (b : Boundary) (code : List Instr) (x : List ℕ) (pc bank : ℕ) → IsCodeOf b code → AtBank bank x →
-    LeavesRegisters b bank x (registers_after code x pc)
-left_is b code x pc bank h a = record {
-  at_bank = record {
+pub left_is : (b : Boundary) (code : List Instr) (x : List ℕ) (pc side : ℕ) → IsCodeOf b code → IsOnSide side x →
+    LeavesRegisters b side x (registers_after code x pc)
+left_is b code x pc side h a = record {
+  at_side = record {
     count = after_count code x pc ∙ a.count;
-    zero_is = h.keeps.keeps x pc bank a 0 refl (λ e. let z : ⊥ = omega (arith, e) in z) ∙ a.zero_is;
-    offset = h.offset.leaves x pc bank a;
+    zero_is = h.keeps.keeps x pc side a 0 refl (λ e. let z : ⊥ = omega (arith, e) in z) ∙ a.zero_is;
+    offset = h.offset.leaves x pc side a;
     exists = by (is_empty b.locks) a.exists;
   };
-  others = h.keeps.keeps x pc bank a;
+  others = h.keeps.keeps x pc side a;
 }
   where
-    by : (m : Bool) → bank < 2 → (if m then bank else 1 - bank) < 2
+    by : (m : Bool) → side < 2 → (if m then side else 1 - side) < 2
     by true l = l
     by false l = omega arith
 
@@ -126,23 +127,23 @@ module _ (all : List CodeItem) (n : Linking all) where
   at = n.linked.address_of
 
   -- a boundary's code, after the mark that waits for it
-  pub boundary_leg : (k : ℕ) (b : Boundary) (code : List Instr) (p : IsPart all k (plain code)) (x : List ℕ) (bank resume : ℕ) (w : Bool) →
+  pub boundary_leg : (k : ℕ) (b : Boundary) (code : List Instr) (p : IsPart all k (plain code)) (x : List ℕ) (side resume : ℕ) (w : Bool) →
       mark_waits false p.before ≡ w →
-      IsCodeOf b code → AtBank bank x → resume_address b code (at k) ≡ resume →
-      GoesThrough n.environment (fragment x (at k) (at (k + length (plain code))) (length code)) (waiting w ++ boundary_observations b bank resume x)
-      (LeavesRegisters b bank x)
-  boundary_leg k b [] p x bank resume w waits h a e = absurd (some_code b x bank a h)
-  boundary_leg k b (i ∷ is) p x bank resume w waits h a e =
+      IsCodeOf b code → IsOnSide side x → resume_address b code (at k) ≡ resume →
+      GoesThrough n.environment (fragment x (at k) (at (k + length (plain code))) (length code)) (waiting w ++ boundary_observations b side resume x)
+      (LeavesRegisters b side x)
+  boundary_leg k b [] p x side resume w waits h a e = absurd (some_code b x side a h)
+  boundary_leg k b (i ∷ is) p x side resume w waits h a e =
       let y : List ℕ = registers_after (i ∷ is) x (at k) in
-      let run : s.RunsFrom (i ∷ is) x (at k) (boundary_effects b (1 - bank) resume x) y = record {
-        sees = h.effects_are.does x (at k) bank a ∙ ap (λ (m : ℕ). boundary_effects b (1 - bank) m x) e;
+      let run : s.RunsFrom (i ∷ is) x (at k) (boundary_effects b side resume x) y = record {
+        sees = h.effects_are.does x (at k) side a ∙ ap (λ (m : ℕ). boundary_effects b side m x) e;
         leaves = refl;
       } in
       weaker n.environment (fragment x (at k) (at (k + length (plain (i ∷ is)))) (length (i ∷ is)))
-      (waiting w ++ boundary_observations b bank resume x) (λ z. z ≡ y)
-      (LeavesRegisters b bank x)
-      (λ z f. subst (λ (v : List ℕ). LeavesRegisters b bank x v) (sym f) (left_is b (i ∷ is) x (at k) bank h a))
-      (straight_leg all n k i is p x y (boundary_effects b (1 - bank) resume x) w waits run (boundary_memory b (1 - bank) resume x))
+      (waiting w ++ boundary_observations b side resume x) (λ z. z ≡ y)
+      (LeavesRegisters b side x)
+      (λ z f. subst (λ (v : List ℕ). LeavesRegisters b side x v) (sym f) (left_is b (i ∷ is) x (at k) side h a))
+      (straight_leg all n k i is p x y (boundary_effects b side resume x) w waits run (boundary_memory b side resume x))
 
   pub resumed_at : (k : ℕ) (b : Boundary) (t : ℕ) (code : List Instr) (p : IsPart all k (plain code)) → b.resume ≡ pos t →
       at (k + length (plain code)) + t < 2 ^ 64 →
@@ -158,23 +159,23 @@ module _ (all : List CodeItem) (n : Linking all) where
       let e : k + length (boundary_items code) ≡ k + length (plain code) + 1 = omega (arith, length-append (plain code) (ResumeNext ∷ [])) in
       ap at e ∙ stays_at all n (k + length (plain code)) ResumeNext [] q refl
 
-  pub boundary_items_leg : (k : ℕ) (b : Boundary) (code : List Instr) (p : IsPart all k (boundary_items code)) (x : List ℕ) (bank : ℕ) →
+  pub boundary_items_leg : (k : ℕ) (b : Boundary) (code : List Instr) (p : IsPart all k (boundary_items code)) (x : List ℕ) (side : ℕ) →
       mark_waits false p.before ≡ false →
-      IsCodeOf b code → b.resume ≡ pos 0 → AtBank bank x →
+      IsCodeOf b code → b.resume ≡ pos 0 → IsOnSide side x →
       GoesThrough n.environment (fragment x (at k) (at (k + length (boundary_items code))) (length code))
-      (boundary_observations b bank (at (k + length (boundary_items code))) x)
-      (LeavesRegisters b bank x)
-  boundary_items_leg k b code p x bank closed h e a =
+      (boundary_observations b side (at (k + length (boundary_items code))) x)
+      (LeavesRegisters b side x)
+  boundary_items_leg k b code p x side closed h e a =
       let q : IsPart all k (plain code) = part_left all k (plain code) (ResumeNext ∷ []) p in
       let stays : at (k + length (boundary_items code)) ≡ at (k + length (plain code)) = resume_stays k code p in
       let low : at (k + length (plain code)) < 2 ^ 64 = has_room all n k (plain code) q in
       let resume : resume_address b code (at k) ≡ at (k + length (boundary_items code)) =
       resumed_at k b 0 code q e (omega arith) ∙ omega arith in
       let leg : GoesThrough n.environment (fragment x (at k) (at (k + length (plain code))) (length code))
-      (boundary_observations b bank (at (k + length (boundary_items code))) x) (LeavesRegisters b bank x) =
-      boundary_leg k b code q x bank (at (k + length (boundary_items code))) false (waits_left all k (plain code) (ResumeNext ∷ []) p ∙ closed) h a resume in
-      subst (λ (m : ℕ). GoesThrough n.environment (fragment x (at k) m (length code)) (boundary_observations b bank (at (k + length (boundary_items code))) x)
-      (LeavesRegisters b bank x))
+      (boundary_observations b side (at (k + length (boundary_items code))) x) (LeavesRegisters b side x) =
+      boundary_leg k b code q x side (at (k + length (boundary_items code))) false (waits_left all k (plain code) (ResumeNext ∷ []) p ∙ closed) h a resume in
+      subst (λ (m : ℕ). GoesThrough n.environment (fragment x (at k) m (length code)) (boundary_observations b side (at (k + length (boundary_items code))) x)
+      (LeavesRegisters b side x))
       (sym stays) leg
 
   pub boundary_marks : (k : ℕ) (code : List Instr) → positions_from k is_mark (boundary_items code) ≡ []
@@ -205,13 +206,13 @@ is_boundary b code e h = record {
   fences = boundary_items_fences b code h.effects_are;
   cleans = boundary_cleans b code h.effects_are;
   at = λ at. record {
-    keeps = λ x bank a.
+    keeps = λ x side a.
         more_room at.linking.environment x (begin_of (boundary_items code) at) (end_of (boundary_items code) at) (length code)
         (words_in (boundary_items code) at)
-        (boundary_observations b bank (end_of (boundary_items code) at) x) (LeavesRegisters b bank x)
+        (boundary_observations b side (end_of (boundary_items code) at) x) (LeavesRegisters b side x)
         (let z : words_in (boundary_items code) at ≡ length code = exact_words (boundary_items code) at (boundary_exact code) ∙ boundary_words code in
         omega (arith, z))
-        (boundary_items_leg at.items at.linking at.position b code at.is_part x bank at.closed h e a);
+        (boundary_items_leg at.items at.linking at.position b code at.is_part x side at.closed h e a);
     marks = ap (λ (ns : List ℕ). map at.linking.linked.address_of ns) (boundary_marks at.items at.linking at.position code);
     resumes =
         ap (λ (ns : List ℕ). map at.linking.linked.address_of ns) (boundary_resumes at.items at.linking at.position code) ∙

@@ -15,7 +15,7 @@ use Rattle.rv64_isa.specs.Arithmetic.{sign_extended}
 use Rattle.rv64_isa.specs.Rows.{read}
 use Rattle.rv64_link.specs.LabelledCode.{most_words_of, stands_here, is_mark, is_resume, positions_from}
 use Rattle.rv64_link.specs.LinkedCode.{IsInstructionAt}
-use Rattle.boundary_code.specs.Boundaries.{Boundary, AtBank, resume_address, is_empty}
+use Rattle.boundary_code.specs.Boundaries.{Boundary, IsOnSide, resume_address, is_empty, side_after}
 use Rattle.operator_code.specs.StraightLineCode.{IsConstant}
 use Rattle.operator_code.specs.ComputingCode.{AreRegisters}
 use Rattle.operator_code.proofs.Public as s
@@ -23,7 +23,7 @@ use Rattle.operator_code.proofs.Public.{addi_row, small_immediate, read_other, r
 use Rattle.code_runs.specs.CodeTraces as walks
 use Rattle.code_runs.specs.CodeTraces.{Mark, Observation, GoesThrough}
 use Rattle.node_code.specs.Sites.{Site, Linking, IsPart, mark_waits, begin_of, end_of}
-use Rattle.node_code.specs.Pieces.{IsClosed, resumes_in, bank_after, Asks, LeavesRegisters, boundary_observations}
+use Rattle.node_code.specs.Pieces.{IsClosed, resumes_in, Asks, LeavesRegisters, boundary_observations}
 use Rattle.node_code.specs.Pieces.{IsLockPiece, Locks, IsUnlockPiece, Unlocks, IsEnd, PieceLeads}
 use Rattle.node_code.specs.Pieces.{takes, gives, words_in}
 use Rattle.node_code.specs.links.BoundaryCode.{IsCodeOf}
@@ -72,8 +72,8 @@ asks_for mutex number x are =
       others = λ r not_lock not_call. get_or-set_other y 17 r number 0 not_call ∙ get_or-set_other x 10 r mutex 0 not_lock;
     }
 
-registers_at : (bank : ℕ) (x : List ℕ) → AtBank bank x → AreRegisters x
-registers_at bank x a = record { count = a.count; zero_is = a.zero_is }
+registers_at : (side : ℕ) (x : List ℕ) → IsOnSide side x → AreRegisters x
+registers_at side x a = record { count = a.count; zero_is = a.zero_is }
 
 module _ (all : List CodeItem) (n : Linking all) where
   abbrev at : ℕ → ℕ
@@ -155,21 +155,21 @@ module _ (b : Boundary) (mutex : ℕ) (code : List Instr) (small : mutex < 2048)
           (waits_left site.items k (plain (asking mutex 1)) from_mark site.is_part ∙ site.closed) small (lit< tt) are);
       stands = subst (λ (a : ℕ). IsInstructionAt site.linking.program.start site.linking.program.code a Ecall) at_call
           (stands_part site.items site.linking (k + 2 + 1) Ecall (part_left site.items (k + 2 + 1) (Instruction Ecall ∷ []) after_call called));
-      keeps = λ x bank a.
+      keeps = λ x side a.
           let leg : GoesThrough site.linking.environment (fragment x (to (k + 2 + 1 + 1)) (to (k + 2 + 1 + 1 + length after_call)) (length code))
-          (boundary_observations b bank (to (k + 2 + 1 + 1 + length after_call)) x) (LeavesRegisters b bank x) =
-          boundary_items_leg site.items site.linking (k + 2 + 1 + 1) b code kept x bank kept_closed h resume a in
+          (boundary_observations b side (to (k + 2 + 1 + 1 + length after_call)) x) (LeavesRegisters b side x) =
+          boundary_items_leg site.items site.linking (k + 2 + 1 + 1) b code kept x side kept_closed h resume a in
           let leg' : GoesThrough site.linking.environment (fragment x (to (k + 2 + 1 + 1)) (end_of piece site) (length code))
-          (boundary_observations b bank (end_of piece site) x)
-          (LeavesRegisters b bank x) =
-          subst (λ (m : ℕ). GoesThrough site.linking.environment (fragment x (to (k + 2 + 1 + 1)) m (length code)) (boundary_observations b bank m x)
-          (LeavesRegisters b bank x)) end_is leg in
+          (boundary_observations b side (end_of piece site) x)
+          (LeavesRegisters b side x) =
+          subst (λ (m : ℕ). GoesThrough site.linking.environment (fragment x (to (k + 2 + 1 + 1)) m (length code)) (boundary_observations b side m x)
+          (LeavesRegisters b side x)) end_is leg in
           let from : to (k + 2 + 1 + 1) ≡ to (k + 2) + 4 = omega (arith, at_call, boundary_after_is) in
           more_room site.linking.environment x (to (k + 2) + 4) (end_of piece site) (length code) (words_in piece site)
-          (boundary_observations b bank (end_of piece site) x) (LeavesRegisters b bank x) (omega (arith, words))
+          (boundary_observations b side (end_of piece site) x) (LeavesRegisters b side x) (omega (arith, words))
           (subst (λ (m : ℕ). GoesThrough site.linking.environment (fragment x m (end_of piece site) (length code))
-          (boundary_observations b bank (end_of piece site) x)
-          (LeavesRegisters b bank x)) from leg');
+          (boundary_observations b side (end_of piece site) x)
+          (LeavesRegisters b side x)) from leg');
       marks =
           let e : positions_from k is_mark piece ≡ (k + 1 + 1) ∷ positions_from (k + 1 + 1 + 1 + 1) is_mark after_call = refl in
           let f : k + 1 + 1 ≡ k + 2 = omega arith in
@@ -295,47 +295,47 @@ module _ (b : Boundary) (mutex : ℕ) (code : List Instr) (small : mutex < 2048)
         let fits : too (k' + 1 + length (plain code)) + 12 < 2 ^ 64 = omega (arith, after_call_is, asking_ends) in
         resumed_at site.items site.linking (k' + 1) b 12 code q resume fits ∙ omega (arith, f, after_call_is, asking_ends)
 
-    marked_boundary : (x : List ℕ) (bank : ℕ) → AtBank bank x →
-        GoesThrough site.linking.environment (fragment x (too k') (too k₂) (length code)) (Mark ∷ boundary_observations b bank (end_of given site) x)
-        (LeavesRegisters b bank x)
-    marked_boundary x bank a =
+    marked_boundary : (x : List ℕ) (side : ℕ) → IsOnSide side x →
+        GoesThrough site.linking.environment (fragment x (too k') (too k₂) (length code)) (Mark ∷ boundary_observations b side (end_of given site) x)
+        (LeavesRegisters b side x)
+    marked_boundary x side a =
         let q : IsPart site.items (k' + 1) (plain code) = mark_part site.items site.linking k' (plain code) first_part in
         let here : too (k' + 1) ≡ too k' = stays_at site.items site.linking k' MarkNext (plain code) first_part refl in
         let e : k' + 1 + length (plain code) ≡ k₂ = omega arith in
         moved site.linking.environment x (too (k' + 1)) (too k') (too (k' + 1 + length (plain code))) (too k₂) (length code)
-        (Mark ∷ boundary_observations b bank (end_of given site) x) (LeavesRegisters b bank x)
+        (Mark ∷ boundary_observations b side (end_of given site) x) (LeavesRegisters b side x)
         here (ap too e)
-        (boundary_leg site.items site.linking (k' + 1) b code q x bank (end_of given site) true
+        (boundary_leg site.items site.linking (k' + 1) b code q x side (end_of given site) true
         (mark_waits_there site.items site.linking k' (plain code) first_part) h a resumes_after)
 
     -- a boundary has code, so no mark waits after it
-    asking_closed : (x : List ℕ) (bank : ℕ) → AtBank bank x → mark_waits false asking_part.before ≡ false
+    asking_closed : (x : List ℕ) (side : ℕ) → IsOnSide side x → mark_waits false asking_part.before ≡ false
     unfolding asking_part
-    asking_closed x bank a =
+    asking_closed x side a =
         waits_right site.items k' (MarkNext ∷ plain code) from_asking site.is_part ∙ ap (λ (w : Bool). mark_waits w (MarkNext ∷ plain code)) site.closed ∙
         by code h
       where
         by : (code : List Instr) → IsCodeOf b code → mark_waits true (plain code) ≡ false
-        by [] h = absurd (some_code b x bank a h)
+        by [] h = absurd (some_code b x side a h)
         by (i ∷ is) h = waits_plain true i is
 
-    gives_it : (x : List ℕ) (bank : ℕ) → AtBank bank x →
-        PieceLeads site x (begin_of given site) (too (k₂ + 2)) (Mark ∷ boundary_observations b bank (end_of given site) x)
-        (λ y. (z : List ℕ) × LeavesRegisters b bank x z × Asks gives mutex z y)
-    gives_it x bank a =
-        let P : List ℕ → Type 0 = λ y. (z : List ℕ) × LeavesRegisters b bank x z × Asks gives mutex z y in
+    gives_it : (x : List ℕ) (side : ℕ) → IsOnSide side x →
+        PieceLeads site x (begin_of given site) (too (k₂ + 2)) (Mark ∷ boundary_observations b side (end_of given site) x)
+        (λ y. (z : List ℕ) × LeavesRegisters b side x z × Asks gives mutex z y)
+    gives_it x side a =
+        let P : List ℕ → Type 0 = λ y. (z : List ℕ) × LeavesRegisters b side x z × Asks gives mutex z y in
         let both : GoesThrough site.linking.environment (fragment x (too k') (too (k₂ + 2)) (length code + 2))
-        ((Mark ∷ boundary_observations b bank (end_of given site) x) ++ []) P =
-        two_legs site.linking.environment x (too k') (too k₂) (too (k₂ + 2)) (length code) 2 (Mark ∷ boundary_observations b bank (end_of given site) x) []
-        (LeavesRegisters b bank x) P (marked_boundary x bank a)
+        ((Mark ∷ boundary_observations b side (end_of given site) x) ++ []) P =
+        two_legs site.linking.environment x (too k') (too k₂) (too (k₂ + 2)) (length code) 2 (Mark ∷ boundary_observations b side (end_of given site) x) []
+        (LeavesRegisters b side x) P (marked_boundary x side a)
         (λ z left. weaker site.linking.environment (fragment z (too k₂) (too (k₂ + 2)) 2) [] (Asks gives mutex z) P (λ y asks. (z, left, asks))
         (asking_leg site.items site.linking k₂ mutex 2 (part_left site.items k₂ (plain (asking mutex 2)) from_call asking_part) z
-        (waits_left site.items k₂ (plain (asking mutex 2)) from_call asking_part ∙ asking_closed x bank a) small (lit< tt)
-        (registers_at (bank_after b bank) z left.at_bank))) in
+        (waits_left site.items k₂ (plain (asking mutex 2)) from_call asking_part ∙ asking_closed x side a) small (lit< tt)
+        (registers_at (side_after b side) z left.at_side))) in
         more_room site.linking.environment x (too k') (too (k₂ + 2)) (length code + 2) (words_in given site)
-        (Mark ∷ boundary_observations b bank (end_of given site) x) P (omega (arith, given_words))
+        (Mark ∷ boundary_observations b side (end_of given site) x) P (omega (arith, given_words))
         (subst (λ (ss : List Observation). GoesThrough site.linking.environment (fragment x (too k') (too (k₂ + 2)) (length code + 2)) ss P)
-        (append_none (Mark ∷ boundary_observations b bank (end_of given site) x)) both)
+        (append_none (Mark ∷ boundary_observations b side (end_of given site) x)) both)
 
     last_marks : (m : ℕ) → positions_from m is_mark last ≡ []
     last_marks m = by (is_empty b.locks)

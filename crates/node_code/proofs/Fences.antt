@@ -16,13 +16,14 @@ use Rattle.rv64_isa.specs.Rows.{Effect, Continues, Loads, Stores, Cleans, Fences
 use Rattle.rv64_link.specs.LabelledCode.{is_fence, one_if, fences_of, fences_in}
 use Rattle.rv64_link.specs.LinkedCode.{AreInstructions}
 use Rattle.rv64_link.proofs.Public.{no_instructions, more_instructions, within, some_at}
-use Rattle.boundary_code.specs.Boundaries.{Boundary, AtBank, HasEffects, boundary_effects, bank_effects, commit_effects, lines_in_use, resume_address}
+use Rattle.boundary_code.specs.Boundaries.{Boundary, IsOnSide, HasEffects, boundary_effects, bank_effects, commit_effects, lines_in_use, resume_address}
 use Rattle.operator_code.specs.StraightLineCode.{effects, seen, left_by}
 use Rattle.operator_code.specs.declared.branches.Test.{Test}
 use Rattle.node_code.specs.Sites.{Linking, IsPart, Site, begin_of, end_of}
 use Rattle.node_code.specs.links.ItemLists.{plain, asking, boundary_items, lock_items, unlock_items, computing_items, choice_items}
 use Rattle.node_code.proofs.ItemAddresses.{item_at}
 use Rattle.boundary_code.specs.Boundaries.{is_empty}
+use Rattle.boundary_code.proofs.Public.{fresh_on_side}
 
 -- ---- Items
 
@@ -103,14 +104,15 @@ bank_has_none b bank x =
     let both : fences_seen (stored ++ cleaned) ≡ fences_seen stored + fences_seen cleaned = seen_append stored cleaned in
     omega (arith, first, last, both)
 
-two_seen : (b : Boundary) (bank resume : ℕ) (x : List ℕ) → fences_seen (boundary_effects b bank resume x) ≡ 2
-two_seen b bank resume x = by (is_empty b.locks)
+two_seen : (b : Boundary) (side resume : ℕ) (x : List ℕ) → fences_seen (boundary_effects b side resume x) ≡ 2
+two_seen b side resume x = by (is_empty b.locks)
   where
-    by : (z : Bool) → fences_seen (if z then commit_effects b.thread 0 else bank_effects b bank x ++ commit_effects b.thread ((resume + bank) % 2 ^ 64)) ≡ 2
+    by : (z : Bool) → fences_seen (if z then commit_effects b.thread 0
+        else bank_effects b (1 - side) x ++ commit_effects b.thread ((resume + (1 - side)) % 2 ^ 64)) ≡ 2
     by true = refl
     by false =
-        let both = seen_append (bank_effects b bank x) (commit_effects b.thread ((resume + bank) % 2 ^ 64)) in
-        let none = bank_has_none b bank x in
+        let both = seen_append (bank_effects b (1 - side) x) (commit_effects b.thread ((resume + (1 - side)) % 2 ^ 64)) in
+        let none = bank_has_none b (1 - side) x in
         omega (arith, both, none)
 
 abbrev zeros : List ℕ
@@ -118,8 +120,7 @@ zeros = 0 ∷ 0 ∷ 0 ∷ 0 ∷ 0 ∷ 0 ∷ 0 ∷ 0 ∷ 0 ∷ 0 ∷ 0 ∷ 0 ∷ 
 
 pub boundary_fences : (b : Boundary) (code : List Instr) → HasEffects b code → fences_in (plain code) ≡ 2
 boundary_fences b code h =
-    let at : AtBank 0 zeros = record { count = refl; zero_is = refl; offset = refl; exists = lit< tt } in
-    sym (fences_are_seen code zeros 0) ∙ ap fences_seen (h.does zeros 0 0 at) ∙ two_seen b (1 - 0) (resume_address b code 0) zeros
+    sym (fences_are_seen code zeros 0) ∙ ap fences_seen (h.does zeros 0 0 fresh_on_side) ∙ two_seen b 0 (resume_address b code 0) zeros
 
 pub boundary_items_fences : (b : Boundary) (code : List Instr) → HasEffects b code → fences_in (boundary_items code) ≡ 2
 boundary_items_fences b code h = let two = boundary_fences b code h in let sum = fences_append (plain code) (ResumeNext ∷ []) in omega (arith, two, sum)

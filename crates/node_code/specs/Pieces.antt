@@ -13,7 +13,7 @@ use Rattle.rv64_link.specs.LabelledCode.{most_words_of, stands_here, is_mark, is
 use Rattle.rv64_link.specs.LinkedCode.{IsInstructionAt}
 use Rattle.memory_layout.specs.Roles as roles
 use Rattle.memory_layout.specs.Roles.{is_temporary}
-use Rattle.boundary_code.specs.Boundaries.{Boundary, AtBank, boundary_effects, is_empty}
+use Rattle.boundary_code.specs.Boundaries.{Boundary, IsOnSide, boundary_effects, side_after, is_empty}
 use Rattle.operator_code.specs.declared.branches.Test.{Test}
 use Rattle.operator_code.specs.ComputingCode.{AreRegisters, passes}
 use Rattle.code_runs.specs.ComputingRuns as r
@@ -81,22 +81,18 @@ pub record IsStorePiece (kind : Kind) (cleans : Bool) (piece : List CodeItem) : 
 abbrev pub boundary_of : kept.Kept → (resume : ℕ) → Boundary
 boundary_of k resume = record { thread = k.thread; locks = locks_in k.mask; live = k.live.now; resume = pos resume }
 
-abbrev pub boundary_observations : Boundary → (bank resume : ℕ) → (x : List ℕ) → List Observation
-boundary_observations b bank resume x = seen_effects (boundary_effects b (1 - bank) resume x)
-
--- the bank that the point names after a boundary: where it has no locks none was written
-abbrev pub bank_after : Boundary → (bank : ℕ) → ℕ
-bank_after b bank = if is_empty b.locks then bank else 1 - bank
+abbrev pub boundary_observations : Boundary → (side resume : ℕ) → (x : List ℕ) → List Observation
+boundary_observations b side resume x = seen_effects (boundary_effects b side resume x)
 
 -- registers y after a boundary at which they were x: only x3 and the temporaries may differ
-pub record LeavesRegisters (b : Boundary) (bank : ℕ) (x y : List ℕ) : Type 0 where
-  pub at_bank : AtBank (bank_after b bank) y
+pub record LeavesRegisters (b : Boundary) (side : ℕ) (x y : List ℕ) : Type 0 where
+  pub at_side : IsOnSide (side_after b side) y
   pub others : (r : ℕ) → is_temporary r ≡ false → r ≢ roles.bank_offset → read y r ≡ read x r
 
 -- the point gets the address of the piece's end, from where the thread may be resumed
 pub record Keeps (b : Boundary) (piece : List CodeItem) (at : Site piece) : Type 0 where
-  pub keeps : (x : List ℕ) (bank : ℕ) → AtBank bank x →
-      PieceLeads at x (begin_of piece at) (end_of piece at) (boundary_observations b bank (end_of piece at) x) (LeavesRegisters b bank x)
+  pub keeps : (x : List ℕ) (side : ℕ) → IsOnSide side x →
+      PieceLeads at x (begin_of piece at) (end_of piece at) (boundary_observations b side (end_of piece at) x) (LeavesRegisters b side x)
   pub marks : marks_in piece at ≡ []
   pub resumes : resumes_in piece at ≡ end_of piece at ∷ []
 
@@ -131,8 +127,8 @@ pub record Locks (b : Boundary) (mutex : ℕ) (piece : List CodeItem) (at : Site
   pub call : ℕ
   pub asks : (x : List ℕ) → AreRegisters x → PieceLeads at x (begin_of piece at) call [] (Asks takes mutex x)
   pub stands : IsInstructionAt at.linking.program.start at.linking.program.code call Ecall
-  pub keeps : (x : List ℕ) (bank : ℕ) → AtBank bank x → PieceLeads at x (call + 4) (end_of piece at) (boundary_observations b bank (end_of piece at) x)
-      (LeavesRegisters b bank x)
+  pub keeps : (x : List ℕ) (side : ℕ) → IsOnSide side x → PieceLeads at x (call + 4) (end_of piece at) (boundary_observations b side (end_of piece at) x)
+      (LeavesRegisters b side x)
   pub marks : marks_in piece at ≡ call ∷ []
   pub resumes : resumes_in piece at ≡ end_of piece at ∷ []
 
@@ -147,9 +143,9 @@ pub record IsLockPiece (b : Boundary) (mutex : ℕ) (piece : List CodeItem) : Ty
 -- holds a mutex
 pub record Unlocks (b : Boundary) (mutex : ℕ) (piece : List CodeItem) (at : Site piece) : Type 0 where
   pub call : ℕ
-  pub asks : (x : List ℕ) (bank : ℕ) → AtBank bank x →
-      PieceLeads at x (begin_of piece at) call (Mark ∷ boundary_observations b bank (end_of piece at) x)
-      (λ y. (z : List ℕ) × LeavesRegisters b bank x z × Asks gives mutex z y)
+  pub asks : (x : List ℕ) (side : ℕ) → IsOnSide side x →
+      PieceLeads at x (begin_of piece at) call (Mark ∷ boundary_observations b side (end_of piece at) x)
+      (λ y. (z : List ℕ) × LeavesRegisters b side x z × Asks gives mutex z y)
   pub stands : IsInstructionAt at.linking.program.start at.linking.program.code call Ecall
   pub after : end_of piece at ≡ call + 4
   pub plain : marked at.linking.program.nodes call ≡ []

@@ -15,19 +15,12 @@ use Rattle.flow_graph.specs.declared.graph.Part.{Part}
 use Rattle.flow_graph.specs.Nodes.{Graph}
 use Rattle.flow_graph.specs.Lowering.{thread_count, part, parts}
 use Rattle.flow_graph.proofs.Public.{lowered_threads}
-use Rattle.log_states.specs.Logs.{IsKeepable}
+use Rattle.log_states.proofs.Public.{kept_are_keepable}
 use Rattle.thread_code.specs.Plans.{Plan, Thread, IsThread, IsPlan, IsKept, of_local, of_address, of_value}
 use Rattle.recovered_threads.specs.Laws.{BoundariesRecover}
 use Rattle.recovered_threads.proofs.RecordedLocks.{are_loggable}
 
--- ---- Registers that have a slot
-
-keepable : (register : ℕ) → is_kept register ≡ true → IsKeepable register
-keepable register h = record {
-  is_register = grind (arith, nat_tests);
-  exists = grind (arith, nat_tests);
-  not_offset = λ e. (let z : is_kept 3 ≡ true = ap (λ (n : ℕ). is_kept n) (sym e) ∙ h in cc z);
-}
+-- ---- Registers that are kept
 
 one_kept : (xs : List ℕ) (at : ℕ) → list_all is_kept xs ≡ true → at < length xs → is_kept (slice_index xs at) ≡ true
 one_kept [] at h below = absurd (let z : ⊥ = omega (arith, below) in z)
@@ -64,10 +57,10 @@ module _ (p : Plan) (plan : IsPlan p) (t : Thread) (is : IsThread p t) where
   kept_is node register (of_value store) = refl
 
 pub boundaries_recover : BoundariesRecover
-boundaries_recover p code s bank resume x plan orderly b = record {
+boundaries_recover p code s side resume x plan orderly b = record {
   locks = are_loggable p s plan orderly code.thread code.of b.graph_thread b.there b.own;
-  live =
-      λ register has. keepable register (kept_is p plan code.thread code.of b.graph_thread.at register ((code.is.kept b.graph_thread.at b.own register).0 has));
+  live = λ register has. kept_are_keepable register
+      (kept_is p plan code.thread code.of b.graph_thread.at register ((code.is.kept b.graph_thread.at b.own register).0 has));
   registers = λ register has. b.registers register;
   aligned = b.aligned;
   somewhere = b.somewhere;

@@ -1,5 +1,5 @@
 -- What a committed boundary's record describes, and what the others' go on to describe.
-use Rattle.std.proofs.Common.{◌≡◌, ◌≢◌, inl, inr, ℕ, ◌+◌, ◌-◌, ◌%◌, ◌^◌, List, [], refl, ap, arith, sym, ◌∙◌, subst}
+use Rattle.std.proofs.Common.{◌≡◌, ◌≢◌, inl, inr, ℕ, ◌+◌, ◌%◌, ◌^◌, List, [], refl, ap, arith, sym, ◌∙◌, subst}
 use Rattle.std.proofs.lemmas.Bool.{cond-true, cases_Bool}
 use Rattle.ido_base.specs.Locks.{holds_none}
 use Rattle.c_tree.specs.LockDiscipline.{Held}
@@ -10,7 +10,7 @@ use Rattle.boundary_code.specs.Boundaries.{Boundary, is_empty}
 use Rattle.boundary_code.proofs.Public.{some_there}
 use Rattle.log_states.specs.Logs.{Record}
 use Rattle.log_states.specs.Laws.{recorded_by}
-use Rattle.log_states.proofs.Public.{point_says}
+use Rattle.log_states.proofs.Public.{point_says, points_end}
 use Rattle.thread_code.specs.Plans.{Plan, IsPlan, locks_held}
 use Rattle.thread_code.specs.RegistersAtNodes.{IsPendingIn, Enters}
 use Rattle.thread_code.specs.NodeCodeEffects.{keeping}
@@ -19,13 +19,13 @@ use Rattle.recovered_threads.specs.Laws.{AtBoundary, CommitsDescribe, OthersDesc
 use Rattle.recovered_threads.proofs.RecordedLocks.{locks_is, none_where}
 use Rattle.recovered_threads.proofs.Boundaries.{boundaries_recover}
 
-module _ (p : Plan) (code : Code p) (kept : FlowState) (bank resume : ℕ) (x : List ℕ) (plan : IsPlan p) (orderly : IsOrderly p kept)
-    (k : AtBoundary p code kept bank resume x) where
+module _ (p : Plan) (code : Code p) (kept : FlowState) (side resume : ℕ) (x : List ℕ) (plan : IsPlan p) (orderly : IsOrderly p kept)
+    (k : AtBoundary p code kept side resume x) where
   abbrev kept_there : Boundary
   kept_there = keeping p code.thread code.is.places k.graph_thread.at
 
   abbrev new : Record
-  new = recorded_by kept_there (1 - bank) resume x
+  new = recorded_by kept_there side resume x
 
   -- the thread holds nothing exactly where the boundary has no locks
   holds : holds_none kept.holders code.thread.number ≡ is_empty kept_there.locks
@@ -34,10 +34,10 @@ module _ (p : Plan) (code : Code p) (kept : FlowState) (bank resume : ℕ) (x : 
 
   describes : Describes p code kept new
   describes = elim (cases_Bool (is_empty kept_there.locks)) [
-    | inl none ↦ between (holds ∙ none) (cond-true (is_empty kept_there.locks) 0 ((resume + (1 - bank)) % 2 ^ 64) none)
+    | inl none ↦ between (holds ∙ none) (points_end kept_there side resume x none)
     | inr some ↦
         let locked : kept_there.locks ≢ [] = some_there kept_there.locks some in
-        let says = point_says kept_there (1 - bank) resume x (boundaries_recover p code kept bank resume x plan orderly k) (omega arith) locked in
+        let says = point_says kept_there side resume x (boundaries_recover p code kept side resume x plan orderly k) locked in
         inside (holds ∙ some) (record {
           graph_thread = k.graph_thread;
           there = k.there;
@@ -47,13 +47,13 @@ module _ (p : Plan) (code : Code p) (kept : FlowState) (bank resume : ℕ) (x : 
           resumes = subst (λ (a : ℕ). ResumesAt p code k.graph_thread.at a) (sym says.2) (k.resumes locked);
           locks = refl;
           live = refl;
-          bank = bank;
+          side = side;
           enters = k.enters;
         })
   ]
 
 pub commits_describe : CommitsDescribe
-commits_describe p code kept bank resume x plan orderly k = describes p code kept bank resume x plan orderly k
+commits_describe p code kept side resume x plan orderly k = describes p code kept side resume x plan orderly k
 
 -- ---- Others
 
@@ -67,10 +67,10 @@ pending_on p kept after graph_thread x (Lock mutex next) h = h
 pending_on p kept after graph_thread x (Unlock mutex next) h = h
 pending_on p kept after graph_thread x End h = h
 
-enters_on : (p : Plan) (code : Code p) (kept after : FlowState) (graph_thread : GraphThread) (node bank : ℕ) (x : List ℕ) →
-    Enters p code.thread node (seen_by kept graph_thread) bank x → Enters p code.thread node (seen_by after graph_thread) bank x
-enters_on p code kept after graph_thread node bank x e = record {
-  at_bank = e.at_bank;
+enters_on : (p : Plan) (code : Code p) (kept after : FlowState) (graph_thread : GraphThread) (node side : ℕ) (x : List ℕ) →
+    Enters p code.thread node (seen_by kept graph_thread) side x → Enters p code.thread node (seen_by after graph_thread) side x
+enters_on p code kept after graph_thread node side x e = record {
+  at_side = e.at_side;
   count = e.count;
   locals = e.locals;
   pending = λ is at. pending_on p kept after graph_thread x is.action (e.pending is at);
@@ -90,6 +90,6 @@ others_describe p code kept after r (inside some i) graph_threads held = inside 
   resumes = i.resumes;
   locks = i.locks;
   live = i.live;
-  bank = i.bank;
-  enters = enters_on p code kept after i.graph_thread i.graph_thread.at i.bank r.registers i.enters;
+  side = i.side;
+  enters = enters_on p code kept after i.graph_thread i.graph_thread.at i.side r.registers i.enters;
 })

@@ -109,7 +109,7 @@ module _ (w : World) (h : ℕ) (hart : Hart) (here : slice_get w.harts h ≡ Som
   applies Fences = fences hart.queue
   applies Calls = calls (read hart.registers 17) (read hart.registers 10)
 
-  executes : (slot : Option Slot) → HasGoneOn h (executed w h hart slot).0
+  executes : (fetched : Option Slot) → HasGoneOn h (executed w h hart fetched).0
   executes None = stays
   executes (Some (NoRow word)) = stays
   executes (Some (Row instr)) = applies (row instr hart.registers hart.pc)

@@ -131,15 +131,15 @@ module _ (p : Plan) (code : Code p) (s : FlowState) (graph_thread : GraphThread)
       let same = same_Some _ _ (sym matches.stands ∙ after.follows) in
       matches.pending ∙ not_pending source.0.pending (ap (λ (z : Standing). z.owes) same)
 
-  enters_after : (bank : ℕ) (x : List ℕ) → Enters p code.thread from (seen_by s graph_thread) bank x →
-      Enters p code.thread graph_thread.at (seen_by s graph_thread) bank x
-  enters_after bank x enters = record {
-    at_bank = enters.at_bank;
+  enters_after : (side : ℕ) (x : List ℕ) → Enters p code.thread from (seen_by s graph_thread) side x →
+      Enters p code.thread graph_thread.at (seen_by s graph_thread) side x
+  enters_after side x enters = record {
+    at_side = enters.at_side;
     count = enters.count;
     locals = λ local k kind live. enters.locals local k kind (live_before local live);
     pending = λ node here. no_pending_in p node.action s graph_thread x none_pending;
   }
 
 pub unlocks_enter : UnlocksEnter
-unlocks_enter p code s graph_thread from mutex bank is x plan orderly there at unlocks enters =
-    enters_after p code s graph_thread from mutex is plan orderly there at unlocks bank x enters
+unlocks_enter p code s graph_thread from mutex side is x plan orderly there at unlocks enters =
+    enters_after p code s graph_thread from mutex is plan orderly there at unlocks side x enters

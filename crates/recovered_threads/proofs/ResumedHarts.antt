@@ -1,13 +1,13 @@
 -- A hart that is resumed goes on where its record says.
 use Rattle.std.proofs.Common.{◌≡◌, ℕ, ◌+◌, ◌*◌, ◌<◌, List, [], refl, ap, arith, sym, ◌∙◌, subst}
 use Rattle.std.specs.List.{Contains}
-use Rattle.ido_base.specs.Layout.{bank_bytes}
 use Rattle.rv64_isa.specs.declared.object.Slot.{Slot}
 use Rattle.rv64_isa.specs.declared.phase.Phase.TheVariants.{Resume}
 use Rattle.rv64_isa.specs.Rows.{read}
-use Rattle.rv64_isa.specs.Machine.{World, bank_of, resume_of, resumed_register}
-use Rattle.boundary_code.specs.Boundaries.{AtBank}
-use Rattle.log_states.specs.Logs.{Record, nothing_recorded, IsRecord}
+use Rattle.rv64_isa.specs.Machine.{World, resume_of, resumed_register}
+use Rattle.boundary_code.specs.Boundaries.{IsOnSide}
+use Rattle.boundary_code.proofs.Public.{stays_on_side}
+use Rattle.log_states.specs.Logs.{Record, nothing_recorded, side_of, IsRecord}
 use Rattle.log_states.specs.Machines.{config_of}
 use Rattle.log_states.specs.Laws as log
 use Rattle.log_states.proofs.Public.{ends, log_facts, mapped}
@@ -42,13 +42,16 @@ module _ (program : List (List Slot)) (p : Plan) (code : Code p) (kept : FlowSta
   step : runs.ResumesHart program w h i.hart
   step = resumes_step program w h i
 
-  at_bank : AtBank (bank_of r.point) step.after.registers
-  at_bank = record {
-    count = step.count;
-    zero_is = step.registers 0 (omega arith);
-    offset = step.registers 3 (omega arith) ∙ ap (λ (n : ℕ). bank_bytes * bank_of n) recovered.point;
-    exists = omega arith;
-  }
+  -- each register is the one that the record says
+  read_at : (register : ℕ) → register < 32 → read step.after.registers register ≡ read (log.resumed_registers w.words h) register
+  read_at register below =
+      let e : 0 + register ≡ register = omega arith in
+      step.registers register below ∙ sym (mapped (resumed_register w.words h) 0 32 register below ∙ ap (resumed_register w.words h) e)
+
+  at_side : IsOnSide (side_of r) step.after.registers
+  at_side =
+      let on = recovered.side.registers in
+      stays_on_side (side_of r) _ step.after.registers on step.count (read_at 0 (omega arith) ∙ on.zero_is) (read_at _ (omega arith))
 
   pc_is : step.after.pc ≡ resume_of r.point
   pc_is = step.pc ∙ ap resume_of recovered.point
@@ -57,10 +60,7 @@ module _ (program : List (List Slot)) (p : Plan) (code : Code p) (kept : FlowSta
   same : (register : ℕ) → Contains (code.is.places.live told.graph_thread.at) register → read step.after.registers register ≡ read r.registers register
   same register live =
       let mine : Contains r.live register = subst (λ (rs : List ℕ). Contains rs register) (sym told.live) live in
-      let below : register < 32 = (is_record.live register mine).exists in
-      let e : 0 + register ≡ register = omega arith in
-      step.registers register below
-      ∙ (sym (mapped (resumed_register w.words h) 0 32 register below ∙ ap (resumed_register w.words h) e) ∙ recovered.registers ready.inside register mine)
+      read_at register (is_record.live register mine).exists ∙ recovered.registers ready.inside register mine
 
   goes_on : ResumesThread program code kept w i.hart r
   goes_on = record {
@@ -71,9 +71,9 @@ module _ (program : List (List Slot)) (p : Plan) (code : Code p) (kept : FlowSta
     pc = pc_is;
     listed = (code.is.resumes step.after.pc).1 (subst (λ (a : ℕ). c.IsResumeAddress p code.thread code.is.places a) (sym pc_is)
         (resumed_there p code told.graph_thread.at (resume_of r.point) told.own told.resumes));
-    enters = enters_again p code.thread told.graph_thread.at (seen_by kept told.graph_thread) told.bank (bank_of r.point) r.registers step.after.registers
-        (code.is.places.live told.graph_thread.at) (code.is.kept told.graph_thread.at told.own) told.enters at_bank same;
-    at_record = record { registers = at_bank; is = λ some. refl };
+    enters = enters_again p code.thread told.graph_thread.at (seen_by kept told.graph_thread) told.side (side_of r) r.registers step.after.registers
+        (code.is.places.live told.graph_thread.at) (code.is.kept told.graph_thread.at told.own) told.enters at_side same;
+    at_record = record { registers = at_side; is = recovered.side.is };
     queue = step.queue;
     begins = moved_harts_begin program w w h i.hart step.after i.here step.does step.runs;
   }

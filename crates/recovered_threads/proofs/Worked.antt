@@ -6,9 +6,9 @@ use Rattle.ido_base.specs.declared.event.Event.TheVariants.{Crash}
 use Rattle.source_machine.specs.Mutexes.{held_by}
 use Rattle.rv64_isa.specs.declared.object.Slot.{Slot}
 use Rattle.rv64_isa.specs.declared.phase.Phase.TheVariants.{Take, Resume, Done}
-use Rattle.rv64_isa.specs.Machine.{World, bank_of, resume_of, start_of, after_event}
+use Rattle.rv64_isa.specs.Machine.{World, resume_of, start_of, after_event}
 use Rattle.rv64_isa.proofs.Public.{starts_simulate}
-use Rattle.log_states.specs.Logs.{Record, nothing_recorded}
+use Rattle.log_states.specs.Logs.{Record, nothing_recorded, side_of}
 use Rattle.log_states.specs.Stages.{is_committed}
 use Rattle.log_states.specs.Machines.{config_of}
 use Rattle.log_states.proofs.Public.{starts_standing}
@@ -17,7 +17,7 @@ use Rattle.recovered_threads.specs.RecordDescriptions.{locks_of}
 use Rattle.recovered_threads.specs.RecoveryStates.{HoldsAll, HoldsOnly, Gathers, AreGathering}
 use Rattle.recovered_threads.proofs.RecoveryAfterCrash.{crashes_gather}
 
--- a point in the second bank, with locks 0 and 2
+-- a point in the second side, with locks 0 and 2
 abbrev two_locks : Record
 two_locks = record { point = 4097; locks = 0 ∷ 2 ∷ []; live = 8 ∷ []; registers = [] }
 
@@ -31,8 +31,8 @@ locks_none = refl
 locks_old : locks_of (record two_locks { point = 0 }) ≡ []
 locks_old = refl
 
-bank_two : bank_of two_locks.point ≡ 1
-bank_two = refl
+side_two : side_of two_locks ≡ 1
+side_two = refl
 
 resumes_two : resume_of two_locks.point ≡ 4096
 resumes_two = refl

@@ -1,5 +1,5 @@
 -- What follows from what the records of threads say of the kept state.
-use Rattle.std.specs.Prelude.{◌≡◌, ◌≢◌, ◌⊎◌, ◌↔◌, ℕ, ◌-◌, ◌%◌, ◌^◌, ◌<◌, List, [], length, slice_get, Option, Some, None, true, false}
+use Rattle.std.specs.Prelude.{◌≡◌, ◌≢◌, ◌⊎◌, ◌↔◌, ℕ, ◌%◌, ◌^◌, ◌<◌, List, [], length, slice_get, Option, Some, None, true, false}
 use Rattle.ido_base.specs.declared.event.Event.{Event}
 use Rattle.ido_base.specs.declared.event.Event.TheVariants.{Step, Crash}
 use Rattle.ido_base.specs.declared.event.Reply.TheVariants.{Moved}
@@ -124,13 +124,13 @@ HartsGoOn = (program : List (List Slot)) (p : Plan) (code : Code p) (kept : Flow
 -- ---- Boundaries
 
 -- a thread stands at a node in a state, and x are registers at the boundary that keeps what is live there, and resumes it at the address
-pub record AtBoundary (p : Plan) (code : Code p) (s : FlowState) (bank resume : ℕ) (x : List ℕ) : Type 0 where
+pub record AtBoundary (p : Plan) (code : Code p) (s : FlowState) (side resume : ℕ) (x : List ℕ) : Type 0 where
   pub graph_thread : GraphThread
   pub there : slice_get s.graph_threads code.thread.number ≡ Some graph_thread
   pub goes_on : graph_thread.ended ≡ false
   pub own : IsNodeOf code.thread graph_thread.at
   pub resumes : locks_before p code.thread graph_thread.at ≢ [] → ResumesAt p code graph_thread.at resume
-  pub enters : Enters p code.thread graph_thread.at (seen_by s graph_thread) bank x
+  pub enters : Enters p code.thread graph_thread.at (seen_by s graph_thread) side x
   -- an instruction's address, and registers of 64 bits
   pub aligned : resume % 4 ≡ 0
   pub somewhere : 0 < resume
@@ -143,20 +143,20 @@ boundary_at p code node = keeping p code.thread code.is.places node
 
 -- can be recovered from
 abbrev pub BoundariesRecover : Type 0
-BoundariesRecover = (p : Plan) (code : Code p) (s : FlowState) (bank resume : ℕ) (x : List ℕ) → IsPlan p → IsOrderly p s →
-    (b : AtBoundary p code s bank resume x) → IsRecoverable (boundary_at p code b.graph_thread.at) resume x
+BoundariesRecover = (p : Plan) (code : Code p) (s : FlowState) (side resume : ℕ) (x : List ℕ) → IsPlan p → IsOrderly p s →
+    (b : AtBoundary p code s side resume x) → IsRecoverable (boundary_at p code b.graph_thread.at) resume x
 
 -- once the boundary at which a thread stands is committed, its record describes the state that is kept with it
 abbrev pub CommitsDescribe : Type 0
-CommitsDescribe = (p : Plan) (code : Code p) (kept : FlowState) (bank resume : ℕ) (x : List ℕ) → IsPlan p → IsOrderly p kept →
-    (b : AtBoundary p code kept bank resume x) → Describes p code kept (recorded_by (boundary_at p code b.graph_thread.at) (1 - bank) resume x)
+CommitsDescribe = (p : Plan) (code : Code p) (kept : FlowState) (side resume : ℕ) (x : List ℕ) → IsPlan p → IsOrderly p kept →
+    (b : AtBoundary p code kept side resume x) → Describes p code kept (recorded_by (boundary_at p code b.graph_thread.at) side resume x)
 
 -- the boundary before an unlock keeps what is live after it: registers with which the thread enters the unlock represent what it sees there
 abbrev pub UnlocksEnter : Type 0
 UnlocksEnter =
-    (p : Plan) (code : Code p) (s : FlowState) (graph_thread : GraphThread) (from mutex bank : ℕ) (is : Node) (x : List ℕ) → IsPlan p → IsOrderly p s →
+    (p : Plan) (code : Code p) (s : FlowState) (graph_thread : GraphThread) (from mutex side : ℕ) (is : Node) (x : List ℕ) → IsPlan p → IsOrderly p s →
     slice_get s.graph_threads code.thread.number ≡ Some graph_thread → NodeAt p.graph from is → is.action ≡ Unlock mutex graph_thread.at →
-    Enters p code.thread from (seen_by s graph_thread) bank x → Enters p code.thread graph_thread.at (seen_by s graph_thread) bank x
+    Enters p code.thread from (seen_by s graph_thread) side x → Enters p code.thread graph_thread.at (seen_by s graph_thread) side x
 
 -- the records of the others go on to describe the kept state, where their threads and what these hold are kept as they were
 abbrev pub OthersDescribe : Type 0

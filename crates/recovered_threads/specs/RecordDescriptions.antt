@@ -60,9 +60,9 @@ pub record IsInside (p : Plan) (code : Code p) (kept : FlowState) (r : Record) :
   pub resumes : ResumesAt p code graph_thread.at (resume_of r.point)
   pub locks : r.locks ≡ locks_before p code.thread graph_thread.at
   pub live : r.live ≡ code.is.places.live graph_thread.at
-  -- the registers are those at the boundary, where the point was in a bank before
-  pub bank : ℕ
-  pub enters : Enters p code.thread graph_thread.at (seen_by kept graph_thread) bank r.registers
+  -- the registers are those at the boundary, where the point was in a side before
+  pub side : ℕ
+  pub enters : Enters p code.thread graph_thread.at (seen_by kept graph_thread) side r.registers
 
 -- what a thread's record says of the kept state
 pub data Describes (p : Plan) (code : Code p) (kept : FlowState) (r : Record) : Type 0 where

@@ -8,9 +8,9 @@ use Rattle.ido_base.specs.Locks.{has_lock}
 use Rattle.rv64_isa.specs.declared.object.Slot.{Slot}
 use Rattle.rv64_isa.specs.declared.phase.Phase.{Phase}
 use Rattle.rv64_isa.specs.declared.phase.Phase.TheVariants.{Take, Wait, Resume, Run, Done, Ended}
-use Rattle.rv64_isa.specs.Machine.{Hart, World, moved, happens, after_event, reply_to, resume_of, bank_of}
+use Rattle.rv64_isa.specs.Machine.{Hart, World, moved, happens, after_event, reply_to, resume_of}
 use Rattle.flow_graph.specs.Actions.{FlowState, seen_by}
-use Rattle.log_states.specs.Logs.{Record, nothing_recorded}
+use Rattle.log_states.specs.Logs.{Record, nothing_recorded, side_of}
 use Rattle.log_states.specs.Laws.{IsAtRecord}
 use Rattle.log_states.specs.Machines.{IsElsewhere}
 use Rattle.log_states.specs.LogInvariant.{LogInv}
@@ -102,8 +102,8 @@ pub record ResumesThread {p : Plan} (program : List (List Slot)) (code : Code p)
   pub pc : after.pc ≡ resume_of r.point
   -- an address of the object's table
   pub listed : Contains code.program.resumes after.pc
-  pub enters : Enters p code.thread told.graph_thread.at (seen_by kept told.graph_thread) (bank_of r.point) after.registers
-  pub at_record : IsAtRecord r (bank_of r.point) after.registers
+  pub enters : Enters p code.thread told.graph_thread.at (seen_by kept told.graph_thread) (side_of r) after.registers
+  pub at_record : IsAtRecord r (side_of r) after.registers
   pub queue : after.queue ≡ hart.queue
   -- a run begins from where the thread is resumed
   pub begins : IsRunningAt (after_event program w (Step code.thread.number)) code.thread.number (config after.registers after.pc)

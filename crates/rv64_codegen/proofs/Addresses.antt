@@ -14,7 +14,8 @@ use Rattle.rv64_isa.specs.declared.object.Slot.TheVariants.{Row}
 use Rattle.rv64_isa.specs.Rows.{Effect}
 use Rattle.rv64_link.specs.LabelledCode.{does, most_words_of, least_words_of, is_mark, is_resume, positions_from, fences_of}
 use Rattle.rv64_link.specs.LinkedCode.{IsRoom, IsLinked}
-use Rattle.boundary_code.specs.Boundaries.{Boundary, AtBank, bank_effects, commit_effects, is_empty}
+use Rattle.boundary_code.specs.Boundaries.{Boundary, bank_effects, commit_effects, is_empty}
+use Rattle.boundary_code.proofs.Public.{fresh_on_side}
 use Rattle.code_runs.specs.ComputingRuns.{LocalConfig}
 use Rattle.code_runs.specs.CodeTraces as walks
 use Rattle.code_runs.specs.CodeTraces.{Program, MarkedEnvironment, Meets, Observation, Trace, GoesThrough}
@@ -241,9 +242,6 @@ module _ (items : List CodeItem) (none : Weightless items) where
   nothing_seen zero m to seen walk = walk.1
   nothing_seen (suc steps) m to seen walk = absurd (none-some walk.3.instr walk.3.stands)
 
-  zeros : AtBank 0 (replicate 32 0)
-  zeros = record { count = refl; zero_is = refl; offset = refl; exists = omega arith }
-
   sees : (b : Boundary) (resume : ℕ) (z : Bool) →
       map walks.Does (if z then commit_effects b.thread 0 else bank_effects b 1 (replicate 32 0) ++ commit_effects b.thread resume) ≡ [] → ⊥
   sees b resume true e = cc
@@ -252,7 +250,7 @@ module _ (items : List CodeItem) (none : Weightless items) where
   no_boundary : (b : Boundary) → IsBoundaryPiece b items → ⊥
   unfolding linked
   no_boundary b is =
-      let goes = (is.at site).keeps (replicate 32 0) 0 zeros in
+      let goes = (is.at site).keeps (replicate 32 0) 0 fresh_on_side in
       sees b (1 % 2 ^ 64) (is_empty b.locks) (nothing_seen goes.steps _ _ _ goes.walks)
 
 pub boundary_grows : (b : Boundary) (piece : List CodeItem) → IsBoundaryPiece b piece → (at : ℕ → ℕ) (k : ℕ) → Lies at k piece → at k < at (k + length piece)

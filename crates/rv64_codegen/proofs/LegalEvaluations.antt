@@ -18,7 +18,7 @@ use Rattle.c_ranges.specs.Laws.{AllHeld}
 use Rattle.c_ranges.proofs.Public.{fits_element}
 use Rattle.memory_layout.proofs.Public.{product_small}
 use Rattle.code_runs.specs.ComputingRuns.{Environment}
-use Rattle.boundary_code.specs.Boundaries.{AtBank}
+use Rattle.boundary_code.specs.Boundaries.{IsOnSide}
 use Rattle.operator_code.specs.ComputingCode.{AreRegisters}
 use Rattle.expr_code.specs.EvaluationCode.{Suits, AreLoaded}
 use Rattle.expr_code.proofs.Public.{IsNear, near_declared, bytes_small, all_held}
@@ -53,8 +53,8 @@ number_at (suc n) i l = by (below_or_last i n) (number_at n i)
         let same : n ≡ i = omega (arith, l, more) in
         get_or_push (numbers_below n) n 0 i (length_numbers n ∙ same) ∙ same
 
-pub registers_at : (bank : ℕ) (x : List ℕ) → AtBank bank x → AreRegisters x
-registers_at bank x a = record { count = a.count; zero_is = a.zero_is }
+pub registers_at : (side : ℕ) (x : List ℕ) → IsOnSide side x → AreRegisters x
+registers_at side x a = record { count = a.count; zero_is = a.zero_is }
 
 module _ (p : Plan) (t : Thread) (plan : IsPlan p) (of : IsThread p t) where
   abbrev vs : List v.Variable

@@ -16,7 +16,7 @@ use Rattle.rv64_isa.specs.declared.object.CodeItem.{CodeItem}
 use Rattle.rv64_link.specs.LabelledCode.{most_words_of, fences_in}
 use Rattle.rv64_link.specs.LinkedCode.{IsInstructionAt, AreInstructions}
 use Rattle.memory_layout.specs.Roles.{pending_value}
-use Rattle.boundary_code.specs.Boundaries.{Boundary}
+use Rattle.boundary_code.specs.Boundaries.{Boundary, side_after}
 use Rattle.code_runs.specs.CodeTraces.{Program, MarkedEnvironment, Meets, Observation, GoesThrough, marked}
 use Rattle.flow_graph.specs.Nodes.{Action, Eval, Store, Test, Lock, Unlock, End, Node}
 use Rattle.flow_graph.specs.Actions as a
@@ -26,7 +26,7 @@ use Rattle.flow_graph.specs.IdempotentCuts.{IsChosen}
 use Rattle.flow_graph.specs.Lowering.{expr_locals}
 use Rattle.flow_graph.specs.Liveness.{NodeAt}
 use Rattle.node_code.specs.Sites.{Site}
-use Rattle.node_code.specs.Pieces.{IsBoundaryPiece, LeavesRegisters, boundary_observations, bank_after, Locks, words_in}
+use Rattle.node_code.specs.Pieces.{IsBoundaryPiece, LeavesRegisters, boundary_observations, Locks, words_in}
 use Rattle.node_code.proofs.Public.{fragment, weaker, moved, words_are_few, part_instructions}
 use Rattle.thread_code.specs.Plans.{Plan, Thread, IsThread, IsPlan, IsNodeOf, homes}
 use Rattle.thread_code.specs.RegistersAtNodes.{Enters, source_of, IsAnswered}
@@ -105,38 +105,38 @@ module _ (p : Plan) (t : Thread) (c : Choices) (plan : IsPlan p) (of : IsThread 
   met s h = subst (λ (q : Program). Meets q s) agrees.of_program h
 
   -- an entrance at the node
-  at_node : (Q : Entrance → Type 0) → ((s : MarkedEnvironment) (seen : Seen) (bank : ℕ) (x : List ℕ) → Meets places.program s → Enters p t node seen bank x →
-      Q (record { environment = s; node = node; seen = seen; bank = bank; registers = x })) → (m : Entrance) → m.node ≡ node → IsAtOwnNode p t places m → Q m
+  at_node : (Q : Entrance → Type 0) → ((s : MarkedEnvironment) (seen : Seen) (side : ℕ) (x : List ℕ) → Meets places.program s → Enters p t node seen side x →
+      Q (record { environment = s; node = node; seen = seen; side = side; registers = x })) → (m : Entrance) → m.node ≡ node → IsAtOwnNode p t places m → Q m
   at_node Q f m same is_at =
-      subst (λ (k : ℕ). Enters p t k m.seen m.bank m.registers →
-      Q (record { environment = m.environment; node = k; seen = m.seen; bank = m.bank; registers = m.registers }))
-      (sym same) (λ enters. f m.environment m.seen m.bank m.registers is_at.meets enters) is_at.enters
+      subst (λ (k : ℕ). Enters p t k m.seen m.side m.registers →
+      Q (record { environment = m.environment; node = k; seen = m.seen; side = m.side; registers = m.registers }))
+      (sym same) (λ enters. f m.environment m.seen m.side m.registers is_at.meets enters) is_at.enters
 
   -- ---- The boundary before it
 
-  chosen_by : IsBoundaryPiece (boundary_before p t c node 0) before → (s : MarkedEnvironment) (seen : Seen) (bank : ℕ) (x : List ℕ) → Meets places.program s →
-      Enters p t node seen bank x →
-      BoundaryCode p t places (record { environment = s; node = node; seen = seen; bank = bank; registers = x }) node (places.entry node) (places.core node)
+  chosen_by : IsBoundaryPiece (boundary_before p t c node 0) before → (s : MarkedEnvironment) (seen : Seen) (side : ℕ) (x : List ℕ) → Meets places.program s →
+      Enters p t node seen side x →
+      BoundaryCode p t places (record { environment = s; node = node; seen = seen; side = side; registers = x }) node (places.entry node) (places.core node)
       (places.core node)
-  chosen_by boundary s seen bank x meets enters =
+  chosen_by boundary s seen side x meets enters =
       let b : Boundary = boundary_before p t c node 0 in
-      let P : List ℕ → Type 0 = Enters p t node seen (bank_after b bank) in
+      let P : List ℕ → Type 0 = Enters p t node seen (side_after b side) in
       let site : Site before = spot_site n before (parts.before_spot p t c program items n places.entry node is at before does goes guarded doing sited) s
       (met s meets) in
-      let lockstep : boundary_observations b bank (addr core_at) x ≡ boundary_observations (keeping p t places node) bank (places.core node) x =
-      ap (λ (z : ℕ). boundary_observations b bank z x) (sym agrees.core) ∙
-      ap (λ (ls : List ℕ). boundary_observations (record { thread = t.number; locks = b.locks; live = ls; resume = pos 0 }) bank (places.core node) x)
+      let lockstep : boundary_observations b side (addr core_at) x ≡ boundary_observations (keeping p t places node) side (places.core node) x =
+      ap (λ (z : ℕ). boundary_observations b side z x) (sym agrees.core) ∙
+      ap (λ (ls : List ℕ). boundary_observations (record { thread = t.number; locks = b.locks; live = ls; resume = pos 0 }) side (places.core node) x)
       (sym (agrees.live node)) in
       subst (λ (ss : List Observation). GoesThrough s (fragment x (places.entry node) (places.core node) words) ss P) lockstep
-      (moved s x (places.entry node) (places.entry node) (addr core_at) (places.core node) words (boundary_observations b bank (addr core_at) x) P refl
+      (moved s x (places.entry node) (places.entry node) (addr core_at) (places.core node) words (boundary_observations b side (addr core_at) x) P refl
       (sym agrees.core)
       (parts.then_core p t c program items n places.entry node is at before does goes guarded doing sited words agrees.words s x
-      (boundary_observations b bank (addr core_at) x) P
+      (boundary_observations b side (addr core_at) x) P
       (weaker s (fragment x (addr sited.position) (addr core_at)
-      (parts.before_words p t c program items n places.entry node is at before does goes guarded doing sited)) (boundary_observations b bank (addr core_at) x)
-      (LeavesRegisters b bank x) P
-      (λ y left. enters_kept p t plan of c choices node 0 own seen bank x y enters left)
-      ((boundary.at site).keeps x bank enters.at_bank))))
+      (parts.before_words p t c program items n places.entry node is at before does goes guarded doing sited)) (boundary_observations b side (addr core_at) x)
+      (LeavesRegisters b side x) P
+      (λ y left. enters_kept p t plan of c choices node 0 own seen side x y enters left)
+      ((boundary.at site).keeps x side enters.at_side))))
 
   chosen : IsChosen p.graph p.boundaries node → (m : Entrance) → m.node ≡ node → IsAtOwnNode p t places m →
       BoundaryCode p t places m node (places.entry node) (places.core node) (places.core node)
@@ -171,9 +171,9 @@ module _ (p : Plan) (t : Thread) (c : Choices) (plan : IsPlan p) (of : IsThread 
       let there : addr on_at ≡ (d.0.at bare_site).call + 4 = (d.0.at bare_site).after in
       omega (arith, here, there)
 
-  module _ (s : MarkedEnvironment) (meets : Meets program s) (seen : Seen) (bank : ℕ) (x : List ℕ) (enters : Enters p t node seen bank x) where
+  module _ (s : MarkedEnvironment) (meets : Meets program s) (seen : Seen) (side : ℕ) (x : List ℕ) (enters : Enters p t node seen side x) where
     abbrev m : Entrance
-    m = record { environment = s; node = node; seen = seen; bank = bank; registers = x }
+    m = record { environment = s; node = node; seen = seen; side = side; registers = x }
 
     abbrev By : a.Effect → Type 0
     By effect = Performs p t places m effect
@@ -191,7 +191,7 @@ module _ (p : Plan) (t : Thread) (c : Choices) (plan : IsPlan p) (of : IsThread 
         by (Some store) pending eq =
             subst By (same_Some (a.Makes store next) effect eq)
             (performs.makes_it p t c plan of choices places program items n node is own at before does goes guarded doing sited agrees.words agrees.of_program
-            agrees.live agrees.cleans agrees.core s meets seen bank x enters variable kind next same known (d.0.at (site_of s meets)) d.1 store pending)
+            agrees.live agrees.cleans agrees.core s meets seen side x enters variable kind next same known (d.0.at (site_of s meets)) d.1 store pending)
 
     does_it : (b : Action) → is.action ≡ b → Known p.flat t.kinds t.part.first t.part.end p.graph.nodes is b → (d : IsDoing p t c node b does goes) →
         places.call node ≡ call_of p t c program items n places.entry node is at before does goes guarded doing sited b d →
@@ -199,12 +199,12 @@ module _ (p : Plan) (t : Thread) (c : Choices) (plan : IsPlan p) (of : IsThread 
     does_it (Eval (e.ToLocal local kind) val next) same known d call answered effect eq =
         subst By (same_Some (a.Sets local (reduced kind (number_in seen val.expr)) next) effect eq)
         (performs.sets p t c plan of choices places program items n node is own at before does goes guarded doing sited agrees.words agrees.of_program
-        agrees.live agrees.cleans agrees.core s meets seen bank x enters local kind val next same known d.0 d.1 answered)
+        agrees.live agrees.cleans agrees.core s meets seen side x enters local kind val next same known d.0 d.1 answered)
     does_it (Eval (e.ToVariable place variable kind) val next) same known d call answered effect eq =
         let store : Pending = record { variable = variable; element = 0; number = reduced kind (number_in seen val.expr) } in
         subst By (same_Some (a.Owes store next) effect eq)
         (performs.owes_it p t c plan of choices places program items n node is own at before does goes guarded doing sited agrees.words agrees.of_program
-        agrees.live agrees.cleans agrees.core s meets seen bank x enters (e.ToVariable place variable kind) val next same known d.0 d.1 answered store
+        agrees.live agrees.cleans agrees.core s meets seen side x enters (e.ToVariable place variable kind) val next same known d.0 d.1 answered store
         variable kind
         known.assigns known.owed (λ r. refl)
         (λ y got. record {
@@ -218,10 +218,10 @@ module _ (p : Plan) (t : Thread) (c : Choices) (plan : IsPlan p) (of : IsThread 
         let target : e.Lvalue = e.ToElement place variable kind index in
         let held : HoldsEach (homes p t) (source_of p t seen) x (expr_locals index.expr ++ expr_locals val.expr) =
         performs.held_uses p t c plan of choices places program items n node is own at before does goes guarded doing sited agrees.words agrees.of_program
-        agrees.live agrees.cleans agrees.core s meets seen bank x enters target val next same known d.0 d.1 answered in
+        agrees.live agrees.cleans agrees.core s meets seen side x enters target val next same known d.0 d.1 answered in
         subst By (same_Some (a.Owes store next) effect eq)
         (performs.owes_it p t c plan of choices places program items n node is own at before does goes guarded doing sited agrees.words agrees.of_program
-        agrees.live agrees.cleans agrees.core s meets seen bank x enters target val next same known d.0 d.1 answered store variable kind
+        agrees.live agrees.cleans agrees.core s meets seen side x enters target val next same known d.0 d.1 answered store variable kind
         known.assigns known.owed (λ r. refl)
         (λ y got. record {
           variable_is = refl;
@@ -235,29 +235,29 @@ module _ (p : Plan) (t : Thread) (c : Choices) (plan : IsPlan p) (of : IsThread 
     does_it (Test condition holds fails) same known d call answered effect eq =
         subst By (same_Some (a.Goes (if is_zero (number_in seen condition.expr) then fails else holds)) effect eq)
         (performs.tests_it p t c plan of choices places program items n node is own at before does goes guarded doing sited agrees.words agrees.of_program
-        agrees.live agrees.cleans agrees.core s meets seen bank x enters condition holds fails same known answered d)
+        agrees.live agrees.cleans agrees.core s meets seen side x enters condition holds fails same known answered d)
     does_it (Lock mutex next) same known d call answered effect eq =
         subst By (same_Some (a.Takes mutex next) effect eq)
         (performs.takes_it p t c plan of choices places program items n node is own at before does goes guarded doing sited agrees.words agrees.of_program
-        agrees.live agrees.cleans agrees.core s meets seen bank x enters mutex next same known (d.0.at (site_of s meets))
+        agrees.live agrees.cleans agrees.core s meets seen side x enters mutex next same known (d.0.at (site_of s meets))
         (call ∙ sym (lock_call mutex next d s meets)))
     does_it (Unlock mutex next) same known d call answered effect eq =
         subst By (same_Some (a.Gives mutex next) effect eq)
         (performs.gives_it p t c plan of choices places program items n node is own at before does goes guarded doing sited agrees.words agrees.of_program
-        agrees.live agrees.cleans agrees.core s meets seen bank x enters mutex next same known (d.0.at (site_of s meets))
+        agrees.live agrees.cleans agrees.core s meets seen side x enters mutex next same known (d.0.at (site_of s meets))
         (call ∙ sym (unlock_call mutex next d s meets)) agrees.after)
     does_it End same known d call answered effect eq =
         subst By (same_Some a.Ends effect eq)
         (performs.ends_it p t c plan of choices places program items n node is own at before does goes guarded doing sited agrees.words agrees.of_program
-        agrees.live agrees.cleans agrees.core s meets seen bank x enters (d.0.at (site_of s meets)) (call ∙ sym (end_call d s meets)))
+        agrees.live agrees.cleans agrees.core s meets seen side x enters (d.0.at (site_of s meets)) (call ∙ sym (end_call d s meets)))
 
   performs_it : (m : Entrance) (effect : a.Effect) → m.node ≡ node → IsAtOwnNode p t places m →
       IsAnswered (source_of p t m.seen) m.environment.around.loads is.action → effect_of is.action m.seen ≡ Some effect → Performs p t places m effect
   performs_it m effect same is_at =
       at_node (λ (k : Entrance). IsAnswered (source_of p t k.seen) k.environment.around.loads is.action → effect_of is.action k.seen ≡ Some effect →
       Performs p t places k effect)
-      (λ s seen bank x meets enters answered eq.
-      does_it s (met s meets) seen bank x enters is.action refl (known_of p t plan of node is own at) doing agrees.call answered effect eq) m same is_at
+      (λ s seen side x meets enters answered eq.
+      does_it s (met s meets) seen side x enters is.action refl (known_of p t plan of node is own at) doing agrees.call answered effect eq) m same is_at
 
   -- ---- Calls
 
@@ -265,12 +265,12 @@ module _ (p : Plan) (t : Thread) (c : Choices) (plan : IsPlan p) (of : IsThread 
   goes_on_after next of_next g = record {
     on = λ m meets same enters.
         subst (λ (k : ℕ). GoesThrough m.environment (fragment m.registers (places.after node) (places.entry next) (places.words k)) []
-        (Enters p t next m.seen m.bank))
+        (Enters p t next m.seen m.side))
         (sym same)
-        (moved m.environment m.registers (addr on_at) (places.after node) (places.entry next) (places.entry next) words [] (Enters p t next m.seen m.bank)
+        (moved m.environment m.registers (addr on_at) (places.after node) (places.entry next) (places.entry next) words [] (Enters p t next m.seen m.side)
         (sym agrees.after) refl
-        (weaker m.environment (fragment m.registers (addr on_at) (places.entry next) words) [] (λ y. y ≡ m.registers) (Enters p t next m.seen m.bank)
-        (λ y is_it. subst (λ (z : List ℕ). Enters p t next m.seen m.bank z) (sym is_it) enters)
+        (weaker m.environment (fragment m.registers (addr on_at) (places.entry next) words) [] (λ y. y ≡ m.registers) (Enters p t next m.seen m.side)
+        (λ y is_it. subst (λ (z : List ℕ). Enters p t next m.seen m.side z) (sym is_it) enters)
         (parts.on_from_after p t c program items n places.entry node is at before does goes guarded doing sited words agrees.words next of_next g m.environment
         (met m.environment meets) m.registers)));
   }
@@ -283,24 +283,24 @@ module _ (p : Plan) (t : Thread) (c : Choices) (plan : IsPlan p) (of : IsThread 
       let s : MarkedEnvironment = m.environment in
       let x : List ℕ = m.registers in
       let b : Boundary = boundary_before p t c next 0 in
-      let P : List ℕ → Type 0 = Enters p t next m.seen (bank_after b m.bank) in
+      let P : List ℕ → Type 0 = Enters p t next m.seen (side_after b m.side) in
       let locks : Locks b mutex does (site_of s (met s meets)) = d.0.at (site_of s (met s meets)) in
       let at_call : locks.call + 4 ≡ places.call node + 4 = ap (λ (z : ℕ). z + 4) (lock_call mutex next d s (met s meets) ∙ sym call) in
-      let lockstep : boundary_observations b m.bank (addr on_at) x ≡ boundary_observations (keeping p t places next) m.bank (places.after node) x =
-      ap (λ (z : ℕ). boundary_observations b m.bank z x) (sym agrees.after) ∙
-      ap (λ (ls : List ℕ). boundary_observations (record { thread = t.number; locks = b.locks; live = ls; resume = pos 0 }) m.bank (places.after node) x)
+      let lockstep : boundary_observations b m.side (addr on_at) x ≡ boundary_observations (keeping p t places next) m.side (places.after node) x =
+      ap (λ (z : ℕ). boundary_observations b m.side z x) (sym agrees.after) ∙
+      ap (λ (ls : List ℕ). boundary_observations (record { thread = t.number; locks = b.locks; live = ls; resume = pos 0 }) m.side (places.after node) x)
       (sym (agrees.live next)) in
       subst (λ (k : ℕ). GoesThrough s (fragment x (places.call node + 4) (places.after node) (places.words k))
-      (boundary_observations (keeping p t places next) m.bank (places.after node) x) P) (sym same)
+      (boundary_observations (keeping p t places next) m.side (places.after node) x) P) (sym same)
       (subst (λ (ss : List Observation). GoesThrough s (fragment x (places.call node + 4) (places.after node) words) ss P) lockstep
-      (moved s x (locks.call + 4) (places.call node + 4) (addr on_at) (places.after node) words (boundary_observations b m.bank (addr on_at) x) P at_call
+      (moved s x (locks.call + 4) (places.call node + 4) (addr on_at) (places.after node) words (boundary_observations b m.side (addr on_at) x) P at_call
       (sym agrees.after)
       (parts.within p t c program items n places.entry node is at before does goes guarded doing sited words agrees.words s x (locks.call + 4) (addr on_at)
-      (boundary_observations b m.bank (addr on_at) x) P
+      (boundary_observations b m.side (addr on_at) x) P
       (weaker s (fragment x (locks.call + 4) (addr on_at)
-      (parts.does_words p t c program items n places.entry node is at before does goes guarded doing sited)) (boundary_observations b m.bank (addr on_at) x)
-      (LeavesRegisters b m.bank x) P
-      (λ y left. enters_kept p t plan of c choices next 0 of_next m.seen m.bank x y enters left) (locks.keeps x m.bank enters.at_bank)))))
+      (parts.does_words p t c program items n places.entry node is at before does goes guarded doing sited)) (boundary_observations b m.side (addr on_at) x)
+      (LeavesRegisters b m.side x) P
+      (λ y left. enters_kept p t plan of c choices next 0 of_next m.seen m.side x y enters left) (locks.keeps x m.side enters.at_side)))))
 
   stands_there : (call : ℕ) → places.call node ≡ call → IsInstructionAt program.start program.code call Ecall →
       IsInstructionAt places.program.start places.program.code (places.call node) Ecall

@@ -20,7 +20,7 @@ use Rattle.rv64_isa.specs.Rows.{Stores, row, read}
 use Rattle.rv64_link.specs.LinkedCode.{IsInstructionAt}
 use Rattle.memory_layout.specs.Roles as roles
 use Rattle.memory_layout.specs.Roles.{is_temporary, is_local}
-use Rattle.boundary_code.specs.Boundaries.{Boundary, AtBank}
+use Rattle.boundary_code.specs.Boundaries.{Boundary, IsOnSide, side_after}
 use Rattle.operator_code.specs.ComputingCode.{AreRegisters}
 use Rattle.operator_code.proofs.Public.{equal_by}
 use Rattle.code_runs.specs.CodeTraces.{Program, MarkedEnvironment, Meets, Observation, Mark, GoesThrough}
@@ -31,7 +31,7 @@ use Rattle.flow_graph.specs.Actions as a
 use Rattle.flow_graph.specs.Actions.{Seen, effect_of, number_in, element_in}
 use Rattle.flow_graph.specs.Lowering.{expr_locals, target_locals}
 use Rattle.flow_graph.specs.Liveness.{NodeAt}
-use Rattle.node_code.specs.Pieces.{store_observations, boundary_observations, bank_after, LeavesRegisters}
+use Rattle.node_code.specs.Pieces.{store_observations, boundary_observations, LeavesRegisters}
 use Rattle.node_code.specs.Pieces.{Asks, Makes, Locks, Unlocks, IsEndPiece, takes, gives, ends}
 use Rattle.node_code.specs.Sites.{Site, label_of}
 use Rattle.node_code.proofs.Public.{fragment, weaker, moved}
@@ -67,8 +67,8 @@ differs r k other = by (r == k) refl
     by false h = h
     by true h = absurd (other (equal_by r k h))
 
-at_bank_on : (bank : ℕ) (x y : List ℕ) → AtBank bank x → AreRegisters y → read y 3 ≡ read x 3 → AtBank bank y
-at_bank_on bank x y a are same = record { count = are.count; zero_is = are.zero_is; offset = same ∙ a.offset; exists = a.exists }
+at_side_on : (side : ℕ) (x y : List ℕ) → IsOnSide side x → AreRegisters y → read y 3 ≡ read x 3 → IsOnSide side y
+at_side_on side x y a are same = record { count = are.count; zero_is = are.zero_is; offset = same ∙ a.offset; exists = a.exists }
 
 -- an assignment of a local writes its register and temporaries
 set_kept : (h : Homes) (local : ℕ) (kind : Kind) (r : ℕ) → is_temporary r ≡ false → r ≢ slice_index h.registers local →
@@ -93,11 +93,11 @@ module _ (p : Plan) (t : Thread) (plan : IsPlan p) (of : IsThread p t) where
       of.of_text node is (subst (λ (g : Graph). NodeAt g node is) plan.lowered at) own.from_first own.below_end))
 
   -- after a boundary that keeps what is live there
-  pub enters_kept : (c : Choices) → AreChoices p t c → (node resume : ℕ) → IsNodeOf t node → (seen : Seen) (bank : ℕ) (x y : List ℕ) →
-      Enters p t node seen bank x → LeavesRegisters (boundary_before p t c node resume) bank x y →
-      Enters p t node seen (bank_after (boundary_before p t c node resume) bank) y
-  enters_kept c choices node resume own seen bank x y enters left =
-      enters_again p t node seen bank (bank_after (boundary_before p t c node resume) bank) x y (c.live node) (choices.kept node own) enters left.at_bank
+  pub enters_kept : (c : Choices) → AreChoices p t c → (node resume : ℕ) → IsNodeOf t node → (seen : Seen) (side : ℕ) (x y : List ℕ) →
+      Enters p t node seen side x → LeavesRegisters (boundary_before p t c node resume) side x y →
+      Enters p t node seen (side_after (boundary_before p t c node resume) side) y
+  enters_kept c choices node resume own seen side x y enters left =
+      enters_again p t node seen side (side_after (boundary_before p t c node resume) side) x y (c.live node) (choices.kept node own) enters left.at_side
       (λ r has. let plain = kept_plain node r ((choices.kept node own r).0 has) in left.others r plain.0 plain.1)
 
 module _ (p : Plan) (t : Thread) (c : Choices) (plan : IsPlan p) (of : IsThread p t) (choices : AreChoices p t c) (places : Places) (program : Program)
@@ -146,9 +146,9 @@ module _ (p : Plan) (t : Thread) (c : Choices) (plan : IsPlan p) (of : IsThread 
         from_core x there ss P
         (parts.within p t c program items n places.entry node is at before does goes guarded doing sited words counted s x (to does_at) there ss P leg)
 
-    module _ (seen : Seen) (bank : ℕ) (x : List ℕ) (enters : Enters p t node seen bank x) where
+    module _ (seen : Seen) (side : ℕ) (x : List ℕ) (enters : Enters p t node seen side x) where
       abbrev m : Entrance
-      m = record { environment = s; node = node; seen = seen; bank = bank; registers = x }
+      m = record { environment = s; node = node; seen = seen; side = side; registers = x }
 
       abbrev h : Homes
       h = homes p t
@@ -157,7 +157,7 @@ module _ (p : Plan) (t : Thread) (c : Choices) (plan : IsPlan p) (of : IsThread 
       src = source_of p t seen
 
       are : AreRegisters x
-      are = registers_at bank x enters.at_bank
+      are = registers_at side x enters.at_side
 
       held_all : HoldsEach h src x is.uses
       held_all = live_is_enough p.graph node is h src x at (λ local k alive there. enters.locals local k there alive)
@@ -199,11 +199,11 @@ module _ (p : Plan) (t : Thread) (c : Choices) (plan : IsPlan p) (of : IsThread 
           eval_goes (e.ToLocal local kind) val next same known evaluation goes_to answered _ (λ y got.
           let register : is_local (slice_index t.registers local) ≡ true =
           register_local p t plan of local (slice_get_within t.kinds local kind known.target_is.0) in
-          enters_set p t plan of node next is at (follows (e.ToLocal local kind) val next same known evaluation goes_to answered) seen bank x enters own
+          enters_set p t plan of node next is at (follows (e.ToLocal local kind) val next same known evaluation goes_to answered) seen side x enters own
           local kind
           (reduced kind (number_in seen val.expr)) y known.target_is.0 known.assigns
           (λ r is_one other. got.unchanged r (set_kept h local kind r (local_plain r is_one) other)) got.has (ap owes same)
-          (at_bank_on bank x y enters.at_bank got.are
+          (at_side_on side x y enters.at_side got.are
           (got.unchanged 3 (set_kept h local kind 3 refl (λ e3. local_other (slice_index t.registers local) 3 refl register (sym e3))))))
 
       -- a store is pending after it
@@ -216,9 +216,9 @@ module _ (p : Plan) (t : Thread) (c : Choices) (plan : IsPlan p) (of : IsThread 
           (has : (y : List ℕ) → IsAssigned h src target val.expr x y → HasPending p store variable kind y) where
         pub owes_it : Performs p t places m (a.Owes store next)
         owes_it = eval_goes target val next same known evaluation goes_to answered _ (λ y got.
-            enters_owing p t plan of node next is at (follows target val next same known evaluation goes_to answered) seen bank x enters
+            enters_owing p t plan of node next is at (follows target val next same known evaluation goes_to answered) seen side x enters
             (record seen { pending = Some store }) y store variable kind assigns refl refl
-            (at_bank_on bank x y enters.at_bank got.are (got.unchanged 3 (writes 3)))
+            (at_side_on side x y enters.at_side got.are (got.unchanged 3 (writes 3)))
             (λ r is_one. got.unchanged r (writes r ∙ local_spare r is_one)) stores (has y got))
 
       -- ---- Stores
@@ -268,18 +268,18 @@ module _ (p : Plan) (t : Thread) (c : Choices) (plan : IsPlan p) (of : IsThread 
 
           made : GoesThrough s (fragment x (places.core node) (places.entry next) words)
               (store_observations address (bytes_of k) (read x roles.pending_value) (places.cleans node))
-              (Enters p t next (record seen { pending = None }) bank)
+              (Enters p t next (record seen { pending = None }) side)
           made = then_next next (record { from_first = known.inside.0; below_end = known.inside.1 }) goes_to x
               (store_observations address (bytes_of k) (read x roles.pending_value) (places.cleans node))
-              (Enters p t next (record seen { pending = None }) bank)
+              (Enters p t next (record seen { pending = None }) side)
               (subst (λ (ss : List Observation). GoesThrough s (fragment x (to does_at) (to goes_at) does_words) ss
-              (Enters p t next (record seen { pending = None }) bank)) observations_same
+              (Enters p t next (record seen { pending = None }) side)) observations_same
               (weaker s (fragment x (to does_at) (to goes_at) does_words)
               (store_observations (read x roles.pending_address) (bytes_of kind) (read x roles.pending_value) (c.cleans node)) (λ y. y ≡ x)
-              (Enters p t next (record seen { pending = None }) bank)
+              (Enters p t next (record seen { pending = None }) side)
               (λ y is_x. enters_on p t plan of node next is at (subst (λ (b : Action). Contains (successors b) next) (sym same)
-              (0, omega arith, refl)) seen bank x enters
-              (record seen { pending = None }) bank y known.assigns (ap owes same) refl (subst (λ (z : List ℕ). AtBank bank z) (sym is_x) enters.at_bank)
+              (0, omega arith, refl)) seen side x enters
+              (record seen { pending = None }) side y known.assigns (ap owes same) refl (subst (λ (z : List ℕ). IsOnSide side z) (sym is_x) enters.at_side)
               (λ r is_one. ap (λ (z : List ℕ). read z r) is_x))
               (makes.makes x are small)))
 
@@ -303,10 +303,10 @@ module _ (p : Plan) (t : Thread) (c : Choices) (plan : IsPlan p) (of : IsThread 
             (test.at does_site).tests src x are
             (may_evaluate p t plan of seen s.around x condition known.condition_is (subst (λ (ls : List ℕ). HoldsEach h src x ls) known.uses held_all) answered)
 
-        after_it : (next : ℕ) → Contains (successors (Test condition holds fails)) next → (y : List ℕ) → IsTested x y → Enters p t next seen bank y
+        after_it : (next : ℕ) → Contains (successors (Test condition holds fails)) next → (y : List ℕ) → IsTested x y → Enters p t next seen side y
         after_it next goes_on y got =
-            enters_on p t plan of node next is at (subst (λ (b : Action). Contains (successors b) next) (sym same) goes_on) seen bank x enters seen bank y
-            known.assigns (ap owes same) refl (at_bank_on bank x y enters.at_bank got.are (got.unchanged 3 refl))
+            enters_on p t plan of node next is at (subst (λ (b : Action). Contains (successors b) next) (sym same) goes_on) seen side x enters seen side y
+            known.assigns (ap owes same) refl (at_side_on side x y enters.at_side got.are (got.unchanged 3 refl))
             (λ r is_one. got.unchanged r (local_plain r is_one))
 
         of_holds : IsNodeOf t holds
@@ -321,20 +321,20 @@ module _ (p : Plan) (t : Thread) (c : Choices) (plan : IsPlan p) (of : IsThread 
         -- to the label, or to what stands after the branch
         to_label : (next : ℕ) → IsNodeOf t next → Contains (successors (Test condition holds fails)) next →
             GoesThrough s (fragment x (to does_at) (label_of does does_site (label_of_node p t c next)) does_words) (Mark ∷ []) (IsTested x) →
-            GoesThrough s (fragment x (places.core node) (places.entry next) words) (Mark ∷ []) (Enters p t next seen bank)
+            GoesThrough s (fragment x (places.core node) (places.entry next) words) (Mark ∷ []) (Enters p t next seen side)
         to_label next of_next goes_on leg =
-            within x (places.entry next) (Mark ∷ []) (Enters p t next seen bank)
-            (weaker s (fragment x (to does_at) (places.entry next) does_words) (Mark ∷ []) (IsTested x) (Enters p t next seen bank) (after_it next goes_on)
+            within x (places.entry next) (Mark ∷ []) (Enters p t next seen side)
+            (weaker s (fragment x (to does_at) (places.entry next) does_words) (Mark ∷ []) (IsTested x) (Enters p t next seen side) (after_it next goes_on)
             (moved s x (to does_at) (to does_at) (label_of does does_site (label_of_node p t c next)) (places.entry next) does_words (Mark ∷ [])
             (IsTested x) refl
             (label_is next of_next) leg))
 
         to_next : (next : ℕ) → IsNodeOf t next → Contains (successors (Test condition holds fails)) next → GoesTo p t c node next goes →
             GoesThrough s (fragment x (to does_at) (to goes_at) does_words) (Mark ∷ []) (IsTested x) →
-            GoesThrough s (fragment x (places.core node) (places.entry next) words) (Mark ∷ []) (Enters p t next seen bank)
+            GoesThrough s (fragment x (places.core node) (places.entry next) words) (Mark ∷ []) (Enters p t next seen side)
         to_next next of_next goes_on goes_to leg =
-            then_next next of_next goes_to x (Mark ∷ []) (Enters p t next seen bank)
-            (weaker s (fragment x (to does_at) (to goes_at) does_words) (Mark ∷ []) (IsTested x) (Enters p t next seen bank) (after_it next goes_on) leg)
+            then_next next of_next goes_to x (Mark ∷ []) (Enters p t next seen side)
+            (weaker s (fragment x (to does_at) (to goes_at) does_words) (Mark ∷ []) (IsTested x) (Enters p t next seen side) (after_it next goes_on) leg)
 
         first_follows : Contains (holds ∷ fails ∷ []) holds
         first_follows = (0, omega arith, refl)
@@ -349,7 +349,7 @@ module _ (p : Plan) (t : Thread) (c : Choices) (plan : IsPlan p) (of : IsThread 
                 (if (if true then z else not z) then label_of does does_site (label_of_node p t c fails) else to goes_at)
                 does_words) (Mark ∷ []) (IsTested x) →
                 GoesThrough s (fragment x (places.core node) (places.entry (if z then fails else holds)) words) (Mark ∷ [])
-                (Enters p t (if z then fails else holds) seen bank)
+                (Enters p t (if z then fails else holds) seen side)
             by true leg = to_label fails of_fails second_follows leg
             by false leg = to_next holds of_holds first_follows (record { follows = λ e1. none; jumps = λ other. absurd (other next_is) }) leg
         tests_it (straight test goes_to) = by zero_there (tested false (label_of_node p t c holds) test)
@@ -358,7 +358,7 @@ module _ (p : Plan) (t : Thread) (c : Choices) (plan : IsPlan p) (of : IsThread 
                 (if (if false then z else not z) then label_of does does_site (label_of_node p t c holds) else to goes_at)
                 does_words) (Mark ∷ []) (IsTested x) →
                 GoesThrough s (fragment x (places.core node) (places.entry (if z then fails else holds)) words) (Mark ∷ [])
-                (Enters p t (if z then fails else holds) seen bank)
+                (Enters p t (if z then fails else holds) seen side)
             by true leg = to_next fails of_fails second_follows goes_to leg
             by false leg = to_label holds of_holds first_follows leg
 
@@ -366,13 +366,13 @@ module _ (p : Plan) (t : Thread) (c : Choices) (plan : IsPlan p) (of : IsThread 
 
       module _ (next : ℕ) (none : is.assigns ≡ None) (free : owes is.action ≡ false) (follows_it : Contains (successors is.action) next) where
         -- a call's registers are no local's
-        asks_enter : (number mutex other : ℕ) (z y : List ℕ) → AtBank other z → ((r : ℕ) → is_local r ≡ true → read z r ≡ read x r) → Asks number mutex z y →
+        asks_enter : (number mutex other : ℕ) (z y : List ℕ) → IsOnSide other z → ((r : ℕ) → is_local r ≡ true → read z r ≡ read x r) → Asks number mutex z y →
             Asking p t places number mutex next seen other y
-        asks_enter number mutex other z y banked kept asks = record {
+        asks_enter number mutex other z y on_side kept asks = record {
           call = asks.call;
           lock = asks.lock;
-          enters = enters_on p t plan of node next is at follows_it seen bank x enters seen other y none free refl
-              (at_bank_on other z y banked asks.are
+          enters = enters_on p t plan of node next is at follows_it seen side x enters seen other y none free refl
+              (at_side_on other z y on_side asks.are
               (asks.others 3 (λ e1. let w : ⊥ = omega (arith, e1) in w) (λ e1. let w : ⊥ = omega (arith, e1) in w)))
               (λ r is_one. asks.others r (local_other r 10 refl is_one) (local_other r 17 refl is_one) ∙ kept r is_one);
         }
@@ -380,12 +380,12 @@ module _ (p : Plan) (t : Thread) (c : Choices) (plan : IsPlan p) (of : IsThread 
       pub takes_it : (mutex next : ℕ) → is.action ≡ Lock mutex next → PlainKnown p.flat t.kinds t.part.first t.part.end p.graph.nodes next is →
           (locks : Locks (boundary_before p t c next 0) mutex does does_site) → places.call node ≡ locks.call → Performs p t places m (a.Takes mutex next)
       takes_it mutex next same known locks call =
-          within x (places.call node) [] (Asking p t places takes mutex next seen bank)
-          (moved s x (to does_at) (to does_at) locks.call (places.call node) does_words [] (Asking p t places takes mutex next seen bank) refl (sym call)
-          (weaker s (fragment x (to does_at) locks.call does_words) [] (Asks takes mutex x) (Asking p t places takes mutex next seen bank)
+          within x (places.call node) [] (Asking p t places takes mutex next seen side)
+          (moved s x (to does_at) (to does_at) locks.call (places.call node) does_words [] (Asking p t places takes mutex next seen side) refl (sym call)
+          (weaker s (fragment x (to does_at) locks.call does_words) [] (Asks takes mutex x) (Asking p t places takes mutex next seen side)
           (λ y asks. asks_enter next known.assigns (ap owes same) (subst (λ (b : Action). Contains (successors b) next) (sym same)
           (0, omega arith, refl)) takes mutex
-          bank x y enters.at_bank (λ r is_one. refl) asks)
+          side x y enters.at_side (λ r is_one. refl) asks)
           (locks.asks x are)))
 
       pub gives_it : (mutex next : ℕ) → is.action ≡ Unlock mutex next → PlainKnown p.flat t.kinds t.part.first t.part.end p.graph.nodes next is →
@@ -393,21 +393,21 @@ module _ (p : Plan) (t : Thread) (c : Choices) (plan : IsPlan p) (of : IsThread 
           Performs p t places m (a.Gives mutex next)
       gives_it mutex next same known unlocks call after =
           let b : Boundary = boundary_before p t c next 12 in
-          let P : List ℕ → Type 0 = Asking p t places gives mutex next seen (bank_after b bank) in
-          let observations : List Observation = Mark ∷ boundary_observations (keeping p t places next) bank (places.after node) x in
-          let lockstep : Mark ∷ boundary_observations b bank (to goes_at) x ≡ observations =
-          ap (λ (z : ℕ). Mark ∷ boundary_observations b bank z x) (sym after) ∙
-          ap (λ (ls : List ℕ). Mark ∷ boundary_observations (record { thread = t.number; locks = locks_before p t next; live = ls; resume = pos 0 }) bank
+          let P : List ℕ → Type 0 = Asking p t places gives mutex next seen (side_after b side) in
+          let observations : List Observation = Mark ∷ boundary_observations (keeping p t places next) side (places.after node) x in
+          let lockstep : Mark ∷ boundary_observations b side (to goes_at) x ≡ observations =
+          ap (λ (z : ℕ). Mark ∷ boundary_observations b side z x) (sym after) ∙
+          ap (λ (ls : List ℕ). Mark ∷ boundary_observations (record { thread = t.number; locks = locks_before p t next; live = ls; resume = pos 0 }) side
           (places.after node) x) (sym (live next)) in
           within x (places.call node) observations P
           (moved s x (to does_at) (to does_at) unlocks.call (places.call node) does_words observations P refl (sym call)
           (subst (λ (ss : List Observation). GoesThrough s (fragment x (to does_at) unlocks.call does_words) ss P) lockstep
-          (weaker s (fragment x (to does_at) unlocks.call does_words) (Mark ∷ boundary_observations b bank (to goes_at) x)
-          (λ y. (z : List ℕ) × LeavesRegisters b bank x z × Asks gives mutex z y) P
+          (weaker s (fragment x (to does_at) unlocks.call does_words) (Mark ∷ boundary_observations b side (to goes_at) x)
+          (λ y. (z : List ℕ) × LeavesRegisters b side x z × Asks gives mutex z y) P
           (λ y got. asks_enter next known.assigns (ap owes same) (subst (λ (d : Action). Contains (successors d) next) (sym same)
           (0, omega arith, refl)) gives mutex
-          (bank_after b bank) got.0 y got.1.at_bank (λ r is_one. got.1.others r (local_plain r is_one) (local_other r 3 refl is_one)) got.2)
-          (unlocks.asks x bank enters.at_bank))))
+          (side_after b side) got.0 y got.1.at_side (λ r is_one. got.1.others r (local_plain r is_one) (local_other r 3 refl is_one)) got.2)
+          (unlocks.asks x side enters.at_side))))
 
       pub ends_it : (ending : IsEndPiece does does_site) → places.call node ≡ ending.call → Performs p t places m a.Ends
       ends_it ending call =

@@ -11,7 +11,7 @@ use Rattle.ido_ints.proofs.Public.{register_below}
 use Rattle.c_tree.specs.Source.{Pending}
 use Rattle.rv64_isa.specs.Rows.{read}
 use Rattle.memory_layout.specs.Roles.{is_local}
-use Rattle.boundary_code.specs.Boundaries.{AtBank}
+use Rattle.boundary_code.specs.Boundaries.{IsOnSide}
 use Rattle.operator_code.specs.ComputingCode.{Carries}
 use Rattle.flow_graph.specs.Nodes.{Action, Eval, Store, Test, Lock, Unlock, End, Node, Graph, successors}
 use Rattle.flow_graph.specs.Actions.{Seen}
@@ -59,7 +59,7 @@ module _ (p : Plan) (t : Thread) (plan : IsPlan p) (of : IsThread p t) (node nex
   none_assigned : (local : ℕ) → is.assigns ≡ None → is.assigns ≢ Some local
   none_assigned local none e = none-some local (sym none ∙ e)
 
-  module _ (seen : Seen) (bank : ℕ) (x : List ℕ) (enters : Enters p t node seen bank x) where
+  module _ (seen : Seen) (side : ℕ) (x : List ℕ) (enters : Enters p t node seen side x) where
     held_on : is.assigns ≡ None → (ls : List ℤ) → ls ≡ seen.locals → (y : List ℕ) → ((r : ℕ) → is_local r ≡ true → read y r ≡ read x r) →
         (local : ℕ) (k : Kind) → slice_get t.kinds local ≡ Some k → IsLive p.graph local next →
         Carries y (slice_index t.registers local) (typed k (slice_index_or ls local (pos 0)))
@@ -70,10 +70,10 @@ module _ (p : Plan) (t : Thread) (plan : IsPlan p) (of : IsThread p t) (node nex
         (enters.locals local k g (live_before local (none_assigned local none) live)))
 
     -- where nothing is assigned, and no store is pending after the node
-    pub enters_on : (later : Seen) (other : ℕ) (y : List ℕ) → is.assigns ≡ None → owes is.action ≡ false → later.locals ≡ seen.locals → AtBank other y →
+    pub enters_on : (later : Seen) (other : ℕ) (y : List ℕ) → is.assigns ≡ None → owes is.action ≡ false → later.locals ≡ seen.locals → IsOnSide other y →
         ((r : ℕ) → is_local r ≡ true → read y r ≡ read x r) → Enters p t next later other y
-    enters_on later other y none free same banked kept = record {
-      at_bank = banked;
+    enters_on later other y none free same on_side kept = record {
+      at_side = on_side;
       count = ap length same ∙ enters.count;
       locals = held_on none later.locals same y kept;
       pending = λ m there. none_pending p m.action later y (no_store free m there);
@@ -81,10 +81,10 @@ module _ (p : Plan) (t : Thread) (plan : IsPlan p) (of : IsThread p t) (node nex
 
     -- where a store is pending after it
     pub enters_owing : (later : Seen) (y : List ℕ) (store : Pending) (variable : ℕ) (kind : Kind) → is.assigns ≡ None → later.locals ≡ seen.locals →
-        later.pending ≡ Some store → AtBank bank y → ((r : ℕ) → is_local r ≡ true → read y r ≡ read x r) →
-        StoresThere p.graph.nodes next variable kind → HasPending p store variable kind y → Enters p t next later bank y
-    enters_owing later y store variable kind none same owing banked kept stores has = record {
-      at_bank = banked;
+        later.pending ≡ Some store → IsOnSide side y → ((r : ℕ) → is_local r ≡ true → read y r ≡ read x r) →
+        StoresThere p.graph.nodes next variable kind → HasPending p store variable kind y → Enters p t next later side y
+    enters_owing later y store variable kind none same owing on_side kept stores has = record {
+      at_side = on_side;
       count = ap length same ∙ enters.count;
       locals = held_on none later.locals same y kept;
       pending = λ m there.
@@ -145,9 +145,9 @@ module _ (p : Plan) (t : Thread) (plan : IsPlan p) (of : IsThread p t) (node nex
               (carries_on x y (slice_index t.registers l) (typed k (slice_index_or seen.locals l (pos 0)))
               (kept (slice_index t.registers l) (register_local p t plan of l (slice_get_within t.kinds l k g)) differ) (enters.locals l k g before))
 
-      pub enters_set : owes is.action ≡ false → AtBank bank y → Enters p t next (record seen { locals = later }) bank y
-      enters_set free banked = record {
-        at_bank = banked;
+      pub enters_set : owes is.action ≡ false → IsOnSide side y → Enters p t next (record seen { locals = later }) side y
+      enters_set free on_side = record {
+        at_side = on_side;
         count = length-set seen.locals local number ∙ enters.count;
         locals = each;
         pending = λ m at_next. none_pending p m.action (record seen { locals = later }) y (no_store free m at_next);

@@ -47,8 +47,8 @@ module _ (p : Plan) (t : Thread) (node : ℕ) (seen : Seen) (x y : List ℕ) (li
   pending_again is at End e h = tt
 
 pub enters_again : EntersAgain
-enters_again p t node seen bank other x y live kept h at same = record {
-  at_bank = at;
+enters_again p t node seen side other x y live kept h at same = record {
+  at_side = at;
   count = h.count;
   locals = λ local k g l. carries_on x y (slice_index t.registers local) _ (same_kept p t node seen x y live kept same (slice_index t.registers local)
       (of_local local k g l)) (h.locals local k g l);

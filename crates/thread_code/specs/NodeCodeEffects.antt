@@ -10,8 +10,8 @@ use Rattle.rv64_isa.specs.declared.instr.Instr.{Instr}
 use Rattle.rv64_isa.specs.Rows.{Stores, row, read}
 use Rattle.rv64_link.specs.LinkedCode.{IsInstructionAt}
 use Rattle.memory_layout.specs.Roles as roles
-use Rattle.boundary_code.specs.Boundaries.{Boundary}
-use Rattle.node_code.specs.Pieces.{store_observations, boundary_observations, bank_after, takes, gives, ends}
+use Rattle.boundary_code.specs.Boundaries.{Boundary, side_after}
+use Rattle.node_code.specs.Pieces.{store_observations, boundary_observations, takes, gives, ends}
 use Rattle.flow_graph.specs.Actions as a
 use Rattle.code_runs.specs.CodeTraces.{Program, MarkedEnvironment, Meets, Observation, Mark, GoesThrough}
 use Rattle.thread_code.specs.Plans.{Plan, Thread, locks_before}
@@ -49,12 +49,12 @@ kind_at variables variable = slice_get (map (λ (x : v.Variable). x.kind) variab
 
 -- ---- Pieces
 
--- a thread at the code of a node: what it sees, the bank of its point, and its registers
+-- a thread at the code of a node: what it sees, the side of its point, and its registers
 pub record Entrance : Type 0 where
   pub environment : MarkedEnvironment
   pub node : ℕ
   pub seen : a.Seen
-  pub bank : ℕ
+  pub side : ℕ
   pub registers : List ℕ
 
 module _ (p : Plan) (t : Thread) (c : Places) where
@@ -65,7 +65,7 @@ module _ (p : Plan) (t : Thread) (c : Places) where
 
   -- registers represent what the thread sees at the node
   abbrev pub EntersAt : Entrance → (node : ℕ) → Type 0
-  EntersAt m node = Enters p t node m.seen m.bank m.registers
+  EntersAt m node = Enters p t node m.seen m.side m.registers
 
   -- a boundary that keeps what is live at the entry of the node
   abbrev pub keeping : (node : ℕ) → Boundary
@@ -79,13 +79,13 @@ module _ (p : Plan) (t : Thread) (c : Places) where
   -- from the one address to the other stands the boundary at which a thread resumes at the node, at an address
   abbrev pub BoundaryCode : Entrance → (kept : ℕ) → (from to resume : ℕ) → Type 0
   BoundaryCode m kept from to resume =
-      Passing m from to (boundary_observations (keeping kept) m.bank resume m.registers) (Enters p t kept m.seen (bank_after (keeping kept) m.bank))
+      Passing m from to (boundary_observations (keeping kept) m.side resume m.registers) (Enters p t kept m.seen (side_after (keeping kept) m.side))
 
   -- registers ask for the call, and represent what the thread sees at the next node
-  pub record Asking (number mutex next : ℕ) (seen : a.Seen) (bank : ℕ) (registers : List ℕ) : Type 0 where
+  pub record Asking (number mutex next : ℕ) (seen : a.Seen) (side : ℕ) (registers : List ℕ) : Type 0 where
     pub call : read registers roles.call ≡ number
     pub lock : read registers roles.lock ≡ mutex
-    pub enters : Enters p t next seen bank registers
+    pub enters : Enters p t next seen side registers
 
   -- the first instruction of the node makes the store, of the register that has the number's bytes
   pub record Storing (m : Entrance) (k : Kind) (store : Pending) : Type 0 where
@@ -98,18 +98,18 @@ module _ (p : Plan) (t : Thread) (c : Places) where
   -- what the code of a node does, where the node has this effect: it leads to the next node, or to its ECALL
   abbrev pub Performs : Entrance → a.Effect → Type 0
   Performs m (a.Sets local number next) =
-      Passing m (c.core m.node) (c.entry next) (Mark ∷ []) (Enters p t next (seen_after (a.Sets local number next) m.seen) m.bank)
-  Performs m (a.Owes store next) = Passing m (c.core m.node) (c.entry next) (Mark ∷ []) (Enters p t next (seen_after (a.Owes store next) m.seen) m.bank)
+      Passing m (c.core m.node) (c.entry next) (Mark ∷ []) (Enters p t next (seen_after (a.Sets local number next) m.seen) m.side)
+  Performs m (a.Owes store next) = Passing m (c.core m.node) (c.entry next) (Mark ∷ []) (Enters p t next (seen_after (a.Owes store next) m.seen) m.side)
   Performs m (a.Makes store next) = (k : Kind) → kind_at p.flat.variables store.variable ≡ Some k → Storing m k store ×
       Passing m (c.core m.node) (c.entry next) (pending_observations k store (read m.registers roles.pending_value) (c.cleans m.node))
-      (Enters p t next (seen_after (a.Makes store next) m.seen) m.bank)
-  Performs m (a.Goes next) = Passing m (c.core m.node) (c.entry next) (Mark ∷ []) (Enters p t next m.seen m.bank)
-  Performs m (a.Takes mutex next) = Passing m (c.core m.node) (c.call m.node) [] (Asking takes mutex next m.seen m.bank)
+      (Enters p t next (seen_after (a.Makes store next) m.seen) m.side)
+  Performs m (a.Goes next) = Passing m (c.core m.node) (c.entry next) (Mark ∷ []) (Enters p t next m.seen m.side)
+  Performs m (a.Takes mutex next) = Passing m (c.core m.node) (c.call m.node) [] (Asking takes mutex next m.seen m.side)
   Performs m (a.Gives mutex next) = Passing m (c.core m.node) (c.call m.node)
-      (Mark ∷ boundary_observations (keeping next) m.bank (c.after m.node) m.registers) (Asking gives mutex next m.seen (bank_after (keeping next) m.bank))
+      (Mark ∷ boundary_observations (keeping next) m.side (c.after m.node) m.registers) (Asking gives mutex next m.seen (side_after (keeping next) m.side))
   Performs m a.Ends = Passing m (c.core m.node) (c.call m.node) (Mark ∷ []) (λ x. read x roles.call ≡ ends)
 
   -- after the ECALL of a lock stands a boundary, of an unlock nothing; from there the code leads to the next node
   pub record GoesOnAfter (node next : ℕ) : Type 0 where
     pub on : (m : Entrance) → Meets c.program m.environment → m.node ≡ node → EntersAt m next →
-        Passing m (c.after node) (c.entry next) [] (Enters p t next m.seen m.bank)
+        Passing m (c.after node) (c.entry next) [] (Enters p t next m.seen m.side)

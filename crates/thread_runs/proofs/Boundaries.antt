@@ -1,5 +1,6 @@
 -- What a boundary does to memory, it may do, and it is apart from variables.
-use Rattle.std.proofs.Common.{◌≡◌, inl, ℕ, zero, suc, ◌+◌, ◌*◌, ◌/◌, ◌%◌, ◌^◌, ◌<◌, ◌≤◌, List, [], ◌∷◌, ◌++◌, length, map, refl, ap, arith, Bool, true, false}
+use Rattle.std.proofs.Common.{◌-◌, ◌≡◌, inl, ℕ, zero, suc, ◌+◌, ◌*◌, ◌/◌, ◌%◌, ◌^◌, ◌<◌, ◌≤◌, List, [], ◌∷◌, ◌++◌, length, map, refl, ap, arith, Bool, true}
+use Rattle.std.proofs.Common.{false}
 use Rattle.std.specs.Prelude.{◌==◌, ◌&&◌, ◌||◌, nat_le, Contains}
 use Rattle.std.specs.List.{list_any, filter}
 use Rattle.std.proofs.lemmas.Bool.{cond_both, le-leb}
@@ -133,32 +134,35 @@ commit_on_log threads thread point t =
       ),
     )
 
-boundary_on_log : (threads : ℕ) (b : Boundary) (bank resume : ℕ) (x : List ℕ) → b.thread < threads → bank < 2 → ((r : ℕ) → Contains b.live r → r < 32) →
-    AreOnLog threads (boundary_effects b bank resume x)
+boundary_on_log : (threads : ℕ) (b : Boundary) (side resume : ℕ) (x : List ℕ) → b.thread < threads → ((r : ℕ) → Contains b.live r → r < 32) →
+    AreOnLog threads (boundary_effects b side resume x)
 unfolding AreOnLog
-boundary_on_log threads b bank resume x t k live =
-    cond_both (is_empty b.locks) (commit_effects b.thread 0) (bank_effects b bank x ++ commit_effects b.thread ((resume + bank) % 2 ^ 64))
+boundary_on_log threads b side resume x t live =
+    cond_both (is_empty b.locks) (commit_effects b.thread 0) (bank_effects b (1 - side) x ++ commit_effects b.thread ((resume + (1 - side)) % 2 ^ 64))
     (λ (es : List Effect). AreOnLog threads es) (λ _. commit_on_log threads b.thread 0 t)
-    (λ _. both_on_log threads (bank_effects b bank x) (commit_effects b.thread ((resume + bank) % 2 ^ 64)) (
+    (λ _. both_on_log threads (bank_effects b (1 - side) x) (commit_effects b.thread ((resume + (1 - side)) % 2 ^ 64)) (
       first _,
-      both_on_log threads (map (λ r. Stores (slot_at b.thread bank r) 8 (read x r)) b.live)
-          (map (λ line. Cleans (slot_at b.thread bank (8 * line))) (lines_in_use (0 ∷ b.live)))
-          (stores_on_log threads b.thread bank t k x b.live live)
-          (cleans_on_log threads b.thread bank t k (λ line. list_any (λ slot. slot / 8 == line) (0 ∷ b.live)) (0 ∷ 1 ∷ 2 ∷ 3 ∷ [])
-          (four_lines threads b.thread bank t k)),
+      both_on_log threads (map (λ r. Stores (slot_at b.thread (1 - side) r) 8 (read x r)) b.live)
+          (map (λ line. Cleans (slot_at b.thread (1 - side) (8 * line))) (lines_in_use (0 ∷ b.live)))
+          (stores_on_log threads b.thread (1 - side) t k x b.live live)
+          (cleans_on_log threads b.thread (1 - side) t k (λ line. list_any (λ slot. slot / 8 == line) (0 ∷ b.live)) (0 ∷ 1 ∷ 2 ∷ 3 ∷ [])
+          (four_lines threads b.thread (1 - side) t k)),
     )
-    (commit_on_log threads b.thread ((resume + bank) % 2 ^ 64) t))
+    (commit_on_log threads b.thread ((resume + (1 - side)) % 2 ^ 64) t))
   where
-    first : (value : ℕ) → OnLog threads (Stores (slot_at b.thread bank 0) 8 value)
-    first value = slot_store threads b.thread bank t k 0 value (omega arith)
+    k : 1 - side < 2
+    k = omega arith
+
+    first : (value : ℕ) → OnLog threads (Stores (slot_at b.thread (1 - side) 0) 8 value)
+    first value = slot_store threads b.thread (1 - side) t k 0 value (omega arith)
 
 -- each goes where it may
-pub boundary_may : (threads : ℕ) (b : Boundary) (bank resume : ℕ) (x : List ℕ) → b.thread < threads → bank < 2 →
-    ((r : ℕ) → Contains b.live r → r < 32) → MayGo threads (seen_effects (boundary_effects b bank resume x))
-boundary_may threads b bank resume x t k live = log_may threads (boundary_effects b bank resume x) (boundary_on_log threads b bank resume x t k live)
+pub boundary_may : (threads : ℕ) (b : Boundary) (side resume : ℕ) (x : List ℕ) → b.thread < threads →
+    ((r : ℕ) → Contains b.live r → r < 32) → MayGo threads (seen_effects (boundary_effects b side resume x))
+boundary_may threads b side resume x t live = log_may threads (boundary_effects b side resume x) (boundary_on_log threads b side resume x t live)
 
 -- each effect of a boundary goes to no variable
-pub boundary_apart : (threads : ℕ) (s : MarkedEnvironment) (b : Boundary) (bank resume : ℕ) (x : List ℕ) → ReadsVariables s → b.thread < threads → bank < 2 →
-    ((r : ℕ) → Contains b.live r → r < 32) → AreEffectsApart s (boundary_effects b bank resume x)
-boundary_apart threads s b bank resume x reads t k live =
-    log_apart threads s (boundary_effects b bank resume x) reads (boundary_on_log threads b bank resume x t k live)
+pub boundary_apart : (threads : ℕ) (s : MarkedEnvironment) (b : Boundary) (side resume : ℕ) (x : List ℕ) → ReadsVariables s → b.thread < threads →
+    ((r : ℕ) → Contains b.live r → r < 32) → AreEffectsApart s (boundary_effects b side resume x)
+boundary_apart threads s b side resume x reads t live =
+    log_apart threads s (boundary_effects b side resume x) reads (boundary_on_log threads b side resume x t live)

@@ -1,5 +1,5 @@
 -- Where fragments begin that no mark begins.
-use Rattle.std.proofs.Common.{ℕ, zero, ◌-◌, ◌<◌, List, [], ◌∷◌, length, refl, arith, sym, subst}
+use Rattle.std.proofs.Common.{ℕ, zero, ◌<◌, List, [], ◌∷◌, length, refl, arith, sym, subst}
 use Rattle.std.specs.Prelude.{Contains}
 use Rattle.rv64_isa.specs.declared.object.Slot.{Slot}
 use Rattle.rv64_isa.specs.Rows.{Effect}
@@ -36,7 +36,7 @@ module _ (p : Plan) (t : Thread) (c : Places) (program : List (List Slot)) (w : 
       IsInGraph p t c stage.exit stage.node →
       AreEffectsApart s effects → MayGo (length w.harts) (seen_effects effects) → IsRunningAt w h (config registers from) →
       GoesThrough s (record { registers = registers; from = from; to = end_of p t c stage.exit stage.node; most = most }) (seen_effects effects)
-      (λ (x : List ℕ). Has p t c stage.exit stage.node stage.seen stage.bank x) → IsOnSomeFragment p t c (on_machine program w h s) stage most effects
+      (λ (x : List ℕ). Has p t c stage.exit stage.node stage.seen stage.side x) → IsOnSomeFragment p t c (on_machine program w h s) stage most effects
   on_fragment stage most from registers effects own graph apart may at goes = record {
     steps = goes.steps;
     short = goes.short;
@@ -53,28 +53,24 @@ module _ (p : Plan) (t : Thread) (c : Places) (program : List (List Slot)) (w : 
     };
   }
 
--- a bank has one other
-pub other_bank : (bank : ℕ) → 1 - bank < 2
-other_bank bank = omega arith
-
 pub at_end : (w : World) (h : ℕ) (s : MarkedEnvironment) (seen : List Observation) (to : LocalConfig) → IsOnTrace w h s 0 seen to → IsRunningAt w h to
 at_end w h s seen to on = record { hart = on.hart; here = on.here; runs = on.runs; is = on.walks.0 }
 
 -- ---- At the entry of a node
 
 pub arrivals_end : ArrivalsEnd
-arrivals_end p t program own code w h s node seen bank effects placed reads is found fragment =
+arrivals_end p t program own code w h s node seen side effects placed reads is found fragment =
     let c : Places = code.places in
-    let m : Entrance = record { environment = s; node = node; seen = seen; bank = bank; registers = fragment.registers } in
+    let m : Entrance = record { environment = s; node = node; seen = seen; side = side; registers = fragment.registers } in
     let at : IsRunningAt w h (config fragment.registers (c.entry node)) =
     at_end w h s (seen_effects effects) (config fragment.registers (c.entry node)) fragment.on in
     let of_node : IsNodeCode p t c node is = code.code node is fragment.own found in
     record {
       chosen = λ k. on_fragment p t c program w h s fragment.meets fragment.agrees _ (c.words node) (c.entry node) fragment.registers
-          (boundary_effects (keeping p t c node) (1 - bank) (c.core node) fragment.registers) fragment.own tt
-          (boundary_apart (length w.harts) s (keeping p t c node) (1 - bank) (c.core node) fragment.registers reads placed.number (other_bank bank)
+          (boundary_effects (keeping p t c node) side (c.core node) fragment.registers) fragment.own tt
+          (boundary_apart (length w.harts) s (keeping p t c node) side (c.core node) fragment.registers reads placed.number
           (λ r q. placed.slots node r fragment.own q))
-          (boundary_may (length w.harts) (keeping p t c node) (1 - bank) (c.core node) fragment.registers placed.number (other_bank bank)
+          (boundary_may (length w.harts) (keeping p t c node) side (c.core node) fragment.registers placed.number
           (λ r q. placed.slots node r fragment.own q))
           at (of_node.chosen k m refl (record { meets = fragment.meets; own = fragment.own; enters = fragment.has }));
       plain = λ k. record {
@@ -92,10 +88,10 @@ contains_first x xs = (zero, omega arith, refl)
 module _ (p : Plan) (t : Thread) (from next : ℕ) (is : Node) (own : IsNodeOf t from) (found : NodeAt p.graph from is)
     (follows : Contains (successors is.action) next) where
   goes_on : ((c : Places) → IsCalling p t c is.action from → GoesOnAfter p t c from next) → GoesOnFrom from next p t
-  goes_on after program whole code w h s seen bank registers placed meets agrees at enters =
+  goes_on after program whole code w h s seen side registers placed meets agrees at enters =
       let c : Places = code.places in
-      let m : Entrance = record { environment = s; node = from; seen = seen; bank = bank; registers = registers } in
-      on_fragment p t c program w h s meets agrees (record { exit = Arrives; node = next; seen = seen; bank = bank }) (c.words from) (c.after from) registers []
+      let m : Entrance = record { environment = s; node = from; seen = seen; side = side; registers = registers } in
+      on_fragment p t c program w h s meets agrees (record { exit = Arrives; node = next; seen = seen; side = side }) (c.words from) (c.after from) registers []
       (placed.closed from next is own found follows) tt tt tt at ((after c (code.code from is own found).calls).on m meets refl enters)
 
 pub locks_go_on : LocksGoOn
@@ -111,6 +107,6 @@ unlocks_go_on p t from mutex next l =
     (λ c calls. (subst (λ (a : Action). IsCalling p t c a from) l.unlocks calls).1)
 
 pub took_end : TookEnd
-took_end p t program own code w h s from node seen bank effects placed fragment =
-    locks_go_on p t from fragment.of_graph.0 node fragment.of_graph.1 program own code w h s seen bank fragment.registers placed fragment.meets fragment.agrees
+took_end p t program own code w h s from node seen side effects placed fragment =
+    locks_go_on p t from fragment.of_graph.0 node fragment.of_graph.1 program own code w h s seen side fragment.registers placed fragment.meets fragment.agrees
     (at_end w h s (seen_effects effects) (config fragment.registers (code.places.after from)) fragment.on) fragment.has

@@ -5,6 +5,7 @@ mod FragmentSteps
 mod MarkSteps
 mod OtherEventsKeepThreads
 mod Boundaries
+mod BoundaryCleanCount
 mod FragmentStarts
 mod Graph
 mod NodeSteps

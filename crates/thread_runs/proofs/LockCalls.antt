@@ -1,5 +1,5 @@
 -- Threads that ask for a mutex.
-use Rattle.std.proofs.Common.{◌≡◌, ℕ, ◌+◌, ◌-◌, List, [], length, refl, ap, sym, ◌∙◌, subst, true, false, Some, None, ◌==◌}
+use Rattle.std.proofs.Common.{◌≡◌, ℕ, ◌+◌, List, [], length, refl, ap, sym, ◌∙◌, subst, true, false, Some, None, ◌==◌}
 use Rattle.std.specs.Prelude.{slice_get, ◌&&◌, Contains}
 use Rattle.std.specs.List.{list_any}
 use Rattle.ido_base.specs.declared.event.Event.TheVariants.{Step}
@@ -8,8 +8,8 @@ use Rattle.rv64_isa.specs.declared.object.Slot.{Slot}
 use Rattle.rv64_isa.specs.Rows.{Effect, next, read}
 use Rattle.rv64_isa.specs.Machine.{Hart, World, Outcome, with_holder, moved, gone_on, happens, after_event}
 use Rattle.rv64_isa.specs.Schedule.{has_moved, is_mark, passes_mark}
-use Rattle.boundary_code.specs.Boundaries.{boundary_effects}
-use Rattle.node_code.specs.Pieces.{bank_after, takes}
+use Rattle.boundary_code.specs.Boundaries.{boundary_effects, side_after}
+use Rattle.node_code.specs.Pieces.{takes}
 use Rattle.flow_graph.specs.Nodes.{Action, Lock, successors}
 use Rattle.flow_graph.specs.Actions.{Seen}
 use Rattle.code_runs.specs.ComputingRuns.{LocalConfig, config}
@@ -26,14 +26,14 @@ use Rattle.thread_runs.specs.CodeFragments as ways
 use Rattle.thread_runs.specs.CodeFragments.{ReadsVariables, IsLockOf, IsUnlockOf, IsOnFragment, IsPlaced, on_machine}
 use Rattle.thread_runs.specs.Laws.{TakesMutex, LocksTake, LocksWait}
 use Rattle.thread_runs.proofs.Boundaries.{boundary_may, boundary_apart}
-use Rattle.thread_runs.proofs.FragmentStarts.{on_fragment, other_bank, contains_first}
+use Rattle.thread_runs.proofs.FragmentStarts.{on_fragment, contains_first}
 use Rattle.thread_runs.proofs.RunObservations.{mark_of_machine}
 use Rattle.thread_runs.proofs.Graph.{mark_there}
 use Rattle.thread_runs.proofs.ThreadsAtCalls.{agrees_on, words_stay, count_stays, has_moved_by, and_right, pc_is, registers_are, call_there, boundary_after_is}
 
 module _ (p : Plan) (t : Thread) (program : List (List Slot)) (own : Program) (code : IsThreadCode p t own) (w : World) (h : ℕ) (s : MarkedEnvironment)
-    (node mutex next : ℕ) (seen : Seen) (bank : ℕ) (effects : List Effect) (counts : r.CallsCount)
-    (fragment : IsOnFragment p t code.places (on_machine program w h s) (record { exit = ways.Asks mutex next; node = node; seen = seen; bank = bank })
+    (node mutex next : ℕ) (seen : Seen) (side : ℕ) (effects : List Effect) (counts : r.CallsCount)
+    (fragment : IsOnFragment p t code.places (on_machine program w h s) (record { exit = ways.Asks mutex next; node = node; seen = seen; side = side })
     0 effects) where
   abbrev c : Places
   c = code.places
@@ -101,19 +101,19 @@ module _ (p : Plan) (t : Thread) (program : List (List Slot)) (own : Program) (c
         (mark_there p t own code s fragment.meets node lock.is lock.own lock.at))
 
     pub takes_it : TakesMutex p t c (on_machine program w h s) mutex next
-        (record { exit = ways.Asks mutex next; node = node; seen = seen; bank = bank }) hart fragment.registers
+        (record { exit = ways.Asks mutex next; node = node; seen = seen; side = side }) hart fragment.registers
     takes_it = record {
       does = does;
       on = on_fragment p t c program v h s fragment.meets agrees_after
-          (record { exit = ways.Took node; node = next; seen = seen; bank = bank_after (keeping p t c next) bank }) (c.words node) (c.call node + 4)
-          fragment.registers (boundary_effects (keeping p t c next) (1 - bank) (c.after node) fragment.registers) own_next (mutex, lock)
-          (boundary_apart (length w.harts) s (keeping p t c next) (1 - bank) (c.after node) fragment.registers reads placed.number (other_bank bank)
+          (record { exit = ways.Took node; node = next; seen = seen; side = side_after (keeping p t c next) side }) (c.words node) (c.call node + 4)
+          fragment.registers (boundary_effects (keeping p t c next) side (c.after node) fragment.registers) own_next (mutex, lock)
+          (boundary_apart (length w.harts) s (keeping p t c next) side (c.after node) fragment.registers reads placed.number
           (λ r q. placed.slots next r own_next q))
-          (subst (λ (n : ℕ). MayGo n (seen_effects (boundary_effects (keeping p t c next) (1 - bank) (c.after node) fragment.registers))) (sym same_count)
-          (boundary_may (length w.harts) (keeping p t c next) (1 - bank) (c.after node) fragment.registers placed.number (other_bank bank)
+          (subst (λ (n : ℕ). MayGo n (seen_effects (boundary_effects (keeping p t c next) side (c.after node) fragment.registers))) (sym same_count)
+          (boundary_may (length w.harts) (keeping p t c next) side (c.after node) fragment.registers placed.number
           (λ r q. placed.slots next r own_next q)))
           after
-          (calling.2 (record { environment = s; node = node; seen = seen; bank = bank; registers = fragment.registers }) fragment.meets refl
+          (calling.2 (record { environment = s; node = node; seen = seen; side = side; registers = fragment.registers }) fragment.meets refl
           fragment.has.enters);
       mark = λ marks same. (counts program w h takes at_call).0 marks
           ∙ (and_right _ _ (has_moved_by program w (with_holder w mutex (Some h)) h (gone_on hart) does)
@@ -122,9 +122,9 @@ module _ (p : Plan) (t : Thread) (program : List (List Slot)) (own : Program) (c
     }
 
 pub locks_take : r.CallsCount → LocksTake
-locks_take counts p t program own code w h s node mutex next seen bank effects placed reads fragment free =
-    takes_it p t program own code w h s node mutex next seen bank effects counts fragment placed reads free
+locks_take counts p t program own code w h s node mutex next seen side effects placed reads fragment free =
+    takes_it p t program own code w h s node mutex next seen side effects counts fragment placed reads free
 
 pub locks_wait : r.CallsCount → LocksWait
-locks_wait counts p t program own code w h s node mutex next seen bank effects holder fragment held =
-    waits p t program own code w h s node mutex next seen bank effects counts fragment holder held
+locks_wait counts p t program own code w h s node mutex next seen side effects holder fragment held =
+    waits p t program own code w h s node mutex next seen side effects counts fragment holder held

@@ -1,5 +1,5 @@
 -- What a thread does at its node's code.
-use Rattle.std.proofs.Common.{◌≡◌, ◌⊎◌, inl, inr, ℕ, zero, suc, ◌+◌, ◌-◌, ◌≤◌, List, [], ◌∷◌, length, map, refl, ap, arith, sym, ◌∙◌, subst, cond, Bool}
+use Rattle.std.proofs.Common.{◌≡◌, ◌⊎◌, inl, inr, ℕ, zero, suc, ◌+◌, ◌≤◌, List, [], ◌∷◌, length, map, refl, ap, arith, sym, ◌∙◌, subst, cond, Bool}
 use Rattle.std.proofs.Common.{true, false, Some}
 use Rattle.std.specs.Prelude.{◌&&◌, ◌||◌, ◌*◌, nat_le}
 use Rattle.std.proofs.lemmas.Bool.{cond_both, or_cases, and_parts, leb-true, le-leb}
@@ -31,7 +31,7 @@ use Rattle.thread_runs.specs.CodeFragments.{IsAtMark, IsMadeBy, AreSeen, stage_a
 use Rattle.thread_runs.specs.CodeFragments.{cleans_of, IsPlaced, MayBeMade, MayDo}
 use Rattle.thread_runs.specs.Laws.{IsAtSomeMark, Performing, NodesBegin}
 use Rattle.thread_runs.proofs.Boundaries.{both_true, second_true, boundary_may, boundary_apart}
-use Rattle.thread_runs.proofs.FragmentStarts.{on_fragment, other_bank}
+use Rattle.thread_runs.proofs.FragmentStarts.{on_fragment}
 use Rattle.thread_runs.proofs.Graph.{next_follows, takes_lock, gives_unlock, ends_end, next_by, is_taking, core_marked}
 
 -- ---- Lines
@@ -78,26 +78,26 @@ cleans_lockstep true effect = refl
 cleans_lockstep false effect = refl
 
 module _ (p : Plan) (t : Thread) (program : List (List Slot)) (own : Program) (code : IsThreadCode p t own) (w : World) (h : ℕ) (s : MarkedEnvironment)
-    (node : ℕ) (seen : Seen) (bank : ℕ) (registers : List ℕ) (is : Node) (placed : IsPlaced p t code.places (length w.harts))
+    (node : ℕ) (seen : Seen) (side : ℕ) (registers : List ℕ) (is : Node) (placed : IsPlaced p t code.places (length w.harts))
     (meets : Meets code.places.program s) (agrees : Agrees program w h s) (reads : ReadsVariables s) (found : NodeAt p.graph node is)
-    (answered : IsAnswered (source_of p t seen) s.around.loads is.action) (at : IsAtCore p t code.places w h node seen bank registers) where
+    (answered : IsAnswered (source_of p t seen) s.around.loads is.action) (at : IsAtCore p t code.places w h node seen side registers) where
   abbrev c : Places
   c = code.places
 
   abbrev m : Entrance
-  m = record { environment = s; node = node; seen = seen; bank = bank; registers = registers }
+  m = record { environment = s; node = node; seen = seen; side = side; registers = registers }
 
   performs : (e : a.Effect) → effect_of is.action seen ≡ Some e → Performs p t c m e
   performs e eq = (code.code node is at.own found).performs m e refl (record { meets = meets; own = at.own; enters = at.enters }) answered eq
 
-  at_mark : (e : a.Effect) (stage : Stage) (effects : List Effect) → stage_after p t c node seen bank e ≡ stage → effect_of is.action seen ≡ Some e →
+  at_mark : (e : a.Effect) (stage : Stage) (effects : List Effect) → stage_after p t c node seen side e ≡ stage → effect_of is.action seen ≡ Some e →
       is_taking e ≡ false →
       GoesThrough s (record { registers = registers; from = c.core node; to = end_of p t c stage.exit stage.node; most = c.words node })
       (Mark ∷ seen_effects effects)
-      (λ (x : List ℕ). Has p t c stage.exit stage.node stage.seen stage.bank x) →
+      (λ (x : List ℕ). Has p t c stage.exit stage.node stage.seen stage.side x) →
       IsNodeOf t stage.node → IsInGraph p t c stage.exit stage.node → AreEffectsApart s effects → MayGo (length w.harts) (seen_effects effects) →
-      ((effect : Effect) → effect_at program h at.at.hart ≡ Some effect → IsMadeBy p t c e effect) → AreSeen p t c node bank registers e effects →
-      IsAtSomeMark p t c (on_machine program w h s) node seen bank registers e
+      ((effect : Effect) → effect_at program h at.at.hart ≡ Some effect → IsMadeBy p t c e effect) → AreSeen p t c node side registers e effects →
+      IsAtSomeMark p t c (on_machine program w h s) node seen side registers e
   at_mark e stage effects after eq plain goes own_next graph apart may made are_seen =
       let to : LocalConfig = config goes.registers (end_of p t c stage.exit stage.node) in
       let some : (k : ℕ) × (goes.steps ≡ suc k) = some_steps s goes.steps (config registers (c.core node)) to (seen_effects effects) goes.walks in
@@ -136,7 +136,7 @@ module _ (p : Plan) (t : Thread) (program : List (List Slot)) (own : Program) (c
 
   makes : (store : Pending) (next : ℕ) → effect_of is.action seen ≡ Some (a.Makes store next) → (k : Kind) →
       kind_at p.flat.variables store.variable ≡ Some k → MayBeMade p t c (length w.harts) s k store →
-      IsAtSomeMark p t c (on_machine program w h s) node seen bank registers (a.Makes store next)
+      IsAtSomeMark p t c (on_machine program w h s) node seen side registers (a.Makes store next)
   makes store next eq k kind may =
       let address : ℕ = variable_at (map shape_of p.flat.variables) store.variable store.element in
       let value : ℕ = read registers pending_value in
@@ -144,11 +144,11 @@ module _ (p : Plan) (t : Thread) (program : List (List Slot)) (own : Program) (c
       let lockstep : pending_observations p t c k store value (c.cleans node) ≡
       Mark ∷ seen_effects (store_of p t c k store value ∷ cleans_of p t c node store) =
       ap (λ (x : List Observation). Mark ∷ Does (store_of p t c k store value) ∷ x) (cleans_lockstep (c.cleans node) clean) in
-      at_mark (a.Makes store next) (stage_after p t c node seen bank (a.Makes store next)) (store_of p t c k store value ∷ cleans_of p t c node store)
+      at_mark (a.Makes store next) (stage_after p t c node seen side (a.Makes store next)) (store_of p t c k store value ∷ cleans_of p t c node store)
       refl eq refl
       (subst (λ (x : List Observation). GoesThrough s (record { registers = registers; from = c.core node; to = c.entry next; most = c.words node }) x
-      (λ (y : List ℕ). Has p t c (stage_after p t c node seen bank (a.Makes store next)).exit next
-      (stage_after p t c node seen bank (a.Makes store next)).seen bank y)) lockstep (performs (a.Makes store next) eq k kind).1)
+      (λ (y : List ℕ). Has p t c (stage_after p t c node seen side (a.Makes store next)).exit next
+      (stage_after p t c node seen side (a.Makes store next)).seen side y)) lockstep (performs (a.Makes store next) eq k kind).1)
       (follows (a.Makes store next) next eq refl) tt
       (may.apart, cond_both (c.cleans node) (clean ∷ []) [] (λ (es : List Effect). AreEffectsApart s es) (λ _. (tt, tt)) (λ _. tt)) (
         may.access,
@@ -176,34 +176,34 @@ module _ (p : Plan) (t : Thread) (program : List (List Slot)) (own : Program) (c
           }
 
   begins : (e : a.Effect) → effect_of is.action seen ≡ Some e → MayDo p t c (length w.harts) s e →
-      Performing p t c (on_machine program w h s) node seen bank registers e
+      Performing p t c (on_machine program w h s) node seen side registers e
   begins (a.Sets local number next) eq may =
-      at_mark (a.Sets local number next) (stage_after p t c node seen bank (a.Sets local number next)) [] refl eq refl
+      at_mark (a.Sets local number next) (stage_after p t c node seen side (a.Sets local number next)) [] refl eq refl
       (performs (a.Sets local number next) eq) (follows (a.Sets local number next) next eq refl) tt tt tt (λ effect k. tt) refl
   begins (a.Owes store next) eq may =
-      at_mark (a.Owes store next) (stage_after p t c node seen bank (a.Owes store next)) [] refl eq refl
+      at_mark (a.Owes store next) (stage_after p t c node seen side (a.Owes store next)) [] refl eq refl
       (performs (a.Owes store next) eq) (follows (a.Owes store next) next eq refl) tt tt tt (λ effect k. tt) refl
   begins (a.Makes store next) eq may = makes store next eq may.0 may.1 may.2
   begins (a.Goes next) eq may =
-      at_mark (a.Goes next) (stage_after p t c node seen bank (a.Goes next)) [] refl eq refl
+      at_mark (a.Goes next) (stage_after p t c node seen side (a.Goes next)) [] refl eq refl
       (performs (a.Goes next) eq) (follows (a.Goes next) next eq refl) tt tt tt (λ effect k. tt) refl
   begins (a.Takes mutex next) eq may =
-      on_fragment p t c program w h s meets agrees (stage_after p t c node seen bank (a.Takes mutex next)) (c.words node) (c.core node) registers [] at.own
+      on_fragment p t c program w h s meets agrees (stage_after p t c node seen side (a.Takes mutex next)) (c.words node) (c.core node) registers [] at.own
       (record { own = at.own; is = is; at = found; locks = takes_lock is.action seen mutex next eq }) tt tt at.at (performs (a.Takes mutex next) eq)
   begins (a.Gives mutex next) eq may =
       let of_next : IsNodeOf t next = follows (a.Gives mutex next) next eq refl in
-      at_mark (a.Gives mutex next) (stage_after p t c node seen bank (a.Gives mutex next))
-      (boundary_effects (keeping p t c next) (1 - bank) (c.after node) registers) refl eq refl (performs (a.Gives mutex next) eq) of_next
+      at_mark (a.Gives mutex next) (stage_after p t c node seen side (a.Gives mutex next))
+      (boundary_effects (keeping p t c next) side (c.after node) registers) refl eq refl (performs (a.Gives mutex next) eq) of_next
       (record { own = at.own; is = is; at = found; unlocks = gives_unlock is.action seen mutex next eq })
-      (boundary_apart (length w.harts) s (keeping p t c next) (1 - bank) (c.after node) registers reads placed.number (other_bank bank)
+      (boundary_apart (length w.harts) s (keeping p t c next) side (c.after node) registers reads placed.number
       (λ r q. placed.slots next r of_next q))
-      (boundary_may (length w.harts) (keeping p t c next) (1 - bank) (c.after node) registers placed.number (other_bank bank)
+      (boundary_may (length w.harts) (keeping p t c next) side (c.after node) registers placed.number
       (λ r q. placed.slots next r of_next q))
       (λ effect k. tt) refl
   begins a.Ends eq may =
-      at_mark a.Ends (stage_after p t c node seen bank a.Ends) [] refl eq refl (performs a.Ends eq) at.own
+      at_mark a.Ends (stage_after p t c node seen side a.Ends) [] refl eq refl (performs a.Ends eq) at.own
       (record { own = at.own; is = is; at = found; ends = ends_end is.action seen eq }) tt tt (λ effect k. tt) refl
 
 pub nodes_begin : NodesBegin
-nodes_begin p t program own code w h s node seen bank registers is e placed meets agrees reads found eq answered may at =
-    begins p t program own code w h s node seen bank registers is placed meets agrees reads found answered at e eq may
+nodes_begin p t program own code w h s node seen side registers is e placed meets agrees reads found eq answered may at =
+    begins p t program own code w h s node seen side registers is placed meets agrees reads found answered at e eq may

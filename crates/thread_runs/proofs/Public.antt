@@ -1,4 +1,5 @@
 -- What crates above may use of this crate's proofs, passed on from one place. Declares nothing.
+pub use Rattle.thread_runs.proofs.BoundaryCleanCount.{few_cleans}
 pub use Rattle.thread_runs.proofs.CallsNotStuck.{ends_are_well, locks_are_well, unlocks_are_well}
 pub use Rattle.thread_runs.proofs.FragmentStarts.{arrivals_end, at_end, locks_go_on, took_end, unlocks_go_on}
 pub use Rattle.thread_runs.proofs.FragmentSteps.{seen_lockstep}

@@ -19,33 +19,33 @@ use Rattle.thread_runs.specs.Laws.{node_resumed, AreResumed, IsUnderFragment, at
 use Rattle.thread_runs.proofs.FragmentStarts.{locks_go_on, unlocks_go_on, contains_first}
 
 module _ (p : Plan) (t : Thread) (program : List (List Slot)) (own : Program) (code : IsThreadCode p t own) (w : World) (h : ℕ) (s : MarkedEnvironment)
-    (seen : Seen) (bank : ℕ) (registers : List ℕ) (placed : IsPlaced p t code.places (length w.harts)) (meets : Meets code.places.program s)
+    (seen : Seen) (side : ℕ) (registers : List ℕ) (placed : IsPlaced p t code.places (length w.harts)) (meets : Meets code.places.program s)
     (agrees : Agrees program w h s) where
   abbrev c : Places
   c = code.places
 
-  enters : (node : ℕ) → IsNodeOf t node → AreResumed p t c node seen bank registers → Enters p t node seen bank registers
-  enters node of r = enters_again p t node seen r.old bank r.kept registers (c.live node) (code.kept node of) r.entered r.at_bank r.same
+  enters : (node : ℕ) → IsNodeOf t node → AreResumed p t c node seen side registers → Enters p t node seen side registers
+  enters node of r = enters_again p t node seen r.old side r.kept registers (c.live node) (code.kept node of) r.entered r.at_side r.same
 
   follows : (from next : ℕ) (is : Node) → IsNodeOf t from → NodeAt p.graph from is → Contains (successors is.action) next → IsNodeOf t next
   follows from next is of found goes = placed.closed from next is of found goes
 
   pub goes_on : (address : ℕ) (r : IsResumeAddress p t c address) → IsRunningAt w h (config registers address) →
-      AreResumed p t c (node_resumed p t c r) seen bank registers →
-      IsUnderFragment p t c (on_machine program w h s) (node_resumed p t c r) seen bank registers
+      AreResumed p t c (node_resumed p t c r) seen side registers →
+      IsUnderFragment p t c (on_machine program w h s) (node_resumed p t c r) seen side registers
   goes_on address (at_chosen node of chosen) at r = at_core (record { own = of; at = at; enters = enters node of r })
   goes_on address (past_lock from mutex next is of found locks) at r =
       let goes : Contains (successors is.action) next = subst (λ (a : Action). Contains (successors a) next) (sym locks) (contains_first next []) in
       arrives from of
       (locks_go_on p t from mutex next
-      (record { own = of; is = is; at = found; locks = locks }) program own code w h s seen bank registers placed meets agrees at
+      (record { own = of; is = is; at = found; locks = locks }) program own code w h s seen side registers placed meets agrees at
       (enters next (follows from next is of found goes) r))
   goes_on address (past_unlock from mutex next is of found unlocks holds) at r =
       let goes : Contains (successors is.action) next = subst (λ (a : Action). Contains (successors a) next) (sym unlocks) (contains_first next []) in
       arrives from of
-      (unlocks_go_on p t from mutex next (record { own = of; is = is; at = found; unlocks = unlocks }) program own code w h s seen bank registers placed meets
+      (unlocks_go_on p t from mutex next (record { own = of; is = is; at = found; unlocks = unlocks }) program own code w h s seen side registers placed meets
       agrees at (enters next (follows from next is of found goes) r))
 
 pub resumed_go_on : ResumedGoOn
-resumed_go_on p t program own code w h s address r seen bank registers placed meets agrees at resumed =
-    goes_on p t program own code w h s seen bank registers placed meets agrees address r at resumed
+resumed_go_on p t program own code w h s address r seen side registers placed meets agrees at resumed =
+    goes_on p t program own code w h s seen side registers placed meets agrees address r at resumed

@@ -14,14 +14,14 @@ use Rattle.thread_runs.specs.CodeFragments.{ExitPoint, Has}
 use Rattle.thread_runs.specs.Laws.{OthersKeepCores, StaysAreAtCore, ThreadsStart, sees, FragmentsSeeAll, CoresSeeAll}
 
 pub others_keep_cores : OthersKeepCores
-others_keep_cores p t c program w h node seen bank registers event sound other core = record {
+others_keep_cores p t c program w h node seen side registers event sound other core = record {
   own = core.own;
   at = record { hart = core.at.hart; here = (others_leave program w h event sound other).0 ∙ core.at.here; runs = core.at.runs; is = core.at.is };
   enters = core.enters;
 }
 
 pub stays_are_at_core : StaysAreAtCore
-stays_are_at_core p t c program w h s e stage steps effects at stays node seen bank registers core =
+stays_are_at_core p t c program w h s e stage steps effects at stays node seen side registers core =
     let d = stays.drains in
     let same : core.at.hart ≡ at.on.hart = same_there (slice_get w.harts h) core.at.hart at.on.hart core.at.here at.on.here in
     record {
@@ -36,7 +36,7 @@ stays_are_at_core p t c program w h s e stage steps effects at stays node seen b
     }
 
 pub threads_start : ThreadsStart
-threads_start p t program own code w h s seen bank registers meets agrees of at enters = record {
+threads_start p t program own code w h s seen side registers meets agrees of at enters = record {
   meets = meets;
   agrees = agrees;
   apart = tt;
@@ -64,28 +64,28 @@ pending_seen p (Lock mutex next) seen variables x h = tt
 pending_seen p (Unlock mutex next) seen variables x h = tt
 pending_seen p End seen variables x h = tt
 
-enters_seen : (p : Plan) (t : Thread) (node : ℕ) (seen : Seen) (bank : ℕ) (x : List ℕ) (variables : List (List ℤ)) → Enters p t node seen bank x →
-    Enters p t node (sees variables seen) bank x
-enters_seen p t node seen bank x variables h = record {
-  at_bank = h.at_bank;
+enters_seen : (p : Plan) (t : Thread) (node : ℕ) (seen : Seen) (side : ℕ) (x : List ℕ) (variables : List (List ℤ)) → Enters p t node seen side x →
+    Enters p t node (sees variables seen) side x
+enters_seen p t node seen side x variables h = record {
+  at_side = h.at_side;
   count = h.count;
   locals = h.locals;
   pending = λ is found. pending_seen p is.action seen variables x (h.pending is found);
 }
 
-asking_seen : (p : Plan) (t : Thread) (c : Places) (number mutex next : ℕ) (seen : Seen) (bank : ℕ) (x : List ℕ) (variables : List (List ℤ)) →
-    Asking p t c number mutex next seen bank x → Asking p t c number mutex next (sees variables seen) bank x
-asking_seen p t c number mutex next seen bank x variables h =
-    record { call = h.call; lock = h.lock; enters = enters_seen p t next seen bank x variables h.enters }
+asking_seen : (p : Plan) (t : Thread) (c : Places) (number mutex next : ℕ) (seen : Seen) (side : ℕ) (x : List ℕ) (variables : List (List ℤ)) →
+    Asking p t c number mutex next seen side x → Asking p t c number mutex next (sees variables seen) side x
+asking_seen p t c number mutex next seen side x variables h =
+    record { call = h.call; lock = h.lock; enters = enters_seen p t next seen side x variables h.enters }
 
-has_seen : (p : Plan) (t : Thread) (c : Places) (exit : ExitPoint) (node : ℕ) (seen : Seen) (bank : ℕ) (x : List ℕ) (variables : List (List ℤ)) →
-    Has p t c exit node seen bank x → Has p t c exit node (sees variables seen) bank x
-has_seen p t c ways.Arrives node seen bank x variables h = enters_seen p t node seen bank x variables h
-has_seen p t c ways.Keeps node seen bank x variables h = enters_seen p t node seen bank x variables h
-has_seen p t c (ways.Asks mutex next) node seen bank x variables h = asking_seen p t c _ mutex next seen bank x variables h
-has_seen p t c (ways.Took from) node seen bank x variables h = enters_seen p t node seen bank x variables h
-has_seen p t c (ways.Gives from mutex) node seen bank x variables h = asking_seen p t c _ mutex node seen bank x variables h
-has_seen p t c ways.Ends node seen bank x variables h = h
+has_seen : (p : Plan) (t : Thread) (c : Places) (exit : ExitPoint) (node : ℕ) (seen : Seen) (side : ℕ) (x : List ℕ) (variables : List (List ℤ)) →
+    Has p t c exit node seen side x → Has p t c exit node (sees variables seen) side x
+has_seen p t c ways.Arrives node seen side x variables h = enters_seen p t node seen side x variables h
+has_seen p t c ways.Keeps node seen side x variables h = enters_seen p t node seen side x variables h
+has_seen p t c (ways.Asks mutex next) node seen side x variables h = asking_seen p t c _ mutex next seen side x variables h
+has_seen p t c (ways.Took from) node seen side x variables h = enters_seen p t node seen side x variables h
+has_seen p t c (ways.Gives from mutex) node seen side x variables h = asking_seen p t c _ mutex node seen side x variables h
+has_seen p t c ways.Ends node seen side x variables h = h
 
 pub fragments_see_all : FragmentsSeeAll
 fragments_see_all p t c program w h s stage steps effects variables fragment = record {
@@ -96,9 +96,9 @@ fragments_see_all p t c program w h s stage steps effects variables fragment = r
   of_graph = fragment.of_graph;
   registers = fragment.registers;
   on = fragment.on;
-  has = has_seen p t c stage.exit stage.node stage.seen stage.bank fragment.registers variables fragment.has;
+  has = has_seen p t c stage.exit stage.node stage.seen stage.side fragment.registers variables fragment.has;
 }
 
 pub cores_see_all : CoresSeeAll
-cores_see_all p t c w h node seen bank registers variables core =
-    record { own = core.own; at = core.at; enters = enters_seen p t node seen bank registers variables core.enters }
+cores_see_all p t c w h node seen side registers variables core =
+    record { own = core.own; at = core.at; enters = enters_seen p t node seen side registers variables core.enters }

@@ -26,9 +26,9 @@ use Rattle.thread_runs.proofs.RunObservations.{mark_of_machine, none_marked}
 use Rattle.thread_runs.proofs.ThreadsAtCalls.{agrees_on, words_stay, count_stays, and_none, pc_is, registers_are, call_there, boundary_after_is}
 
 module _ (p : Plan) (t : Thread) (program : List (List Slot)) (own : Program) (code : IsThreadCode p t own) (w : World) (h : ℕ) (s : MarkedEnvironment)
-    (from mutex next : ℕ) (seen : Seen) (bank : ℕ) (effects : List Effect) (counts : r.CallsCount) (placed : IsPlaced p t code.places (length w.harts))
+    (from mutex next : ℕ) (seen : Seen) (side : ℕ) (effects : List Effect) (counts : r.CallsCount) (placed : IsPlaced p t code.places (length w.harts))
     (fragment : IsOnFragment p t code.places (on_machine program w h s)
-    (record { exit = ways.Gives from mutex; node = next; seen = seen; bank = bank }) 0 effects)
+    (record { exit = ways.Gives from mutex; node = next; seen = seen; side = side }) 0 effects)
     (held : slice_get w.holders mutex ≡ Some (Some h)) where
   abbrev c : Places
   c = code.places
@@ -76,7 +76,7 @@ module _ (p : Plan) (t : Thread) (program : List (List Slot)) (own : Program) (c
       (none_marked c.program.nodes (c.call from) calling.3))
 
   pub gives_it : GivesMutex p t c (on_machine program w h s) from mutex
-      (record { exit = ways.Gives from mutex; node = next; seen = seen; bank = bank }) hart fragment.registers
+      (record { exit = ways.Gives from mutex; node = next; seen = seen; side = side }) hart fragment.registers
   gives_it = record {
     does = does;
     agrees = agrees_on program w v h s (words_stay program w (with_holder w mutex None) h after does refl)
@@ -92,13 +92,13 @@ module _ (p : Plan) (t : Thread) (program : List (List Slot)) (own : Program) (c
   }
 
 pub unlocks_give : r.CallsCount → UnlocksGive
-unlocks_give counts p t program own code w h s from mutex next seen bank effects placed fragment held =
-    gives_it p t program own code w h s from mutex next seen bank effects counts placed fragment held
+unlocks_give counts p t program own code w h s from mutex next seen side effects placed fragment held =
+    gives_it p t program own code w h s from mutex next seen side effects counts placed fragment held
 
 -- ---- Ends
 
 pub ends_end : r.CallsCount → EndsEnd
-ends_end counts p t program own code w h s node seen bank effects fragment none =
+ends_end counts p t program own code w h s node seen side effects fragment none =
     let c : Places = code.places in
     let hart : Hart = fragment.on.hart in
     let of_end = fragment.of_graph in

@@ -1,5 +1,5 @@
 -- A thread in a fragment: on its way from the mark of one node to that of the next.
-use Rattle.std.specs.Prelude.{◌≡◌, ℕ, suc, ◌+◌, ◌-◌, ◌*◌, ◌%◌, ◌^◌, ◌<◌, ◌≤◌, List, [], ◌∷◌, length, map, Contains, Some, true, if◌then◌else◌}
+use Rattle.std.specs.Prelude.{◌≡◌, ℕ, suc, ◌+◌, ◌*◌, ◌%◌, ◌^◌, ◌<◌, ◌≤◌, List, [], ◌∷◌, length, map, Contains, Some, true, if◌then◌else◌}
 use Rattle.ido_base.specs.Layout.{logs_base, variable_at}
 use Rattle.ido_ints.specs.declared.kinds.Kind.{Kind}
 use Rattle.ido_ints.specs.Kinds.{bytes_of}
@@ -11,8 +11,8 @@ use Rattle.rv64_isa.specs.Rows.{Effect, Continues, Loads, Stores, Cleans, Fences
 use Rattle.rv64_isa.specs.Machine.{World}
 use Rattle.rv64_isa.specs.Schedule.{effect_at}
 use Rattle.memory_layout.specs.Roles as roles
-use Rattle.boundary_code.specs.Boundaries.{boundary_effects}
-use Rattle.node_code.specs.Pieces.{bank_after, takes, gives, ends}
+use Rattle.boundary_code.specs.Boundaries.{boundary_effects, side_after}
+use Rattle.node_code.specs.Pieces.{takes, gives, ends}
 use Rattle.flow_graph.specs.Nodes.{Lock, Unlock, End, Node, successors}
 use Rattle.flow_graph.specs.Actions as a
 use Rattle.flow_graph.specs.Liveness.{NodeAt}
@@ -39,12 +39,12 @@ pub data ExitPoint : Type 0 where
   -- the ECALL of the end, whose mark is passed
   Ends : ExitPoint
 
--- a thread in a fragment: the fragment's exit point, the node of the graph thread, what that sees, and the bank of the thread's point at the fragment's end
+-- a thread in a fragment: the fragment's exit point, the node of the graph thread, what that sees, and the side of the thread's point at the fragment's end
 pub record Stage : Type 0 where
   pub exit : ExitPoint
   pub node : ℕ
   pub seen : a.Seen
-  pub bank : ℕ
+  pub side : ℕ
 
 -- a hart that runs: the machine's program, its world, the hart's number, and the environment of the code that the hart runs
 pub record Running : Type 0 where
@@ -105,13 +105,13 @@ module _ (p : Plan) (t : Thread) (c : Places) where
   end_of Ends node = c.call node
 
   -- what registers are at the exit point that a thread is on its way to
-  abbrev pub Has : ExitPoint → (node : ℕ) → a.Seen → (bank : ℕ) → (registers : List ℕ) → Type 0
-  Has Arrives node seen bank registers = Enters p t node seen bank registers
-  Has Keeps node seen bank registers = Enters p t node seen bank registers
-  Has (Asks mutex next) node seen bank registers = Asking p t c takes mutex next seen bank registers
-  Has (Took from) node seen bank registers = Enters p t node seen bank registers
-  Has (Gives from mutex) node seen bank registers = Asking p t c gives mutex node seen bank registers
-  Has Ends node seen bank registers = read registers roles.call ≡ ends
+  abbrev pub Has : ExitPoint → (node : ℕ) → a.Seen → (side : ℕ) → (registers : List ℕ) → Type 0
+  Has Arrives node seen side registers = Enters p t node seen side registers
+  Has Keeps node seen side registers = Enters p t node seen side registers
+  Has (Asks mutex next) node seen side registers = Asking p t c takes mutex next seen side registers
+  Has (Took from) node seen side registers = Enters p t node seen side registers
+  Has (Gives from mutex) node seen side registers = Asking p t c gives mutex node seen side registers
+  Has Ends node seen side registers = read registers roles.call ≡ ends
 
   -- what the graph has at the exit point that a thread is on its way to
   abbrev pub IsInGraph : ExitPoint → (node : ℕ) → Type 0
@@ -131,27 +131,27 @@ module _ (p : Plan) (t : Thread) (c : Places) where
     pub of_graph : IsInGraph stage.exit stage.node
     pub registers : List ℕ
     pub on : IsOnTrace r.world r.hart r.environment steps (seen_effects effects) (config registers (end_of stage.exit stage.node))
-    pub has : Has stage.exit stage.node stage.seen stage.bank registers
+    pub has : Has stage.exit stage.node stage.seen stage.side registers
 
   -- hart h stands where the code of the node begins, after the boundary before it
-  pub record IsAtCore (w : World) (h node : ℕ) (seen : a.Seen) (bank : ℕ) (registers : List ℕ) : Type 0 where
+  pub record IsAtCore (w : World) (h node : ℕ) (seen : a.Seen) (side : ℕ) (registers : List ℕ) : Type 0 where
     pub own : IsNodeOf t node
     pub at : IsRunningAt w h (config registers (c.core node))
-    pub enters : Enters p t node seen bank registers
+    pub enters : Enters p t node seen side registers
 
   -- ---- After a node's mark
 
   -- what the thread is then on its way to
-  abbrev pub stage_after : (node : ℕ) → a.Seen → (bank : ℕ) → a.Effect → Stage
-  stage_after node seen bank (a.Sets local number next) =
-      record { exit = Arrives; node = next; seen = seen_after (a.Sets local number next) seen; bank = bank }
-  stage_after node seen bank (a.Owes store next) = record { exit = Arrives; node = next; seen = seen_after (a.Owes store next) seen; bank = bank }
-  stage_after node seen bank (a.Makes store next) = record { exit = Arrives; node = next; seen = seen_after (a.Makes store next) seen; bank = bank }
-  stage_after node seen bank (a.Goes next) = record { exit = Arrives; node = next; seen = seen; bank = bank }
-  stage_after node seen bank (a.Takes mutex next) = record { exit = Asks mutex next; node = node; seen = seen; bank = bank }
-  stage_after node seen bank (a.Gives mutex next) =
-      record { exit = Gives node mutex; node = next; seen = seen; bank = bank_after (keeping p t c next) bank }
-  stage_after node seen bank a.Ends = record { exit = Ends; node = node; seen = seen; bank = bank }
+  abbrev pub stage_after : (node : ℕ) → a.Seen → (side : ℕ) → a.Effect → Stage
+  stage_after node seen side (a.Sets local number next) =
+      record { exit = Arrives; node = next; seen = seen_after (a.Sets local number next) seen; side = side }
+  stage_after node seen side (a.Owes store next) = record { exit = Arrives; node = next; seen = seen_after (a.Owes store next) seen; side = side }
+  stage_after node seen side (a.Makes store next) = record { exit = Arrives; node = next; seen = seen_after (a.Makes store next) seen; side = side }
+  stage_after node seen side (a.Goes next) = record { exit = Arrives; node = next; seen = seen; side = side }
+  stage_after node seen side (a.Takes mutex next) = record { exit = Asks mutex next; node = node; seen = seen; side = side }
+  stage_after node seen side (a.Gives mutex next) =
+      record { exit = Gives node mutex; node = next; seen = seen; side = side_after (keeping p t c next) side }
+  stage_after node seen side a.Ends = record { exit = Ends; node = node; seen = seen; side = side }
 
   -- the store of a register's value at the place of a pending one of that kind, as memory sees it
   abbrev pub store_of : Kind → Pending → (value : ℕ) → Effect
@@ -168,15 +168,15 @@ module _ (p : Plan) (t : Thread) (c : Places) where
       if c.cleans node then Cleans (variable_at (map shape_of p.flat.variables) store.variable store.element) ∷ [] else []
 
   -- what is seen from the node's mark on
-  abbrev pub AreSeen : (node : ℕ) → (bank : ℕ) → (registers : List ℕ) → a.Effect → List Effect → Type 0
-  AreSeen node bank registers (a.Sets local number next) effects = effects ≡ []
-  AreSeen node bank registers (a.Owes store next) effects = effects ≡ []
-  AreSeen node bank registers (a.Makes store next) effects = (k : Kind) → kind_at p.flat.variables store.variable ≡ Some k →
+  abbrev pub AreSeen : (node : ℕ) → (side : ℕ) → (registers : List ℕ) → a.Effect → List Effect → Type 0
+  AreSeen node side registers (a.Sets local number next) effects = effects ≡ []
+  AreSeen node side registers (a.Owes store next) effects = effects ≡ []
+  AreSeen node side registers (a.Makes store next) effects = (k : Kind) → kind_at p.flat.variables store.variable ≡ Some k →
       effects ≡ store_of k store (read registers roles.pending_value) ∷ cleans_of node store
-  AreSeen node bank registers (a.Goes next) effects = effects ≡ []
-  AreSeen node bank registers (a.Takes mutex next) effects = effects ≡ []
-  AreSeen node bank registers (a.Gives mutex next) effects = effects ≡ boundary_effects (keeping p t c next) (1 - bank) (c.after node) registers
-  AreSeen node bank registers a.Ends effects = effects ≡ []
+  AreSeen node side registers (a.Goes next) effects = effects ≡ []
+  AreSeen node side registers (a.Takes mutex next) effects = effects ≡ []
+  AreSeen node side registers (a.Gives mutex next) effects = effects ≡ boundary_effects (keeping p t c next) side (c.after node) registers
+  AreSeen node side registers a.Ends effects = effects ≡ []
 
   -- the instruction with the mark of a store makes it
   abbrev pub IsMadeBy : a.Effect → Effect → Type 0
@@ -197,7 +197,7 @@ module _ (p : Plan) (t : Thread) (c : Places) where
     pub of_graph : IsInGraph stage.exit stage.node
     pub registers : List ℕ
     pub on : IsOnTrace r.world r.hart r.environment (suc steps) (Mark ∷ seen_effects effects) (config registers (end_of stage.exit stage.node))
-    pub has : Has stage.exit stage.node stage.seen stage.bank registers
+    pub has : Has stage.exit stage.node stage.seen stage.side registers
     pub mark : marked r.environment.marks on.hart.pc ≡ Mark ∷ []
     pub made : (effect : Effect) → effect_at r.program r.hart on.hart ≡ Some effect → IsMadeBy e effect
 
@@ -209,7 +209,7 @@ module _ (p : Plan) (t : Thread) (c : Places) where
     pub room : c.program.start + 4 * length c.program.code < 2 ^ 64
     -- the nodes that may follow one of the thread's are the thread's
     pub closed : (node next : ℕ) (is : Node) → IsNodeOf t node → NodeAt p.graph node is → Contains (successors is.action) next → IsNodeOf t next
-    -- a bank has a slot for each register that is kept
+    -- a side has a slot for each register that is kept
     pub slots : (node register : ℕ) → IsNodeOf t node → Contains (c.live node) register → register < 32
 
   -- the store may be made, and the environment answers none of its bytes

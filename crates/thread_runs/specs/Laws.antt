@@ -1,5 +1,5 @@
 -- Laws of threads in fragments of their code: what each event does to them.
-use Rattle.std.specs.Prelude.{◌≡◌, ◌≢◌, ◌⊎◌, ℕ, suc, ◌+◌, ◌-◌, ◌*◌, ◌^◌, ◌<◌, ◌≤◌, List, [], ◌∷◌, ◌++◌, length, slice_get, slice_set, slice_index_or}
+use Rattle.std.specs.Prelude.{◌≡◌, ◌≢◌, ◌⊎◌, ℕ, suc, ◌+◌, ◌*◌, ◌^◌, ◌<◌, ◌≤◌, List, [], ◌∷◌, ◌++◌, length, slice_get, slice_set, slice_index_or}
 use Rattle.std.specs.Prelude.{Contains, Option, Some, None, true, false, ℤ}
 use Rattle.ido_base.specs.declared.event.Event.{Event}
 use Rattle.ido_base.specs.declared.event.Event.TheVariants.{Step}
@@ -12,8 +12,7 @@ use Rattle.rv64_isa.specs.Rows.{Effect, read}
 use Rattle.rv64_isa.specs.Machine.{Hart, World, queue_limit, after_event, reply_to, happens, moved, with_holder, gone_on}
 use Rattle.rv64_isa.specs.Frames.{IsWellFormedWorld}
 use Rattle.rv64_isa.specs.Schedule.{is_point_store, is_fence, passes_mark, stores_point, finishes_fence}
-use Rattle.boundary_code.specs.Boundaries.{AtBank, boundary_effects}
-use Rattle.node_code.specs.Pieces.{bank_after}
+use Rattle.boundary_code.specs.Boundaries.{IsOnSide, boundary_effects, side_after}
 use Rattle.flow_graph.specs.Nodes.{Node}
 use Rattle.flow_graph.specs.Actions as a
 use Rattle.flow_graph.specs.Actions.{effect_of, Seen}
@@ -131,44 +130,44 @@ module _ (p : Plan) (t : Thread) (c : Places) where
     pub short : steps ≤ most
     pub on : IsOnFragment p t c r stage steps effects
 
-  -- through the boundary before the node, with registers at the bank
-  abbrev pub BoundaryRun : Running → (node : ℕ) → Seen → (bank : ℕ) → (registers : List ℕ) → Type 0
-  BoundaryRun r node seen bank registers =
-      IsOnSomeFragment r (record { exit = Keeps; node = node; seen = seen; bank = bank_after (keeping p t c node) bank }) (c.words node)
-      (boundary_effects (keeping p t c node) (1 - bank) (c.core node) registers)
+  -- through the boundary before the node, with registers at the side
+  abbrev pub BoundaryRun : Running → (node : ℕ) → Seen → (side : ℕ) → (registers : List ℕ) → Type 0
+  BoundaryRun r node seen side registers =
+      IsOnSomeFragment r (record { exit = Keeps; node = node; seen = seen; side = side_after (keeping p t c node) side }) (c.words node)
+      (boundary_effects (keeping p t c node) side (c.core node) registers)
 
   -- at the entry of its node the thread begins with the boundary before it, or is at its code
-  pub record HasArrived (r : Running) (node : ℕ) (seen : Seen) (bank : ℕ) (registers : List ℕ) : Type 0 where
-    pub chosen : IsChosen p.graph p.boundaries node → BoundaryRun r node seen bank registers
-    pub plain : ¬ (IsChosen p.graph p.boundaries node) → IsAtCore p t c r.world r.hart node seen bank registers
+  pub record HasArrived (r : Running) (node : ℕ) (seen : Seen) (side : ℕ) (registers : List ℕ) : Type 0 where
+    pub chosen : IsChosen p.graph p.boundaries node → BoundaryRun r node seen side registers
+    pub plain : ¬ (IsChosen p.graph p.boundaries node) → IsAtCore p t c r.world r.hart node seen side registers
 
 abbrev pub ArrivalsEnd : Type 0
 ArrivalsEnd = (p : Plan) (t : Thread) (program : List (List Slot)) (own : Program) (code : IsThreadCode p t own) (w : World) (h : ℕ) (s : MarkedEnvironment)
-    (node : ℕ) (seen : Seen) (bank : ℕ) (effects : List Effect) → IsPlaced p t code.places (length w.harts) → ReadsVariables s →
+    (node : ℕ) (seen : Seen) (side : ℕ) (effects : List Effect) → IsPlaced p t code.places (length w.harts) → ReadsVariables s →
     (is : Node) → NodeAt p.graph node is →
-    (fragment : IsOnFragment p t code.places (on_machine program w h s) (record { exit = Arrives; node = node; seen = seen; bank = bank }) 0 effects) →
-    HasArrived p t code.places (on_machine program w h s) node seen bank fragment.registers
+    (fragment : IsOnFragment p t code.places (on_machine program w h s) (record { exit = Arrives; node = node; seen = seen; side = side }) 0 effects) →
+    HasArrived p t code.places (on_machine program w h s) node seen side fragment.registers
 
 -- after the boundary before its node the thread is at the node's code
 abbrev pub KeepsEnd : Type 0
 KeepsEnd = (p : Plan) (t : Thread) (c : Places) (program : List (List Slot)) (w : World) (h : ℕ) (s : MarkedEnvironment)
-    (node : ℕ) (seen : Seen) (bank : ℕ) (effects : List Effect) →
-    (fragment : IsOnFragment p t c (on_machine program w h s) (record { exit = Keeps; node = node; seen = seen; bank = bank }) 0 effects) →
-    IsAtCore p t c w h node seen bank fragment.registers
+    (node : ℕ) (seen : Seen) (side : ℕ) (effects : List Effect) →
+    (fragment : IsOnFragment p t c (on_machine program w h s) (record { exit = Keeps; node = node; seen = seen; side = side }) 0 effects) →
+    IsAtCore p t c w h node seen side fragment.registers
 
 -- after the boundary that follows a lock the thread goes to its node
 abbrev pub TookEnd : Type 0
 TookEnd = (p : Plan) (t : Thread) (program : List (List Slot)) (own : Program) (code : IsThreadCode p t own) (w : World) (h : ℕ) (s : MarkedEnvironment)
-    (from node : ℕ) (seen : Seen) (bank : ℕ) (effects : List Effect) → IsPlaced p t code.places (length w.harts) →
-    IsOnFragment p t code.places (on_machine program w h s) (record { exit = Took from; node = node; seen = seen; bank = bank }) 0 effects →
-    IsOnSomeFragment p t code.places (on_machine program w h s) (record { exit = Arrives; node = node; seen = seen; bank = bank }) (code.places.words from) []
+    (from node : ℕ) (seen : Seen) (side : ℕ) (effects : List Effect) → IsPlaced p t code.places (length w.harts) →
+    IsOnFragment p t code.places (on_machine program w h s) (record { exit = Took from; node = node; seen = seen; side = side }) 0 effects →
+    IsOnSomeFragment p t code.places (on_machine program w h s) (record { exit = Arrives; node = node; seen = seen; side = side }) (code.places.words from) []
 
 -- after a lock and its boundary, or an unlock, the thread goes to its node: so does one that is resumed there
 abbrev pub GoesOnFrom : (from next : ℕ) → Plan → Thread → Type 0
 GoesOnFrom from next p t = (program : List (List Slot)) (own : Program) (code : IsThreadCode p t own) (w : World) (h : ℕ) (s : MarkedEnvironment)
-    (seen : Seen) (bank : ℕ) (registers : List ℕ) → IsPlaced p t code.places (length w.harts) → Meets code.places.program s → Agrees program w h s →
-    IsRunningAt w h (config registers (code.places.after from)) → Enters p t next seen bank registers →
-    IsOnSomeFragment p t code.places (on_machine program w h s) (record { exit = Arrives; node = next; seen = seen; bank = bank }) (code.places.words from) []
+    (seen : Seen) (side : ℕ) (registers : List ℕ) → IsPlaced p t code.places (length w.harts) → Meets code.places.program s → Agrees program w h s →
+    IsRunningAt w h (config registers (code.places.after from)) → Enters p t next seen side registers →
+    IsOnSomeFragment p t code.places (on_machine program w h s) (record { exit = Arrives; node = next; seen = seen; side = side }) (code.places.words from) []
 
 abbrev pub LocksGoOn : Type 0
 LocksGoOn = (p : Plan) (t : Thread) (from mutex next : ℕ) → IsLockOf p t from mutex next → GoesOnFrom from next p t
@@ -180,23 +179,23 @@ UnlocksGoOn = (p : Plan) (t : Thread) (from mutex next : ℕ) → IsUnlockOf p t
 
 module _ (p : Plan) (t : Thread) (c : Places) where
   -- the thread is at the mark of its node
-  pub record IsAtSomeMark (r : Running) (node : ℕ) (seen : Seen) (bank : ℕ) (registers : List ℕ) (e : a.Effect) : Type 0 where
+  pub record IsAtSomeMark (r : Running) (node : ℕ) (seen : Seen) (side : ℕ) (registers : List ℕ) (e : a.Effect) : Type 0 where
     pub steps : ℕ
     pub effects : List Effect
     pub short : suc steps ≤ c.words node
-    pub at : IsAtMark p t c r e (stage_after p t c node seen bank e) steps effects
-    pub seen_are : AreSeen p t c node bank registers e effects
+    pub at : IsAtMark p t c r e (stage_after p t c node seen side e) steps effects
+    pub seen_are : AreSeen p t c node side registers e effects
 
   -- what a thread does at its node's code: it asks for a mutex, or is at its mark
-  abbrev pub Performing : Running → (node : ℕ) → Seen → (bank : ℕ) → (registers : List ℕ) → a.Effect → Type 0
-  Performing r node seen bank registers (a.Sets local number next) = IsAtSomeMark r node seen bank registers (a.Sets local number next)
-  Performing r node seen bank registers (a.Owes store next) = IsAtSomeMark r node seen bank registers (a.Owes store next)
-  Performing r node seen bank registers (a.Makes store next) = IsAtSomeMark r node seen bank registers (a.Makes store next)
-  Performing r node seen bank registers (a.Goes next) = IsAtSomeMark r node seen bank registers (a.Goes next)
-  Performing r node seen bank registers (a.Takes mutex next) =
-      IsOnSomeFragment p t c r (stage_after p t c node seen bank (a.Takes mutex next)) (c.words node) []
-  Performing r node seen bank registers (a.Gives mutex next) = IsAtSomeMark r node seen bank registers (a.Gives mutex next)
-  Performing r node seen bank registers a.Ends = IsAtSomeMark r node seen bank registers a.Ends
+  abbrev pub Performing : Running → (node : ℕ) → Seen → (side : ℕ) → (registers : List ℕ) → a.Effect → Type 0
+  Performing r node seen side registers (a.Sets local number next) = IsAtSomeMark r node seen side registers (a.Sets local number next)
+  Performing r node seen side registers (a.Owes store next) = IsAtSomeMark r node seen side registers (a.Owes store next)
+  Performing r node seen side registers (a.Makes store next) = IsAtSomeMark r node seen side registers (a.Makes store next)
+  Performing r node seen side registers (a.Goes next) = IsAtSomeMark r node seen side registers (a.Goes next)
+  Performing r node seen side registers (a.Takes mutex next) =
+      IsOnSomeFragment p t c r (stage_after p t c node seen side (a.Takes mutex next)) (c.words node) []
+  Performing r node seen side registers (a.Gives mutex next) = IsAtSomeMark r node seen side registers (a.Gives mutex next)
+  Performing r node seen side registers a.Ends = IsAtSomeMark r node seen side registers a.Ends
 
   -- the hart passes its mark, and is in the fragment after it
   pub record PassesMark (r : Running) (e : a.Effect) (stage : Stage) (steps : ℕ) (effects : List Effect)
@@ -225,11 +224,11 @@ module _ (p : Plan) (t : Thread) (c : Places) where
 -- at a node's code, where what the node reads is answered, and a store that it makes may be made
 abbrev pub NodesBegin : Type 0
 NodesBegin = (p : Plan) (t : Thread) (program : List (List Slot)) (own : Program) (code : IsThreadCode p t own) (w : World) (h : ℕ) (s : MarkedEnvironment)
-    (node : ℕ) (seen : Seen) (bank : ℕ) (registers : List ℕ) (is : Node) (e : a.Effect) →
+    (node : ℕ) (seen : Seen) (side : ℕ) (registers : List ℕ) (is : Node) (e : a.Effect) →
     IsPlaced p t code.places (length w.harts) → Meets code.places.program s → Agrees program w h s → ReadsVariables s →
     NodeAt p.graph node is → effect_of is.action seen ≡ Some e → IsAnswered (source_of p t seen) s.around.loads is.action →
-    MayDo p t code.places (length w.harts) s e → IsAtCore p t code.places w h node seen bank registers →
-    Performing p t code.places (on_machine program w h s) node seen bank registers e
+    MayDo p t code.places (length w.harts) s e → IsAtCore p t code.places w h node seen side registers →
+    Performing p t code.places (on_machine program w h s) node seen side registers e
 
 -- a step at a mark passes it, or writes back an entry of the queue
 abbrev pub MarksPass : Type 0
@@ -252,8 +251,8 @@ module _ (p : Plan) (t : Thread) (c : Places) where
   pub record TakesMutex (r : Running) (mutex next : ℕ) (stage : Stage) (hart : Hart) (registers : List ℕ) : Type 0 where
     pub does : happens r.program r.world (Step r.hart) ≡ moved (with_holder r.world mutex (Some r.hart)) r.hart (gone_on hart)
     pub on : IsOnSomeFragment p t c (stepped r)
-        (record { exit = Took stage.node; node = next; seen = stage.seen; bank = bank_after (keeping p t c next) stage.bank }) (c.words stage.node)
-        (boundary_effects (keeping p t c next) (1 - stage.bank) (c.after stage.node) registers)
+        (record { exit = Took stage.node; node = next; seen = stage.seen; side = side_after (keeping p t c next) stage.side }) (c.words stage.node)
+        (boundary_effects (keeping p t c next) stage.side (c.after stage.node) registers)
     pub mark : (marks : List (List ℕ)) → AreMarksOf marks r.hart r.environment → passes_mark marks r.program r.world r.hart ≡ true
     pub counts : CountsNone r.program r.world r.hart
 
@@ -263,38 +262,38 @@ module _ (p : Plan) (t : Thread) (c : Places) where
         (record (gone_on hart) { phase = phase_after r.world r.hart (slice_set r.world.holders mutex None) })
     pub agrees : Agrees r.program (stepped r).world r.hart r.environment
     pub at : phase_after r.world r.hart (slice_set r.world.holders mutex None) ≡ Run → IsRunningAt (stepped r).world r.hart (config registers (c.after from))
-    pub enters : Enters p t stage.node stage.seen stage.bank registers
+    pub enters : Enters p t stage.node stage.seen stage.side registers
     pub no_mark : (marks : List (List ℕ)) → AreMarksOf marks r.hart r.environment → passes_mark marks r.program r.world r.hart ≡ false
     pub counts : CountsNone r.program r.world r.hart
 
 -- where the mutex is free, a lock takes it
 abbrev pub LocksTake : Type 0
 LocksTake = (p : Plan) (t : Thread) (program : List (List Slot)) (own : Program) (code : IsThreadCode p t own) (w : World) (h : ℕ) (s : MarkedEnvironment)
-    (node mutex next : ℕ) (seen : Seen) (bank : ℕ) (effects : List Effect) → IsPlaced p t code.places (length w.harts) → ReadsVariables s →
-    (fragment : IsOnFragment p t code.places (on_machine program w h s) (record { exit = Asks mutex next; node = node; seen = seen; bank = bank }) 0 effects) →
+    (node mutex next : ℕ) (seen : Seen) (side : ℕ) (effects : List Effect) → IsPlaced p t code.places (length w.harts) → ReadsVariables s →
+    (fragment : IsOnFragment p t code.places (on_machine program w h s) (record { exit = Asks mutex next; node = node; seen = seen; side = side }) 0 effects) →
     slice_get w.holders mutex ≡ Some None → TakesMutex p t code.places (on_machine program w h s) mutex next
-    (record { exit = Asks mutex next; node = node; seen = seen; bank = bank }) fragment.on.hart fragment.registers
+    (record { exit = Asks mutex next; node = node; seen = seen; side = side }) fragment.on.hart fragment.registers
 
 -- where a thread holds the mutex, a lock waits
 abbrev pub LocksWait : Type 0
 LocksWait = (p : Plan) (t : Thread) (program : List (List Slot)) (own : Program) (code : IsThreadCode p t own) (w : World) (h : ℕ) (s : MarkedEnvironment)
-    (node mutex next : ℕ) (seen : Seen) (bank : ℕ) (effects : List Effect) (holder : ℕ) →
-    IsOnFragment p t code.places (on_machine program w h s) (record { exit = Asks mutex next; node = node; seen = seen; bank = bank }) 0 effects →
+    (node mutex next : ℕ) (seen : Seen) (side : ℕ) (effects : List Effect) (holder : ℕ) →
+    IsOnFragment p t code.places (on_machine program w h s) (record { exit = Asks mutex next; node = node; seen = seen; side = side }) 0 effects →
     slice_get w.holders mutex ≡ Some (Some holder) → (happens program w (Step h) ≡ (w, Waits mutex holder)) ×
     ((marks : List (List ℕ)) → passes_mark marks program w h ≡ false)
 
 abbrev pub UnlocksGive : Type 0
 UnlocksGive = (p : Plan) (t : Thread) (program : List (List Slot)) (own : Program) (code : IsThreadCode p t own) (w : World) (h : ℕ) (s : MarkedEnvironment)
-    (from mutex next : ℕ) (seen : Seen) (bank : ℕ) (effects : List Effect) → IsPlaced p t code.places (length w.harts) →
-    (fragment : IsOnFragment p t code.places (on_machine program w h s) (record { exit = Gives from mutex; node = next; seen = seen; bank = bank }) 0 effects) →
+    (from mutex next : ℕ) (seen : Seen) (side : ℕ) (effects : List Effect) → IsPlaced p t code.places (length w.harts) →
+    (fragment : IsOnFragment p t code.places (on_machine program w h s) (record { exit = Gives from mutex; node = next; seen = seen; side = side }) 0 effects) →
     slice_get w.holders mutex ≡ Some (Some h) → GivesMutex p t code.places (on_machine program w h s) from mutex
-    (record { exit = Gives from mutex; node = next; seen = seen; bank = bank }) fragment.on.hart fragment.registers
+    (record { exit = Gives from mutex; node = next; seen = seen; side = side }) fragment.on.hart fragment.registers
 
 -- a thread that ends holds nothing
 abbrev pub EndsEnd : Type 0
 EndsEnd = (p : Plan) (t : Thread) (program : List (List Slot)) (own : Program) (code : IsThreadCode p t own) (w : World) (h : ℕ) (s : MarkedEnvironment)
-    (node : ℕ) (seen : Seen) (bank : ℕ) (effects : List Effect) →
-    (fragment : IsOnFragment p t code.places (on_machine program w h s) (record { exit = Ends; node = node; seen = seen; bank = bank }) 0 effects) →
+    (node : ℕ) (seen : Seen) (side : ℕ) (effects : List Effect) →
+    (fragment : IsOnFragment p t code.places (on_machine program w h s) (record { exit = Ends; node = node; seen = seen; side = side }) 0 effects) →
     least_held w.holders h ≡ None →
     (happens program w (Step h) ≡ moved w h (record (gone_on fragment.on.hart) { phase = Ended })) ×
     ((marks : List (List ℕ)) → AreMarksOf marks h s → passes_mark marks program w h ≡ false)
@@ -314,29 +313,29 @@ MarksAreWell =
 -- no thread at its call is stuck: at a lock of a mutex that is there, an unlock of one that it holds, and an end where it holds nothing
 abbrev pub LocksAreWell : Type 0
 LocksAreWell = (p : Plan) (t : Thread) (program : List (List Slot)) (own : Program) (code : IsThreadCode p t own) (w : World) (h : ℕ) (s : MarkedEnvironment)
-    (node mutex next : ℕ) (seen : Seen) (bank : ℕ) (effects : List Effect) (holder : Option ℕ) →
-    IsOnFragment p t code.places (on_machine program w h s) (record { exit = Asks mutex next; node = node; seen = seen; bank = bank }) 0 effects →
+    (node mutex next : ℕ) (seen : Seen) (side : ℕ) (effects : List Effect) (holder : Option ℕ) →
+    IsOnFragment p t code.places (on_machine program w h s) (record { exit = Asks mutex next; node = node; seen = seen; side = side }) 0 effects →
     slice_get w.holders mutex ≡ Some holder → (cause : Cause) → reply_to program w (Step h) ≢ Stuck cause
 
 abbrev pub UnlocksAreWell : Type 0
 UnlocksAreWell = (p : Plan) (t : Thread) (program : List (List Slot)) (own : Program) (code : IsThreadCode p t own) (w : World) (h : ℕ) (s : MarkedEnvironment)
-    (from mutex next : ℕ) (seen : Seen) (bank : ℕ) (effects : List Effect) →
-    IsOnFragment p t code.places (on_machine program w h s) (record { exit = Gives from mutex; node = next; seen = seen; bank = bank }) 0 effects →
+    (from mutex next : ℕ) (seen : Seen) (side : ℕ) (effects : List Effect) →
+    IsOnFragment p t code.places (on_machine program w h s) (record { exit = Gives from mutex; node = next; seen = seen; side = side }) 0 effects →
     slice_get w.holders mutex ≡ Some (Some h) → (cause : Cause) → reply_to program w (Step h) ≢ Stuck cause
 
 abbrev pub EndsAreWell : Type 0
 EndsAreWell = (p : Plan) (t : Thread) (program : List (List Slot)) (own : Program) (code : IsThreadCode p t own) (w : World) (h : ℕ) (s : MarkedEnvironment)
-    (node : ℕ) (seen : Seen) (bank : ℕ) (effects : List Effect) →
-    IsOnFragment p t code.places (on_machine program w h s) (record { exit = Ends; node = node; seen = seen; bank = bank }) 0 effects →
+    (node : ℕ) (seen : Seen) (side : ℕ) (effects : List Effect) →
+    IsOnFragment p t code.places (on_machine program w h s) (record { exit = Ends; node = node; seen = seen; side = side }) 0 effects →
     least_held w.holders h ≡ None → (cause : Cause) → reply_to program w (Step h) ≢ Stuck cause
 
 -- ---- At a node's code
 
 -- what others do leaves a thread at its node's code
 abbrev pub OthersKeepCores : Type 0
-OthersKeepCores = (p : Plan) (t : Thread) (c : Places) (program : List (List Slot)) (w : World) (h node : ℕ) (seen : Seen) (bank : ℕ) (registers : List ℕ)
-    (event : Event) → IsWellFormedWorld w → IsOfOthers h event → IsAtCore p t c w h node seen bank registers →
-    IsAtCore p t c (after_event program w event) h node seen bank registers
+OthersKeepCores = (p : Plan) (t : Thread) (c : Places) (program : List (List Slot)) (w : World) (h node : ℕ) (seen : Seen) (side : ℕ) (registers : List ℕ)
+    (event : Event) → IsWellFormedWorld w → IsOfOthers h event → IsAtCore p t c w h node seen side registers →
+    IsAtCore p t c (after_event program w event) h node seen side registers
 
 -- a step of a thread's own that writes back an entry of the queue leaves it at its node's code
 abbrev pub StaysAreAtCore : Type 0
@@ -344,15 +343,15 @@ StaysAreAtCore =
     (p : Plan) (t : Thread) (c : Places) (program : List (List Slot)) (w : World) (h : ℕ) (s : MarkedEnvironment) (e : a.Effect) (stage : Stage) (steps : ℕ)
     (effects : List Effect) (at : IsAtMark p t c (on_machine program w h s) e stage steps effects) →
     Stays p t c (on_machine program w h s) e stage steps effects at →
-    (node : ℕ) (seen : Seen) (bank : ℕ) (registers : List ℕ) → IsAtCore p t c w h node seen bank registers →
-    IsAtCore p t c (after_event program w (Step h)) h node seen bank registers
+    (node : ℕ) (seen : Seen) (side : ℕ) (registers : List ℕ) → IsAtCore p t c w h node seen side registers →
+    IsAtCore p t c (after_event program w (Step h)) h node seen side registers
 
 -- a thread begins at the entry of its first node
 abbrev pub ThreadsStart : Type 0
 ThreadsStart = (p : Plan) (t : Thread) (program : List (List Slot)) (own : Program) (code : IsThreadCode p t own) (w : World) (h : ℕ) (s : MarkedEnvironment)
-    (seen : Seen) (bank : ℕ) (registers : List ℕ) → Meets code.places.program s → Agrees program w h s → IsNodeOf t t.part.first →
-    IsRunningAt w h (config registers own.start) → Enters p t t.part.first seen bank registers →
-    IsOnFragment p t code.places (on_machine program w h s) (record { exit = Arrives; node = t.part.first; seen = seen; bank = bank }) 0 []
+    (seen : Seen) (side : ℕ) (registers : List ℕ) → Meets code.places.program s → Agrees program w h s → IsNodeOf t t.part.first →
+    IsRunningAt w h (config registers own.start) → Enters p t t.part.first seen side registers →
+    IsOnFragment p t code.places (on_machine program w h s) (record { exit = Arrives; node = t.part.first; seen = seen; side = side }) 0 []
 
 -- ---- What a thread sees of variables
 
@@ -369,8 +368,8 @@ FragmentsSeeAll = (p : Plan) (t : Thread) (c : Places) (program : List (List Slo
     IsOnFragment p t c (on_machine program w h s) (stage_sees variables stage) steps effects
 
 abbrev pub CoresSeeAll : Type 0
-CoresSeeAll = (p : Plan) (t : Thread) (c : Places) (w : World) (h node : ℕ) (seen : Seen) (bank : ℕ) (registers : List ℕ) (variables : List (List ℤ)) →
-    IsAtCore p t c w h node seen bank registers → IsAtCore p t c w h node (sees variables seen) bank registers
+CoresSeeAll = (p : Plan) (t : Thread) (c : Places) (w : World) (h node : ℕ) (seen : Seen) (side : ℕ) (registers : List ℕ) (variables : List (List ℤ)) →
+    IsAtCore p t c w h node seen side registers → IsAtCore p t c w h node (sees variables seen) side registers
 
 -- ---- Places
 
@@ -403,24 +402,24 @@ module _ (p : Plan) (t : Thread) (c : Places) where
   node_resumed (past_unlock from mutex next is own found unlocks holds) = next
 
   -- registers are what was kept of others, with which the thread could enter the node
-  pub record AreResumed (node : ℕ) (seen : Seen) (bank : ℕ) (registers : List ℕ) : Type 0 where
+  pub record AreResumed (node : ℕ) (seen : Seen) (side : ℕ) (registers : List ℕ) : Type 0 where
     pub kept : List ℕ
     pub old : ℕ
     pub entered : Enters p t node seen old kept
-    pub at_bank : AtBank bank registers
+    pub at_side : IsOnSide side registers
     pub same : (register : ℕ) → Contains (c.live node) register → read registers register ≡ read kept register
 
   -- the thread is at the node's code, or in a fragment to its entry
-  pub data IsUnderFragment (r : Running) (node : ℕ) (seen : Seen) (bank : ℕ) (registers : List ℕ) : Type 0 where
-    at_core : IsAtCore p t c r.world r.hart node seen bank registers → IsUnderFragment r node seen bank registers
+  pub data IsUnderFragment (r : Running) (node : ℕ) (seen : Seen) (side : ℕ) (registers : List ℕ) : Type 0 where
+    at_core : IsAtCore p t c r.world r.hart node seen side registers → IsUnderFragment r node seen side registers
     arrives : (from : ℕ) → IsNodeOf t from →
-        IsOnSomeFragment p t c r (record { exit = Arrives; node = node; seen = seen; bank = bank }) (c.words from) [] →
-        IsUnderFragment r node seen bank registers
+        IsOnSomeFragment p t c r (record { exit = Arrives; node = node; seen = seen; side = side }) (c.words from) [] →
+        IsUnderFragment r node seen side registers
 
 -- a hart that recovery resumes goes on from where it is
 abbrev pub ResumedGoOn : Type 0
 ResumedGoOn = (p : Plan) (t : Thread) (program : List (List Slot)) (own : Program) (code : IsThreadCode p t own) (w : World) (h : ℕ) (s : MarkedEnvironment)
-    (address : ℕ) (r : IsResumeAddress p t code.places address) (seen : Seen) (bank : ℕ) (registers : List ℕ) → IsPlaced p t code.places (length w.harts) →
+    (address : ℕ) (r : IsResumeAddress p t code.places address) (seen : Seen) (side : ℕ) (registers : List ℕ) → IsPlaced p t code.places (length w.harts) →
     Meets code.places.program s → Agrees program w h s → IsRunningAt w h (config registers address) →
-    AreResumed p t code.places (node_resumed p t code.places r) seen bank registers →
-    IsUnderFragment p t code.places (on_machine program w h s) (node_resumed p t code.places r) seen bank registers
+    AreResumed p t code.places (node_resumed p t code.places r) seen side registers →
+    IsUnderFragment p t code.places (on_machine program w h s) (node_resumed p t code.places r) seen side registers

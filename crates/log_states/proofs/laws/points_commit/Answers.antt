@@ -1,5 +1,6 @@
 use Rattle.log_states.proofs.BoundaryCommits.{begins_uncommitted, point_is, stays_committed, ends_committed, point_store_is_last, position_stays}
 use Rattle.log_states.proofs.BoundaryCommits.{committed_where_durable}
+use Rattle.log_states.proofs.LivePoints.{live_is}
 use Rattle.log_states.proofs.laws.points_commit.Goals as goal
 
 pub returns-clause-begins : goal.returns-clause-begins
@@ -7,6 +8,9 @@ returns-clause-begins c = begins_uncommitted
 
 pub returns-clause-point : goal.returns-clause-point
 returns-clause-point c = point_is
+
+pub returns-clause-live : goal.returns-clause-live
+returns-clause-live c = live_is
 
 pub returns-clause-stays : goal.returns-clause-stays
 returns-clause-stays c = stays_committed
